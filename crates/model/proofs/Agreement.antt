@@ -1,0 +1,158 @@
+-- B, proved: the lock model comes to the server's locks, and its answers are exactly the type 5 messages sent, in order.
+use mathlib.Core.Path.{_≡_, refl, sym, ap, ap₂, _∙_}
+use mathlib.Core.Bool.{Bool, true, false, cond}
+use mathlib.Core.List.{List, [], _∷_, _++_, map}
+use Prim.Native.Nat.{ℕ, zero, suc, _+_}
+use Rattle.wire.specs.declared.Header.{Header}
+use Rattle.wire.specs.Frame.{Frame, frameOf}
+use Rattle.model.specs.MessageTypes.{FatalError}
+use Rattle.model.specs.Lists.{keep}
+use Rattle.model.specs.State.{Locks, Server, fresh}
+use Rattle.model.specs.Interface.{Event, Event.opening, Event.delivery, Event.cut, Event.clock, Event.answer, Event.status}
+use Rattle.model.specs.Scan.{Scan, Scan.empty, Scan.few, Scan.wrong, Scan.skipping, Scan.long, Scan.part, Scan.whole}
+use Rattle.model.specs.Place.{Role, Role.r-none, Role.r-halfOpen, Role.r-synchronous, Role.r-asynchronous}
+use Rattle.model.specs.Locks.{LockEvent, Answer, change, grantPass, frees, settle}
+use Rattle.model.specs.Checks.{Verdict, Verdict.v-more, Verdict.v-skipped, Verdict.v-held, Verdict.v-ignored, Verdict.v-closed, Verdict.v-acts, Verdict.v-error, Verdict.v-fatal}
+use Rattle.model.specs.Acts
+use Rattle.model.specs.Refusals.{refusal}
+use Rattle.model.specs.Step.{effect, received, plan, answered, finish, step, final, log, lockFrame, channels, answerType}
+use Rattle.model.specs.LockModel.{Model, ModelResult, Told, Fed, modelStep, modelRun, freshModel}
+use Rattle.model.specs.Agreement.{feed, feeds, Agrees, toldFrame, isLock, lockSent, Agreement}
+use Rattle.model.proofs.Invariant.{Inv}
+use Rattle.model.proofs.Events.{Fit, change-sound, always-settled, inv-fresh}
+use Rattle.model.proofs.Fits.{plan-fit, inv-call}
+use Rattle.model.proofs.Simulation.{toldOf}
+use Rattle.model.proofs.Looking.{AlikeAll, sim-look}
+use Rattle.model.proofs.ReadOff.{Core, plan-core}
+
+-- what a call says directly is never of type 5
+fatal-no : (n : ℕ) (cs : List ℕ) → keep isLock (map (λ x. frameOf x FatalError n 0 []) cs) ≡ []
+fatal-no n [] = refl
+fatal-no n (c ∷ cs) = fatal-no n cs
+
+opens-no : (b : Bool) (d : Server) (c : ℕ) (h : Header) → keep isLock ((Acts.opens b d c h) .said) ≡ []
+opens-no true d c h = refl
+opens-no false d c h = refl
+
+sync-no : (k : Acts.SynchronousKind) (c : ℕ) → keep isLock (Acts.synchronousSaid k c) ≡ []
+unfolding Acts.synchronousSaid
+sync-no Acts.k-data c = refl
+sync-no Acts.k-dataEnd c = refl
+sync-no Acts.k-trigger c = refl
+sync-no Acts.k-clearComplete c = refl
+
+async-no : (k : Acts.AsynchronousKind) (d : Server) (i c : ℕ) (h : Header) → keep isLock (Acts.asynchronousSaid k d i c h) ≡ []
+unfolding Acts.asynchronousSaid
+async-no Acts.k-lock d i c h = refl
+async-no Acts.k-remoteLocal d i c h = refl
+async-no Acts.k-maximumSize d i c h = refl
+async-no Acts.k-deviceClear d i c h = refl
+async-no Acts.k-statusQuery d i c h = refl
+async-no Acts.k-lockInfo d i c h = refl
+
+acts-no : (r : Role) (d : Server) (i c : ℕ) (h : Header) (p : List ℕ) → keep isLock ((Acts.acts r d i c h p) .said) ≡ []
+unfolding Acts.acts
+acts-no r-none d i c h p = opens-no (lib.Dec.eqb (h .kind) 0) d c h
+acts-no r-halfOpen d i c h p = refl
+acts-no r-synchronous d i c h p = sync-no (Acts.synchronousKind (h .kind)) c
+acts-no r-asynchronous d i c h p = async-no (Acts.asynchronousKind (h .kind)) d i c h
+
+effect-no : (v : Verdict) (s : Scan) (r : Role) (d : Server) (i c : ℕ) → keep isLock ((effect v s r d i c) .said) ≡ []
+unfolding effect
+effect-no v-more s r d i c = refl
+effect-no v-held s r d i c = refl
+effect-no v-skipped s r d i c = refl
+effect-no v-ignored s r d i c = refl
+effect-no (v-error n) s r d i c = refl
+effect-no (v-fatal n) s r d i c = fatal-no n (channels d c)
+effect-no v-closed s r d i c = refl
+effect-no v-acts empty r d i c = refl
+effect-no v-acts few r d i c = refl
+effect-no v-acts wrong r d i c = refl
+effect-no v-acts (skipping k) r d i c = refl
+effect-no v-acts (long h) r d i c = refl
+effect-no v-acts (part h) r d i c = refl
+effect-no v-acts (whole h p) r d i c = acts-no r d i c h p
+
+plan-no : (d : Server) (e : Event) → keep isLock ((plan d e) .said) ≡ []
+unfolding plan received
+plan-no d (opening c) = refl
+plan-no d (delivery c bs room) = effect-no _ _ _ d _ c
+plan-no d (cut c room) = refl
+plan-no d (clock t room) = refl
+plan-no d (answer n p true room) = refl
+plan-no d (answer n p false room) = refl
+plan-no d (status b) = refl
+
+keep-append : (xs ys : List Frame) → keep isLock (xs ++ ys) ≡ keep isLock xs ++ keep isLock ys
+keep-append [] ys = refl
+keep-append (x ∷ xs) ys = go (isLock x) (keep-append xs ys)
+  where
+    go : (b : Bool) → keep isLock (xs ++ ys) ≡ keep isLock xs ++ keep isLock ys
+        → cond b (x ∷ keep isLock (xs ++ ys)) (keep isLock (xs ++ ys)) ≡ cond b (x ∷ keep isLock xs) (keep isLock xs) ++ keep isLock ys
+    go true e = ap (λ l. x ∷ l) e
+    go false e = e
+
+keep-locks : (xs : List Answer) → keep isLock (map lockFrame xs) ≡ map lockFrame xs
+keep-locks [] = refl
+keep-locks (x ∷ xs) = ap (λ l. lockFrame x ∷ l) (keep-locks xs)
+
+told-locks : (xs : List Answer) → map toldFrame (map toldOf xs) ≡ map lockFrame xs
+told-locks [] = refl
+told-locks (x ∷ xs) = ap (λ l. lockFrame x ∷ l) (told-locks xs)
+
+frames-append : (xs ys : List Answer) → map lockFrame (xs ++ ys) ≡ map lockFrame xs ++ map lockFrame ys
+frames-append [] ys = refl
+frames-append (x ∷ xs) ys = ap (λ l. lockFrame x ∷ l) (frames-append xs ys)
+
+pub told-append : (xs ys : List Told) → map toldFrame (xs ++ ys) ≡ map toldFrame xs ++ map toldFrame ys
+told-append [] ys = refl
+told-append (x ∷ xs) ys = ap (λ l. toldFrame x ∷ l) (told-append xs ys)
+
+-- one call that is not refused, event and pass
+pub call-core : (d : Server) (m : Model) (e : Event) → Agrees (d .locks) m → Inv (d .locks) → refusal d e ≡ 0
+    → AlikeAll (change (d .locks) ((plan d e) .event)) (modelStep m (feed e ((plan d e) .reply)))
+call-core d m e a i z =
+    let c = plan-core d m a i e z in
+    rw (c .is) (sim-look (change (d .locks) ((plan d e) .event)) (c .out) (c .alike) (change-sound (d .locks) (i .sound .good) (i .sound .firm) ((plan d e) .event) (plan-fit d e i z)))
+
+-- one call
+pub call-locks : (d : Server) (m : Model) (e : Event) → Agrees (d .locks) m → Inv (d .locks) → Agrees ((step d e) .server .locks) ((modelStep m (feed e ((step d e) .reply))) .model)
+unfolding step answered finish modelStep
+call-locks d m e a i = go (refusal d e) refl
+  where
+    go : (n : ℕ) → refusal d e ≡ n → Agrees ((answered n d e) .server .locks) ((modelStep m (feed e ((answered n d e) .reply))) .model)
+    go zero z = rw (always-settled (d .locks) i ((plan d e) .event) (plan-fit d e i z)) ((call-core d m e a i z) .agrees)
+    go (suc n) z = a
+
+pub call-answers : (d : Server) (m : Model) (e : Event) → Agrees (d .locks) m → Inv (d .locks)
+    → map toldFrame ((modelStep m (feed e ((step d e) .reply))) .told) ≡ keep isLock ((step d e) .frames)
+unfolding step answered finish modelStep
+call-answers d m e a i = go (refusal d e) refl
+  where
+    go : (n : ℕ) → refusal d e ≡ n → map toldFrame ((modelStep m (feed e ((answered n d e) .reply))) .told) ≡ keep isLock ((answered n d e) .frames)
+    go zero z =
+        let x = change (d .locks) ((plan d e) .event) in
+        let y = grantPass (x .locks) in
+        rw (always-settled (d .locks) i ((plan d e) .event) (plan-fit d e i z))
+        (ap (map toldFrame) ((call-core d m e a i z) .told) ∙ told-locks (x .answers ++ y .answers) ∙ frames-append (x .answers) (y .answers)
+        ∙ sym (keep-append (map lockFrame (x .answers)) _ ∙ ap₂ _++_ (keep-locks (x .answers)) (keep-append ((plan d e) .said) (map lockFrame (y .answers)) ∙ ap₂ _++_ (plan-no d e) (keep-locks (y .answers)))))
+    go (suc n) z = refl
+
+-- the whole list
+pub agrees : (es : List Event) (d : Server) (m : Model) → Agrees (d .locks) m → Inv (d .locks) → Agreement d m es
+unfolding final log modelRun lockSent
+agrees [] d m a i = record { locks = a; answers = refl }
+agrees (e ∷ es) d m a i =
+    let x = modelStep m (feed e ((step d e) .reply)) in
+    let ih = agrees es ((step d e) .server) (x .model) (call-locks d m e a i) (inv-call d e i) in
+    record {
+      locks = ih .locks;
+      answers = told-append (x .told) ((modelRun (x .model) (feeds (log ((step d e) .server) es))) .told) ∙ ap₂ _++_ (call-answers d m e a i) (ih .answers);
+    }
+
+pub fresh-agrees : (v : ℕ) → Agrees ((fresh v) .locks) freshModel
+fresh-agrees v = record { clock = refl; waiting = refl; sessions = λ p. refl }
+
+pub agreement : (v : ℕ) (es : List Event) → Agreement (fresh v) freshModel es
+agreement v es = agrees es (fresh v) freshModel (fresh-agrees v) inv-fresh

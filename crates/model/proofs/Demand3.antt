@@ -1,0 +1,51 @@
+-- Demand 3, proved: the statement is specs/Demand3.antt.
+use mathlib.Core.Path.{_≡_, refl, sym, ap, ap₂, _∙_}
+use mathlib.Core.List.{List, [], _∷_, _++_, map}
+use Prim.Native.Nat.{ℕ, _+_}
+use lib.ListN.{length, take, drop}
+use lib.Seq.{take-at}
+use Rattle.wire.specs.Frame.{bytesOf, written}
+use Rattle.wire.specs.Splice.{splice}
+use Rattle.model.specs.State.{Server, fresh}
+use Rattle.model.specs.Interface.{Event, Reply}
+use Rattle.model.specs.Step.{Result, step, final, log}
+use Rattle.model.specs.Post.{Post}
+use Rattle.model.specs.Demand3.{Seen, seen, seenEvents, Calls, Calls.none, Calls.call, Demand3}
+use Rattle.model.proofs.Canonical.{canonical-history}
+use Rattle.model.proofs.Agreement.{agreement}
+use Rattle.model.proofs.Counting.{counted}
+use Rattle.model.proofs.Granting.{decides}
+
+-- what is written at the front of a buffer is read there
+front : (out x : List ℕ) (n : ℕ) → n ≡ length x → take n (splice out 0 x) ≡ x
+unfolding splice
+front out x n e = take-at x (drop (0 + length x) out) n (sym e)
+
+module _ {M : Type 0} (view : M → Server) where
+  -- what the host sees of one call is what the definition says
+  one : (e : Event) (m m′ : M) (out out′ : List ℕ) (reply : Reply) (output : ℕ) → Post view e m m′ out out′ reply output
+      → _≡_ {A = Seen} (record { event = e; reply = reply; output = take output out′ }) (record { event = e; reply = (step (view m) e) .reply; output = bytesOf ((step (view m) e) .frames) })
+  one e m m′ out out′ reply output p =
+      let o : take output out′ ≡ bytesOf ((step (view m) e) .frames) = ap (take output) (p .buffer) ∙ front out (bytesOf ((step (view m) e) .frames)) output (p .output-length) in
+      λ k. record { event = e; reply = p .replies k; output = o k }
+
+  made : {m m′ : M} {ss : List Seen} → Calls view m ss m′ → (ss ≡ map seen (log (view m) (seenEvents ss))) × (view m′ ≡ final (view m) (seenEvents ss))
+  unfolding log final
+  made none = (refl, refl)
+  made {m = m} (call {m′ = m′} {ss = ss} e out out′ reply output p c) =
+      let h = made c in (
+        ap₂ (λ (s : Seen) (l : List Seen). s ∷ l) (one e m m′ out out′ reply output p) (h .0 ∙ ap (λ d. map seen (log d (seenEvents ss))) (p .new-server)),
+        h .1 ∙ ap (λ d. final d (seenEvents ss)) (p .new-server),
+      )
+
+  pub demand3 : (v : ℕ) (m : M) {m′ : M} {ss : List Seen} → view m ≡ fresh v → Calls view m ss m′ → Demand3 view v ss m′
+  demand3 v m {ss = ss} f c =
+      let h = made c in
+      record {
+        seen-is = h .0 ∙ ap (λ d. map seen (log d (seenEvents ss))) f;
+        server-is = h .1 ∙ ap (λ d. final d (seenEvents ss)) f;
+        canonical = canonical-history (seenEvents ss) (fresh v);
+        agreement = agreement v (seenEvents ss);
+        count = counted v (seenEvents ss);
+        by-holders = decides v (seenEvents ss);
+      }

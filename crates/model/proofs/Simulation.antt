@@ -1,0 +1,253 @@
+-- The simulation: each lock event of the server, and the grant pass, against the lock model's own request, release, reading, removal and look.
+use mathlib.Core.Path.{_≡_, refl, sym, ap, ap₂, _∙_}
+use mathlib.Core.Bool.{Bool, true, false, not, _&&_, _||_, cond, false≢true, true≢false}
+use mathlib.Core.List.{List, [], _∷_, _++_, map}
+use mathlib.Core.Logic.{_⊎_, inl, inr}
+use Prim.Native.Nat.{ℕ, zero, suc, _+_, _<_}
+use native.Mathlib.Omega.{arith}
+use lib.Dec.{eqb, leb, ltb}
+use lib.ListN.{getD, set, length}
+use lib.Seq.{getD-set-same, getD-set-other}
+use borrow.Author.Tests.{eqb-true, eqb-false, eq-eqb, ne-eqb}
+use Rattle.model.specs.Sizes.{noConnection}
+use Rattle.model.specs.Lists.{all, keep, any}
+use Rattle.model.specs.State.{Locks, Entry, Waiting, blank, at, live}
+use Rattle.model.specs.Place.{onConnection, slotIn}
+use Rattle.model.specs.Locks
+use Rattle.model.specs.Locks.{LockResult, Answer, Passed, elsewhere, holds, noShared, give, grant, mayGrant, after, put, passOver, change, grantPass, tell, refuse, ruling}
+use Rattle.model.specs.LockModel
+use Rattle.model.specs.LockModel.{Session, Request, Model, Told, ModelResult, Looked, own, allowed, has, secondConnection, tells, zeros, look, looked, given, noted, decided}
+use Rattle.model.specs.Agreement.{asSession, asSessions, asRequest, Agrees}
+use Rattle.model.proofs.Basics.{and-l, and-r, both, not-of, isn't, not-not, same?, apart, at-set, pos-found, all-kept}
+use Rattle.model.proofs.Places.{place-sound, place-complete}
+use Rattle.model.proofs.GrantingRule.{ready}
+use Rattle.model.proofs.Invariant.{Good, Firm, numbered, firm-give, good-apart, good-keep}
+use Rattle.model.proofs.Events.{Enters, Pairs}
+use Rattle.model.proofs.Seen.{Same, own-seen, channel-seen, alter-seen, enter-seen, allowed-seen, on-seen, drop-seen}
+
+abbrev pub toldOf : Answer → Told
+toldOf a = record { connection = a .to; code = a .code; request = a .request }
+
+-- the server's locks and answers, the lock model's
+pub record Alike (x : LockResult) (o : ModelResult) : Type 0 where
+  pub agrees : Agrees (x .locks) (o .model)
+  pub told : o .told ≡ map toldOf (x .answers)
+
+-- requests
+module _ (es : List Entry) where
+  pub keep-seen : (P : Request → Bool) (Q : Waiting → Bool) → ((w : Waiting) → live (at es (w .slot)) ≡ true → P (asRequest es w) ≡ Q w)
+      → (ws : List Waiting) → Good es ws → keep P (map (asRequest es) ws) ≡ map (asRequest es) (keep Q ws)
+  keep-seen P Q h [] g = refl
+  keep-seen P Q h (w ∷ ws) g = ap (λ b. cond b (asRequest es w ∷ keep P (map (asRequest es) ws)) (keep P (map (asRequest es) ws))) (h w (and-l (live (at es (w .slot))) _ (g .0))) ∙ go (Q w) (keep-seen P Q h ws (g .2))
+    where
+      go : (b : Bool) → keep P (map (asRequest es) ws) ≡ map (asRequest es) (keep Q ws)
+          → cond b (asRequest es w ∷ keep P (map (asRequest es) ws)) (keep P (map (asRequest es) ws)) ≡ map (asRequest es) (cond b (w ∷ keep Q ws) (keep Q ws))
+      go true e = ap (λ l. asRequest es w ∷ l) e
+      go false e = e
+
+  all-requests : (P : Request → Bool) (Q : Waiting → Bool) → ((w : Waiting) → live (at es (w .slot)) ≡ true → P (asRequest es w) ≡ Q w)
+      → (ws : List Waiting) → Good es ws → all P (map (asRequest es) ws) ≡ all Q ws
+  all-requests P Q h [] g = refl
+  all-requests P Q h (w ∷ ws) g = ap₂ _&&_ (h w (and-l (live (at es (w .slot))) _ (g .0))) (all-requests P Q h ws (g .2))
+
+  -- a number is a slot's
+  num-slot : Firm es → (i j : ℕ) → live (at es i) ≡ true → live (at es j) ≡ true → eqb ((at es j) .number) ((at es i) .number) ≡ eqb j i
+  num-slot f i j v u = go (same? j i)
+    where
+      go : (j ≡ i) ⊎ (j ≡ i → ⊥) → eqb ((at es j) .number) ((at es i) .number) ≡ eqb j i
+      go (inl e) = eq-eqb _ _ (ap (λ k. (at es k) .number) e) ∙ sym (eq-eqb j i e)
+      go (inr n) = isn't _ (λ h. n (f .numbers ((at es i) .number) j i (both _ _ u h) (both _ _ v (eq-eqb ((at es i) .number) ((at es i) .number) refl)))) ∙ sym (ne-eqb j i n)
+
+  zeros-seen : (ss : List Session) → Same ss es → Firm es → (P : Request → Bool) (Q : Waiting → Bool) → ((w : Waiting) → live (at es (w .slot)) ≡ true → P (asRequest es w) ≡ not (Q w))
+      → (ws : List Waiting) → Good es ws → zeros ss (keep P (map (asRequest es) ws)) ≡ map toldOf (refuse es Q ws)
+  zeros-seen ss s f P Q h [] g = refl
+  zeros-seen ss s f P Q h (w ∷ ws) g =
+      ap (λ b. zeros ss (cond b (asRequest es w ∷ keep P (map (asRequest es) ws)) (keep P (map (asRequest es) ws)))) (h w (and-l (live (at es (w .slot))) _ (g .0)))
+      ∙ go (Q w) (zeros-seen ss s f P Q h ws (g .2))
+    where
+      go : (b : Bool) → zeros ss (keep P (map (asRequest es) ws)) ≡ map toldOf (refuse es Q ws)
+          → zeros ss (cond (not b) (asRequest es w ∷ keep P (map (asRequest es) ws)) (keep P (map (asRequest es) ws))) ≡ map toldOf (cond b (refuse es Q ws) (tell es (w .slot) 0 true ∷ refuse es Q ws))
+      go true e = e
+      go false e = ap₂ (λ (c : ℕ) (l : List Told). record { connection = c; code = 0; request = true } ∷ l) (channel-seen ss es s f (w .slot) (and-l (live (at es (w .slot))) _ (g .0))) e
+
+-- requests are seen alike after a store that keeps the numbers of those that wait
+pub requests-same : (es es′ : List Entry) → ((j : ℕ) → live (at es j) ≡ true → (at es′ j) .number ≡ (at es j) .number) → (ws : List Waiting) → Good es ws → map (asRequest es) ws ≡ map (asRequest es′) ws
+requests-same es es′ h [] g = refl
+requests-same es es′ h (w ∷ ws) g = ap₂ (λ (n : ℕ) (l : List Request). record { number = n; deadline = w .deadline; string = w .string } ∷ l) (sym (h (w .slot) (and-l (live (at es (w .slot))) _ (g .0)))) (requests-same es es′ h ws (g .2))
+
+pub num-same : (es : List Entry) (i : ℕ) (y : Entry) → y .number ≡ (at es i) .number → (j : ℕ) → (at (set es i y) j) .number ≡ (at es j) .number
+num-same [] i y e j = refl
+num-same (x ∷ es) zero y e zero = e
+num-same (x ∷ es) zero y e (suc j) = refl
+num-same (x ∷ es) (suc i) y e zero = refl
+num-same (x ∷ es) (suc i) y e (suc j) = num-same es i y e j
+
+requests-apart : (es : List Entry) (i : ℕ) (y : Entry) (ws : List Waiting) → all (elsewhere i) ws ≡ true → map (asRequest es) ws ≡ map (asRequest (set es i y)) ws
+requests-apart es i y [] a = refl
+requests-apart es i y (w ∷ ws) a =
+    ap₂ (λ (e : Entry) (l : List Request). record { number = e .number; deadline = w .deadline; string = w .string } ∷ l) (sym (getD-set-other es i (w .slot) y blank (apart i w (and-l (elsewhere i w) _ a)))) (requests-apart es i y ws (and-r (elsewhere i w) _ a))
+
+pub give-num : (k : List ℕ) (e : Entry) → (give k e) .number ≡ e .number
+give-num [] e = refl
+give-num (x ∷ k) e = refl
+
+pub give-live : (k : List ℕ) (e : Entry) → live e ≡ true → live (give k e) ≡ true
+give-live [] e v = v
+give-live (x ∷ k) e v = v
+
+pub give-seen : (k : List ℕ) (e : Entry) → asSession (give k e) ≡ LockModel.withLock k (asSession e)
+give-seen [] e = refl
+give-seen (x ∷ k) e = refl
+
+holds-seen : (k : List ℕ) (e : Entry) → has k (asSession e) ≡ holds k e
+holds-seen [] e = refl
+holds-seen (x ∷ k) e = refl
+
+module _ (l : Locks) (m : Model) (a : Agrees l m) (g : Good (l .entries) (l .waiting)) (f : Firm (l .entries)) where
+  module _ (i : ℕ) (v : live (at (l .entries) i) ≡ true) where
+    tells-seen : (k : ℕ) (q : Bool) → tells (m .sessions) ((at (l .entries) i) .number) k q ≡ toldOf (tell (l .entries) i k q)
+    tells-seen k q = ap (λ (c : ℕ). record { connection = c; code = k; request = q }) (channel-seen (m .sessions) (l .entries) (a .sessions) f i v)
+
+    stored : (y : Entry) → y .number ≡ (at (l .entries) i) .number → map (asRequest (l .entries)) (l .waiting) ≡ map (asRequest (set (l .entries) i y)) (l .waiting)
+    stored y e = requests-same (l .entries) (set (l .entries) i y) (λ j u. num-same (l .entries) i y e j) (l .waiting) g
+
+    -- by the tests: held, no request waits, too long, may be granted, timeout 0
+    ask-seen : (t : ℕ) (k : List ℕ) (h b s y z : Bool) → Alike (Locks.respond (ruling h b s y z) l i t k) (decided (h || (not b || s)) y z m ((at (l .entries) i) .number) t k)
+    ask-seen t k true b s y z = record { agrees = a; told = ap (λ (x : Told). x ∷ []) (tells-seen 3 true) }
+    ask-seen t k false false s y z = record { agrees = a; told = ap (λ (x : Told). x ∷ []) (tells-seen 3 true) }
+    ask-seen t k false true true y z = record { agrees = a; told = ap (λ (x : Told). x ∷ []) (tells-seen 3 true) }
+    ask-seen t k false true false true z =
+        record {
+          agrees = record {
+            clock = a .clock;
+            waiting = a .waiting ∙ stored (give k (at (l .entries) i)) (give-num k _);
+            sessions = alter-seen (m .sessions) (l .entries) (a .sessions) f i v (LockModel.withLock k) (give k (at (l .entries) i)) (give-live k _ v) (give-seen k _);
+          };
+          told = ap (λ (x : Told). x ∷ []) (tells-seen 1 true);
+        }
+    ask-seen t k false true false false true = record { agrees = a; told = ap (λ (x : Told). x ∷ []) (tells-seen 0 true) }
+    ask-seen t k false true false false false =
+        record {
+          agrees = record {
+            clock = a .clock;
+            waiting = ap₂ (λ (ws : List Request) (c : ℕ). ws ++ record { number = (at (l .entries) i) .number; deadline = c + t; string = k } ∷ []) (a .waiting) (a .clock) ∙ sym (map-snoc (asRequest (l .entries)) (l .waiting) _);
+            sessions = a .sessions;
+          };
+          told = refl;
+        }
+      where
+        map-snoc : (q : Waiting → Request) (ws : List Waiting) (w : Waiting) → map q (ws ++ w ∷ []) ≡ map q ws ++ q w ∷ []
+        map-snoc q [] w = refl
+        map-snoc q (x ∷ ws) w = ap (λ (r : List Request). q x ∷ r) (map-snoc q ws w)
+
+    waits-seen : any (λ w. eqb (w .number) ((at (l .entries) i) .number)) (m .waiting) ≡ not (all (elsewhere i) (l .waiting))
+    waits-seen =
+        ap not (ap (λ ws. all (λ w. not (eqb (w .number) ((at (l .entries) i) .number))) ws) (a .waiting) ∙ all-requests (l .entries) (λ w. not (eqb (w .number) ((at (l .entries) i) .number))) (elsewhere i) (λ w u. ap not (num-slot (l .entries) f i (w .slot) v u)) (l .waiting) g)
+
+    pub sim-ask : (t : ℕ) (k : List ℕ) → Alike (change l (Locks.request i t k)) (LockModel.request m ((at (l .entries) i) .number) t k)
+    unfolding change LockModel.request
+    sim-ask t k =
+        rw (own-seen (m .sessions) (l .entries) (a .sessions) f i v (has k), holds-seen k (at (l .entries) i), waits-seen, allowed-seen (m .sessions) (l .entries) (a .sessions) f i v k)
+        (ask-seen t k (holds k (at (l .entries) i)) (all (elsewhere i) (l .waiting)) _ (mayGrant (l .entries) i k) (eqb t 0))
+
+    free-seen : (x s : Bool) → Alike (Locks.released x s l i) (LockModel.freed x (not s) m ((at (l .entries) i) .number))
+    free-seen true s =
+        record {
+          agrees = record { clock = a .clock; waiting = a .waiting ∙ stored (Locks.withoutExclusive (at (l .entries) i)) refl; sessions = alter-seen (m .sessions) (l .entries) (a .sessions) f i v LockModel.exclusiveFreed (Locks.withoutExclusive (at (l .entries) i)) v refl };
+          told = ap (λ (x : Told). x ∷ []) (tells-seen 1 false);
+        }
+    free-seen false false =
+        record {
+          agrees = record { clock = a .clock; waiting = a .waiting ∙ stored (Locks.withoutShared (at (l .entries) i)) refl; sessions = alter-seen (m .sessions) (l .entries) (a .sessions) f i v LockModel.sharedFreed (Locks.withoutShared (at (l .entries) i)) v refl };
+          told = ap (λ (x : Told). x ∷ []) (tells-seen 2 false);
+        }
+    free-seen false true = record { agrees = a; told = ap (λ (x : Told). x ∷ []) (tells-seen 3 false) }
+
+    pub sim-free : Alike (change l (Locks.release i)) (LockModel.release m ((at (l .entries) i) .number))
+    unfolding change LockModel.release
+    sim-free =
+        rw (own-seen (m .sessions) (l .entries) (a .sessions) f i v (λ s. s .exclusive), own-seen (m .sessions) (l .entries) (a .sessions) f i v (λ s. not (LockModel.notShared s)))
+        (free-seen ((at (l .entries) i) .exclusive) (noShared (at (l .entries) i)))
+
+    pub sim-clear : Alike (change l (Locks.clear i)) (LockModel.clearing ((at (l .entries) i) .number) m)
+    unfolding change LockModel.clearing
+    sim-clear =
+        rw (a .waiting)
+        record {
+          agrees = record {
+            clock = a .clock;
+            waiting = keep-seen (l .entries) (λ w. not (eqb (w .number) ((at (l .entries) i) .number))) (elsewhere i) (λ w u. ap not (num-slot (l .entries) f i (w .slot) v u)) (l .waiting) g;
+            sessions = a .sessions;
+          };
+          told = zeros-seen (l .entries) (m .sessions) (a .sessions) f (λ w. eqb (w .number) ((at (l .entries) i) .number)) (elsewhere i) (λ w u. num-slot (l .entries) f i (w .slot) v u ∙ sym (not-not _)) (l .waiting) g;
+        }
+
+  pub sim-tick : (t : ℕ) → Alike (change l (Locks.reading t)) (LockModel.reading t m)
+  unfolding change LockModel.reading
+  sim-tick t =
+      rw (a .waiting)
+      record {
+        agrees = record { clock = refl; waiting = keep-seen (l .entries) (λ w. not (leb (w .deadline) t)) (Locks.unexpired t) (λ w u. refl) (l .waiting) g; sessions = a .sessions };
+        told = zeros-seen (l .entries) (m .sessions) (a .sessions) f (λ w. leb (w .deadline) t) (Locks.unexpired t) (λ w u. sym (not-not _)) (l .waiting) g;
+      }
+
+  pub sim-enter : (i n c : ℕ) → Enters (l .entries) i n c → Alike (change l (Locks.enter i n c)) (LockModel.enters n c m)
+  unfolding change
+  sim-enter i n c x =
+      record {
+        agrees = record {
+          clock = a .clock;
+          waiting = a .waiting ∙ requests-same (l .entries) (set (l .entries) i (Locks.opened n c)) (λ j u. ap (λ (e : Entry). e .number) (getD-set-other (l .entries) i j (Locks.opened n c) blank (λ e. true≢false (sym u ∙ ap (λ k. live (at (l .entries) k)) e ∙ x .vacant)))) (l .waiting) g;
+          sessions = enter-seen (m .sessions) (l .entries) (a .sessions) i (Locks.opened n c) (x .vacant) (x .within) (ap not (x .nonzero));
+        };
+        told = refl;
+      }
+
+  pub sim-pair : (i c : ℕ) → Pairs (l .entries) i c → Alike (change l (Locks.join i c)) (LockModel.joins ((at (l .entries) i) .number) c m)
+  unfolding change
+  sim-pair i c x =
+      record {
+        agrees = record {
+          clock = a .clock;
+          waiting = a .waiting ∙ requests-same (l .entries) (set (l .entries) i (Locks.joined c (at (l .entries) i))) (λ j u. num-same (l .entries) i (Locks.joined c (at (l .entries) i)) refl j) (l .waiting) g;
+          sessions = alter-seen (m .sessions) (l .entries) (a .sessions) f i (x .alive) (LockModel.alsoOn c) (Locks.joined c (at (l .entries) i)) (x .alive) (joined-seen (at (l .entries) i) (x .half));
+        };
+        told = refl;
+      }
+    where
+      joined-seen : (e : Entry) → e .asynchronous ≡ noConnection → asSession (Locks.joined c e) ≡ LockModel.alsoOn c (asSession e)
+      joined-seen e h = rw (ne-eqb c noConnection (x .real), eq-eqb (e .asynchronous) noConnection h)
+
+  -- the session of a connection
+  gone-seen : (c : ℕ) → (c ≡ noConnection → ⊥) → (w : Waiting) → live (at (l .entries) (w .slot)) ≡ true
+      → not (own ((asRequest (l .entries) w) .number) (LockModel.on c) (m .sessions)) ≡ elsewhere (slotIn (l .entries) c) w
+  gone-seen c r w u =
+      ap not (own-seen (m .sessions) (l .entries) (a .sessions) f (w .slot) u (LockModel.on c) ∙ on-seen c (at (l .entries) (w .slot)) r ∙ go (same? (w .slot) (slotIn (l .entries) c)))
+    where
+      go : (w .slot ≡ slotIn (l .entries) c) ⊎ (w .slot ≡ slotIn (l .entries) c → ⊥)
+          → (eqb ((at (l .entries) (w .slot)) .synchronous) c || eqb ((at (l .entries) (w .slot)) .asynchronous) c) ≡ eqb (w .slot) (slotIn (l .entries) c)
+      go (inl e) = at-conn (place-sound (l .entries) c) ∙ sym (eq-eqb _ _ e)
+        where
+          at-conn : (onConnection c (at (l .entries) (slotIn (l .entries) c)) ≡ true) ⊎ (at (l .entries) (slotIn (l .entries) c) ≡ blank)
+              → (eqb ((at (l .entries) (w .slot)) .synchronous) c || eqb ((at (l .entries) (w .slot)) .asynchronous) c) ≡ true
+          at-conn (inl h) = ap (λ k. eqb ((at (l .entries) k) .synchronous) c || eqb ((at (l .entries) k) .asynchronous) c) e ∙ and-r (live (at (l .entries) (slotIn (l .entries) c))) _ h
+          at-conn (inr h) = absurd (true≢false (sym u ∙ ap (λ k. live (at (l .entries) k)) e ∙ ap live h))
+      go (inr n) =
+          isn't _ (λ h. n (f .connections c r (w .slot) (slotIn (l .entries) c) (both _ _ u h) (place-complete (l .entries) c (w .slot) (both _ _ u h))))
+          ∙ sym (ne-eqb _ _ n)
+
+  pub sim-drop : (c : ℕ) → (c ≡ noConnection → ⊥) → Alike (change l (Locks.close (slotIn (l .entries) c))) (LockModel.removal c m)
+  unfolding change LockModel.removal
+  sim-drop c r =
+      let i = slotIn (l .entries) c in
+      record {
+        agrees = record {
+          clock = a .clock;
+          waiting =
+              ap (keep (λ w. not (own (w .number) (LockModel.on c) (m .sessions)))) (a .waiting)
+              ∙ keep-seen (l .entries) (λ w. not (own (w .number) (LockModel.on c) (m .sessions))) (elsewhere i) (gone-seen c r) (l .waiting) g
+              ∙ requests-apart (l .entries) i blank (keep (elsewhere i) (l .waiting)) (all-kept (elsewhere i) (l .waiting));
+          sessions = drop-seen (m .sessions) (l .entries) (a .sessions) f c r;
+        };
+        told = refl;
+      }

@@ -1,0 +1,218 @@
+-- F, proved: what a slot has pending is what the log says that its session has asked.
+use mathlib.Core.Path.{_≡_, refl, sym, ap, ap₂, _∙_}
+use mathlib.Core.Bool.{Bool, true, false, not, _&&_, _||_, cond, false≢true, true≢false}
+use mathlib.Core.List.{List, [], _∷_, _++_, map}
+use mathlib.Core.Logic.{_⊎_, inl, inr}
+use Prim.Native.Nat.{ℕ, zero, suc, _+_, _<_}
+use native.Mathlib.Omega.{arith}
+use lib.Dec.{eqb}
+use lib.ListN.{getD, set, length, length-set, replicate}
+use lib.Seq.{getD-set-same, getD-set-other}
+use borrow.Author.Tests.{eqb-true, eqb-false, eq-eqb, ne-eqb}
+use Rattle.wire.specs.Field.{number}
+use Rattle.wire.specs.declared.Header.{Header}
+use Rattle.wire.specs.Message.{header}
+use Rattle.wire.specs.Class.{one-of}
+use Rattle.model.specs.Sizes.{stringLimit}
+use Rattle.model.specs.Lists.{all}
+use Rattle.model.specs.State.{Locks, Entry, Waiting, blank, at, live, slotOfNumber, Server, Rest, Exchange, Asked, Asked.none, Asked.some, exchangeAt, freshExchange, connectionAt, fresh, withExchange}
+use Rattle.model.specs.Interface.{Event, Event.opening, Event.delivery, Event.cut, Event.clock, Event.answer, Event.status, Outcome.acted, Reply}
+use Rattle.model.specs.Scan.{Scan, Scan.empty, Scan.few, Scan.wrong, Scan.skipping, Scan.long, Scan.part, Scan.whole, scan}
+use Rattle.model.specs.Place.{slotOf}
+use Rattle.model.specs.Locks
+use Rattle.model.specs.Locks.{LockResult, LockEvent, grant, give, mayGrant, after, put, passOver, grantPass, change, settle, frees}
+use Rattle.model.specs.Exchange
+use Rattle.model.specs.Acts
+use Rattle.model.specs.Tie.{follows, track, askedBy, Tie}
+use Rattle.model.proofs.Classes.{synchronousTypes, asynchronousTypes}
+use Rattle.model.proofs.Basics.{and-l, and-r, both, isn't, same?, inside}
+use Rattle.model.proofs.Invariant.{Inv, Firm, numbered}
+use Rattle.model.proofs.Events.{Enters}
+use Rattle.model.proofs.ReadOff.{each-of}
+use Rattle.model.proofs.Simulation.{num-same, give-num}
+use Rattle.model.proofs.Looking.{pass-num}
+
+-- numbers after an event
+abbrev pub Nums : List Entry → List Entry → Type 0
+Nums es es′ = (j : ℕ) → (at es′ j) .number ≡ (at es j) .number
+
+pub settle-num : (b : Bool) (l : Locks) → Nums (l .entries) ((settle b l) .locks .entries)
+unfolding grantPass
+settle-num true l j = pass-num (l .waiting) (l .entries) j
+settle-num false l j = refl
+
+-- of each live slot, what is pending is what f says of its number
+abbrev pub Tied : List Entry → Rest → (ℕ → Asked) → Type 0
+Tied es r f = (i : ℕ) → live (at es i) ≡ true → (exchangeAt r i) .asked ≡ f ((at es i) .number)
+
+-- slot i is touched by g, its number alone is tracked by g
+pub touch : (es es′ : List Entry) (r r′ : Rest) (f f′ : ℕ → Asked) (i : ℕ) (g : Asked → Asked) → Firm es → live (at es i) ≡ true → Nums es es′
+    → (exchangeAt r′ i) .asked ≡ g ((exchangeAt r i) .asked) → ((j : ℕ) → (j ≡ i → ⊥) → (exchangeAt r′ j) .asked ≡ (exchangeAt r j) .asked)
+    → ((n : ℕ) → f′ n ≡ cond (eqb ((at es i) .number) n) (g (f n)) (f n)) → Tied es r f → Tied es′ r′ f′
+touch es es′ r r′ f f′ i g firm v nums here there tracks t j u = go (same? j i)
+  where
+    w : live (at es j) ≡ true
+    w = ap (λ n. not (eqb n 0)) (sym (nums j)) ∙ u
+
+    go : (j ≡ i) ⊎ (j ≡ i → ⊥) → (exchangeAt r′ j) .asked ≡ f′ ((at es′ j) .number)
+    go (inl e) =
+        ap (λ k. (exchangeAt r′ k) .asked) e ∙ here ∙ ap g (t i v)
+        ∙ sym (ap f′ (nums j ∙ ap (λ k. (at es k) .number) e) ∙ tracks ((at es i) .number) ∙ ap (λ b. cond b (g (f ((at es i) .number))) (f ((at es i) .number))) (eq-eqb ((at es i) .number) ((at es i) .number) refl))
+    go (inr n) =
+        there j n ∙ t j w
+        ∙ sym (ap f′ (nums j) ∙ tracks ((at es j) .number) ∙ ap (λ b. cond b (g (f ((at es j) .number))) (f ((at es j) .number))) (ne-eqb ((at es i) .number) ((at es j) .number) (λ e. n (firm .numbers ((at es i) .number) j i (both _ _ w (eq-eqb _ _ (sym e))) (both _ _ v (eq-eqb ((at es i) .number) ((at es i) .number) refl))))))
+
+-- nothing is touched
+pub rest-same : (es es′ : List Entry) (r r′ : Rest) (f f′ : ℕ → Asked) → Nums es es′ → ((j : ℕ) → (exchangeAt r′ j) .asked ≡ (exchangeAt r j) .asked) → ((n : ℕ) → f′ n ≡ f n) → Tied es r f → Tied es′ r′ f′
+rest-same es es′ r r′ f f′ nums there tracks t j u = there j ∙ t j (ap (λ n. not (eqb n 0)) (sym (nums j)) ∙ u) ∙ sym (ap f′ (nums j) ∙ tracks ((at es j) .number))
+
+-- extras after a store
+pub extra-here : (r : Rest) (i : ℕ) (x : Exchange) → i < length (r .exchanges) → exchangeAt (withExchange r i x) i ≡ x
+extra-here r i x l = getD-set-same (r .exchanges) i x freshExchange l
+
+pub extra-there : (r : Rest) (i : ℕ) (x : Exchange) (j : ℕ) → (j ≡ i → ⊥) → exchangeAt (withExchange r i x) j ≡ exchangeAt r j
+extra-there r i x j n = getD-set-other (r .exchanges) i j x freshExchange n
+
+-- events that enter and remove no session
+abbrev pub Calm : LockEvent → Type 0
+Calm Locks.nothing = Unit {0}
+Calm (Locks.enter i n c) = ⊥
+Calm (Locks.join i c) = Unit {0}
+Calm (Locks.request i t k) = Unit {0}
+Calm (Locks.release i) = Unit {0}
+Calm (Locks.clear i) = Unit {0}
+Calm (Locks.close i) = ⊥
+Calm (Locks.reading t) = Unit {0}
+
+change-calm : (l : Locks) (e : LockEvent) → Calm e → Nums (l .entries) ((change l e) .locks .entries)
+unfolding change
+change-calm l Locks.nothing x j = refl
+change-calm l (Locks.enter i n c) x j = absurd x
+change-calm l (Locks.join i c) x j = num-same (l .entries) i (Locks.joined c (at (l .entries) i)) refl j
+change-calm l (Locks.request i t k) x j = asked-num (Locks.ruling (Locks.holds k (at (l .entries) i)) (all (Locks.elsewhere i) (l .waiting)) (lib.Dec.ltb stringLimit (length k)) (mayGrant (l .entries) i k) (eqb t 0))
+  where
+    asked-num : (a : Locks.Ruling) → (at ((Locks.respond a l i t k) .locks .entries) j) .number ≡ (at (l .entries) j) .number
+    asked-num Locks.invalid = refl
+    asked-num Locks.granted = num-same (l .entries) i (give k (at (l .entries) i)) (give-num k (at (l .entries) i)) j
+    asked-num Locks.denied = refl
+    asked-num Locks.queued = refl
+change-calm l (Locks.release i) x j = freed-num ((at (l .entries) i) .exclusive) (Locks.noShared (at (l .entries) i))
+  where
+    freed-num : (a b : Bool) → (at ((Locks.released a b l i) .locks .entries) j) .number ≡ (at (l .entries) j) .number
+    freed-num true b = num-same (l .entries) i (Locks.withoutExclusive (at (l .entries) i)) refl j
+    freed-num false false = num-same (l .entries) i (Locks.withoutShared (at (l .entries) i)) refl j
+    freed-num false true = refl
+change-calm l (Locks.clear i) x j = refl
+change-calm l (Locks.close i) x j = absurd x
+change-calm l (Locks.reading t) x j = refl
+
+-- what an event leaves, with its pass if it has one
+abbrev pub ends : Locks → LockEvent → List Entry
+ends l e = (settle (frees e) ((change l e) .locks)) .locks .entries
+
+pub calm-num : (l : Locks) (e : LockEvent) → Calm e → Nums (l .entries) (ends l e)
+calm-num l e x j = settle-num (frees e) ((change l e) .locks) j ∙ change-calm l e x j
+
+blank-set : (es : List Entry) (i : ℕ) → at (set es i blank) i ≡ blank
+blank-set [] i = refl
+blank-set (x ∷ es) zero = refl
+blank-set (x ∷ es) (suc i) = blank-set es i
+
+-- a closing
+pub drop-tied : (l : Locks) (i : ℕ) (r r′ : Rest) (f f′ : ℕ → Asked) → ((j : ℕ) → (j ≡ i → ⊥) → exchangeAt r′ j ≡ exchangeAt r j) → ((n : ℕ) → f′ n ≡ f n)
+    → Tied (l .entries) r f → Tied (ends l (LockEvent.close i)) r′ f′
+unfolding change
+drop-tied l i r r′ f f′ there tracks t j u = go (same? j i)
+  where
+    es′ : List Entry
+    es′ = set (l .entries) i blank
+
+    nums : (at (ends l (LockEvent.close i)) j) .number ≡ (at es′ j) .number
+    nums = settle-num true ((change l (LockEvent.close i)) .locks) j
+
+    w : live (at es′ j) ≡ true
+    w = ap (λ n. not (eqb n 0)) (sym nums) ∙ u
+
+    go : (j ≡ i) ⊎ (j ≡ i → ⊥) → (exchangeAt r′ j) .asked ≡ f′ ((at (ends l (LockEvent.close i)) j) .number)
+    go (inl e) = absurd (true≢false (sym w ∙ ap live (ap (at es′) e ∙ blank-set (l .entries) i)))
+    go (inr n) =
+        let same : at es′ j ≡ at (l .entries) j = getD-set-other (l .entries) i j blank blank n in
+        ap (λ (x : Exchange). x .asked) (there j n) ∙ t j (sym (ap live same) ∙ w) ∙ sym (ap f′ (nums ∙ ap (λ (x : Entry). x .number) same) ∙ tracks ((at (l .entries) j) .number))
+
+-- an opening
+pub enter-tied : (l : Locks) (i n c : ℕ) (r r′ : Rest) (f f′ : ℕ → Asked) → Enters (l .entries) i n c → (exchangeAt r′ i) .asked ≡ none → ((j : ℕ) → (j ≡ i → ⊥) → exchangeAt r′ j ≡ exchangeAt r j)
+    → ((m : ℕ) → f′ m ≡ cond (eqb n m) none (f m)) → Tied (l .entries) r f → Tied (ends l (LockEvent.enter i n c)) r′ f′
+unfolding change
+enter-tied l i n c r r′ f f′ x here there tracks t j u = go (same? j i)
+  where
+    es′ : List Entry
+    es′ = set (l .entries) i (Locks.opened n c)
+
+    go : (j ≡ i) ⊎ (j ≡ i → ⊥) → (exchangeAt r′ j) .asked ≡ f′ ((at es′ j) .number)
+    go (inl e) =
+        ap (λ k. (exchangeAt r′ k) .asked) e ∙ here
+        ∙ sym (ap f′ (ap (λ k. (at es′ k) .number) e ∙ ap (λ (y : Entry). y .number) (getD-set-same (l .entries) i (Locks.opened n c) blank (x .within))) ∙ tracks n ∙ ap (λ b. cond b none (f n)) (eq-eqb n n refl))
+    go (inr d) =
+        let same : at es′ j ≡ at (l .entries) j = getD-set-other (l .entries) i j (Locks.opened n c) blank d in
+        let w : live (at (l .entries) j) ≡ true = sym (ap live same) ∙ u in
+        ap (λ (y : Exchange). y .asked) (there j d) ∙ t j w
+        ∙ sym (ap f′ (ap (λ (y : Entry). y .number) same) ∙ tracks ((at (l .entries) j) .number) ∙ ap (λ b. cond b none (f ((at (l .entries) j) .number))) (ne-eqb n ((at (l .entries) j) .number) (λ e. x .fresh j (both _ _ w (eq-eqb _ _ (sym e))))))
+
+-- kinds: what each does to what is pending, and that the type on the wire says so
+pub syncPending : Acts.SynchronousKind → ℕ → Asked → Asked
+syncPending Acts.k-data x p = p
+syncPending Acts.k-dataEnd x p = some x
+syncPending Acts.k-trigger x p = some x
+syncPending Acts.k-clearComplete x p = p
+
+pub sync-extra : (k : Acts.SynchronousKind) (h : Header) (x : Exchange) → (Acts.synchronousExchange k h x) .asked ≡ syncPending k (h .param) (x .asked)
+unfolding Acts.synchronousExchange syncPending
+sync-extra Acts.k-data h x = refl
+sync-extra Acts.k-dataEnd h x = refl
+sync-extra Acts.k-trigger h x = refl
+sync-extra Acts.k-clearComplete h x = refl
+
+pub sync-follows : (x : ℕ) (p : Asked) (t : ℕ) → one-of synchronousTypes t ≡ true → eqb t 0 ≡ false → follows t x p ≡ syncPending (Acts.synchronousKind t) x p
+unfolding syncPending
+sync-follows x p t e =
+    each-of (λ t. eqb t 0 ≡ false → follows t x p ≡ syncPending (Acts.synchronousKind t) x p) synchronousTypes ((λ z. absurd (true≢false z)), ((λ z. refl), ((λ z. refl), ((λ z. refl), ((λ z. refl), ((λ z. refl), ((λ z. refl), tt))))))) t e
+
+pub asyncPending : Acts.AsynchronousKind → Asked → Asked
+asyncPending Acts.k-lock p = p
+asyncPending Acts.k-remoteLocal p = p
+asyncPending Acts.k-maximumSize p = p
+asyncPending Acts.k-deviceClear p = none
+asyncPending Acts.k-statusQuery p = p
+asyncPending Acts.k-lockInfo p = p
+
+pub async-follows : (x : ℕ) (p : Asked) (t : ℕ) → one-of asynchronousTypes t ≡ true → eqb t 17 ≡ false → follows t x p ≡ asyncPending (Acts.asynchronousKind t) p
+unfolding asyncPending
+async-follows x p t e =
+    each-of (λ t. eqb t 17 ≡ false → follows t x p ≡ asyncPending (Acts.asynchronousKind t) p) asynchronousTypes ((λ z. refl), ((λ z. refl), ((λ z. refl), ((λ z. refl), ((λ z. refl), ((λ z. absurd (true≢false z)), ((λ z. refl), ((λ z. refl), ((λ z. refl), tt))))))))) t e
+
+pub async-here : (k : Acts.AsynchronousKind) (r : Rest) (i : ℕ) (h : Header) (p : List ℕ) → i < length (r .exchanges) → (exchangeAt (Acts.asynchronousRest k r i h p) i) .asked ≡ asyncPending k ((exchangeAt r i) .asked)
+unfolding Acts.asynchronousRest asyncPending
+async-here Acts.k-lock r i h p l = refl
+async-here Acts.k-remoteLocal r i h p l = refl
+async-here Acts.k-maximumSize r i h p l = ap (λ (x : Exchange). x .asked) (extra-here r i (Exchange.withClientSize (number p) (exchangeAt r i)) l)
+async-here Acts.k-deviceClear r i h p l = ap (λ (x : Exchange). x .asked) (extra-here r i (Exchange.enterClear (exchangeAt r i)) l)
+async-here Acts.k-statusQuery r i h p l = ap (λ (x : Exchange). x .asked) (extra-here r i (Exchange.noteRmt (h .code) (exchangeAt r i)) l)
+async-here Acts.k-lockInfo r i h p l = refl
+
+pub async-there : (k : Acts.AsynchronousKind) (r : Rest) (i : ℕ) (h : Header) (p : List ℕ) (j : ℕ) → (j ≡ i → ⊥) → exchangeAt (Acts.asynchronousRest k r i h p) j ≡ exchangeAt r j
+unfolding Acts.asynchronousRest
+async-there Acts.k-lock r i h p j n = refl
+async-there Acts.k-remoteLocal r i h p j n = refl
+async-there Acts.k-maximumSize r i h p j n = extra-there r i (Exchange.withClientSize (number p) (exchangeAt r i)) j n
+async-there Acts.k-deviceClear r i h p j n = extra-there r i (Exchange.enterClear (exchangeAt r i)) j n
+async-there Acts.k-statusQuery r i h p j n = extra-there r i (Exchange.noteRmt (h .code) (exchangeAt r i)) j n
+async-there Acts.k-lockInfo r i h p j n = refl
+
+pub async-size : (k : Acts.AsynchronousKind) (r : Rest) (i : ℕ) (h : Header) (p : List ℕ) → length ((Acts.asynchronousRest k r i h p) .exchanges) ≡ length (r .exchanges)
+unfolding Acts.asynchronousRest
+async-size Acts.k-lock r i h p = refl
+async-size Acts.k-remoteLocal r i h p = refl
+async-size Acts.k-maximumSize r i h p = length-set (r .exchanges) i _
+async-size Acts.k-deviceClear r i h p = length-set (r .exchanges) i _
+async-size Acts.k-statusQuery r i h p = length-set (r .exchanges) i _
+async-size Acts.k-lockInfo r i h p = refl

@@ -1,0 +1,96 @@
+-- What passes between the host and the server: the six events, the replies, and the numbers of 01 that the C interface returns for
+-- them. Assumes nothing.
+use mathlib.Core.Bool.{Bool}
+use mathlib.Core.List.{List}
+use Prim.Native.Nat.{ℕ}
+
+-- 01: six events. ROOM is the length of the lent output buffer
+pub data Event : Type 0 where
+  -- a connection opens
+  opening : ℕ → Event
+  -- connection, all its unread bytes, room
+  delivery : ℕ → List ℕ → ℕ → Event
+  -- connection, room
+  cut : ℕ → ℕ → Event
+  -- milliseconds, room
+  clock : ℕ → ℕ → Event
+  -- the instrument answers (01: meter answer): session number, payload, with END, room
+  answer : ℕ → List ℕ → Bool → ℕ → Event
+  -- the instrument's status byte changes
+  status : ℕ → Event
+
+-- 01: one outcome of a delivery
+pub data Outcome : Type 0 where
+  more-needed skipped held ignored error-sent closed acted : Outcome
+
+-- refused with a number; done; a delivery's outcome, bytes taken, and session number (0 if none)
+pub data Reply : Type 0 where
+  refused : ℕ → Reply
+  done : Reply
+  took : Outcome → ℕ → ℕ → Reply
+
+-- the number of each outcome at the C interface
+abbrev pub outcomeNumber : Outcome → ℕ
+outcomeNumber more-needed = 0
+outcomeNumber skipped = 1
+outcomeNumber held = 2
+outcomeNumber ignored = 3
+outcomeNumber error-sent = 4
+outcomeNumber closed = 5
+outcomeNumber acted = 6
+
+-- 01, "Numbers given to the host"
+-- connection number above 31; for a delivery or a cut, also not open
+abbrev pub noSuchConnection : ℕ
+noSuchConnection = 1
+
+-- opening one already open
+abbrev pub alreadyOpen : ℕ
+alreadyOpen = 2
+
+-- clock below the last reading (equal is fine)
+abbrev pub clockBack : ℕ
+clockBack = 3
+
+-- clock above 2^62
+abbrev pub clockAbove : ℕ
+clockAbove = 4
+
+-- the session has asked nothing
+abbrev pub nothingAsked : ℕ
+nothingAsked = 5
+
+-- meter answer above 1,024 or above the client's size
+abbrev pub answerTooLong : ℕ
+answerTooLong = 6
+
+-- output buffer under 2,048
+abbrev pub bufferTooSmall : ℕ
+bufferTooSmall = 7
+
+-- no live session of that number
+abbrev pub noSuchSession : ℕ
+noSuchSession = 8
+
+-- what hislip_deliver returns, from the reply and the bytes written: on a refusal every other number is 0
+pub record DeliveryAnswer : Type 0 where
+  pub refusal : ℕ
+  pub outcome : ℕ
+  pub session : ℕ
+  pub taken : ℕ
+  pub output : ℕ
+
+abbrev pub deliveryAnswer : Reply → ℕ → DeliveryAnswer
+deliveryAnswer (refused n) output = record { refusal = n; outcome = 0; session = 0; taken = 0; output = 0 }
+deliveryAnswer done output = record { refusal = 0; outcome = 0; session = 0; taken = 0; output = output }
+deliveryAnswer (took o k n) output = record { refusal = 0; outcome = outcomeNumber o; session = n; taken = k; output = output }
+
+-- what the other calls return
+pub record DoneAnswer : Type 0 where
+  pub refusal : ℕ
+  pub output : ℕ
+
+abbrev pub doneAnswer : Reply → ℕ → DoneAnswer
+doneAnswer (refused n) output = record { refusal = n; output = 0 }
+doneAnswer done output = record { refusal = 0; output = output }
+doneAnswer (took o k n) output = record { refusal = 0; output = output }

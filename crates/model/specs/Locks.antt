@@ -1,0 +1,206 @@
+-- 01, "Locks": SessionIDs and the table of sessions, the granting rule, access, request, release, deadlines, and the grant pass. A call
+-- names one lock event; only `change` and the grant pass make a new `Locks`. Assumes nothing.
+use mathlib.Core.Bool.{Bool, true, false, not, _&&_, _||_, cond}
+use mathlib.Core.List.{List, [], _∷_, _++_}
+use Prim.Native.Nat.{ℕ, zero, suc, _+_, _%_}
+use lib.Dec.{eqb, leb, ltb}
+use lib.ListN.{set, length}
+use Rattle.model.specs.Lists.{isNil, same, all, allBut, keep}
+use Rattle.model.specs.Sizes.{stringLimit, lastSessionId, noConnection}
+use Rattle.model.specs.State.{Entry, Waiting, Locks, at, live, blank, slotOfNumber}
+
+-- an answer (type 5): to which connection, the code, and whether it answers a request (true) or a release (false)
+pub record Answer : Type 0 where
+  pub to : ℕ
+  pub code : ℕ
+  pub request : Bool
+
+pub record LockResult : Type 0 where
+  pub locks : Locks
+  pub answers : List Answer
+
+-- what a call does to the locks, by slot
+pub data LockEvent : Type 0 where
+  nothing : LockEvent
+  -- in slot i session n opens over connection c; connection c is the second of slot i
+  enter : ℕ → ℕ → ℕ → LockEvent
+  join : ℕ → ℕ → LockEvent
+  -- of slot i: a request with a timeout and a string; a release; a device clear; its closing
+  request : ℕ → ℕ → List ℕ → LockEvent
+  release clear close : ℕ → LockEvent
+  -- the clock reads so many milliseconds
+  reading : ℕ → LockEvent
+
+-- 01, "Opening a session": the next after the last issued, from 65,535 back to 1, passing over live ones
+abbrev pub candidate : ℕ → ℕ → ℕ
+candidate last k = suc ((last + k) % lastSessionId)
+
+abbrev pub isLive : List Entry → ℕ → Bool
+isLive es n = live (at es (slotOfNumber es n))
+
+-- from the k-th candidate on, with so many tries
+abbrev pub issued : ℕ → ℕ → List Entry → ℕ → ℕ
+issued zero k es last = candidate last k
+issued (suc tries) k es last = elim (isLive es (candidate last k)) [ true ↦ issued tries (suc k) es last | false ↦ candidate last k ]
+
+abbrev pub noExclusive : Entry → Bool
+noExclusive e = not (e .exclusive)
+
+abbrev pub noShared : Entry → Bool
+noShared e = isNil (e .shared)
+
+-- no shared lock, or one with string k
+abbrev pub fits : List ℕ → Entry → Bool
+fits k e = isNil (e .shared) || same (e .shared) k
+
+-- the granting rule. Exclusive (empty string) may be granted to S if no other session holds exclusive, and nobody else holds
+-- shared or S itself holds shared; shared with string K if no other holds exclusive and every shared holder's string is K.
+-- Shut: proofs go by the laws in proofs/GrantingRule.antt
+unfoldable pub mayGrant : List Entry → ℕ → List ℕ → Bool
+mayGrant es i [] = allBut noExclusive i es && (allBut noShared i es || not (noShared (at es i)))
+mayGrant es i (x ∷ xs) = allBut noExclusive i es && all (fits (x ∷ xs)) es
+
+-- access: the exclusive holder alone; with none, the shared holders; with no locks, everyone
+unfoldable pub access : List Entry → ℕ → Bool
+access es i = (at es i) .exclusive || (all noExclusive es && (not (noShared (at es i)) || all noShared es))
+
+-- the entry of a session that opens; with its second connection
+abbrev pub opened : ℕ → ℕ → Entry
+opened n c = record { number = n; synchronous = c; asynchronous = noConnection; exclusive = false; shared = [] }
+
+abbrev pub joined : ℕ → Entry → Entry
+joined c e = record { number = e .number; synchronous = e .synchronous; asynchronous = c; exclusive = e .exclusive; shared = e .shared }
+
+-- with the lock that a string asks for; without its exclusive lock; without its shared one
+abbrev pub give : List ℕ → Entry → Entry
+give [] e = record { number = e .number; synchronous = e .synchronous; asynchronous = e .asynchronous; exclusive = true; shared = e .shared }
+give (x ∷ xs) e = record { number = e .number; synchronous = e .synchronous; asynchronous = e .asynchronous; exclusive = e .exclusive; shared = x ∷ xs }
+
+abbrev pub withoutExclusive : Entry → Entry
+withoutExclusive e = record { number = e .number; synchronous = e .synchronous; asynchronous = e .asynchronous; exclusive = false; shared = e .shared }
+
+abbrev pub withoutShared : Entry → Entry
+withoutShared e = record { number = e .number; synchronous = e .synchronous; asynchronous = e .asynchronous; exclusive = e .exclusive; shared = [] }
+
+-- the kind that a string asks for is held
+abbrev pub holds : List ℕ → Entry → Bool
+holds [] e = e .exclusive
+holds (x ∷ xs) e = not (noShared e)
+
+abbrev pub update : List Entry → ℕ → (Entry → Entry) → List Entry
+update es i f = set es i (f (at es i))
+
+abbrev pub grant : List Entry → ℕ → List ℕ → List Entry
+grant es i k = update es i (give k)
+
+-- an answer goes to the session's asynchronous connection
+abbrev pub tell : List Entry → ℕ → ℕ → Bool → Answer
+tell es i n q = record { to = (at es i) .asynchronous; code = n; request = q }
+
+abbrev pub withEntries : Locks → List Entry → Locks
+withEntries l es = record { clock = l .clock; entries = es; waiting = l .waiting }
+
+abbrev pub withWaiting : Locks → List Waiting → Locks
+withWaiting l ws = record { clock = l .clock; entries = l .entries; waiting = ws }
+
+abbrev pub unanswered : Locks → LockResult
+unanswered l = record { locks = l; answers = [] }
+
+-- a request of another slot
+abbrev pub elsewhere : ℕ → Waiting → Bool
+elsewhere i w = not (eqb (w .slot) i)
+
+-- request answers, in this order: 3 if S already holds that kind, has a request waiting, or the string exceeds 64; 1 if it may be
+-- granted, and it is; 0 if timeout is 0; else it waits
+pub data Ruling : Type 0 where
+  invalid granted denied queued : Ruling
+
+-- by the tests: that kind is held, no request of the session waits, the string is too long, the granting rule, timeout 0
+abbrev pub ruling : Bool → Bool → Bool → Bool → Bool → Ruling
+ruling true a s m z = invalid
+ruling false false s m z = invalid
+ruling false true true m z = invalid
+ruling false true false true z = granted
+ruling false true false false true = denied
+ruling false true false false false = queued
+
+-- of slot i, with timeout t and string k; it waits until clock of arrival plus timeout
+abbrev pub respond : Ruling → Locks → ℕ → ℕ → List ℕ → LockResult
+respond invalid l i t k = record { locks = l; answers = tell (l .entries) i 3 true ∷ [] }
+respond granted l i t k = record { locks = withEntries l (grant (l .entries) i k); answers = tell (l .entries) i 1 true ∷ [] }
+respond denied l i t k = record { locks = l; answers = tell (l .entries) i 0 true ∷ [] }
+respond queued l i t k = unanswered (withWaiting l (l .waiting ++ record { slot = i; deadline = l .clock + t; string = k } ∷ []))
+
+-- release frees exclusive first (1), then shared (2), with none held 3. By the tests: exclusive is held, no shared is
+abbrev pub released : Bool → Bool → Locks → ℕ → LockResult
+released true s l i = record { locks = withEntries l (update (l .entries) i withoutExclusive); answers = tell (l .entries) i 1 false ∷ [] }
+released false false l i = record { locks = withEntries l (update (l .entries) i withoutShared); answers = tell (l .entries) i 2 false ∷ [] }
+released false true l i = record { locks = l; answers = tell (l .entries) i 3 false ∷ [] }
+
+-- the requests that pass stay; the others are answered 0, oldest first
+abbrev pub refuse : List Entry → (Waiting → Bool) → List Waiting → List Answer
+refuse es p [] = []
+refuse es p (w ∷ ws) = cond (p w) (refuse es p ws) (tell es (w .slot) 0 true ∷ refuse es p ws)
+
+-- a clock reading at or past a deadline answers 0
+abbrev pub unexpired : ℕ → Waiting → Bool
+unexpired t w = not (leb (w .deadline) t)
+
+unfoldable pub change : Locks → LockEvent → LockResult
+change l nothing = unanswered l
+change l (enter i n c) = unanswered (withEntries l (set (l .entries) i (opened n c)))
+change l (join i c) = unanswered (withEntries l (update (l .entries) i (joined c)))
+change l (request i t k) =
+    let es = l .entries in
+    respond (ruling (holds k (at es i)) (all (elsewhere i) (l .waiting)) (ltb stringLimit (length k)) (mayGrant es i k) (eqb t 0)) l i t k
+change l (release i) = released ((at (l .entries) i) .exclusive) (noShared (at (l .entries) i)) l i
+-- 01: AsyncDeviceClear: a waiting request is answered 0
+change l (clear i) =
+    record { locks = withWaiting l (keep (elsewhere i) (l .waiting)); answers = refuse (l .entries) (elsewhere i) (l .waiting) }
+-- a closing takes the session's locks and its waiting request, unanswered
+change l (close i) = unanswered record { clock = l .clock; entries = set (l .entries) i blank; waiting = keep (elsewhere i) (l .waiting) }
+change l (reading t) =
+    record {
+      locks = record { clock = t; entries = l .entries; waiting = keep (unexpired t) (l .waiting) };
+      answers = refuse (l .entries) (unexpired t) (l .waiting);
+    }
+
+-- the grant pass (01: requests are looked at once, oldest first, and each that may be granted is)
+pub record Passed : Type 0 where
+  pub entries : List Entry
+  pub waiting : List Waiting
+  pub answers : List Answer
+
+-- by the test that request w may be granted: the table that the next request meets, and what is noted of w
+abbrev pub after : Bool → Waiting → List Entry → List Entry
+after true w es = grant es (w .slot) (w .string)
+after false w es = es
+
+abbrev pub put : Bool → Waiting → List Entry → Passed → Passed
+put true w es r = record { entries = r .entries; waiting = r .waiting; answers = tell es (w .slot) 1 true ∷ r .answers }
+put false w es r = record { entries = r .entries; waiting = w ∷ r .waiting; answers = r .answers }
+
+unfoldable pub passOver : List Waiting → List Entry → Passed
+passOver [] es = record { entries = es; waiting = []; answers = [] }
+passOver (w ∷ ws) es = let b = mayGrant es (w .slot) (w .string) in put b w es (passOver ws (after b w es))
+
+unfoldable pub grantPass : Locks → LockResult
+grantPass l =
+    let r = passOver (l .waiting) (l .entries) in
+    record { locks = record { clock = l .clock; entries = r .entries; waiting = r .waiting }; answers = r .answers }
+
+-- the events that free a lock: the server passes over the waiting requests only after these. That a pass would do nothing after any
+-- other event is a theorem (proofs/Events.antt, always-settled)
+abbrev pub frees : LockEvent → Bool
+frees nothing = false
+frees (enter i n c) = false
+frees (join i c) = false
+frees (request i t k) = false
+frees (release i) = true
+frees (clear i) = false
+frees (close i) = true
+frees (reading t) = false
+
+abbrev pub settle : Bool → Locks → LockResult
+settle true l = grantPass l
+settle false l = unanswered l

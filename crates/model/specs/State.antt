@@ -1,0 +1,140 @@
+-- What the server keeps (01: desk): the sessions with their locks, the waiting requests, the clock, and the rest. Every value of
+-- these records means something, also one that no run reaches. Assumes nothing.
+use mathlib.Core.Bool.{Bool, true, false, not, _&&_}
+use mathlib.Core.List.{List, [], _∷_}
+use Prim.Native.Nat.{ℕ}
+use lib.Dec.{eqb}
+use lib.ListN.{getD, set, replicate}
+use Rattle.model.specs.Lists.{position}
+use Rattle.model.specs.Sizes.{sessionLimit, connectionLimit, payloadLimit, noConnection}
+
+-- one slot of the table of sessions: the SessionID (0: the slot is free), the two connections (255: none), the exclusive lock,
+-- the string of the shared lock (empty: none)
+pub record Entry : Type 0 where
+  pub number : ℕ
+  pub synchronous : ℕ
+  pub asynchronous : ℕ
+  pub exclusive : Bool
+  pub shared : List ℕ
+
+-- a waiting request: the slot of its session, its deadline, its string (empty: it asks for the exclusive lock)
+pub record Waiting : Type 0 where
+  pub slot : ℕ
+  pub deadline : ℕ
+  pub string : List ℕ
+
+-- the part of the server that the lock rules read and change: the clock, the sessions, the waiting requests by arrival
+pub record Locks : Type 0 where
+  pub clock : ℕ
+  pub entries : List Entry
+  pub waiting : List Waiting
+
+-- what a session has asked: nothing, or the message with this MessageID
+pub data Asked : Type 0 where
+  none : Asked
+  some : ℕ → Asked
+
+-- of a session, beside its locks: in device clear, what is asked, message available, the client's size
+pub record Exchange : Type 0 where
+  pub inClear : Bool
+  pub asked : Asked
+  pub messageAvailable : Bool
+  pub clientSize : ℕ
+
+-- of a connection: whether it is open, the remainder to skip
+pub record Connection : Type 0 where
+  pub isOpen : Bool
+  pub remainder : ℕ
+
+-- 01: three flags (remote enable, lockout, remote), shared by all sessions
+pub record RemoteLocal : Type 0 where
+  pub enable : Bool
+  pub lockout : Bool
+  pub remote : Bool
+
+-- all of the server but its locks: an exchange for each slot, the connections by number, the SessionID issued last, the vendor
+-- number, the instrument's (01: meter's) status byte, the flags
+pub record Rest : Type 0 where
+  pub exchanges : List Exchange
+  pub connections : List Connection
+  pub lastIssued : ℕ
+  pub vendor : ℕ
+  pub status : ℕ
+  pub remoteLocal : RemoteLocal
+
+pub record Server : Type 0 where
+  pub locks : Locks
+  pub rest : Rest
+
+-- a free slot
+abbrev pub blank : Entry
+blank = record { number = 0; synchronous = noConnection; asynchronous = noConnection; exclusive = false; shared = [] }
+
+-- 01: a client's size starts at 1,024 per session
+abbrev pub freshExchange : Exchange
+freshExchange = record { inClear = false; asked = none; messageAvailable = false; clientSize = payloadLimit }
+
+abbrev pub closedConnection : Connection
+closedConnection = record { isOpen = false; remainder = 0 }
+
+abbrev pub openConnection : ℕ → Connection
+openConnection n = record { isOpen = true; remainder = n }
+
+abbrev pub freshLocks : ℕ → Locks
+freshLocks n = record { clock = 0; entries = replicate n blank; waiting = [] }
+
+-- 01: a fresh desk is made from the two-letter vendor number, with clock 0 and status byte 0; the flags start off
+abbrev pub fresh : ℕ → Server
+fresh v =
+    record {
+      locks = freshLocks sessionLimit;
+      rest = record {
+        exchanges = replicate sessionLimit freshExchange;
+        connections = replicate connectionLimit closedConnection;
+        lastIssued = 0;
+        vendor = v;
+        status = 0;
+        remoteLocal = record { enable = false; lockout = false; remote = false };
+      };
+    }
+
+-- reading: outside the table a slot is free, and outside 0 to 31 a connection is closed
+abbrev pub at : List Entry → ℕ → Entry
+at es i = getD es i blank
+
+abbrev pub exchangeAt : Rest → ℕ → Exchange
+exchangeAt r i = getD (r .exchanges) i freshExchange
+
+abbrev pub connectionAt : Rest → ℕ → Connection
+connectionAt r c = getD (r .connections) c closedConnection
+
+-- 01: 16 live sessions, half-open ones included
+abbrev pub live : Entry → Bool
+live e = not (eqb (e .number) 0)
+
+abbrev pub halfOpen : Entry → Bool
+halfOpen e = live e && eqb (e .asynchronous) noConnection
+
+-- the slot of the session with a number; of number 0, the first free slot
+abbrev pub slotOfNumber : List Entry → ℕ → ℕ
+slotOfNumber es n = position (λ e. eqb (e .number) n) es
+
+-- a change of one part of the rest
+abbrev pub withConnections : Rest → List Connection → Rest
+withConnections r cs = record { exchanges = r .exchanges; connections = cs; lastIssued = r .lastIssued; vendor = r .vendor; status = r .status; remoteLocal = r .remoteLocal }
+
+abbrev pub withConnection : Rest → ℕ → Connection → Rest
+withConnection r c x = withConnections r (set (r .connections) c x)
+
+abbrev pub withExchange : Rest → ℕ → Exchange → Rest
+withExchange r i x = record { exchanges = set (r .exchanges) i x; connections = r .connections; lastIssued = r .lastIssued; vendor = r .vendor; status = r .status; remoteLocal = r .remoteLocal }
+
+abbrev pub withRemoteLocal : Rest → RemoteLocal → Rest
+withRemoteLocal r x = record { exchanges = r .exchanges; connections = r .connections; lastIssued = r .lastIssued; vendor = r .vendor; status = r .status; remoteLocal = x }
+
+abbrev pub withStatus : Rest → ℕ → Rest
+withStatus r b = record { exchanges = r .exchanges; connections = r .connections; lastIssued = r .lastIssued; vendor = r .vendor; status = b; remoteLocal = r .remoteLocal }
+
+-- session n opens in slot i
+abbrev pub withSession : Rest → ℕ → ℕ → Rest
+withSession r i n = record { exchanges = set (r .exchanges) i freshExchange; connections = r .connections; lastIssued = n; vendor = r .vendor; status = r .status; remoteLocal = r .remoteLocal }
