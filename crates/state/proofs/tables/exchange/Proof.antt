@@ -1,0 +1,13 @@
+-- `tables::exchange` meets its contract: the law of the table, at this place.
+use Rattle.state.specs.Change.{exchange-read}
+use borrow.Author.Needs.{needs}
+use Rattle.state.proofs.tables.exchange.Statement.{statement}
+use Rattle.state.proofs.tables.exchange.Tie as tie
+
+returns : tie.Need-returns
+returns c = let a = c .before .args in exchange-read (a .w .now) (a .i) (a .f) (search needs) (search needs)
+
+pub exchange-spec : {M : Type 1} → statement M
+exchange-spec =
+    tie.close
+    (tie.spec (λ c. search needs) (λ c. search needs) (λ c. search needs) (λ c. search needs) (λ c. search needs) returns)

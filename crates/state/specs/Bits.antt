@@ -1,0 +1,137 @@
+-- A set of small numbers kept as the bits of one word: taking one out, putting one in, and whether it is empty. Assumes nothing.
+use mathlib.Core.Path.{_≡_, refl, sym, ap, _∙_}
+use mathlib.Core.Logic.{_⊎_, inl, inr, ⊎-elim}
+use Prim.Native.Nat.{ℕ, zero, suc, _+_, _*_, _-_, _/_, _%_, _^_, _≤_, _<_}
+use native.Mathlib.Nat.{pow-suc, pow-succ', one-le-pow, add-mul-div-left, div-div-eq-div-mul, div-add-mod, mul-div-cancel-left, mul-le-mul-left, mul-one}
+use native.Mathlib.Omega.{arith}
+use lib.Arith.{mod-mul}
+use lib.Dec.{lit<}
+use lib.Pow.{pow-add}
+use Rattle.state.specs.Table.{apart}
+
+abbrev pub bit : ℕ → ℕ → ℕ
+bit m i = m / 2 ^ i % 2
+
+-- m without i; m with i
+unfoldable pub without : ℕ → ℕ → ℕ
+without m i = m - bit m i * 2 ^ i
+
+unfoldable pub with-bit : ℕ → ℕ → ℕ
+with-bit m i = without m i + 2 ^ i
+
+positive : (i : ℕ) → 0 < 2 ^ i
+positive i = one-le-pow i 2 (lit< tt)
+
+-- a larger power is the smaller one, doubled, and some more
+power : (j i : ℕ) → j < i → 2 ^ i ≡ 2 ^ j * (2 * 2 ^ (i - suc j))
+power j i h =
+    let e : i ≡ j + suc (i - suc j) = omega arith in
+    ap (λ (n : ℕ). 2 ^ n) e ∙ rw (pow-add, pow-suc) (ap (λ (x : ℕ). 2 ^ j * x) (omega arith))
+
+-- adding 2^i where bit i is 0: bits below and above stay
+added-below : (m j i : ℕ) → j < i → bit (m + 2 ^ i) j ≡ bit m j
+added-below m j i h =
+    let t : ℕ = 2 ^ (i - suc j) in
+    let d : (m + 2 ^ j * (2 * t)) / 2 ^ j ≡ m / 2 ^ j + 2 * t = add-mul-div-left m (2 * t) (positive j) in
+    ap (λ (x : ℕ). (m + x) / 2 ^ j % 2) (power j i h) ∙ ap (λ (x : ℕ). x % 2) d ∙ omega arith
+
+up-one : (m i : ℕ) → (m + 2 ^ i) / 2 ^ i ≡ m / 2 ^ i + 1
+up-one m i = ap (λ (x : ℕ). (m + x) / 2 ^ i) (sym (mul-one (2 ^ i))) ∙ add-mul-div-left m 1 (positive i)
+
+added-same : (m i : ℕ) → bit m i ≡ 0 → bit (m + 2 ^ i) i ≡ 1
+added-same m i e = ap (λ (x : ℕ). x % 2) (up-one m i) ∙ omega arith
+
+halves : (x i j : ℕ) → i < j → x / 2 ^ j ≡ x / 2 ^ i / 2 / 2 ^ (j - suc i)
+halves x i j h =
+    ap (λ (y : ℕ). x / y) (power i j h)
+    ∙ sym (div-div-eq-div-mul x (2 ^ i) (2 * 2 ^ (j - suc i)))
+    ∙ sym (div-div-eq-div-mul (x / 2 ^ i) 2 (2 ^ (j - suc i)))
+
+added-above : (m i j : ℕ) → bit m i ≡ 0 → i < j → bit (m + 2 ^ i) j ≡ bit m j
+added-above m i j e h =
+    let q : ℕ = m / 2 ^ i in
+    let s : (q + 1) / 2 ≡ q / 2 = omega arith in
+    ap (λ (x : ℕ). x % 2)
+    (halves (m + 2 ^ i) i j h
+    ∙ ap (λ (x : ℕ). x / 2 / 2 ^ (j - suc i)) (up-one m i)
+    ∙ ap (λ (x : ℕ). x / 2 ^ (j - suc i)) s
+    ∙ sym (halves m i j h))
+
+added-other : (m i j : ℕ) → bit m i ≡ 0 → (j ≡ i → ⊥) → bit (m + 2 ^ i) j ≡ bit m j
+added-other m i j e o = ⊎-elim (λ (l : j < i). added-below m j i l) (λ (l : i < j). added-above m i j e l) (apart j i o)
+
+-- a bit is 0 or 1
+zero-or-one : (m i : ℕ) → (bit m i ≡ 0) ⊎ (bit m i ≡ 1)
+zero-or-one m i = by (m / 2 ^ i % 2) (omega arith)
+    where
+    by : (x : ℕ) → x < 2 → (x ≡ 0) ⊎ (x ≡ 1)
+    by zero h = inl refl
+    by (suc zero) h = inr refl
+    by (suc (suc x)) h = absurd (omega arith)
+
+module _ (m i : ℕ) where
+  stays : bit m i ≡ 0 → without m i ≡ m
+  unfolding without
+  stays e = rw e (omega arith)
+
+  -- with bit i set, m is m without i and 2^i
+  joined : bit m i ≡ 1 → without m i + 2 ^ i ≡ m
+  unfolding without
+  joined e =
+      let q : ℕ = m / 2 ^ i in
+      let d : 2 ^ i * q + m % 2 ^ i ≡ m = div-add-mod m (2 ^ i) in
+      let l : 1 ≤ q = omega arith in
+      let n : 2 ^ i * 1 ≤ 2 ^ i * q = mul-le-mul-left (2 ^ i) l in
+      rw e (omega arith)
+
+  was-set : bit m i ≡ 1 → bit (without m i) i ≡ 0
+  was-set e =
+      let p : (without m i + 2 ^ i) / 2 ^ i ≡ without m i / 2 ^ i + 1 = up-one (without m i) i in
+      let q : m / 2 ^ i ≡ without m i / 2 ^ i + 1 = ap (λ (x : ℕ). x / 2 ^ i) (sym (joined e)) ∙ p in
+      omega arith
+
+  pub without-same : bit (without m i) i ≡ 0
+  without-same = ⊎-elim (λ (e : bit m i ≡ 0). ap (λ (x : ℕ). bit x i) (stays e) ∙ e) was-set (zero-or-one m i)
+
+  pub without-other : (j : ℕ) → (j ≡ i → ⊥) → bit (without m i) j ≡ bit m j
+  without-other j o =
+      ⊎-elim
+      (λ (e : bit m i ≡ 0). ap (λ (x : ℕ). bit x j) (stays e))
+      (λ (e : bit m i ≡ 1). sym (added-other (without m i) i j (was-set e) o) ∙ ap (λ (x : ℕ). bit x j) (joined e))
+      (zero-or-one m i)
+
+  pub with-same : bit (with-bit m i) i ≡ 1
+  unfolding with-bit
+  with-same = added-same (without m i) i without-same
+
+  pub with-other : (j : ℕ) → (j ≡ i → ⊥) → bit (with-bit m i) j ≡ bit m j
+  unfolding with-bit
+  with-other j o = added-other (without m i) i j without-same o ∙ without-other j o
+
+-- an empty set: no bit below n
+pub empty-bits : (m n j : ℕ) → m % 2 ^ n ≡ 0 → j < n → bit m j ≡ 0
+empty-bits m n j e h =
+    let t : ℕ = 2 ^ (n - suc j) in
+    let c : ℕ = m / 2 ^ n in
+    let d : 2 ^ n * c + m % 2 ^ n ≡ m = div-add-mod m (2 ^ n) in
+    let f : m ≡ 2 ^ j * (2 * t * c) = sym d ∙ rw (e, power j n h) (omega arith) in
+    ap (λ (x : ℕ). x / 2 ^ j % 2) f ∙ ap (λ (x : ℕ). x % 2) (mul-div-cancel-left (2 * t * c) (positive j)) ∙ omega arith
+
+-- a set that is not empty has a member below n
+pub record Member (m n : ℕ) : Type 0 where
+  pub place : ℕ
+  pub below : place < n
+  pub is-set : bit m place ≡ 1
+
+low-bits : (m n : ℕ) → m % 2 ^ suc n ≡ bit m n * 2 ^ n + m % 2 ^ n
+low-bits m n = ap (λ (x : ℕ). m % x) (pow-succ' 2 n) ∙ mod-mul m (lit< tt) (positive n)
+
+pub member : (m n : ℕ) → (m % 2 ^ n ≡ 0 → ⊥) → Member m n
+member m zero h = absurd (h (omega arith))
+member m (suc n) h =
+    ⊎-elim
+    (λ (e : bit m n ≡ 0).
+    let r = member m n (λ (z : m % 2 ^ n ≡ 0). h (low-bits m n ∙ rw (e, z) (omega arith))) in
+    record { place = r .place; below = omega arith; is-set = r .is-set })
+    (λ (e : bit m n ≡ 1). record { place = n; below = omega arith; is-set = e })
+    (zero-or-one m n)

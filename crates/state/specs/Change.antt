@@ -1,0 +1,404 @@
+-- What a store into one field does to the server: a change of one row of a table, or of one single value. A field is named by its place
+-- in the row, and one law over the place serves every field. Assumes nothing.
+use mathlib.Core.Path.{_≡_, refl, sym, ap, ap₂, _∙_}
+use mathlib.Core.Logic.{_⊎_, inl, inr, ⊎-elim}
+use mathlib.Core.Bool.{Bool, true, false, cond}
+use mathlib.Core.List.{List, [], _∷_}
+use Prim.Native.Nat.{ℕ, zero, suc, _+_, _*_, _-_, _%_, _^_, _≤_, _<_, min}
+use native.Mathlib.Nat.{zero-add, mod-eq-of-lt}
+use native.Mathlib.Omega.{arith}
+use lib.Dec.{eqb, lit<}
+use lib.ListN.{length, getD, set, take}
+use lib.Seq.{getD-set-same, getD-set-other}
+use borrow.Author.Tests.{eqb-true, eqb-false}
+use Rattle.model.specs.Sizes.{sessionLimit, connectionLimit, stringLimit}
+use Rattle.model.specs.State.{Entry, Waiting, Locks, Exchange, Connection, RemoteLocal, Rest, Server, blank, at, freshExchange, closedConnection, exchangeAt, connectionAt}
+use Rattle.state.specs.Table.{tab, tab-same, tab-set, getD-tab, apart}
+use Rattle.state.specs.Grid.{upd, upd-set, part, grid, grid-set, grid-off, getD-grid, word-of}
+use Rattle.state.specs.Bits.{bit}
+use Rattle.state.specs.Layout.{LOCKS, CLOCK, VENDOR, STATUS, LAST, ENABLE, LOCKOUT, REMOTE, HOLDER, SHARERS, KEY, COUNT, ENTRIES, ENTRY, EXCHANGES, EXCHANGE, CONNECTIONS, CONNECTION, REQUESTS, REQUEST, QUEUE, WORDS}
+use Rattle.state.specs.View.{Memory, memory, word, flag, keyOf, entryAt, entriesOf, slotAt, requestAt, waitingOf, locksOf, askedOf, exchangeFrom, exchangeOf, connectionFrom, connectionOf, entryFrom, restFrom, restOf, view}
+
+-- a field of a row, by its place
+abbrev pub exchangeWith : ℕ → ℕ → Exchange → Exchange
+exchangeWith zero v x = record { inClear = flag v; asked = x .asked; messageAvailable = x .messageAvailable; clientSize = x .clientSize }
+exchangeWith (suc zero) v x = record { inClear = x .inClear; asked = askedOf v; messageAvailable = x .messageAvailable; clientSize = x .clientSize }
+exchangeWith (suc (suc zero)) v x = record { inClear = x .inClear; asked = x .asked; messageAvailable = flag v; clientSize = x .clientSize }
+exchangeWith (suc (suc (suc f))) v x = record { inClear = x .inClear; asked = x .asked; messageAvailable = x .messageAvailable; clientSize = v }
+
+abbrev pub connectionWith : ℕ → ℕ → Connection → Connection
+connectionWith zero v x = record { isOpen = flag v; remainder = x .remainder }
+connectionWith (suc f) v x = record { isOpen = x .isOpen; remainder = v }
+
+abbrev pub entryWith : ℕ → ℕ → Entry → Entry
+entryWith zero v e = record { number = v; synchronous = e .synchronous; asynchronous = e .asynchronous; exclusive = e .exclusive; shared = e .shared }
+entryWith (suc zero) v e = record { number = e .number; synchronous = v % 256; asynchronous = e .asynchronous; exclusive = e .exclusive; shared = e .shared }
+entryWith (suc (suc f)) v e = record { number = e .number; synchronous = e .synchronous; asynchronous = v % 256; exclusive = e .exclusive; shared = e .shared }
+
+-- a single value of the rest, by its place: vendor number, status byte, last SessionID, the three flags
+abbrev pub flagsWith : ℕ → ℕ → RemoteLocal → RemoteLocal
+flagsWith zero v x = record { enable = flag v; lockout = x .lockout; remote = x .remote }
+flagsWith (suc zero) v x = record { enable = x .enable; lockout = flag v; remote = x .remote }
+flagsWith (suc (suc f)) v x = record { enable = x .enable; lockout = x .lockout; remote = flag v }
+
+abbrev pub singleWith : ℕ → ℕ → Rest → Rest
+singleWith zero v r = record { exchanges = r .exchanges; connections = r .connections; lastIssued = r .lastIssued; vendor = v % 65536; status = r .status; remoteLocal = r .remoteLocal }
+singleWith (suc zero) v r = record { exchanges = r .exchanges; connections = r .connections; lastIssued = r .lastIssued; vendor = r .vendor; status = v % 256; remoteLocal = r .remoteLocal }
+singleWith (suc (suc zero)) v r = record { exchanges = r .exchanges; connections = r .connections; lastIssued = v % 65536; vendor = r .vendor; status = r .status; remoteLocal = r .remoteLocal }
+singleWith (suc (suc (suc f))) v r = record { exchanges = r .exchanges; connections = r .connections; lastIssued = r .lastIssued; vendor = r .vendor; status = r .status; remoteLocal = flagsWith f v (r .remoteLocal) }
+
+abbrev pub withClock : Server → ℕ → Server
+withClock d t = record { locks = record { clock = t; entries = d .locks .entries; waiting = d .locks .waiting }; rest = d .rest }
+
+abbrev pub onRest : Server → (Rest → Rest) → Server
+onRest d g = record { locks = d .locks; rest = g (d .rest) }
+
+-- a change of one row
+abbrev pub onExchange : Server → ℕ → (Exchange → Exchange) → Server
+onExchange d i g =
+    record {
+      locks = d .locks;
+      rest = record {
+        exchanges = upd (d .rest .exchanges) i g;
+        connections = d .rest .connections;
+        lastIssued = d .rest .lastIssued;
+        vendor = d .rest .vendor;
+        status = d .rest .status;
+        remoteLocal = d .rest .remoteLocal;
+      };
+    }
+
+abbrev pub onConnection : Server → ℕ → (Connection → Connection) → Server
+onConnection d i g =
+    record {
+      locks = d .locks;
+      rest = record {
+        exchanges = d .rest .exchanges;
+        connections = upd (d .rest .connections) i g;
+        lastIssued = d .rest .lastIssued;
+        vendor = d .rest .vendor;
+        status = d .rest .status;
+        remoteLocal = d .rest .remoteLocal;
+      };
+    }
+
+abbrev pub onEntry : Server → ℕ → (Entry → Entry) → Server
+onEntry d i g =
+    record {
+      locks = record { clock = d .locks .clock; entries = upd (d .locks .entries) i g; waiting = d .locks .waiting };
+      rest = d .rest;
+    }
+
+module _ (w : List ℕ) where
+  -- a store elsewhere is not seen in a word; here it is
+  pub off : (a v i : ℕ) → (i ≡ a → ⊥) → word (set w a v) i ≡ word w i
+  off a v i o = getD-set-other w a i v 0 o
+
+  pub here : (a v : ℕ) → a < length w → word (set w a v) a ≡ v
+  here a v h = getD-set-same w a v 0 h
+
+  -- both at once: word g of those from a on, after a store into word f of them
+  pub stored : (a f v g : ℕ) → a + f < length w → word (set w (a + f) v) (a + g) ≡ cond (eqb g f) v (word w (a + g))
+  stored a f v g h = by (eqb g f) refl
+      where
+      by : (b : Bool) → eqb g f ≡ b → word (set w (a + f) v) (a + g) ≡ cond b v (word w (a + g))
+      by true e = let n : a + g ≡ a + f = ap (λ (x : ℕ). a + x) (eqb-true g f e) in ap (word (set w (a + f) v)) n ∙ here (a + f) v h
+      by false e = off (a + f) v (a + g) (λ q. eqb-false g f e (let z : g ≡ f = omega arith in z))
+
+  -- the parts of the locks, each with the words that it is read from
+  entry-off : (key : List ℕ) (a v i : ℕ) → i < sessionLimit → (HOLDER ≡ a → ⊥) → (SHARERS ≡ a → ⊥) → (a < ENTRIES) ⊎ (REQUESTS ≤ a)
+      → entryAt (set w a v) key i ≡ entryAt w key i
+  unfolding entryAt
+  entry-off key a v i h p q o =
+      let n : (j : ℕ) → j < ENTRY → ENTRIES + i * ENTRY + j ≡ a → ⊥ = (λ j l e. ⊎-elim (λ (x : a < ENTRIES). omega arith) (λ (x : REQUESTS ≤ a). omega arith) o) in
+      λ k. record {
+        number = off a v (ENTRIES + i * ENTRY + 0) (n 0 (lit< tt)) k;
+        synchronous = off a v (ENTRIES + i * ENTRY + 1) (n 1 (lit< tt)) k % 256;
+        asynchronous = off a v (ENTRIES + i * ENTRY + 2) (n 2 (lit< tt)) k % 256;
+        exclusive = eqb (off a v HOLDER p k) (i + 1);
+        shared = cond (eqb (bit (off a v SHARERS q k) i) 1) key [];
+      }
+
+  pub entries-off : (key : List ℕ) (a v : ℕ) → (HOLDER ≡ a → ⊥) → (SHARERS ≡ a → ⊥) → (a < ENTRIES) ⊎ (REQUESTS ≤ a)
+      → entriesOf (set w a v) key ≡ entriesOf w key
+  unfolding entriesOf
+  entries-off key a v p q o = tab-same (entryAt (set w a v) key) (entryAt w key) 0 sessionLimit (λ j x y. entry-off key a v j (omega arith) p q o)
+
+  pub key-off : (s : List ℕ) (a v : ℕ) → (KEY ≡ a → ⊥) → keyOf (set w a v) s ≡ keyOf w s
+  unfolding keyOf
+  key-off s a v o = ap (λ (x : ℕ). word s 0 ∷ take x (part s 1 63)) (off a v KEY o)
+
+  request-off : (s : List ℕ) (a v j : ℕ) → a < REQUESTS → requestAt (set w a v) s (slotAt (set w a v) j) ≡ requestAt w s (slotAt w j)
+  unfolding requestAt slotAt
+  request-off s a v j h =
+      let i : ℕ = word w (QUEUE + j) % sessionLimit in
+      ap (λ (x : ℕ). requestAt (set w a v) s (x % sessionLimit)) (off a v (QUEUE + j) (omega arith))
+      ∙ λ k. record {
+        slot = i;
+        deadline = off a v (REQUESTS + i * REQUEST) (omega arith) k;
+        string = take (off a v (REQUESTS + i * REQUEST + 1) (omega arith) k) (part s (stringLimit + i * stringLimit) stringLimit);
+      }
+
+  pub waiting-off : (s : List ℕ) (a v : ℕ) → a < REQUESTS → (COUNT ≡ a → ⊥) → waitingOf (set w a v) s ≡ waitingOf w s
+  unfolding waitingOf
+  waiting-off s a v h o =
+      ap (λ (x : ℕ). tab (λ (j : ℕ). requestAt (set w a v) s (slotAt (set w a v) j)) 0 (min x sessionLimit)) (off a v COUNT o)
+      ∙ tab-same (λ (j : ℕ). requestAt (set w a v) s (slotAt (set w a v) j)) (λ (j : ℕ). requestAt w s (slotAt w j)) 0 (min (word w COUNT) sessionLimit) (λ j p q. request-off s a v j h)
+
+  -- a store among the words of the rest leaves the locks, one among the words of the locks leaves the rest
+  pub locks-off : (s : List ℕ) (a v : ℕ) → a < LOCKS → locksOf (set w a v) s ≡ locksOf w s
+  unfolding locksOf
+  locks-off s a v h =
+      λ k. record {
+        clock = off a v CLOCK (omega arith) k % 2 ^ 63;
+        entries = (ap (entriesOf (set w a v)) (key-off s a v (omega arith)) ∙ entries-off (keyOf w s) a v (omega arith) (omega arith) (inl (omega arith))) k;
+        waiting = waiting-off s a v (omega arith) (omega arith) k;
+      }
+
+  pub rest-off : (a v : ℕ) → LOCKS ≤ a → restOf (set w a v) ≡ restOf w
+  unfolding restOf
+  rest-off a v h =
+      λ k. record {
+        exchanges = grid-off exchangeOf EXCHANGES EXCHANGE sessionLimit w a v (inr (omega arith)) k;
+        connections = grid-off connectionOf CONNECTIONS CONNECTION connectionLimit w a v (inr (omega arith)) k;
+        lastIssued = off a v LAST (omega arith) k % 65536;
+        vendor = off a v VENDOR (omega arith) k % 65536;
+        status = off a v STATUS (omega arith) k % 256;
+        remoteLocal = record {
+          enable = flag (off a v ENABLE (omega arith) k);
+          lockout = flag (off a v LOCKOUT (omega arith) k);
+          remote = flag (off a v REMOTE (omega arith) k);
+        };
+      }
+
+-- a field of a row, stored: one law over the place for each table
+row-stored : (r : List ℕ) (f v g : ℕ) → f < length r → word (set r f v) g ≡ cond (eqb g f) v (word r g)
+row-stored r f v g h =
+    let e : 0 + f ≡ f = zero-add f in
+    let d : 0 + g ≡ g = zero-add g in
+    (rw (e, d) at (stored r 0 f v g (rw e h)))
+
+exchange-row : (r : List ℕ) (f v : ℕ) → length r ≡ EXCHANGE → f < EXCHANGE → exchangeOf (set r f v) ≡ exchangeWith f v (exchangeOf r)
+exchange-row r f v h l =
+    let t : (g : ℕ) → word (set r f v) g ≡ cond (eqb g f) v (word r g) = (λ g. row-stored r f v g (omega arith)) in
+    (λ k. record { inClear = flag (t 0 k); asked = askedOf (t 1 k); messageAvailable = flag (t 2 k); clientSize = t 3 k }) ∙ by f l
+    where
+    by : (f : ℕ) → f < EXCHANGE → exchangeFrom (λ (g : ℕ). cond (eqb g f) v (word r g)) ≡ exchangeWith f v (exchangeOf r)
+    by zero l = refl
+    by (suc zero) l = refl
+    by (suc (suc zero)) l = refl
+    by (suc (suc (suc zero))) l = refl
+    by (suc (suc (suc (suc f)))) l = absurd (omega arith)
+
+connection-row : (r : List ℕ) (f v : ℕ) → length r ≡ CONNECTION → f < CONNECTION → connectionOf (set r f v) ≡ connectionWith f v (connectionOf r)
+connection-row r f v h l =
+    let t : (g : ℕ) → word (set r f v) g ≡ cond (eqb g f) v (word r g) = (λ g. row-stored r f v g (omega arith)) in
+    (λ k. record { isOpen = flag (t 0 k); remainder = t 1 k }) ∙ by f l
+    where
+    by : (f : ℕ) → f < CONNECTION → connectionFrom (λ (g : ℕ). cond (eqb g f) v (word r g)) ≡ connectionWith f v (connectionOf r)
+    by zero l = refl
+    by (suc zero) l = refl
+    by (suc (suc f)) l = absurd (omega arith)
+
+module _ (w s : List ℕ) (i f v : ℕ) (long : length w ≡ WORDS) where
+  pub exchange-stored : i < sessionLimit → f < EXCHANGE
+      → view (memory (set w (EXCHANGES + i * EXCHANGE + f) v) s) ≡ onExchange (view (memory w s)) i (exchangeWith f v)
+  unfolding restOf
+  exchange-stored h l =
+      let a : ℕ = EXCHANGES + i * EXCHANGE + f in
+      λ k. record {
+        locks = locks-off w s a v (omega arith) k;
+        rest = record {
+          exchanges = grid-set exchangeOf EXCHANGES EXCHANGE sessionLimit w i f v (exchangeWith f v) (λ r e. exchange-row r f v e l) h l (omega arith) k;
+          connections = grid-off connectionOf CONNECTIONS CONNECTION connectionLimit w a v (inl (omega arith)) k;
+          lastIssued = off w a v LAST (omega arith) k % 65536;
+          vendor = off w a v VENDOR (omega arith) k % 65536;
+          status = off w a v STATUS (omega arith) k % 256;
+          remoteLocal = record { enable = flag (off w a v ENABLE (omega arith) k); lockout = flag (off w a v LOCKOUT (omega arith) k); remote = flag (off w a v REMOTE (omega arith) k) };
+        };
+      }
+
+  pub connection-stored : i < connectionLimit → f < CONNECTION
+      → view (memory (set w (CONNECTIONS + i * CONNECTION + f) v) s) ≡ onConnection (view (memory w s)) i (connectionWith f v)
+  unfolding restOf
+  connection-stored h l =
+      let a : ℕ = CONNECTIONS + i * CONNECTION + f in
+      λ k. record {
+        locks = locks-off w s a v (omega arith) k;
+        rest = record {
+          exchanges = grid-off exchangeOf EXCHANGES EXCHANGE sessionLimit w a v (inr (omega arith)) k;
+          connections = grid-set connectionOf CONNECTIONS CONNECTION connectionLimit w i f v (connectionWith f v) (λ r e. connection-row r f v e l) h l (omega arith) k;
+          lastIssued = off w a v LAST (omega arith) k % 65536;
+          vendor = off w a v VENDOR (omega arith) k % 65536;
+          status = off w a v STATUS (omega arith) k % 256;
+          remoteLocal = record { enable = flag (off w a v ENABLE (omega arith) k); lockout = flag (off w a v LOCKOUT (omega arith) k); remote = flag (off w a v REMOTE (omega arith) k) };
+        };
+      }
+
+-- of a slot, its SessionID and connections
+entry-by : (key : List ℕ) (x : Bool) (y : List ℕ) (t : ℕ → ℕ) (f v : ℕ) → f < ENTRY
+    → entryFrom (λ (g : ℕ). cond (eqb g f) v (t g)) x y ≡ entryWith f v (entryFrom t x y)
+entry-by key x y t zero v l = refl
+entry-by key x y t (suc zero) v l = refl
+entry-by key x y t (suc (suc zero)) v l = refl
+entry-by key x y t (suc (suc (suc f))) v l = absurd (omega arith)
+
+entry-row : (w key : List ℕ) (i f v : ℕ) → length w ≡ WORDS → i < sessionLimit → f < ENTRY
+    → entryAt (set w (ENTRIES + i * ENTRY + f) v) key i ≡ entryWith f v (entryAt w key i)
+unfolding entryAt
+entry-row w key i f v n h l =
+    let b : ℕ = ENTRIES + i * ENTRY in
+    let a : ℕ = b + f in
+    let t : (g : ℕ) → word (set w a v) (b + g) ≡ cond (eqb g f) v (word w (b + g)) = (λ g. stored w b f v g (omega arith)) in
+    let x : Bool = eqb (word w HOLDER) (i + 1) in
+    let y : List ℕ = cond (eqb (bit (word w SHARERS) i) 1) key [] in
+    (λ k. record {
+      number = t 0 k;
+      synchronous = t 1 k % 256;
+      asynchronous = t 2 k % 256;
+      exclusive = eqb (off w a v HOLDER (omega arith) k) (i + 1);
+      shared = cond (eqb (bit (off w a v SHARERS (omega arith) k) i) 1) key [];
+    })
+    ∙ entry-by key x y (λ (g : ℕ). word w (b + g)) f v l
+
+entry-other : (w key : List ℕ) (i f v j : ℕ) → i < sessionLimit → f < ENTRY → j < sessionLimit → (j ≡ i → ⊥)
+    → entryAt (set w (ENTRIES + i * ENTRY + f) v) key j ≡ entryAt w key j
+unfolding entryAt
+entry-other w key i f v j h l m o =
+    let a : ℕ = ENTRIES + i * ENTRY + f in
+    let n : (g : ℕ) → g < ENTRY → ENTRIES + j * ENTRY + g ≡ a → ⊥ = (λ g x e. ⊎-elim (λ (y : j < i). omega arith) (λ (y : i < j). omega arith) (apart j i o)) in
+    λ k. record {
+      number = off w a v (ENTRIES + j * ENTRY + 0) (n 0 (lit< tt)) k;
+      synchronous = off w a v (ENTRIES + j * ENTRY + 1) (n 1 (lit< tt)) k % 256;
+      asynchronous = off w a v (ENTRIES + j * ENTRY + 2) (n 2 (lit< tt)) k % 256;
+      exclusive = eqb (off w a v HOLDER (omega arith) k) (j + 1);
+      shared = cond (eqb (bit (off w a v SHARERS (omega arith) k) j) 1) key [];
+    }
+
+entries-set : (w key : List ℕ) (i f v : ℕ) → length w ≡ WORDS → i < sessionLimit → f < ENTRY
+    → entriesOf (set w (ENTRIES + i * ENTRY + f) v) key ≡ upd (entriesOf w key) i (entryWith f v)
+unfolding entriesOf
+entries-set w key i f v n h l =
+    let a : ℕ = ENTRIES + i * ENTRY + f in
+    tab-set (entryAt w key) (entryAt (set w a v) key) 0 sessionLimit i (entryWith f v (entryAt w key i)) h
+    (ap (entryAt (set w a v) key) (zero-add i) ∙ entry-row w key i f v n h l)
+    (λ j p q o. entry-other w key i f v j h l (omega arith) (λ e. o (e ∙ sym (zero-add i))))
+    ∙ ap (λ (x : Entry). set (entriesOf w key) i (entryWith f v x)) (sym (getD-tab (entryAt w key) 0 sessionLimit i blank h ∙ ap (entryAt w key) (zero-add i)))
+    ∙ upd-set (entriesOf w key) i blank (entryWith f v)
+
+pub entry-stored : (w s : List ℕ) (i f v : ℕ) → length w ≡ WORDS → i < sessionLimit → f < ENTRY
+    → view (memory (set w (ENTRIES + i * ENTRY + f) v) s) ≡ onEntry (view (memory w s)) i (entryWith f v)
+unfolding locksOf
+entry-stored w s i f v n h l =
+    let a : ℕ = ENTRIES + i * ENTRY + f in
+    λ k. record {
+      locks = record {
+        clock = off w a v CLOCK (omega arith) k % 2 ^ 63;
+        entries = (ap (entriesOf (set w a v)) (key-off w s a v (omega arith)) ∙ entries-set w (keyOf w s) i f v n h l) k;
+        waiting = waiting-off w s a v (omega arith) (omega arith) k;
+      };
+      rest = rest-off w a v (omega arith) k;
+    }
+
+-- a field of a row, read: the word that stands there, stored again, changes nothing
+module _ (w : List ℕ) (i : ℕ) where
+  exchange-at : i < sessionLimit → exchangeAt (restOf w) i ≡ exchangeOf (part w (EXCHANGES + i * EXCHANGE) EXCHANGE)
+  unfolding restOf
+  exchange-at h = getD-grid exchangeOf EXCHANGES EXCHANGE sessionLimit w i freshExchange h
+
+  pub exchange-read : (f : ℕ) → i < sessionLimit → f < EXCHANGE → exchangeWith f (word w (EXCHANGES + i * EXCHANGE + f)) (exchangeAt (restOf w) i) ≡ exchangeAt (restOf w) i
+  exchange-read f h l =
+      let r : List ℕ = part w (EXCHANGES + i * EXCHANGE) EXCHANGE in
+      ap₂ (exchangeWith f) (sym (word-of w (EXCHANGES + i * EXCHANGE) EXCHANGE f l)) (exchange-at h) ∙ again f l ∙ sym (exchange-at h)
+      where
+      again : (f : ℕ) → f < EXCHANGE → exchangeWith f (word (part w (EXCHANGES + i * EXCHANGE) EXCHANGE) f) (exchangeOf (part w (EXCHANGES + i * EXCHANGE) EXCHANGE)) ≡ exchangeOf (part w (EXCHANGES + i * EXCHANGE) EXCHANGE)
+      again zero l = refl
+      again (suc zero) l = refl
+      again (suc (suc zero)) l = refl
+      again (suc (suc (suc zero))) l = refl
+      again (suc (suc (suc (suc f)))) l = absurd (omega arith)
+
+  connection-at : i < connectionLimit → connectionAt (restOf w) i ≡ connectionOf (part w (CONNECTIONS + i * CONNECTION) CONNECTION)
+  unfolding restOf
+  connection-at h = getD-grid connectionOf CONNECTIONS CONNECTION connectionLimit w i closedConnection h
+
+  pub connection-read : (f : ℕ) → i < connectionLimit → f < CONNECTION → connectionWith f (word w (CONNECTIONS + i * CONNECTION + f)) (connectionAt (restOf w) i) ≡ connectionAt (restOf w) i
+  connection-read f h l =
+      ap₂ (connectionWith f) (sym (word-of w (CONNECTIONS + i * CONNECTION) CONNECTION f l)) (connection-at h) ∙ again f l ∙ sym (connection-at h)
+      where
+      again : (f : ℕ) → f < CONNECTION → connectionWith f (word (part w (CONNECTIONS + i * CONNECTION) CONNECTION) f) (connectionOf (part w (CONNECTIONS + i * CONNECTION) CONNECTION)) ≡ connectionOf (part w (CONNECTIONS + i * CONNECTION) CONNECTION)
+      again zero l = refl
+      again (suc zero) l = refl
+      again (suc (suc f)) l = absurd (omega arith)
+
+  pub entry-at : (s : List ℕ) → i < sessionLimit → at (locksOf w s .entries) i ≡ entryAt w (keyOf w s) i
+  unfolding locksOf entriesOf
+  entry-at s h = getD-tab (entryAt w (keyOf w s)) 0 sessionLimit i blank h ∙ ap (entryAt w (keyOf w s)) (zero-add i)
+
+  entry-again : (key : List ℕ) (f : ℕ) → f < ENTRY → entryWith f (word w (ENTRIES + i * ENTRY + f)) (entryAt w key i) ≡ entryAt w key i
+  unfolding entryAt
+  entry-again key zero l = refl
+  entry-again key (suc zero) l = refl
+  entry-again key (suc (suc zero)) l = refl
+  entry-again key (suc (suc (suc f))) l = absurd (omega arith)
+
+  pub entry-read : (s : List ℕ) (f : ℕ) → i < sessionLimit → f < ENTRY → entryWith f (word w (ENTRIES + i * ENTRY + f)) (at (locksOf w s .entries) i) ≡ at (locksOf w s .entries) i
+  entry-read s f h l = ap (entryWith f (word w (ENTRIES + i * ENTRY + f))) (entry-at s h) ∙ entry-again (keyOf w s) f l ∙ sym (entry-at s h)
+
+-- single values
+module _ (w s : List ℕ) (v : ℕ) (long : length w ≡ WORDS) where
+  pub clock-stored : v < 2 ^ 63 → view (memory (set w CLOCK v) s) ≡ withClock (view (memory w s)) v
+  unfolding locksOf
+  clock-stored h =
+      λ k. record {
+        locks = record {
+          clock = (ap (λ (x : ℕ). x % 2 ^ 63) (here w CLOCK v (omega arith)) ∙ mod-eq-of-lt h) k;
+          entries = (ap (entriesOf (set w CLOCK v)) (key-off w s CLOCK v (omega arith)) ∙ entries-off w (keyOf w s) CLOCK v (omega arith) (omega arith) (inl (omega arith))) k;
+          waiting = waiting-off w s CLOCK v (omega arith) (omega arith) k;
+        };
+        rest = rest-off w CLOCK v (omega arith) k;
+      }
+
+-- the rest's single values
+module _ (w : List ℕ) (v : ℕ) (long : length w ≡ WORDS) where
+  rest-by : (x : List Exchange) (y : List Connection) (t : ℕ → ℕ) (f : ℕ) → f < EXCHANGES → restFrom x y (λ (g : ℕ). cond (eqb g f) v (t g)) ≡ singleWith f v (restFrom x y t)
+  rest-by x y t zero h = refl
+  rest-by x y t (suc zero) h = refl
+  rest-by x y t (suc (suc zero)) h = refl
+  rest-by x y t (suc (suc (suc zero))) h = refl
+  rest-by x y t (suc (suc (suc (suc zero)))) h = refl
+  rest-by x y t (suc (suc (suc (suc (suc zero))))) h = refl
+  rest-by x y t (suc (suc (suc (suc (suc (suc f)))))) h = absurd (omega arith)
+
+  exchanges-keep : (f : ℕ) → f < EXCHANGES → grid exchangeOf EXCHANGES EXCHANGE sessionLimit (set w f v) ≡ grid exchangeOf EXCHANGES EXCHANGE sessionLimit w
+  exchanges-keep f h = grid-off exchangeOf EXCHANGES EXCHANGE sessionLimit w f v (inl h)
+
+  connections-keep : (f : ℕ) → f < EXCHANGES → grid connectionOf CONNECTIONS CONNECTION connectionLimit (set w f v) ≡ grid connectionOf CONNECTIONS CONNECTION connectionLimit w
+  connections-keep f h = grid-off connectionOf CONNECTIONS CONNECTION connectionLimit w f v (inl (omega arith))
+
+  rest-row : (f : ℕ) → f < EXCHANGES → restOf (set w f v) ≡ singleWith f v (restOf w)
+  unfolding restOf
+  rest-row f h =
+      let t : (g : ℕ) → word (set w f v) g ≡ cond (eqb g f) v (word w g) = (λ g. row-stored w f v g (omega arith)) in
+      (λ k. record {
+        exchanges = exchanges-keep f h k;
+        connections = connections-keep f h k;
+        lastIssued = t LAST k % 65536;
+        vendor = t VENDOR k % 65536;
+        status = t STATUS k % 256;
+        remoteLocal = record { enable = flag (t ENABLE k); lockout = flag (t LOCKOUT k); remote = flag (t REMOTE k) };
+      })
+      ∙ rest-by (grid exchangeOf EXCHANGES EXCHANGE sessionLimit w) (grid connectionOf CONNECTIONS CONNECTION connectionLimit w) (word w) f h
+
+  pub single-stored : (s : List ℕ) (f : ℕ) → f < EXCHANGES → view (memory (set w f v) s) ≡ onRest (view (memory w s)) (singleWith f v)
+  single-stored s f h = λ k. record { locks = locks-off w s f v (omega arith) k; rest = rest-row f h k }
+
+pub single-read : (w : List ℕ) (f : ℕ) → f < EXCHANGES → singleWith f (word w f) (restOf w) ≡ restOf w
+unfolding restOf
+single-read w zero h = refl
+single-read w (suc zero) h = refl
+single-read w (suc (suc zero)) h = refl
+single-read w (suc (suc (suc zero))) h = refl
+single-read w (suc (suc (suc (suc zero)))) h = refl
+single-read w (suc (suc (suc (suc (suc zero))))) h = refl
+single-read w (suc (suc (suc (suc (suc (suc f)))))) h = absurd (omega arith)

@@ -1,0 +1,91 @@
+-- Where each part of the server stands in the lent words and bytes; docs/MEMORY.md draws it. The code's constants have these names.
+use Prim.Native.Nat.{ℕ}
+
+-- the vendor number
+abbrev pub VENDOR : ℕ
+VENDOR = 0
+
+-- the instrument's status byte
+abbrev pub STATUS : ℕ
+STATUS = 1
+
+-- the SessionID issued last
+abbrev pub LAST : ℕ
+LAST = 2
+
+-- the three remote/local flags
+abbrev pub ENABLE : ℕ
+ENABLE = 3
+
+abbrev pub LOCKOUT : ℕ
+LOCKOUT = 4
+
+abbrev pub REMOTE : ℕ
+REMOTE = 5
+
+-- a row for each slot: in device clear, what is asked (plus 1), message available, the client's size
+abbrev pub EXCHANGES : ℕ
+EXCHANGES = 6
+
+-- words a row
+abbrev pub EXCHANGE : ℕ
+EXCHANGE = 4
+
+-- a row for each connection: open, remainder to skip
+abbrev pub CONNECTIONS : ℕ
+CONNECTIONS = 70
+
+-- words a row
+abbrev pub CONNECTION : ℕ
+CONNECTION = 2
+
+-- here the words of the locks begin
+abbrev pub LOCKS : ℕ
+LOCKS = 134
+
+abbrev pub CLOCK : ℕ
+CLOCK = 134
+
+-- the slot of the exclusive holder, plus 1; 0 or a number past the slots: nobody
+abbrev pub HOLDER : ℕ
+HOLDER = 135
+
+-- bit i: slot i holds the shared lock
+abbrev pub SHARERS : ℕ
+SHARERS = 136
+
+-- the length of the shared string, less 1
+abbrev pub KEY : ℕ
+KEY = 137
+
+-- how many requests wait
+abbrev pub COUNT : ℕ
+COUNT = 138
+
+-- a row for each slot: SessionID, synchronous and asynchronous connection
+abbrev pub ENTRIES : ℕ
+ENTRIES = 139
+
+-- words a row
+abbrev pub ENTRY : ℕ
+ENTRY = 3
+
+-- a row for each slot: its request's deadline, the length of its string
+abbrev pub REQUESTS : ℕ
+REQUESTS = 187
+
+-- words a row
+abbrev pub REQUEST : ℕ
+REQUEST = 2
+
+-- the slots that wait, oldest first
+abbrev pub QUEUE : ℕ
+QUEUE = 219
+
+-- words to lend
+abbrev pub WORDS : ℕ
+WORDS = 235
+
+-- bytes to lend: the shared string, then the string of each slot's request, 64 bytes each
+abbrev pub STRINGS : ℕ
+STRINGS = 1088

@@ -1,0 +1,94 @@
+-- The server that stands in the lent memory. Whatever bits the memory holds, it shows a server: each word is read within its range.
+-- Every later answer depends on the memory through this view alone. Assumes nothing.
+use mathlib.Core.Bool.{Bool, true, false, cond}
+use mathlib.Core.List.{List, [], _∷_}
+use Prim.Native.Nat.{ℕ, zero, suc, _+_, _*_, _-_, _%_, _^_, min}
+use lib.Dec.{eqb}
+use lib.ListN.{getD, take}
+use Rattle.model.specs.Sizes.{sessionLimit, connectionLimit, stringLimit}
+use Rattle.model.specs.State.{Entry, Waiting, Locks, Asked, Asked.none, Asked.some, Exchange, Connection, RemoteLocal, Rest, Server}
+use Rattle.state.specs.Table.{tab}
+use Rattle.state.specs.Grid.{part, grid}
+use Rattle.state.specs.Bits.{bit}
+use Rattle.state.specs.Layout.{CLOCK, VENDOR, STATUS, LAST, ENABLE, LOCKOUT, REMOTE, HOLDER, SHARERS, KEY, COUNT, ENTRIES, ENTRY, EXCHANGES, EXCHANGE, CONNECTIONS, CONNECTION, REQUESTS, REQUEST, QUEUE}
+
+-- all that the host lends
+pub record Memory : Type 0 where
+  pub words : List ℕ
+  pub strings : List ℕ
+
+abbrev pub memory : List ℕ → List ℕ → Memory
+memory w s = record { words = w; strings = s }
+
+abbrev pub word : List ℕ → ℕ → ℕ
+word w i = getD w i 0
+
+-- a flag is on where its word is 1
+abbrev pub flag : ℕ → Bool
+flag x = eqb x 1
+
+-- the string of the shared lock: at least one byte, at most 64
+unfoldable pub keyOf : List ℕ → List ℕ → List ℕ
+keyOf w s = word s 0 ∷ take (word w KEY) (part s 1 63)
+
+-- slot i: its SessionID and connections stand in a row of words; exclusive and shared in words that all slots have in common
+abbrev pub entryFrom : (ℕ → ℕ) → Bool → List ℕ → Entry
+entryFrom t x y = record { number = t 0; synchronous = t 1 % 256; asynchronous = t 2 % 256; exclusive = x; shared = y }
+
+unfoldable pub entryAt : List ℕ → List ℕ → ℕ → Entry
+entryAt w key i =
+    entryFrom (λ (g : ℕ). word w (ENTRIES + i * ENTRY + g)) (eqb (word w HOLDER) (i + 1)) (cond (eqb (bit (word w SHARERS) i) 1) key [])
+
+unfoldable pub entriesOf : List ℕ → List ℕ → List Entry
+entriesOf w key = tab (entryAt w key) 0 sessionLimit
+
+-- the request of the j-th in the queue
+unfoldable pub slotAt : List ℕ → ℕ → ℕ
+slotAt w j = word w (QUEUE + j) % sessionLimit
+
+unfoldable pub requestAt : List ℕ → List ℕ → ℕ → Waiting
+requestAt w s i =
+    record {
+      slot = i;
+      deadline = word w (REQUESTS + i * REQUEST);
+      string = take (word w (REQUESTS + i * REQUEST + 1)) (part s (stringLimit + i * stringLimit) stringLimit);
+    }
+
+unfoldable pub waitingOf : List ℕ → List ℕ → List Waiting
+waitingOf w s = tab (λ (j : ℕ). requestAt w s (slotAt w j)) 0 (min (word w COUNT) sessionLimit)
+
+unfoldable pub locksOf : List ℕ → List ℕ → Locks
+locksOf w s = record { clock = word w CLOCK % 2 ^ 63; entries = entriesOf w (keyOf w s); waiting = waitingOf w s }
+
+-- 0: nothing is asked; else the MessageID, plus 1
+abbrev pub askedOf : ℕ → Asked
+askedOf x = cond (eqb x 0) none (some ((x - 1) % 2 ^ 32))
+
+abbrev pub exchangeFrom : (ℕ → ℕ) → Exchange
+exchangeFrom t = record { inClear = flag (t 0); asked = askedOf (t 1); messageAvailable = flag (t 2); clientSize = t 3 }
+
+abbrev pub exchangeOf : List ℕ → Exchange
+exchangeOf r = exchangeFrom (word r)
+
+abbrev pub connectionFrom : (ℕ → ℕ) → Connection
+connectionFrom t = record { isOpen = flag (t 0); remainder = t 1 }
+
+abbrev pub connectionOf : List ℕ → Connection
+connectionOf r = connectionFrom (word r)
+
+abbrev pub restFrom : List Exchange → List Connection → (ℕ → ℕ) → Rest
+restFrom x y t =
+    record {
+      exchanges = x;
+      connections = y;
+      lastIssued = t LAST % 65536;
+      vendor = t VENDOR % 65536;
+      status = t STATUS % 256;
+      remoteLocal = record { enable = flag (t ENABLE); lockout = flag (t LOCKOUT); remote = flag (t REMOTE) };
+    }
+
+unfoldable pub restOf : List ℕ → Rest
+restOf w = restFrom (grid exchangeOf EXCHANGES EXCHANGE sessionLimit w) (grid connectionOf CONNECTIONS CONNECTION connectionLimit w) (word w)
+
+abbrev pub view : Memory → Server
+view m = record { locks = locksOf (m .words) (m .strings); rest = restOf (m .words) }

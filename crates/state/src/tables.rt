@@ -1,0 +1,119 @@
+// The tables of the state, and its single values: one way to read and one to store a field, which is named by its place in the row.
+// Reading: the word that is read, stored again, would change nothing. Storing: the row changes in that field, and nothing else does.
+ghost use Prim.Native.Nat.{ℕ, _*_, _+_, _<_, _^_};
+ghost use Rattle.model.specs.State.{at, connectionAt, exchangeAt};
+ghost use Rattle.state.specs.Change.{connectionWith, entryWith, exchangeWith, onConnection, onEntry, onExchange, onRest, singleWith, withClock};
+ghost use Rattle.state.specs.View.{locksOf, memory, restOf, view};
+ghost use lib.ListN.{length};
+ghost use mathlib.Core.List.{List};
+ghost use mathlib.Core.Path.{_≡_};
+use crate::layout::{CLOCK, CONNECTION, CONNECTIONS, ENTRIES, ENTRY, EXCHANGE, EXCHANGES};
+
+// What a session has asked and been sent: fields 0 in device clear, 1 what is asked (plus 1), 2 message available, 3 the client's size.
+pub fn exchange(w: &[u64; 235], i: usize, f: usize) -> u64
+    requires { ⌜ (i < 16) × (f < 4) ⌝ }
+    ensures { λ r. ⌜ exchangeWith f r (exchangeAt (restOf (now (w .entry))) i) ≡ exchangeAt (restOf (now (w .entry))) i ⌝ }
+{
+    w[EXCHANGES + i * EXCHANGE + f]
+}
+
+fn set_exchange_in(w: &mut [u64], i: usize, f: usize, v: u64)
+    requires { ⌜ (i < 16) × (f < 4) × (length (now w) ≡ 235) ⌝ }
+    ensures { λ _. ⌜ ((s : List ℕ) → view (memory (now (w .exit)) s) ≡ onExchange (view (memory (now (w .entry)) s)) i (exchangeWith f v)) ⌝ }
+{
+    w[EXCHANGES + i * EXCHANGE + f] = v;
+}
+
+pub fn set_exchange(w: &mut [u64; 235], i: usize, f: usize, v: u64)
+    requires { ⌜ (i < 16) × (f < 4) ⌝ }
+    ensures { λ _. ⌜ ((s : List ℕ) → view (memory (now (w .exit)) s) ≡ onExchange (view (memory (now (w .entry)) s)) i (exchangeWith f v)) ⌝ }
+{
+    set_exchange_in(w, i, f, v);
+}
+
+// A connection: fields 0 open, 1 remainder to skip.
+pub fn connection(w: &[u64; 235], i: usize, f: usize) -> u64
+    requires { ⌜ (i < 32) × (f < 2) ⌝ }
+    ensures { λ r. ⌜ connectionWith f r (connectionAt (restOf (now (w .entry))) i) ≡ connectionAt (restOf (now (w .entry))) i ⌝ }
+{
+    w[CONNECTIONS + i * CONNECTION + f]
+}
+
+fn set_connection_in(w: &mut [u64], i: usize, f: usize, v: u64)
+    requires { ⌜ (i < 32) × (f < 2) × (length (now w) ≡ 235) ⌝ }
+    ensures { λ _. ⌜ ((s : List ℕ) → view (memory (now (w .exit)) s) ≡ onConnection (view (memory (now (w .entry)) s)) i (connectionWith f v)) ⌝ }
+{
+    w[CONNECTIONS + i * CONNECTION + f] = v;
+}
+
+pub fn set_connection(w: &mut [u64; 235], i: usize, f: usize, v: u64)
+    requires { ⌜ (i < 32) × (f < 2) ⌝ }
+    ensures { λ _. ⌜ ((s : List ℕ) → view (memory (now (w .exit)) s) ≡ onConnection (view (memory (now (w .entry)) s)) i (connectionWith f v)) ⌝ }
+{
+    set_connection_in(w, i, f, v);
+}
+
+// A slot of the table of sessions: fields 0 the SessionID, 1 the synchronous, 2 the asynchronous connection.
+pub fn entry(w: &[u64; 235], i: usize, f: usize) -> u64
+    requires { ⌜ (i < 16) × (f < 3) ⌝ }
+    ensures { λ r. ⌜ ((s : List ℕ) → entryWith f r (at (locksOf (now (w .entry)) s .entries) i) ≡ at (locksOf (now (w .entry)) s .entries) i) ⌝ }
+{
+    w[ENTRIES + i * ENTRY + f]
+}
+
+fn set_entry_in(w: &mut [u64], i: usize, f: usize, v: u64)
+    requires { ⌜ (i < 16) × (f < 3) × (length (now w) ≡ 235) ⌝ }
+    ensures { λ _. ⌜ ((s : List ℕ) → view (memory (now (w .exit)) s) ≡ onEntry (view (memory (now (w .entry)) s)) i (entryWith f v)) ⌝ }
+{
+    w[ENTRIES + i * ENTRY + f] = v;
+}
+
+pub fn set_entry(w: &mut [u64; 235], i: usize, f: usize, v: u64)
+    requires { ⌜ (i < 16) × (f < 3) ⌝ }
+    ensures { λ _. ⌜ ((s : List ℕ) → view (memory (now (w .exit)) s) ≡ onEntry (view (memory (now (w .entry)) s)) i (entryWith f v)) ⌝ }
+{
+    set_entry_in(w, i, f, v);
+}
+
+// The single values: 0 the vendor number, 1 the status byte, 2 the SessionID issued last, 3 to 5 the remote/local flags.
+pub fn single(w: &[u64; 235], f: usize) -> u64
+    requires { ⌜ f < 6 ⌝ }
+    ensures { λ r. ⌜ singleWith f r (restOf (now (w .entry))) ≡ restOf (now (w .entry)) ⌝ }
+{
+    w[f]
+}
+
+fn set_single_in(w: &mut [u64], f: usize, v: u64)
+    requires { ⌜ (f < 6) × (length (now w) ≡ 235) ⌝ }
+    ensures { λ _. ⌜ ((s : List ℕ) → view (memory (now (w .exit)) s) ≡ onRest (view (memory (now (w .entry)) s)) (singleWith f v)) ⌝ }
+{
+    w[f] = v;
+}
+
+pub fn set_single(w: &mut [u64; 235], f: usize, v: u64)
+    requires { ⌜ f < 6 ⌝ }
+    ensures { λ _. ⌜ ((s : List ℕ) → view (memory (now (w .exit)) s) ≡ onRest (view (memory (now (w .entry)) s)) (singleWith f v)) ⌝ }
+{
+    set_single_in(w, f, v);
+}
+
+// The clock, in milliseconds.
+pub fn clock(w: &[u64; 235]) -> u64
+    ensures { λ r. ⌜ (r < 9223372036854775808) × ((s : List ℕ) → r ≡ locksOf (now (w .entry)) s .clock) ⌝ }
+{
+    w[CLOCK] % 9223372036854775808
+}
+
+fn set_clock_in(w: &mut [u64], t: u64)
+    requires { ⌜ (t < 9223372036854775808) × (length (now w) ≡ 235) ⌝ }
+    ensures { λ _. ⌜ ((s : List ℕ) → view (memory (now (w .exit)) s) ≡ withClock (view (memory (now (w .entry)) s)) t) ⌝ }
+{
+    w[CLOCK] = t;
+}
+
+pub fn set_clock(w: &mut [u64; 235], t: u64)
+    requires { ⌜ t < 9223372036854775808 ⌝ }
+    ensures { λ _. ⌜ ((s : List ℕ) → view (memory (now (w .exit)) s) ≡ withClock (view (memory (now (w .entry)) s)) t) ⌝ }
+{
+    set_clock_in(w, t);
+}
