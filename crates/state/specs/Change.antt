@@ -106,7 +106,7 @@ module _ (w : List ℕ) where
       by false e = off (a + f) v (a + g) (λ q. eqb-false g f e (let z : g ≡ f = omega arith in z))
 
   -- the parts of the locks, each with the words that it is read from
-  entry-off : (key : List ℕ) (a v i : ℕ) → i < sessionLimit → (HOLDER ≡ a → ⊥) → (SHARERS ≡ a → ⊥) → (a < ENTRIES) ⊎ (REQUESTS ≤ a)
+  pub entry-off : (key : List ℕ) (a v i : ℕ) → i < sessionLimit → (HOLDER ≡ a → ⊥) → (SHARERS ≡ a → ⊥) → (a < ENTRIES) ⊎ (REQUESTS ≤ a)
       → entryAt (set w a v) key i ≡ entryAt w key i
   unfolding entryAt
   entry-off key a v i h p q o =
@@ -275,16 +275,24 @@ entry-other w key i f v j h l m o =
       shared = cond (eqb (bit (off w a v SHARERS (omega arith) k) j) 1) key [];
     }
 
+-- a memory whose table differs in slot i alone
+pub entries-change : (w w′ key key′ : List ℕ) (i : ℕ) (g : Entry → Entry) → i < sessionLimit
+    → entryAt w′ key′ i ≡ g (entryAt w key i)
+    → ((j : ℕ) → j < sessionLimit → (j ≡ i → ⊥) → entryAt w′ key′ j ≡ entryAt w key j)
+    → entriesOf w′ key′ ≡ upd (entriesOf w key) i g
+unfolding entriesOf
+entries-change w w′ key key′ i g h e o =
+    tab-set (entryAt w key) (entryAt w′ key′) 0 sessionLimit i (g (entryAt w key i)) h
+    (ap (entryAt w′ key′) (zero-add i) ∙ e)
+    (λ j p q n. o j (omega arith) (λ e. n (e ∙ sym (zero-add i))))
+    ∙ ap (λ (x : Entry). set (entriesOf w key) i (g x)) (sym (getD-tab (entryAt w key) 0 sessionLimit i blank h ∙ ap (entryAt w key) (zero-add i)))
+    ∙ upd-set (entriesOf w key) i blank g
+
 entries-set : (w key : List ℕ) (i f v : ℕ) → length w ≡ WORDS → i < sessionLimit → f < ENTRY
     → entriesOf (set w (ENTRIES + i * ENTRY + f) v) key ≡ upd (entriesOf w key) i (entryWith f v)
-unfolding entriesOf
 entries-set w key i f v n h l =
-    let a : ℕ = ENTRIES + i * ENTRY + f in
-    tab-set (entryAt w key) (entryAt (set w a v) key) 0 sessionLimit i (entryWith f v (entryAt w key i)) h
-    (ap (entryAt (set w a v) key) (zero-add i) ∙ entry-row w key i f v n h l)
-    (λ j p q o. entry-other w key i f v j h l (omega arith) (λ e. o (e ∙ sym (zero-add i))))
-    ∙ ap (λ (x : Entry). set (entriesOf w key) i (entryWith f v x)) (sym (getD-tab (entryAt w key) 0 sessionLimit i blank h ∙ ap (entryAt w key) (zero-add i)))
-    ∙ upd-set (entriesOf w key) i blank (entryWith f v)
+    entries-change w (set w (ENTRIES + i * ENTRY + f) v) key key i (entryWith f v) h (entry-row w key i f v n h l)
+    (λ j x o. entry-other w key i f v j h l x o)
 
 pub entry-stored : (w s : List ℕ) (i f v : ℕ) → length w ≡ WORDS → i < sessionLimit → f < ENTRY
     → view (memory (set w (ENTRIES + i * ENTRY + f) v) s) ≡ onEntry (view (memory w s)) i (entryWith f v)

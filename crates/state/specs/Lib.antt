@@ -5,3 +5,6 @@ pub mod Layout
 pub mod View
 pub mod Change
 pub mod Holders
+pub mod Requests
+pub mod Granting
+pub mod Queue

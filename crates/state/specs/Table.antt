@@ -1,7 +1,7 @@
 -- A table as a list: `tab f a n` is f at a, a + 1, .., n times. Its laws, once, for any row. Assumes nothing.
 use mathlib.Core.Path.{_≡_, refl, sym, ap, _∙_}
 use mathlib.Core.Bool.{Bool, true, false, _&&_}
-use mathlib.Core.List.{List, [], _∷_}
+use mathlib.Core.List.{List, [], _∷_, _++_}
 use mathlib.Core.Logic.{_⊎_, inl, inr, ⊎-elim}
 use Prim.Native.Nat.{ℕ, zero, suc, _+_, _≤_, _<_}
 use native.Mathlib.Nat.{add-zero, zero-add, not-suc-le-zero, le-of-suc-le-suc}
@@ -19,6 +19,14 @@ apart zero zero h = absurd (h refl)
 apart zero (suc i) h = inl (omega arith)
 apart (suc j) zero h = inr (omega arith)
 apart (suc j) (suc i) h = ⊎-elim (λ (l : j < i). inl (omega arith)) (λ (l : i < j). inr (omega arith)) (apart j i (λ e. h (ap suc e)))
+
+and-left : (x y : Bool) → (x && y) ≡ true → x ≡ true
+and-left true y e = refl
+and-left false y e = e
+
+and-right : (x y : Bool) → (x && y) ≡ true → y ≡ true
+and-right true y e = e
+and-right false y e = let z : _≡_ {A = ℕ} 0 1 = cc in absurd (omega arith)
 
 and-no : (x : Bool) {y : Bool} → y ≡ false → (x && y) ≡ false
 and-no true q = q
@@ -68,6 +76,23 @@ module _ {A : Type 0} where
   not-all-tab p f a (suc n) (suc i) h e =
       let m : suc a + i ≡ a + suc i = omega arith in
       and-no (p (f a)) (not-all-tab p f (suc a) n i (le-of-suc-le-suc h) (ap (λ (k : ℕ). p (f k)) m ∙ e))
+
+  -- and back: a row of a table all of whose rows pass
+  pub all-tab-row : (p : A → Bool) (f : ℕ → A) (a n i : ℕ) → all p (tab f a n) ≡ true → i < n → p (f (a + i)) ≡ true
+  unfolding tab
+  all-tab-row p f a zero i e h = absurd (not-suc-le-zero h)
+  all-tab-row p f a (suc n) zero e h = ap (λ (m : ℕ). p (f m)) (add-zero a) ∙ and-left (p (f a)) (all p (tab f (suc a) n)) e
+  all-tab-row p f a (suc n) (suc i) e h =
+      let m : a + suc i ≡ suc a + i = omega arith in
+      ap (λ (k : ℕ). p (f k)) m ∙ all-tab-row p f (suc a) n i (and-right (p (f a)) (all p (tab f (suc a) n)) e) (le-of-suc-le-suc h)
+
+  -- a table with one row more
+  pub tab-more : (f : ℕ → A) (a n : ℕ) → tab f a (suc n) ≡ tab f a n ++ (f (a + n) ∷ [])
+  unfolding tab
+  tab-more f a zero = ap (λ (m : ℕ). f m ∷ []) (sym (add-zero a))
+  tab-more f a (suc n) =
+      let m : suc a + n ≡ a + suc n = omega arith in
+      ap (λ (l : List A). f a ∷ l) (tab-more f (suc a) n ∙ ap (λ (k : ℕ). tab f (suc a) n ++ (f k ∷ [])) m)
 
   pub all-but-tab : (p : A → Bool) (f : ℕ → A) (a n i : ℕ) → ((j : ℕ) → a ≤ j → j < a + n → (j ≡ a + i → ⊥) → p (f j) ≡ true) → allBut p i (tab f a n) ≡ true
   unfolding tab
