@@ -70,12 +70,12 @@ zero-or-one m i = by (m / 2 ^ i % 2) (omega arith)
     by (suc (suc x)) h = absurd (omega arith)
 
 module _ (m i : ℕ) where
-  stays : bit m i ≡ 0 → without m i ≡ m
+  pub stays : bit m i ≡ 0 → without m i ≡ m
   unfolding without
   stays e = rw e (omega arith)
 
   -- with bit i set, m is m without i and 2^i
-  joined : bit m i ≡ 1 → without m i + 2 ^ i ≡ m
+  pub joined : bit m i ≡ 1 → without m i + 2 ^ i ≡ m
   unfolding without
   joined e =
       let q : ℕ = m / 2 ^ i in

@@ -1,14 +1,14 @@
 -- Who holds which lock, read off two words in one look: the exclusive holder, and the set of those that share. Assumes nothing.
 use mathlib.Core.Path.{_≡_, refl, sym, ap, _∙_}
 use mathlib.Core.Logic.{_⊎_, inl, inr, ⊎-elim}
-use mathlib.Core.Bool.{Bool, true, false, not, _||_, cond}
+use mathlib.Core.Bool.{Bool, true, false, not, _||_, cond, true≢false}
 use mathlib.Core.List.{List, [], _∷_}
-use Prim.Native.Nat.{ℕ, zero, suc, _+_, _*_, _%_, _^_, _≤_, _<_}
+use Prim.Native.Nat.{ℕ, zero, suc, _+_, _*_, _-_, _%_, _^_, _≤_, _<_}
 use native.Mathlib.Nat.{zero-add}
 use native.Mathlib.Omega.{arith}
-use lib.Dec.{eqb}
+use lib.Dec.{eqb, ltb}
 use lib.ListN.{length, getD, set}
-use borrow.Author.Tests.{eq-eqb, ne-eqb, eqb-true, eqb-false}
+use borrow.Author.Tests.{eq-eqb, ne-eqb, eqb-true, eqb-false, ltb-true, ltb-false}
 use Rattle.model.specs.Sizes.{sessionLimit}
 use Rattle.model.specs.Lists.{isNil, same, all, allBut}
 use Rattle.model.specs.State.{Entry, at, blank}
@@ -144,3 +144,46 @@ module _ (w s : List ℕ) where
           ∙ fits-at k (m .place)
           ∙ ap (λ (x : Bool). cond x (same (keyOf w s) k) true) (eq-eqb (bit (word w SHARERS) (m .place)) 1 (m .is-set))
           ∙ e)
+
+-- nobody else than slot i holds exclusive, by the word of the holder
+abbrev pub NoOther : List ℕ → ℕ → Type 0
+NoOther w i = (j : ℕ) → j < sessionLimit → (j ≡ i → ⊥) → word w HOLDER ≡ j + 1 → ⊥
+
+module _ (w s : List ℕ) where
+  -- a holder's word that is not 0 names a slot, or stands past the slots
+  pub holder-test : (word w HOLDER ≡ 0 → ⊥) → all noExclusive (locksOf w s .entries) ≡ ltb sessionLimit (word w HOLDER)
+  holder-test o = by (ltb sessionLimit (word w HOLDER)) refl
+      where
+      by : (b : Bool) → ltb sessionLimit (word w HOLDER) ≡ b → all noExclusive (locksOf w s .entries) ≡ b
+      by true e = let l : sessionLimit < word w HOLDER = ltb-true sessionLimit (word w HOLDER) e in nobody-exclusive w s (λ j h q. omega arith)
+      by false e =
+          let l : word w HOLDER ≤ sessionLimit = ltb-false sessionLimit (word w HOLDER) e in
+          somebody-exclusive w s (word w HOLDER - 1) (omega arith) (omega arith)
+
+  -- and of all slots but i, where i is not the holder
+  pub other-test : (i : ℕ) → (word w HOLDER ≡ i + 1 → ⊥) → (word w HOLDER ≡ 0 → ⊥) → allBut noExclusive i (locksOf w s .entries) ≡ ltb sessionLimit (word w HOLDER)
+  other-test i n o = by (ltb sessionLimit (word w HOLDER)) refl
+      where
+      by : (b : Bool) → ltb sessionLimit (word w HOLDER) ≡ b → allBut noExclusive i (locksOf w s .entries) ≡ b
+      by true e = let l : sessionLimit < word w HOLDER = ltb-true sessionLimit (word w HOLDER) e in no-other-exclusive w s i (λ j h m q. omega arith)
+      by false e =
+          let l : word w HOLDER ≤ sessionLimit = ltb-false sessionLimit (word w HOLDER) e in
+          other-exclusive w s i (word w HOLDER - 1) (omega arith) (λ q. n (let z : word w HOLDER ≡ i + 1 = omega arith in z)) (omega arith)
+
+  pub no-other : (i : ℕ) → allBut noExclusive i (locksOf w s .entries) ≡ true → NoOther w i
+  no-other i e j h n q = let z : true ≡ false = sym e ∙ other-exclusive w s i j h n q in true≢false z
+
+  -- the tests of the code: the sharers' word within the slots is 0
+  pub sharers-test : all noShared (locksOf w s .entries) ≡ eqb (word w SHARERS % 2 ^ sessionLimit) 0
+  sharers-test = by (eqb (word w SHARERS % 2 ^ sessionLimit) 0) refl
+      where
+      by : (b : Bool) → eqb (word w SHARERS % 2 ^ sessionLimit) 0 ≡ b → all noShared (locksOf w s .entries) ≡ b
+      by true e = nobody-shares w s (eqb-true (word w SHARERS % 2 ^ sessionLimit) 0 e)
+      by false e = somebody-shares w s (eqb-false (word w SHARERS % 2 ^ sessionLimit) 0 e)
+
+  pub others-test : (i : ℕ) → allBut noShared i (locksOf w s .entries) ≡ eqb (without (word w SHARERS) i % 2 ^ sessionLimit) 0
+  others-test i = by (eqb (without (word w SHARERS) i % 2 ^ sessionLimit) 0) refl
+      where
+      by : (b : Bool) → eqb (without (word w SHARERS) i % 2 ^ sessionLimit) 0 ≡ b → allBut noShared i (locksOf w s .entries) ≡ b
+      by true e = no-other-shares w s i (eqb-true (without (word w SHARERS) i % 2 ^ sessionLimit) 0 e)
+      by false e = other-shares w s i (eqb-false (without (word w SHARERS) i % 2 ^ sessionLimit) 0 e)

@@ -1,4 +1,5 @@
 // The server's state in memory that the host lends: words for everything but lock strings, bytes for those. Nothing above this crate
 // knows where anything stands.
+pub mod holders;
 pub mod layout;
 pub mod tables;

@@ -1,0 +1,144 @@
+// Who holds which lock, in one look: the word of the exclusive holder and the set of those that share, a bit for each slot.
+ghost use Prim.Native.Nat.{ℕ, _*_, _+_, _/_, _<_, _%_, _^_};
+ghost use Rattle.model.specs.Lists.{all, allBut};
+ghost use Rattle.model.specs.Locks.{give, noExclusive, noShared, withoutExclusive, withoutShared};
+ghost use Rattle.model.specs.State.{at};
+ghost use Rattle.state.specs.Bits.{bit, with-bit, without};
+ghost use Rattle.state.specs.Change.{onEntry};
+ghost use Rattle.state.specs.Holders.{NoOther};
+ghost use Rattle.state.specs.View.{locksOf, memory, view};
+ghost use lib.ListN.{length};
+ghost use mathlib.Core.Bool.{not};
+ghost use mathlib.Core.List.{List, []};
+ghost use mathlib.Core.Path.{_≡_};
+use crate::layout::{HOLDER, SHARERS};
+
+// Does slot i hold the exclusive lock?
+pub fn is_exclusive(w: &[u64; 235], i: usize) -> bool
+    requires { ⌜ i < 16 ⌝ }
+    ensures { λ r. ⌜ ((s : List ℕ) → (at (locksOf (now (w .entry)) s .entries) i) .exclusive ≡ r) ⌝ }
+{
+    w[HOLDER] == i as u64 + 1
+}
+
+// Does nobody hold the exclusive lock?
+pub fn nobody_exclusive(w: &[u64; 235]) -> bool
+    ensures { λ r. ⌜ ((s : List ℕ) → all noExclusive (locksOf (now (w .entry)) s .entries) ≡ r) ⌝ }
+{
+    let h = w[HOLDER];
+    if h == 0 {
+        return true;
+    }
+    h > 16
+}
+
+// Does nobody but slot i hold the exclusive lock?
+pub fn no_other_exclusive(w: &[u64; 235], i: usize) -> bool
+    requires { ⌜ i < 16 ⌝ }
+    ensures { λ r. ⌜ ((s : List ℕ) → allBut noExclusive i (locksOf (now (w .entry)) s .entries) ≡ r) ⌝ }
+{
+    let h = w[HOLDER];
+    if h == i as u64 + 1 {
+        return true;
+    }
+    if h == 0 {
+        return true;
+    }
+    h > 16
+}
+
+// Bit i of a set.
+fn bit_of(m: u64, i: usize) -> u64
+    requires { ⌜ i < 16 ⌝ }
+    ensures { λ r. ⌜ r ≡ bit m i ⌝ }
+{
+    (m >> i) % 2
+}
+
+fn power_of(i: usize) -> u64
+    requires { ⌜ i < 16 ⌝ }
+    ensures { λ r. ⌜ (r ≡ 2 ^ i) × (r < 65536) ⌝ }
+{
+    1 << i
+}
+
+fn taken_out(m: u64, i: usize) -> u64
+    requires { ⌜ i < 16 ⌝ }
+    ensures { λ r. ⌜ r ≡ without m i ⌝ }
+{
+    if bit_of(m, i) == 1 {
+        return m - power_of(i);
+    }
+    m
+}
+
+// Does slot i hold the shared lock?
+pub fn is_sharing(w: &[u64; 235], i: usize) -> bool
+    requires { ⌜ i < 16 ⌝ }
+    ensures { λ r. ⌜ ((s : List ℕ) → noShared (at (locksOf (now (w .entry)) s .entries) i) ≡ not r) ⌝ }
+{
+    bit_of(w[SHARERS], i) == 1
+}
+
+// Does nobody hold the shared lock?
+pub fn nobody_shares(w: &[u64; 235]) -> bool
+    ensures { λ r. ⌜ ((s : List ℕ) → all noShared (locksOf (now (w .entry)) s .entries) ≡ r) ⌝ }
+{
+    w[SHARERS] % 65536 == 0
+}
+
+// Does nobody but slot i hold the shared lock?
+pub fn no_other_shares(w: &[u64; 235], i: usize) -> bool
+    requires { ⌜ i < 16 ⌝ }
+    ensures { λ r. ⌜ ((s : List ℕ) → allBut noShared i (locksOf (now (w .entry)) s .entries) ≡ r) ⌝ }
+{
+    taken_out(w[SHARERS], i) % 65536 == 0
+}
+
+fn give_exclusive_in(w: &mut [u64], i: usize)
+    requires { ⌜ (i < 16) × (length (now w) ≡ 235) × NoOther (now w) i ⌝ }
+    ensures { λ _. ⌜ ((s : List ℕ) → view (memory (now (w .exit)) s) ≡ onEntry (view (memory (now (w .entry)) s)) i (give [])) ⌝ }
+{
+    w[HOLDER] = i as u64 + 1;
+}
+
+// Slot i gets the exclusive lock, which nobody else holds.
+pub fn give_exclusive(w: &mut [u64; 235], i: usize)
+    requires { ⌜ (i < 16) × NoOther (now w) i ⌝ }
+    ensures { λ _. ⌜ ((s : List ℕ) → view (memory (now (w .exit)) s) ≡ onEntry (view (memory (now (w .entry)) s)) i (give [])) ⌝ }
+{
+    give_exclusive_in(w, i);
+}
+
+fn drop_exclusive_in(w: &mut [u64], i: usize)
+    requires { ⌜ (i < 16) × (length (now w) ≡ 235) ⌝ }
+    ensures { λ _. ⌜ ((s : List ℕ) → view (memory (now (w .exit)) s) ≡ onEntry (view (memory (now (w .entry)) s)) i withoutExclusive) ⌝ }
+{
+    if w[HOLDER] == i as u64 + 1 {
+        w[HOLDER] = 0;
+    }
+}
+
+// Slot i holds the exclusive lock no more, if it did.
+pub fn drop_exclusive(w: &mut [u64; 235], i: usize)
+    requires { ⌜ i < 16 ⌝ }
+    ensures { λ _. ⌜ ((s : List ℕ) → view (memory (now (w .exit)) s) ≡ onEntry (view (memory (now (w .entry)) s)) i withoutExclusive) ⌝ }
+{
+    drop_exclusive_in(w, i);
+}
+
+fn drop_shared_in(w: &mut [u64], i: usize)
+    requires { ⌜ (i < 16) × (length (now w) ≡ 235) ⌝ }
+    ensures { λ _. ⌜ ((s : List ℕ) → view (memory (now (w .exit)) s) ≡ onEntry (view (memory (now (w .entry)) s)) i withoutShared) ⌝ }
+{
+    let m = taken_out(w[SHARERS], i);
+    w[SHARERS] = m;
+}
+
+// Slot i holds the shared lock no more, if it did.
+pub fn drop_shared(w: &mut [u64; 235], i: usize)
+    requires { ⌜ i < 16 ⌝ }
+    ensures { λ _. ⌜ ((s : List ℕ) → view (memory (now (w .exit)) s) ≡ onEntry (view (memory (now (w .entry)) s)) i withoutShared) ⌝ }
+{
+    drop_shared_in(w, i);
+}
