@@ -12,12 +12,12 @@ use Rattle.state.specs.Table.{apart}
 abbrev pub bit : ℕ → ℕ → ℕ
 bit m i = m / 2 ^ i % 2
 
--- m without i; m with i
+-- m without i; the members below n, and i
 unfoldable pub without : ℕ → ℕ → ℕ
 without m i = m - bit m i * 2 ^ i
 
-unfoldable pub with-bit : ℕ → ℕ → ℕ
-with-bit m i = without m i + 2 ^ i
+unfoldable pub with-bit : ℕ → ℕ → ℕ → ℕ
+with-bit n m i = without m i % 2 ^ n + 2 ^ i
 
 positive : (i : ℕ) → 0 < 2 ^ i
 positive i = one-le-pow i 2 (lit< tt)
@@ -63,7 +63,7 @@ added-other m i j e o = ⊎-elim (λ (l : j < i). added-below m j i l) (λ (l : 
 -- a bit is 0 or 1
 zero-or-one : (m i : ℕ) → (bit m i ≡ 0) ⊎ (bit m i ≡ 1)
 zero-or-one m i = by (m / 2 ^ i % 2) (omega arith)
-    where
+  where
     by : (x : ℕ) → x < 2 → (x ≡ 0) ⊎ (x ≡ 1)
     by zero h = inl refl
     by (suc zero) h = inr refl
@@ -100,13 +100,29 @@ module _ (m i : ℕ) where
       (λ (e : bit m i ≡ 1). sym (added-other (without m i) i j (was-set e) o) ∙ ap (λ (x : ℕ). bit x j) (joined e))
       (zero-or-one m i)
 
-  pub with-same : bit (with-bit m i) i ≡ 1
-  unfolding with-bit
-  with-same = added-same (without m i) i without-same
+-- the members below n
+below-bit : (m n j : ℕ) → j < n → bit (m % 2 ^ n) j ≡ bit m j
+below-bit m n j h =
+    let t : ℕ = 2 ^ (n - suc j) in
+    let c : ℕ = m / 2 ^ n in
+    let r : ℕ = m % 2 ^ n in
+    let d : 2 ^ n * c + r ≡ m = div-add-mod m (2 ^ n) in
+    let f : m ≡ r + 2 ^ j * (2 * (t * c)) = sym d ∙ rw (power j n h) (omega arith) in
+    let q : (r + 2 ^ j * (2 * (t * c))) / 2 ^ j ≡ r / 2 ^ j + 2 * (t * c) = add-mul-div-left r (2 * (t * c)) (positive j) in
+    let e : bit m j ≡ (r / 2 ^ j + 2 * (t * c)) % 2 = ap (λ (x : ℕ). x / 2 ^ j % 2) f ∙ ap (λ (x : ℕ). x % 2) q in
+    sym (e ∙ omega arith)
 
-  pub with-other : (j : ℕ) → (j ≡ i → ⊥) → bit (with-bit m i) j ≡ bit m j
+module _ (n m i : ℕ) (h : i < n) where
+  gone : bit (without m i % 2 ^ n) i ≡ 0
+  gone = below-bit (without m i) n i h ∙ without-same m i
+
+  pub with-same : bit (with-bit n m i) i ≡ 1
   unfolding with-bit
-  with-other j o = added-other (without m i) i j without-same o ∙ without-other j o
+  with-same = added-same (without m i % 2 ^ n) i gone
+
+  pub with-other : (j : ℕ) → j < n → (j ≡ i → ⊥) → bit (with-bit n m i) j ≡ bit m j
+  unfolding with-bit
+  with-other j l o = added-other (without m i % 2 ^ n) i j gone o ∙ below-bit (without m i) n j l ∙ without-other m i j o
 
 -- an empty set: no bit below n
 pub empty-bits : (m n j : ℕ) → m % 2 ^ n ≡ 0 → j < n → bit m j ≡ 0

@@ -100,7 +100,7 @@ module _ (w : List ℕ) where
   -- both at once: word g of those from a on, after a store into word f of them
   pub stored : (a f v g : ℕ) → a + f < length w → word (set w (a + f) v) (a + g) ≡ cond (eqb g f) v (word w (a + g))
   stored a f v g h = by (eqb g f) refl
-      where
+    where
       by : (b : Bool) → eqb g f ≡ b → word (set w (a + f) v) (a + g) ≡ cond b v (word w (a + g))
       by true e = let n : a + g ≡ a + f = ap (λ (x : ℕ). a + x) (eqb-true g f e) in ap (word (set w (a + f) v)) n ∙ here (a + f) v h
       by false e = off (a + f) v (a + g) (λ q. eqb-false g f e (let z : g ≡ f = omega arith in z))
@@ -182,7 +182,7 @@ exchange-row : (r : List ℕ) (f v : ℕ) → length r ≡ EXCHANGE → f < EXCH
 exchange-row r f v h l =
     let t : (g : ℕ) → word (set r f v) g ≡ cond (eqb g f) v (word r g) = (λ g. row-stored r f v g (omega arith)) in
     (λ k. record { inClear = flag (t 0 k); asked = askedOf (t 1 k); messageAvailable = flag (t 2 k); clientSize = t 3 k }) ∙ by f l
-    where
+  where
     by : (f : ℕ) → f < EXCHANGE → exchangeFrom (λ (g : ℕ). cond (eqb g f) v (word r g)) ≡ exchangeWith f v (exchangeOf r)
     by zero l = refl
     by (suc zero) l = refl
@@ -194,7 +194,7 @@ connection-row : (r : List ℕ) (f v : ℕ) → length r ≡ CONNECTION → f < 
 connection-row r f v h l =
     let t : (g : ℕ) → word (set r f v) g ≡ cond (eqb g f) v (word r g) = (λ g. row-stored r f v g (omega arith)) in
     (λ k. record { isOpen = flag (t 0 k); remainder = t 1 k }) ∙ by f l
-    where
+  where
     by : (f : ℕ) → f < CONNECTION → connectionFrom (λ (g : ℕ). cond (eqb g f) v (word r g)) ≡ connectionWith f v (connectionOf r)
     by zero l = refl
     by (suc zero) l = refl
@@ -318,7 +318,7 @@ module _ (w : List ℕ) (i : ℕ) where
   exchange-read f h l =
       let r : List ℕ = part w (EXCHANGES + i * EXCHANGE) EXCHANGE in
       ap₂ (exchangeWith f) (sym (word-of w (EXCHANGES + i * EXCHANGE) EXCHANGE f l)) (exchange-at h) ∙ again f l ∙ sym (exchange-at h)
-      where
+    where
       again : (f : ℕ) → f < EXCHANGE → exchangeWith f (word (part w (EXCHANGES + i * EXCHANGE) EXCHANGE) f) (exchangeOf (part w (EXCHANGES + i * EXCHANGE) EXCHANGE)) ≡ exchangeOf (part w (EXCHANGES + i * EXCHANGE) EXCHANGE)
       again zero l = refl
       again (suc zero) l = refl
@@ -333,7 +333,7 @@ module _ (w : List ℕ) (i : ℕ) where
   pub connection-read : (f : ℕ) → i < connectionLimit → f < CONNECTION → connectionWith f (word w (CONNECTIONS + i * CONNECTION + f)) (connectionAt (restOf w) i) ≡ connectionAt (restOf w) i
   connection-read f h l =
       ap₂ (connectionWith f) (sym (word-of w (CONNECTIONS + i * CONNECTION) CONNECTION f l)) (connection-at h) ∙ again f l ∙ sym (connection-at h)
-      where
+    where
       again : (f : ℕ) → f < CONNECTION → connectionWith f (word (part w (CONNECTIONS + i * CONNECTION) CONNECTION) f) (connectionOf (part w (CONNECTIONS + i * CONNECTION) CONNECTION)) ≡ connectionOf (part w (CONNECTIONS + i * CONNECTION) CONNECTION)
       again zero l = refl
       again (suc zero) l = refl

@@ -131,8 +131,8 @@ module _ (w s : List ℕ) (i : ℕ) (h : i < sessionLimit) (long : length w ≡ 
         locks = record {
           clock = word w CLOCK % 2 ^ 63;
           entries = entries-change w w (keyOf w s) (keyOf w s) i withoutExclusive h
-          (sym (entry-as w (keyOf w s) i long false ((entryAt w (keyOf w s) i) .shared) (exclusive-of w (keyOf w s) i ∙ ne-eqb (word w HOLDER) (i + 1) o) refl) ∙ as-dropped w (keyOf w s) i)
-          (λ j l n. refl) k;
+              (sym (entry-as w (keyOf w s) i long false ((entryAt w (keyOf w s) i) .shared) (exclusive-of w (keyOf w s) i ∙ ne-eqb (word w HOLDER) (i + 1) o) refl) ∙ as-dropped w (keyOf w s) i)
+              (λ j l n. refl) k;
           waiting = waitingOf w s;
         };
         rest = view (memory w s) .rest;
@@ -186,19 +186,19 @@ module _ (w s : List ℕ) (i x : ℕ) (xs : List ℕ) (h : i < sessionLimit) (sm
   same-entry : (j : ℕ) → j < sessionLimit → entryAt w (x ∷ xs) j ≡ entryAt w (keyOf w s) j
   unfolding entryAt
   same-entry j l = ap (entryFrom (λ (k : ℕ). word w (ENTRIES + j * ENTRY + k)) (eqb (word w HOLDER) (j + 1))) (by (eqb (bit (word w SHARERS) j) 1) refl)
-      where
+    where
       by : (b : Bool) → eqb (bit (word w SHARERS) j) 1 ≡ b → cond b (x ∷ xs) [] ≡ cond b (keyOf w s) []
       by true e = sym (fits j l (eqb-true (bit (word w SHARERS) j) 1 e))
       by false e = refl
 
   abbrev pub joined : List ℕ
-  joined = set keyed SHARERS (with-bit (word w SHARERS) i)
+  joined = set keyed SHARERS (with-bit sessionLimit (word w SHARERS) i)
 
   entry-joined : (j : ℕ) → j < sessionLimit → entryAt joined (x ∷ xs) j
-      ≡ entryFrom (λ (k : ℕ). word w (ENTRIES + j * ENTRY + k)) ((entryAt w (keyOf w s) j) .exclusive) (cond (eqb (bit (with-bit (word w SHARERS) i) j) 1) (x ∷ xs) [])
+      ≡ entryFrom (λ (k : ℕ). word w (ENTRIES + j * ENTRY + k)) ((entryAt w (keyOf w s) j) .exclusive) (cond (eqb (bit (with-bit sessionLimit (word w SHARERS) i) j) 1) (x ∷ xs) [])
   unfolding entryAt
   entry-joined j l =
-      let v : ℕ = with-bit (word w SHARERS) i in
+      let v : ℕ = with-bit sessionLimit (word w SHARERS) i in
       let t : (g : ℕ) → (g ≡ SHARERS → ⊥) → (g ≡ KEY → ⊥) → word joined g ≡ word w g = (λ g p q. off keyed SHARERS v g p ∙ off w KEY (length xs) g q) in
       λ k. record {
         number = t (ENTRIES + j * ENTRY + 0) (omega arith) (omega arith) k;
@@ -212,27 +212,27 @@ module _ (w s : List ℕ) (i x : ℕ) (xs : List ℕ) (h : i < sessionLimit) (sm
   unfolding entryAt
   entry-other j l n =
       entry-joined j l
-      ∙ ap (λ (b : ℕ). entryFrom (λ (k : ℕ). word w (ENTRIES + j * ENTRY + k)) (eqb (word w HOLDER) (j + 1)) (cond (eqb b 1) (x ∷ xs) [])) (with-other (word w SHARERS) i j n)
+      ∙ ap (λ (b : ℕ). entryFrom (λ (k : ℕ). word w (ENTRIES + j * ENTRY + k)) (eqb (word w HOLDER) (j + 1)) (cond (eqb b 1) (x ∷ xs) [])) (with-other sessionLimit (word w SHARERS) i h j l n)
       ∙ same-entry j l
 
   entries-joined : entriesOf joined (x ∷ xs) ≡ upd (entriesOf w (keyOf w s)) i (give (x ∷ xs))
   entries-joined =
       entries-change w joined (keyOf w s) (x ∷ xs) i (give (x ∷ xs)) h
       (entry-joined i h
-      ∙ ap (λ (b : Bool). entryFrom (λ (k : ℕ). word w (ENTRIES + i * ENTRY + k)) ((entryAt w (keyOf w s) i) .exclusive) (cond b (x ∷ xs) [])) (eq-eqb (bit (with-bit (word w SHARERS) i) i) 1 (with-same (word w SHARERS) i))
+      ∙ ap (λ (b : Bool). entryFrom (λ (k : ℕ). word w (ENTRIES + i * ENTRY + k)) ((entryAt w (keyOf w s) i) .exclusive) (cond b (x ∷ xs) [])) (eq-eqb (bit (with-bit sessionLimit (word w SHARERS) i) i) 1 (with-same sessionLimit (word w SHARERS) i h))
       ∙ as-shared w (keyOf w s) i x xs)
       entry-other
 
   waiting-joined : waitingOf joined lettered ≡ waitingOf w s
   waiting-joined =
-      waiting-off keyed lettered SHARERS (with-bit (word w SHARERS) i) (omega arith) (omega arith)
+      waiting-off keyed lettered SHARERS (with-bit sessionLimit (word w SHARERS) i) (omega arith) (omega arith)
       ∙ waiting-off w lettered KEY (length xs) (omega arith) (omega arith)
       ∙ waiting-strings w s lettered (λ j l. part-behind s 0 (x ∷ xs) inside (stringLimit + j * stringLimit) stringLimit (omega arith))
 
   pub shared-given : view (memory joined lettered) ≡ onEntry (view (memory w s)) i (give (x ∷ xs))
   unfolding locksOf
   shared-given =
-      let v : ℕ = with-bit (word w SHARERS) i in
+      let v : ℕ = with-bit sessionLimit (word w SHARERS) i in
       λ k. record {
         locks = record {
           clock = (off keyed SHARERS v CLOCK (omega arith) ∙ off w KEY (length xs) CLOCK (omega arith)) k % 2 ^ 63;

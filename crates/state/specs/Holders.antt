@@ -15,7 +15,7 @@ use Rattle.model.specs.State.{Entry, at, blank}
 use Rattle.model.specs.Locks.{noExclusive, noShared, fits, give, withoutExclusive, withoutShared}
 use Rattle.state.specs.Table.{tab, tab-set, getD-tab, all-tab, not-all-tab, all-but-tab, not-all-but-tab}
 use Rattle.state.specs.Grid.{upd, upd-set}
-use Rattle.state.specs.Bits.{bit, without, with-bit, without-same, without-other, with-same, with-other, empty-bits, Member, member}
+use Rattle.state.specs.Bits.{bit, without, without-same, without-other, empty-bits, Member, member}
 use Rattle.state.specs.Layout.{HOLDER, SHARERS, ENTRIES, ENTRY, WORDS}
 use Rattle.state.specs.View.{word, keyOf, entryAt, entriesOf, locksOf}
 use Rattle.state.specs.Change.{entry-at, off, here}
@@ -132,7 +132,7 @@ module _ (w s : List ℕ) where
   pub fits-some : (k : List ℕ) → (word w SHARERS % 2 ^ sessionLimit ≡ 0 → ⊥) → all (fits k) (locksOf w s .entries) ≡ same (keyOf w s) k
   unfolding locksOf entriesOf
   fits-some k o = by (same (keyOf w s) k) refl
-      where
+    where
       by : (b : Bool) → same (keyOf w s) k ≡ b → all (fits k) (tab (entryAt w (keyOf w s)) 0 sessionLimit) ≡ b
       by true e =
           all-tab (fits k) (entryAt w (keyOf w s)) 0 sessionLimit
@@ -153,7 +153,7 @@ module _ (w s : List ℕ) where
   -- a holder's word that is not 0 names a slot, or stands past the slots
   pub holder-test : (word w HOLDER ≡ 0 → ⊥) → all noExclusive (locksOf w s .entries) ≡ ltb sessionLimit (word w HOLDER)
   holder-test o = by (ltb sessionLimit (word w HOLDER)) refl
-      where
+    where
       by : (b : Bool) → ltb sessionLimit (word w HOLDER) ≡ b → all noExclusive (locksOf w s .entries) ≡ b
       by true e = let l : sessionLimit < word w HOLDER = ltb-true sessionLimit (word w HOLDER) e in nobody-exclusive w s (λ j h q. omega arith)
       by false e =
@@ -163,7 +163,7 @@ module _ (w s : List ℕ) where
   -- and of all slots but i, where i is not the holder
   pub other-test : (i : ℕ) → (word w HOLDER ≡ i + 1 → ⊥) → (word w HOLDER ≡ 0 → ⊥) → allBut noExclusive i (locksOf w s .entries) ≡ ltb sessionLimit (word w HOLDER)
   other-test i n o = by (ltb sessionLimit (word w HOLDER)) refl
-      where
+    where
       by : (b : Bool) → ltb sessionLimit (word w HOLDER) ≡ b → allBut noExclusive i (locksOf w s .entries) ≡ b
       by true e = let l : sessionLimit < word w HOLDER = ltb-true sessionLimit (word w HOLDER) e in no-other-exclusive w s i (λ j h m q. omega arith)
       by false e =
@@ -176,14 +176,14 @@ module _ (w s : List ℕ) where
   -- the tests of the code: the sharers' word within the slots is 0
   pub sharers-test : all noShared (locksOf w s .entries) ≡ eqb (word w SHARERS % 2 ^ sessionLimit) 0
   sharers-test = by (eqb (word w SHARERS % 2 ^ sessionLimit) 0) refl
-      where
+    where
       by : (b : Bool) → eqb (word w SHARERS % 2 ^ sessionLimit) 0 ≡ b → all noShared (locksOf w s .entries) ≡ b
       by true e = nobody-shares w s (eqb-true (word w SHARERS % 2 ^ sessionLimit) 0 e)
       by false e = somebody-shares w s (eqb-false (word w SHARERS % 2 ^ sessionLimit) 0 e)
 
   pub others-test : (i : ℕ) → allBut noShared i (locksOf w s .entries) ≡ eqb (without (word w SHARERS) i % 2 ^ sessionLimit) 0
   others-test i = by (eqb (without (word w SHARERS) i % 2 ^ sessionLimit) 0) refl
-      where
+    where
       by : (b : Bool) → eqb (without (word w SHARERS) i % 2 ^ sessionLimit) 0 ≡ b → allBut noShared i (locksOf w s .entries) ≡ b
       by true e = no-other-shares w s i (eqb-true (without (word w SHARERS) i % 2 ^ sessionLimit) 0 e)
       by false e = other-shares w s i (eqb-false (without (word w SHARERS) i % 2 ^ sessionLimit) 0 e)

@@ -8,3 +8,5 @@ pub mod Holders
 pub mod Requests
 pub mod Granting
 pub mod Queue
+pub mod Strings
+pub mod Sharing

@@ -14,7 +14,7 @@ use Rattle.state.specs.Table.{tab, tab-same, tab-set, tab-more, getD-tab
 use Rattle.state.specs.Layout.{LOCKS, CLOCK, HOLDER, SHARERS, KEY, COUNT, ENTRIES, REQUESTS, REQUEST, QUEUE, WORDS}
 use Rattle.state.specs.View.{Memory, memory, word, keyOf, entriesOf, slotAt, requestAt, waitingOf, locksOf, view}
 use Rattle.state.specs.Change.{off, here, key-off, entries-off, rest-off}
-use Rattle.state.specs.Requests.{countOf, stringAt, slot-small, unseen}
+use Rattle.state.specs.Requests.{countOf, Idle, stringAt, slot-small, unseen}
 
 -- stands where no request does
 abbrev pub noRequest : Waiting
@@ -122,7 +122,7 @@ module _ (w s : List ℕ) (n : ℕ) (long : length w ≡ WORDS) where
 
 -- slot i's request, its string laid already, is put at the end with a deadline
 module _ (w s : List ℕ) (i d : ℕ) (h : i < sessionLimit) (long : length w ≡ WORDS) (room : countOf w < sessionLimit)
-    (free : (j : ℕ) → j < countOf w → slotAt w j ≡ i → ⊥) where
+    (free : Idle w i) where
   abbrev pub dated : List ℕ
   dated = set w (REQUESTS + i * REQUEST + 0) d
 

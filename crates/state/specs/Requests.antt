@@ -26,6 +26,10 @@ use Rattle.state.specs.Change.{off, here, key-off, entries-off, rest-off
 abbrev pub countOf : List ℕ → ℕ
 countOf w = min (word w COUNT) sessionLimit
 
+-- slot i does not wait
+abbrev pub Idle : List ℕ → ℕ → Type 0
+Idle w i = (j : ℕ) → j < countOf w → slotAt w j ≡ i → ⊥
+
 -- the string of slot i's request, waiting or not
 abbrev pub stringAt : List ℕ → List ℕ → ℕ → List ℕ
 stringAt w s i = (requestAt w s i) .string
@@ -73,10 +77,10 @@ waiting-strings w s s′ h =
     tab-same (λ (j : ℕ). requestAt w s′ (slotAt w j)) (λ (j : ℕ). requestAt w s (slotAt w j)) 0 (countOf w)
     (λ j p q. λ k. record { slot = slotAt w j; deadline = word w (REQUESTS + slotAt w j * REQUEST); string = take (word w (REQUESTS + slotAt w j * REQUEST + 1)) (h (slotAt w j) (slot-small w j) k) })
 
--- slot i does not wait
-pub elsewhere-slots : (w s : List ℕ) (i : ℕ) → all (elsewhere i) (waitingOf w s) ≡ true → (j : ℕ) → j < countOf w → slotAt w j ≡ i → ⊥
-unfolding waitingOf requestAt
-elsewhere-slots w s i e j h q =
+-- as the model says it
+pub idle-of : (w s : List ℕ) (i : ℕ) → all (elsewhere i) (locksOf w s .waiting) ≡ true → Idle w i
+unfolding locksOf waitingOf requestAt
+idle-of w s i e j h q =
     let r : not (eqb (slotAt w j) i) ≡ true = ap (λ (m : ℕ). not (eqb (slotAt w m) i)) (sym (zero-add j)) ∙ all-tab-row (elsewhere i) (λ (j : ℕ). requestAt w s (slotAt w j)) 0 (countOf w) j e h in
     eqb-false (slotAt w j) i (not-true (eqb (slotAt w j) i) r) q
 
@@ -98,7 +102,7 @@ module _ (w s s′ : List ℕ) (i f v : ℕ) (h : i < sessionLimit) (l : f < REQ
         string = take (off w a v (REQUESTS + t * REQUEST + 1) (n 1 (omega arith)) k) (e k);
       }
 
-  unseen-waiting : ((j : ℕ) → j < countOf w → slotAt w j ≡ i → ⊥)
+  unseen-waiting : Idle w i
       → ((j : ℕ) → j < sessionLimit → (j ≡ i → ⊥) → part s′ (stringLimit + j * stringLimit) stringLimit ≡ part s (stringLimit + j * stringLimit) stringLimit)
       → waitingOf (set w (REQUESTS + i * REQUEST + f) v) s′ ≡ waitingOf w s
   unfolding waitingOf
@@ -108,7 +112,7 @@ module _ (w s s′ : List ℕ) (i f v : ℕ) (h : i < sessionLimit) (l : f < REQ
       ∙ tab-same (λ (j : ℕ). requestAt (set w a v) s′ (slotAt (set w a v) j)) (λ (j : ℕ). requestAt w s (slotAt w j)) 0 (countOf w)
       (λ j p q. let n : slotAt w j ≡ i → ⊥ = free j (omega arith) in request-else j n (e (slotAt w j) (slot-small w j) n))
 
-  pub unseen : ((j : ℕ) → j < countOf w → slotAt w j ≡ i → ⊥)
+  pub unseen : Idle w i
       → ((j : ℕ) → j < sessionLimit → (j ≡ i → ⊥) → part s′ (stringLimit + j * stringLimit) stringLimit ≡ part s (stringLimit + j * stringLimit) stringLimit)
       → keyOf w s′ ≡ keyOf w s
       → view (memory (set w (REQUESTS + i * REQUEST + f) v) s′) ≡ view (memory w s)
@@ -146,7 +150,7 @@ module _ (w s : List ℕ) (i : ℕ) (x : List ℕ) (h : i < sessionLimit) (small
       ap₂ (λ (a : ℕ) (b : List ℕ). a ∷ take (word w KEY) b) f (part-before s (stringLimit + i * stringLimit) x there 1 63 (omega arith))
 
   -- with its length in the row, while slot i does not wait
-  pub laid-view : ((j : ℕ) → j < countOf w → slotAt w j ≡ i → ⊥)
+  pub laid-view : Idle w i
       → view (memory (set w (REQUESTS + i * REQUEST + 1) (length x)) (splice s (stringLimit + i * stringLimit) x)) ≡ view (memory w s)
   laid-view free = unseen w s (splice s (stringLimit + i * stringLimit) x) i 1 (length x) h (lit< tt) long free others-stay key-stays
 

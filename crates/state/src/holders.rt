@@ -1,17 +1,21 @@
 // Who holds which lock, in one look: the word of the exclusive holder and the set of those that share, a bit for each slot.
-ghost use Prim.Native.Nat.{ℕ, _*_, _+_, _/_, _<_, _%_, _^_};
+ghost use Prim.Native.Nat.{ℕ, _*_, _+_, _/_, _<_, _≤_, _%_, _^_};
 ghost use Rattle.model.specs.Lists.{all, allBut};
-ghost use Rattle.model.specs.Locks.{give, noExclusive, noShared, withoutExclusive, withoutShared};
+ghost use Rattle.model.specs.Locks.{fits, give, noExclusive, noShared, withoutExclusive, withoutShared};
 ghost use Rattle.model.specs.State.{at};
 ghost use Rattle.state.specs.Bits.{bit, with-bit, without};
 ghost use Rattle.state.specs.Change.{onEntry};
 ghost use Rattle.state.specs.Holders.{NoOther};
+ghost use Rattle.state.specs.Requests.{stringAt};
 ghost use Rattle.state.specs.View.{locksOf, memory, view};
 ghost use lib.ListN.{length};
-ghost use mathlib.Core.Bool.{not};
+ghost use mathlib.Core.Bool.{not, true};
 ghost use mathlib.Core.List.{List, []};
 ghost use mathlib.Core.Path.{_≡_};
-use crate::layout::{HOLDER, SHARERS};
+use crate::layout::HOLDER;
+use crate::layout::KEY;
+use crate::layout::SHARERS;
+use crate::requests;
 
 // Does slot i hold the exclusive lock?
 pub fn is_exclusive(w: &[u64; 235], i: usize) -> bool
@@ -70,6 +74,13 @@ fn taken_out(m: u64, i: usize) -> u64
         return m - power_of(i);
     }
     m
+}
+
+fn put_in(m: u64, i: usize) -> u64
+    requires { ⌜ i < 16 ⌝ }
+    ensures { λ r. ⌜ r ≡ with-bit 16 m i ⌝ }
+{
+    taken_out(m, i) % 65536 + power_of(i)
 }
 
 // Does slot i hold the shared lock?
@@ -141,4 +152,22 @@ pub fn drop_shared(w: &mut [u64; 235], i: usize)
     ensures { λ _. ⌜ ((s : List ℕ) → view (memory (now (w .exit)) s) ≡ onEntry (view (memory (now (w .entry)) s)) i withoutShared) ⌝ }
 {
     drop_shared_in(w, i);
+}
+
+fn give_shared_in(w: &mut [u64], strings: &mut [u8], i: usize, n: usize)
+    requires { ⌜ (i < 16) × (length (now w) ≡ 235) × (length (now strings) ≡ 1088) × (n ≡ length (stringAt (now w) (now strings) i)) × (0 < n) × (n ≤ 64) × (all (fits (stringAt (now w) (now strings) i)) (locksOf (now w) (now strings) .entries) ≡ true) ⌝ }
+    ensures { λ _. ⌜ view (memory (now (w .exit)) (now (strings .exit))) ≡ onEntry (view (memory (now (w .entry)) (now (strings .entry)))) i (give (stringAt (now (w .entry)) (now (strings .entry)) i)) ⌝ }
+{
+    let m = put_in(w[SHARERS], i);
+    requests::copy_to_front(strings, 64 + i * 64, n);
+    w[KEY] = n as u64 - 1;
+    w[SHARERS] = m;
+}
+
+// Slot i gets the shared lock with the string of its request, which fits the shared locks.
+pub fn give_shared(w: &mut [u64; 235], strings: &mut [u8; 1088], i: usize, n: usize)
+    requires { ⌜ (i < 16) × (n ≡ length (stringAt (now w) (now strings) i)) × (0 < n) × (n ≤ 64) × (all (fits (stringAt (now w) (now strings) i)) (locksOf (now w) (now strings) .entries) ≡ true) ⌝ }
+    ensures { λ _. ⌜ view (memory (now (w .exit)) (now (strings .exit))) ≡ onEntry (view (memory (now (w .entry)) (now (strings .entry)))) i (give (stringAt (now (w .entry)) (now (strings .entry)) i)) ⌝ }
+{
+    give_shared_in(w, strings, i, n);
 }

@@ -7,7 +7,9 @@ pub const STATUS: usize = 1;
 pub const LAST: usize = 2;
 // the three remote/local flags
 pub const ENABLE: usize = 3;
+
 pub const LOCKOUT: usize = 4;
+
 pub const REMOTE: usize = 5;
 // a row for each slot: in device clear, what is asked (plus 1), message available, the client's size
 pub const EXCHANGES: usize = 6;
@@ -19,6 +21,7 @@ pub const CONNECTIONS: usize = 70;
 pub const CONNECTION: usize = 2;
 // here the words of the locks begin
 pub const LOCKS: usize = 134;
+
 pub const CLOCK: usize = 134;
 // the slot of the exclusive holder, plus 1; 0 or a number past the slots: nobody
 pub const HOLDER: usize = 135;

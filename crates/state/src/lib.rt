@@ -2,4 +2,5 @@
 // knows where anything stands.
 pub mod holders;
 pub mod layout;
+pub mod requests;
 pub mod tables;

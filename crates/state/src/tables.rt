@@ -7,7 +7,13 @@ ghost use Rattle.state.specs.View.{locksOf, memory, restOf, view};
 ghost use lib.ListN.{length};
 ghost use mathlib.Core.List.{List};
 ghost use mathlib.Core.Path.{_≡_};
-use crate::layout::{CLOCK, CONNECTION, CONNECTIONS, ENTRIES, ENTRY, EXCHANGE, EXCHANGES};
+use crate::layout::CLOCK;
+use crate::layout::CONNECTION;
+use crate::layout::CONNECTIONS;
+use crate::layout::ENTRIES;
+use crate::layout::ENTRY;
+use crate::layout::EXCHANGE;
+use crate::layout::EXCHANGES;
 
 // What a session has asked and been sent: fields 0 in device clear, 1 what is asked (plus 1), 2 message available, 3 the client's size.
 pub fn exchange(w: &[u64; 235], i: usize, f: usize) -> u64

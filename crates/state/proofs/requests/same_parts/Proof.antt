@@ -1,0 +1,26 @@
+-- `requests::same_parts` meets its contract: the two parts, compared.
+use mathlib.Core.Path.{_≡_, sym, ap, _∙_}
+use Prim.Native.Nat.{ℕ, _+_, _-_}
+use native.Mathlib.Omega.{arith}
+use lib.ListN.{take, drop, length-take}
+use Rattle.model.specs.Lists.{same}
+use borrow.Author.Needs.{needs}
+use Rattle.state.proofs.requests.same_parts.Statement.{statement}
+use Rattle.state.proofs.requests.same_parts.Tie as tie
+
+returns : tie.Need-returns
+returns c = let a = c .before .before .before .before .args in
+    let e : a .a + a .n - a .a ≡ a .n = omega arith in
+    ap (λ (m : ℕ). same (take (a .k) (a .strings .now)) (take m (drop (a .a) (a .strings .now)))) (sym e) ∙ c .same-bytes .ensures
+
+pub same-parts-spec : {M : Type 1} → statement M
+same-parts-spec =
+    tie.close
+    (tie.spec
+    (λ c. search needs)
+    (λ c. simp length-take (omega arith))
+    (λ c. search needs)
+    (λ c. search needs)
+    (λ c. search needs)
+    (λ c κs. search needs)
+    returns)

@@ -1,0 +1,191 @@
+// Lock requests: a row and a place for a string for each slot, and the queue of those that wait, oldest first.
+ghost use Prim.Native.Nat.{ℕ, _*_, _+_, _<_, _≤_, min};
+ghost use Rattle.model.specs.Lists.{all, same};
+ghost use Rattle.model.specs.Locks.{fits, give};
+ghost use Rattle.state.specs.Bits.{with-bit};
+ghost use Rattle.state.specs.Change.{onEntry};
+ghost use Rattle.state.specs.Queue.{noRequest, onWaiting};
+ghost use Rattle.state.specs.Requests.{Idle, countOf, stringAt};
+ghost use Rattle.state.specs.View.{keyOf, locksOf, memory, requestAt, view};
+ghost use Rattle.wire.specs.Splice.{splice};
+ghost use lib.ListN.{drop, getD, length, set, take};
+ghost use mathlib.Core.List.{List, [], _++_, _∷_};
+ghost use mathlib.Core.Path.{_≡_};
+use crate::layout::COUNT;
+use crate::layout::KEY;
+use crate::layout::QUEUE;
+use crate::layout::REQUEST;
+use crate::layout::REQUESTS;
+
+fn least(a: u64, b: usize) -> usize
+    requires { ⌜ b ≤ 64 ⌝ }
+    ensures { λ r. ⌜ (r ≡ min a b) × (r ≤ b) ⌝ }
+{
+    if a < b as u64 {
+        return a as usize;
+    }
+    b
+}
+
+// How many requests wait.
+pub fn waiting_count(w: &[u64; 235]) -> usize
+    ensures { λ r. ⌜ (r ≡ countOf (now (w .entry))) × (r ≤ 16) ⌝ }
+{
+    least(w[COUNT], 16)
+}
+
+// The slot of the j-th request that waits.
+pub fn waiting_slot(w: &[u64; 235], j: usize) -> usize
+    requires { ⌜ j < countOf (now w) ⌝ }
+    ensures { λ r. ⌜ (r < 16) × ((s : List ℕ) → getD (locksOf (now (w .entry)) s .waiting) j noRequest ≡ requestAt (now (w .entry)) s r) ⌝ }
+{
+    (w[QUEUE + j] % 16) as usize
+}
+
+// The deadline of the request of slot i.
+pub fn deadline_of(w: &[u64; 235], i: usize) -> u64
+    requires { ⌜ i < 16 ⌝ }
+    ensures { λ r. ⌜ ((s : List ℕ) → (requestAt (now (w .entry)) s i) .deadline ≡ r) ⌝ }
+{
+    w[REQUESTS + i * REQUEST]
+}
+
+// The length of the string of slot i's request.
+pub fn string_length(w: &[u64; 235], i: usize) -> usize
+    requires { ⌜ i < 16 ⌝ }
+    ensures { λ r. ⌜ (r ≤ 64) × ((s : List ℕ) → length s ≡ 1088 → r ≡ length (stringAt (now (w .entry)) s i)) ⌝ }
+{
+    least(w[REQUESTS + i * REQUEST + 1], 64)
+}
+
+fn move_waiting_in(w: &mut [u64], j: usize, k: usize)
+    requires { ⌜ (j < countOf (now w)) × (k < countOf (now w)) × (length (now w) ≡ 235) ⌝ }
+    ensures { λ _. ⌜ ((s : List ℕ) → view (memory (now (w .exit)) s) ≡ onWaiting (view (memory (now (w .entry)) s)) (λ x. set x k (getD x j noRequest))) ⌝ }
+{
+    let x = w[QUEUE + j] % 16;
+    w[QUEUE + k] = x;
+}
+
+// The j-th request that waits is put at place k of the queue.
+pub fn move_waiting(w: &mut [u64; 235], j: usize, k: usize)
+    requires { ⌜ (j < countOf (now w)) × (k < countOf (now w)) ⌝ }
+    ensures { λ _. ⌜ ((s : List ℕ) → view (memory (now (w .exit)) s) ≡ onWaiting (view (memory (now (w .entry)) s)) (λ x. set x k (getD x j noRequest))) ⌝ }
+{
+    move_waiting_in(w, j, k);
+}
+
+fn keep_first_in(w: &mut [u64], n: usize)
+    requires { ⌜ (n ≤ countOf (now w)) × (length (now w) ≡ 235) ⌝ }
+    ensures { λ _. ⌜ ((s : List ℕ) → view (memory (now (w .exit)) s) ≡ onWaiting (view (memory (now (w .entry)) s)) (take n)) ⌝ }
+{
+    w[COUNT] = n as u64;
+}
+
+// Only the first n go on waiting.
+pub fn keep_first(w: &mut [u64; 235], n: usize)
+    requires { ⌜ n ≤ countOf (now w) ⌝ }
+    ensures { λ _. ⌜ ((s : List ℕ) → view (memory (now (w .exit)) s) ≡ onWaiting (view (memory (now (w .entry)) s)) (take n)) ⌝ }
+{
+    keep_first_in(w, n);
+}
+
+fn queue_request_in(w: &mut [u64], i: usize, deadline: u64, n: usize)
+    requires { ⌜ (i < 16) × (length (now w) ≡ 235) × (n ≡ countOf (now w)) × (n < 16) × Idle (now w) i ⌝ }
+    ensures { λ _. ⌜ ((s : List ℕ) → view (memory (now (w .exit)) s) ≡ onWaiting (view (memory (now (w .entry)) s)) (λ x. x ++ (record { slot = i; deadline = deadline; string = stringAt (now (w .entry)) s i } ∷ []))) ⌝ }
+{
+    w[REQUESTS + i * REQUEST + 0] = deadline;
+    w[QUEUE + n] = i as u64;
+    w[COUNT] = n as u64 + 1;
+}
+
+// Slot i's request, its string laid already, goes to the end of the queue with a deadline.
+pub fn queue_request(w: &mut [u64; 235], i: usize, deadline: u64)
+    requires { ⌜ (i < 16) × (countOf (now w) < 16) × Idle (now w) i ⌝ }
+    ensures { λ _. ⌜ ((s : List ℕ) → view (memory (now (w .exit)) s) ≡ onWaiting (view (memory (now (w .entry)) s)) (λ x. x ++ (record { slot = i; deadline = deadline; string = stringAt (now (w .entry)) s i } ∷ []))) ⌝ }
+{
+    let n = waiting_count(w);
+    queue_request_in(w, i, deadline, n);
+}
+
+fn lay_request_in(w: &mut [u64], strings: &mut [u8], i: usize, string: &[u8])
+    requires { ⌜ (i < 16) × (length (now string) ≤ 64) × (length (now w) ≡ 235) × (length (now strings) ≡ 1088) × Idle (now w) i ⌝ }
+    ensures { λ _. ⌜ (view (memory (now (w .exit)) (now (strings .exit))) ≡ view (memory (now (w .entry)) (now (strings .entry)))) × (stringAt (now (w .exit)) (now (strings .exit)) i ≡ now (string .entry)) ⌝ }
+{
+    wire::frame::put_payload(strings, 64 + i * 64, string);
+    w[REQUESTS + i * REQUEST + 1] = string.len() as u64;
+}
+
+// The string of a request of slot i, which does not wait, is laid into its place. Nobody sees it yet.
+pub fn lay_request(w: &mut [u64; 235], strings: &mut [u8; 1088], i: usize, string: &[u8])
+    requires { ⌜ (i < 16) × (length (now string) ≤ 64) × Idle (now w) i ⌝ }
+    ensures { λ _. ⌜ (view (memory (now (w .exit)) (now (strings .exit))) ≡ view (memory (now (w .entry)) (now (strings .entry)))) × (stringAt (now (w .exit)) (now (strings .exit)) i ≡ now (string .entry)) ⌝ }
+{
+    lay_request_in(w, strings, i, string);
+}
+
+// Are two strings the same, byte by byte?
+fn same_bytes(a: &[u8], b: &[u8]) -> bool
+    ensures { λ r. ⌜ same (now (a .entry)) (now (b .entry)) ≡ r ⌝ }
+{
+    if a.len() != b.len() {
+        return false;
+    }
+    let mut i = 0;
+    while i < a.len() {
+        if a[i] != b[i] {
+            return false;
+        }
+        i += 1;
+    }
+    true
+}
+
+fn same_parts(strings: &[u8], k: usize, a: usize, n: usize) -> bool
+    requires { ⌜ (k ≤ length (now strings)) × (a + n ≤ length (now strings)) ⌝ }
+    ensures { λ r. ⌜ same (take k (now (strings .entry))) (take n (drop a (now (strings .entry)))) ≡ r ⌝ }
+{
+    let e = a + n;
+    same_bytes(&strings[..k], &strings[a..e])
+}
+
+fn has_key_in(w: &[u64; 235], strings: &[u8], i: usize) -> bool
+    requires { ⌜ (i < 16) × (length (now strings) ≡ 1088) ⌝ }
+    ensures { λ r. ⌜ same (keyOf (now (w .entry)) (now (strings .entry))) (stringAt (now (w .entry)) (now (strings .entry)) i) ≡ r ⌝ }
+{
+    let k = least(w[KEY], 63) + 1;
+    let n = least(w[REQUESTS + i * REQUEST + 1], 64);
+    same_parts(strings, k, 64 + i * 64, n)
+}
+
+// Is the string of slot i's request the shared one?
+pub fn has_key(w: &[u64; 235], strings: &[u8; 1088], i: usize) -> bool
+    requires { ⌜ i < 16 ⌝ }
+    ensures { λ r. ⌜ same (keyOf (now (w .entry)) (now (strings .entry))) (stringAt (now (w .entry)) (now (strings .entry)) i) ≡ r ⌝ }
+{
+    has_key_in(w, strings, i)
+}
+
+fn lay_first(strings: &mut [u8], b: &[u8], n: usize)
+    requires { ⌜ (n ≤ length (now b)) × (n ≤ 64) × (length (now strings) ≡ 1088) ⌝ }
+    ensures { λ _. ⌜ now (strings .exit) ≡ splice (now (strings .entry)) 0 (take n (now (b .entry))) ⌝ }
+{
+    wire::frame::put_payload(strings, 0, &b[..n]);
+}
+
+fn pick_up(b: &mut [u8], strings: &[u8], a: usize, n: usize)
+    requires { ⌜ (a + n ≤ length (now strings)) × (n ≤ length (now b)) × (n ≤ 64) ⌝ }
+    ensures { λ _. ⌜ now (b .exit) ≡ splice (now (b .entry)) 0 (take n (drop a (now (strings .entry)))) ⌝ }
+{
+    let e = a + n;
+    wire::frame::put_payload(b, 0, &strings[a..e]);
+}
+
+// The n bytes from a place on become the first n.
+pub fn copy_to_front(strings: &mut [u8], a: usize, n: usize)
+    requires { ⌜ (a + n ≤ length (now strings)) × (n ≤ 64) × (length (now strings) ≡ 1088) ⌝ }
+    ensures { λ _. ⌜ now (strings .exit) ≡ splice (now (strings .entry)) 0 (take n (drop a (now (strings .entry)))) ⌝ }
+{
+    let mut b = [0; 64];
+    pick_up(&mut b, strings, a, n);
+    lay_first(strings, &b, n);
+}
