@@ -10,3 +10,5 @@ pub mod Granting
 pub mod Queue
 pub mod Strings
 pub mod Sharing
+pub mod Search
+pub mod Fresh

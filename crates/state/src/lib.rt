@@ -1,6 +1,8 @@
 // The server's state in memory that the host lends: words for everything but lock strings, bytes for those. Nothing above this crate
 // knows where anything stands.
+pub mod fresh;
 pub mod holders;
 pub mod layout;
 pub mod requests;
+pub mod search;
 pub mod tables;
