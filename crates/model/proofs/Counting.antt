@@ -24,7 +24,7 @@ use Rattle.model.specs.LockModel.{Session, Model, Told, Fed, modelStep, 
 use Rattle.model.specs.Agreement.{asSession, asSessions, feed, feeds, Agrees}
 use Rattle.model.specs.Count.{locksOf, locksHeld, isGrant, isRelease, count, locksOn, lost, dropped, Balanced, Count}
 use Rattle.model.proofs.Basics.{and-l, and-r, both, not-of, isn't, inside, pos-found, all-at}
-use Rattle.model.proofs.Places.{place-sound, place-complete}
+use Rattle.model.proofs.Place.{place-sound, place-complete}
 use Rattle.model.proofs.GrantingRule.{ready}
 use Rattle.model.proofs.Invariant.{Inv, Good, Firm, clean, good-apart}
 use Rattle.model.proofs.Events.{Fit, change-sound, always-settled, inv-fresh}

@@ -21,7 +21,7 @@ use Rattle.model.specs.Acts
 use Rattle.model.specs.Refusals.{Cause, firstCause, causes, refusal}
 use Rattle.model.specs.Step.{effect, received, plan, answered, finish, step, final}
 use Rattle.model.proofs.Basics.{and-l, and-r, not-of, not-off, contra, pos-found, pos-passes}
-use Rattle.model.proofs.Places.{no-role, async-live}
+use Rattle.model.proofs.Place.{no-role, async-live}
 use Rattle.model.proofs.Invariant.{Inv}
 use Rattle.model.proofs.Numbers.{issues}
 use Rattle.model.proofs.Events.{Fit, Enters, Pairs, always-settled, inv-event, inv-fresh}

@@ -23,7 +23,7 @@ use Rattle.model.specs.Isolation.{Isolated}
 use Rattle.model.proofs.Classes.{asynchronousTypes}
 use Rattle.model.proofs.Basics.{and-l, and-r, not-off, all-at}
 use Rattle.model.proofs.Scanning.{whole-scan}
-use Rattle.model.proofs.Places.{sync-live, async-live}
+use Rattle.model.proofs.Place.{sync-live, async-live}
 use Rattle.model.proofs.Classes.{acted-class}
 use Rattle.model.proofs.Invariant.{Inv}
 use Rattle.model.proofs.Fits.{opening-passed, sync-passed, async-passed, inv-run}

@@ -30,7 +30,7 @@ use Rattle.model.specs.Agreement.{feed, feeds, Agrees, toldFrame, isLock
 use Rattle.model.proofs.Classes.{synchronousTypes, asynchronousTypes}
 use Rattle.model.proofs.Basics.{and-l, and-r, not-off, or→}
 use Rattle.model.proofs.Scanning.{header-cut, payload-cut}
-use Rattle.model.proofs.Places.{sync-live, async-live}
+use Rattle.model.proofs.Place.{sync-live, async-live}
 use Rattle.model.proofs.Classes.{acted-class}
 use Rattle.model.proofs.Invariant.{Inv}
 use Rattle.model.proofs.Numbers.{live-found}

@@ -19,7 +19,7 @@ use Rattle.model.specs.LockModel.{Session, own, others, notShared, notEx
 use Rattle.model.specs.Agreement.{asSession, asSessions}
 use Rattle.model.proofs.Basics.{and-l, and-r, both, not-of, isn't, or-of, or→, not-not, and-true, same?, inside, pos-found, all-at, all-split, all-same, all-cong, allBut-cong, allBut-true, allBut-at}
 use Rattle.model.proofs.Invariant.{clean, numbered, Firm}
-use Rattle.model.proofs.Places.{place-sound, place-complete}
+use Rattle.model.proofs.Place.{place-sound, place-complete}
 use Rattle.model.proofs.GrantingRule.{exclusive-rule, shared-rule}
 use Rattle.model.proofs.Tallies.{one, tally-cons, all-tally, tally-keep, tally-map, lower, tally-seen, tallyBut, tally-split, tallyBut-at, tally-same, tally-cong, tallyBut-cong}
 

@@ -19,7 +19,7 @@ use Rattle.model.specs.LockModel
 use Rattle.model.specs.LockModel.{Session, Request, Model, Told, ModelResult, Looked, own, allowed, has, secondConnection, tells, zeros, look, looked, given, noted, decided}
 use Rattle.model.specs.Agreement.{asSession, asSessions, asRequest, Agrees}
 use Rattle.model.proofs.Basics.{and-l, and-r, both, not-of, isn't, not-not, same?, apart, at-set, pos-found, all-kept}
-use Rattle.model.proofs.Places.{place-sound, place-complete}
+use Rattle.model.proofs.Place.{place-sound, place-complete}
 use Rattle.model.proofs.GrantingRule.{ready}
 use Rattle.model.proofs.Invariant.{Good, Firm, numbered, firm-give, good-apart, good-keep}
 use Rattle.model.proofs.Events.{Enters, Pairs}

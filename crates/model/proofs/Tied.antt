@@ -26,9 +26,9 @@ use Rattle.model.specs.Tie.{follows, track, askedBy, Tie}
 use Rattle.model.proofs.Classes.{synchronousTypes, asynchronousTypes}
 use Rattle.model.proofs.Basics.{not-off, inside}
 use Rattle.model.proofs.Scanning.{whole-scan}
-use Rattle.model.proofs.Places.{sync-live, async-live}
+use Rattle.model.proofs.Place.{sync-live, async-live}
 use Rattle.model.proofs.Classes.{acted-class}
-use Rattle.model.proofs.Exchanges.{may-answer}
+use Rattle.model.proofs.Exchange.{may-answer}
 use Rattle.model.proofs.Invariant.{Inv}
 use Rattle.model.proofs.Events.{Enters, Pairs, inv-fresh, blank-at}
 use Rattle.model.proofs.Fits.{Passes, uncaused, opening-passed, sync-passed, async-passed, opens-fit, real-delivery, inv-call}
