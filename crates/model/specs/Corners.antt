@@ -10,7 +10,7 @@ use Rattle.wire.specs.Message.{header, encode, headerBytes}
 use Rattle.wire.specs.Frame.{frameBytes, bytesOf}
 use Rattle.wire.specs.Class.{classOf}
 use Rattle.model.specs.Sizes.{sessionLimit}
-use Rattle.model.specs.State.{RemoteLocal, fresh}
+use Rattle.model.specs.State.{Server, RemoteLocal, fresh, withSession}
 use Rattle.model.specs.Interface.{Event, Event.opening, Event.delivery, Event.cut, Event.clock, Event.answer, Event.status, Outcome.more-needed, Outcome.skipped, Outcome.held, Outcome.ignored, Outcome.error-sent, Outcome.closed, Outcome.acted, Reply, Reply.refused, Reply.done, Reply.took}
 use Rattle.model.specs.Scan.{freshScan, scan}
 use Rattle.model.specs.Place.{placeOf}
@@ -273,6 +273,14 @@ issuedAfter last = issued sessionLimit 0 ((final (fresh 0x4141) three) .locks .e
 pub numbers-hold : map issuedAfter (0 ∷ 2 ∷ 3 ∷ 7 ∷ 65534 ∷ 65535 ∷ []) ≡ 4 ∷ 4 ∷ 4 ∷ 8 ∷ 65535 ∷ 4 ∷ []
 unfolding log final step refusal causes answered plan finish received effect verdict placeOf acts synchronousExchange synchronousSaid asynchronousRest asynchronousSaid asynchronousEvent controlled mayAnswer answerNumber availableAt scan freshScan header field encode headerBytes frameBytes bytesOf classOf mayGrant access passOver grantPass change
 numbers-hold = refl
+
+-- and a new session gets such a number: after 65,535, with 1, 2 and 3 live
+abbrev wrapped : Server
+wrapped = let d = final (fresh 0x4141) (three ++ (opening 6 ∷ [])) in record { locks = d .locks; rest = withSession (d .rest) 9 65535 }
+
+pub wrapped-hold : bytesOf ((step wrapped (send 6 initialize)) .frames) ≡ 6 ∷ 0x48 ∷ 0x53 ∷ 1 ∷ 0 ∷ 1 ∷ 0 ∷ 0 ∷ 4 ∷ eightZeros
+unfolding log final step refusal causes answered plan finish received effect verdict placeOf acts synchronousExchange synchronousSaid asynchronousRest asynchronousSaid asynchronousEvent controlled mayAnswer answerNumber availableAt scan freshScan header field encode headerBytes frameBytes bytesOf classOf mayGrant access passOver grantPass change
+wrapped-hold = refl
 
 -- what the wire does not show: the flags after codes 0 to 6, from all off and from all on
 pub flagsTable : List RemoteLocal
