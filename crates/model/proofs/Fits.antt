@@ -21,7 +21,7 @@ use Rattle.model.specs.Acts
 use Rattle.model.specs.Refusals.{Cause, firstCause, causes, refusal}
 use Rattle.model.specs.Step.{effect, received, plan, answered, finish, step, final}
 use Rattle.model.proofs.Basics.{and-l, and-r, not-of, not-off, contra, pos-found, pos-passes}
-use Rattle.model.proofs.Place.{no-role, async-live}
+use Rattle.model.proofs.Place.{no-role, async-live, place-unique}
 use Rattle.model.proofs.Invariant.{Inv}
 use Rattle.model.proofs.Numbers.{issues}
 use Rattle.model.proofs.Events.{Fit, Enters, Pairs, always-settled, inv-event, inv-fresh}
@@ -189,3 +189,7 @@ inv-list (e ∷ es) d i = inv-list es ((step d e) .server) (inv-call d e i)
 
 pub inv-run : (v : ℕ) (es : List Event) → Inv ((final (fresh v) es) .locks)
 inv-run v es = inv-list es (fresh v) inv-fresh
+
+-- so the session found is the only one on the connection
+pub found-run : (v : ℕ) (es : List Event) (c j : ℕ) → (c ≡ noConnection → ⊥) → onConnection c (at ((final (fresh v) es) .locks .entries) j) ≡ true → j ≡ slotOf (final (fresh v) es) c
+found-run v es c j r h = place-unique ((final (fresh v) es) .locks .entries) c j ((inv-run v es) .sound .firm .connections c r) h

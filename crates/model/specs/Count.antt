@@ -1,4 +1,5 @@
--- C: the count: locks granted, counted from the answers sent = released + dropped by closings + still held in the server.
+-- C. The count: locks granted, counted from the answers sent = those released + those dropped by closings + those still held in the server.
+-- Assumes nothing.
 use mathlib.Core.Path.{_≡_}
 use mathlib.Core.Bool.{Bool, true, false, cond, _&&_, _||_, not}
 use mathlib.Core.List.{List, [], _∷_}
