@@ -74,7 +74,7 @@ effect-no v-acts (long h) r d i c = refl
 effect-no v-acts (part h) r d i c = refl
 effect-no v-acts (whole h p) r d i c = acts-no r d i c h p
 
-plan-no : (d : Server) (e : Event) → keep isLock ((plan d e) .said) ≡ []
+pub plan-no : (d : Server) (e : Event) → keep isLock ((plan d e) .said) ≡ []
 unfolding plan received
 plan-no d (opening c) = refl
 plan-no d (delivery c bs room) = effect-no _ _ _ d _ c
@@ -84,7 +84,7 @@ plan-no d (answer n p true room) = refl
 plan-no d (answer n p false room) = refl
 plan-no d (status b) = refl
 
-keep-append : (xs ys : List Frame) → keep isLock (xs ++ ys) ≡ keep isLock xs ++ keep isLock ys
+pub keep-append : (xs ys : List Frame) → keep isLock (xs ++ ys) ≡ keep isLock xs ++ keep isLock ys
 keep-append [] ys = refl
 keep-append (x ∷ xs) ys = go (isLock x) (keep-append xs ys)
   where
@@ -93,7 +93,7 @@ keep-append (x ∷ xs) ys = go (isLock x) (keep-append xs ys)
     go true e = ap (λ l. x ∷ l) e
     go false e = e
 
-keep-locks : (xs : List Answer) → keep isLock (map lockFrame xs) ≡ map lockFrame xs
+pub keep-locks : (xs : List Answer) → keep isLock (map lockFrame xs) ≡ map lockFrame xs
 keep-locks [] = refl
 keep-locks (x ∷ xs) = ap (λ l. lockFrame x ∷ l) (keep-locks xs)
 

@@ -29,20 +29,20 @@ module _ (p : Entry → Bool) (pb : p blank ≡ true) where
   allBut← (x ∷ es) zero h = all← es (λ j. h (suc j) (λ e. omega arith))
   allBut← (x ∷ es) (suc i) h = both _ _ (h 0 (λ e. omega arith)) (allBut← es i (λ j d. h (suc j) (λ e. d (omega arith))))
 
-nil→ : (l : List ℕ) → isNil l ≡ true → l ≡ []
+pub nil→ : (l : List ℕ) → isNil l ≡ true → l ≡ []
 nil→ [] e = refl
 nil→ (x ∷ l) e = absurd (false≢true e)
 
-nil← : (l : List ℕ) → l ≡ [] → isNil l ≡ true
+pub nil← : (l : List ℕ) → l ≡ [] → isNil l ≡ true
 nil← l e = rw e
 
-same→ : (k l : List ℕ) → same k l ≡ true → k ≡ l
+pub same→ : (k l : List ℕ) → same k l ≡ true → k ≡ l
 same→ [] [] e = refl
 same→ [] (y ∷ l) e = absurd (false≢true e)
 same→ (x ∷ k) [] e = absurd (false≢true e)
 same→ (x ∷ k) (y ∷ l) e = ap₂ _∷_ (eqb-true x y (and-l (eqb x y) _ e)) (same→ k l (and-r (eqb x y) _ e))
 
-same-refl : (k : List ℕ) → same k k ≡ true
+pub same-refl : (k : List ℕ) → same k k ≡ true
 same-refl [] = refl
 same-refl (x ∷ k) = both _ _ (eq-eqb x x refl) (same-refl k)
 

@@ -39,10 +39,10 @@ holder-only es i j h a = go ((at es i) .exclusive) (all noExclusive es) refl ref
     go false true e q a = absurd (true≢false (sym (all-at noExclusive es j refl q) ∙ ap not h))
     go false false e q a = absurd (false≢true a)
 
-not-opening : (t : ℕ) → one-of commands t ≡ true → either 0 17 t ≡ false
+pub not-opening : (t : ℕ) → one-of commands t ≡ true → either 0 17 t ≡ false
 not-opening t e = each-of (λ t. either 0 17 t ≡ false) commands (refl, (refl, (refl, tt))) t e
 
-not-async : (t : ℕ) → one-of commands t ≡ true → one-of asynchronousTypes t ≡ false
+pub not-async : (t : ℕ) → one-of commands t ≡ true → one-of asynchronousTypes t ≡ false
 not-async t e = each-of (λ t. one-of asynchronousTypes t ≡ false) commands (refl, (refl, (refl, tt))) t e
 
 module _ (d : Server) (i : Inv (d .locks)) (j : ℕ) (h : (at (d .locks .entries) j) .exclusive ≡ true) (c k n : ℕ) where
@@ -77,7 +77,7 @@ module _ (d : Server) (i : Inv (d .locks)) (j : ℕ) (h : (at (d .locks .entries
   effect-own bs l v-acts (part x) r es ev t e = absurd (let z : _≡_ {A = ℕ} 0 1 = cc in omega arith)
   effect-own bs l v-acts (whole x p) r es ev t e = acts-own x p r ev (rw ((whole-scan l bs x p es) .0) at t) e
 
-  step-own : (bs : List ℕ) (room : ℕ) → (step d (delivery c bs room)) .reply ≡ took acted k n → one-of commands ((header bs) .kind) ≡ true → n ≡ (at (d .locks .entries) j) .number
+  pub step-own : (bs : List ℕ) (room : ℕ) → (step d (delivery c bs room)) .reply ≡ took acted k n → one-of commands ((header bs) .kind) ≡ true → n ≡ (at (d .locks .entries) j) .number
   unfolding step answered plan received finish
   step-own bs room e t = go (refusal d (delivery c bs room)) e
     where
