@@ -11,7 +11,7 @@ use Rattle.wire.specs.Frame.{frameBytes, bytesOf}
 use Rattle.wire.specs.Class.{classOf}
 use Rattle.model.specs.Sizes.{sessionLimit}
 use Rattle.model.specs.State.{Server, RemoteLocal, fresh, withSession}
-use Rattle.model.specs.Interface.{Event, Event.opening, Event.delivery, Event.cut, Event.clock, Event.answer, Event.status, Outcome.more-needed, Outcome.skipped, Outcome.held, Outcome.ignored, Outcome.error-sent, Outcome.closed, Outcome.acted, Reply, Reply.refused, Reply.done, Reply.took}
+use Rattle.model.specs.Interface.{Event, Event.opening, Event.delivery, Event.cut, Event.clock, Event.answer, Event.status, Outcome.more-needed, Outcome.skipped, Outcome.held, Outcome.ignored, Outcome.error-sent, Outcome.closed, Outcome.acted, Reply.refused, Reply.done, Reply.took}
 use Rattle.model.specs.Scan.{freshScan, scan}
 use Rattle.model.specs.Place.{placeOf}
 use Rattle.model.specs.Locks.{issued, mayGrant, access, passOver, grantPass, change}
