@@ -1,14 +1,15 @@
 -- Demand 3, proved: the statement is specs/Demand3.antt.
 use mathlib.Core.Path.{_≡_, refl, sym, ap, ap₂, _∙_}
-use mathlib.Core.List.{List, [], _∷_, _++_, map}
+use mathlib.Core.List.{List, _∷_, map}
 use Prim.Native.Nat.{ℕ, _+_}
 use lib.ListN.{length, take, drop}
 use lib.Seq.{take-at}
-use Rattle.wire.specs.Frame.{bytesOf, written}
+use Rattle.wire.specs.Frame.{bytesOf}
 use Rattle.wire.specs.Splice.{splice}
 use Rattle.model.specs.State.{Server, fresh}
 use Rattle.model.specs.Interface.{Event, Reply}
-use Rattle.model.specs.Step.{Result, step, final, log}
+use Rattle.model.specs.Step.{step, final, log}
+use Rattle.model.specs.Canonical.{canonical, kept}
 use Rattle.model.specs.Post.{Post}
 use Rattle.model.specs.Demand3.{Seen, seen, seenEvents, Calls, Calls.none, Calls.call, Demand3}
 use Rattle.model.proofs.Canonical.{canonical-history}
@@ -38,13 +39,25 @@ module _ {M : Type 0} (view : M → Server) where
         h .1 ∙ ap (λ d. final d (seenEvents ss)) (p .new-server),
       )
 
+  -- a second list of calls that is the canonical history of a first
+  replayed : (v : ℕ) {m m′ n n′ : M} {ss rs : List Seen} → view m ≡ fresh v → Calls view m ss m′ → view n ≡ fresh v → Calls view n rs n′ → seenEvents rs ≡ canonical (fresh v) (seenEvents ss)
+      → (view n′ ≡ view m′) × (rs ≡ map seen (kept (log (fresh v) (seenEvents ss))))
+  replayed v {ss = ss} {rs = rs} f c g b e =
+      let h = made c in
+      let k = made b in
+      let a = canonical-history (seenEvents ss) (fresh v) in (
+        k .1 ∙ ap (λ d. final d (seenEvents rs)) g ∙ ap (final (fresh v)) e ∙ a .same-server ∙ sym (h .1 ∙ ap (λ d. final d (seenEvents ss)) f),
+        k .0 ∙ ap (λ d. map seen (log d (seenEvents rs))) g ∙ ap (λ es. map seen (log (fresh v) es)) e ∙ ap (map seen) (a .same-lines),
+      )
+
   pub demand3 : (v : ℕ) (m : M) {m′ : M} {ss : List Seen} → view m ≡ fresh v → Calls view m ss m′ → Demand3 view v ss m′
   demand3 v m {ss = ss} f c =
       let h = made c in
       record {
         seen-is = h .0 ∙ ap (λ d. map seen (log d (seenEvents ss))) f;
         server-is = h .1 ∙ ap (λ d. final d (seenEvents ss)) f;
-        canonical = canonical-history (seenEvents ss) (fresh v);
+        replay = λ g b e. replayed v f c g b e;
+        history = canonical-history (seenEvents ss) (fresh v);
         agreement = agreement v (seenEvents ss);
         count = counted v (seenEvents ss);
         by-holders = decides v (seenEvents ss);

@@ -2,8 +2,8 @@ pub mod Scanning
 pub mod Canonical
 pub mod Basics
 pub mod Classes
-pub mod Places
-pub mod Exchanges
+pub mod Place
+pub mod Exchange
 pub mod GrantingRule
 pub mod Invariant
 pub mod Events

@@ -8,7 +8,7 @@ use Rattle.model.specs.State.{Server, fresh}
 use Rattle.model.specs.Interface.{Event, Reply}
 use Rattle.model.specs.Step.{Line, final, log}
 use Rattle.model.specs.Post.{Post}
-use Rattle.model.specs.Canonical.{Canonical}
+use Rattle.model.specs.Canonical.{Canonical, canonical, kept}
 use Rattle.model.specs.LockModel.{freshModel, modelRun}
 use Rattle.model.specs.Agreement.{Agreement, feeds}
 use Rattle.model.specs.Count.{Count}
@@ -40,8 +40,11 @@ pub record Demand3 {M : Type 0} (view : M → Server) (v : ℕ) (ss : List Seen)
   -- what the host saw and the server that is left are those of the definition, so what follows is about them
   pub seen-is : ss ≡ map seen (log (fresh v) (seenEvents ss))
   pub server-is : view m ≡ final (fresh v) (seenEvents ss)
+  -- calls with the canonical history, in whatever memory, leave the same server, and what the host sees of them is what it saw of the kept ones
+  pub replay : {n n′ : M} {rs : List Seen} → view n ≡ fresh v → Calls view n rs n′ → seenEvents rs ≡ canonical (fresh v) (seenEvents ss)
+      → (view n′ ≡ view m) × (rs ≡ map seen (kept (log (fresh v) (seenEvents ss))))
   -- "After it the desk is the very one that document 01's shortened list leaves"
-  pub canonical : Canonical (fresh v) (seenEvents ss)
+  pub history : Canonical (fresh v) (seenEvents ss)
   -- "Who holds which lock, who waits in what order, and every lock answer sent are exactly as document 01's ledger has them"
   pub agreement : Agreement (fresh v) freshModel (seenEvents ss)
   -- "Locks granted = those released + those dropped by closings + those still held"

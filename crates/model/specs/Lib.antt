@@ -11,7 +11,9 @@ pub mod Checks
 pub mod Acts
 pub mod Refusals
 pub mod Step
+pub mod Table
 pub mod Bench
+pub mod Corners
 pub mod Canonical
 pub mod Post
 pub mod LockModel
@@ -21,3 +23,4 @@ pub mod Granting
 pub mod Isolation
 pub mod Tie
 pub mod Demand3
+pub mod Instance
