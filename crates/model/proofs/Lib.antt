@@ -21,3 +21,7 @@ pub mod Isolation
 pub mod Tying
 pub mod Tied
 pub mod Demand3
+pub mod Slots
+pub mod Replies
+pub mod Access
+pub mod SessionId

@@ -21,6 +21,8 @@ pub mod Agreement
 pub mod Count
 pub mod Granting
 pub mod Isolation
+pub mod Access
+pub mod SessionId
 pub mod Tie
 pub mod Demand3
 pub mod Instance
