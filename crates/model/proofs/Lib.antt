@@ -25,3 +25,6 @@ pub mod Slots
 pub mod Replies
 pub mod Access
 pub mod SessionId
+pub mod Fewer
+pub mod OneString
+pub mod FixedPoint

@@ -23,6 +23,9 @@ pub mod Granting
 pub mod Isolation
 pub mod Access
 pub mod SessionId
+pub mod Fewer
+pub mod OneString
+pub mod FixedPoint
 pub mod Tie
 pub mod Demand3
 pub mod Instance
