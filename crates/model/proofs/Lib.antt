@@ -22,9 +22,11 @@ pub mod Tying
 pub mod Tied
 pub mod Demand3
 pub mod Slots
+pub mod Waiting
 pub mod Replies
 pub mod Access
 pub mod SessionId
 pub mod Fewer
+pub mod Bound
 pub mod OneString
 pub mod FixedPoint

@@ -24,6 +24,7 @@ pub mod Isolation
 pub mod Access
 pub mod SessionId
 pub mod Fewer
+pub mod Bound
 pub mod OneString
 pub mod FixedPoint
 pub mod Tie
