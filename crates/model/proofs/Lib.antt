@@ -27,6 +27,7 @@ pub mod Replies
 pub mod Access
 pub mod SessionId
 pub mod Fewer
+pub mod Closing
 pub mod Bound
 pub mod OneString
 pub mod FixedPoint

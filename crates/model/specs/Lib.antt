@@ -24,6 +24,7 @@ pub mod Isolation
 pub mod Access
 pub mod SessionId
 pub mod Fewer
+pub mod Closing
 pub mod Bound
 pub mod OneString
 pub mod FixedPoint
