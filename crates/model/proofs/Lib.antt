@@ -29,5 +29,8 @@ pub mod SessionId
 pub mod Fewer
 pub mod Closing
 pub mod Bound
+pub mod Exclusive
+pub mod Beginning
+pub mod IsolationRun
 pub mod OneString
 pub mod FixedPoint

@@ -26,6 +26,7 @@ pub mod SessionId
 pub mod Fewer
 pub mod Closing
 pub mod Bound
+pub mod IsolationRun
 pub mod OneString
 pub mod FixedPoint
 pub mod Tie
