@@ -1,14 +1,14 @@
 -- Demand 3, proved: the statement is specs/Demand3.antt.
 use mathlib.Core.Path.{_≡_, refl, sym, ap, ap₂, _∙_}
-use mathlib.Core.List.{List, [], _∷_, _++_, map}
+use mathlib.Core.List.{List, _∷_, map}
 use Prim.Native.Nat.{ℕ, _+_}
 use lib.ListN.{length, take, drop}
 use lib.Seq.{take-at}
-use Rattle.wire.specs.Frame.{bytesOf, written}
+use Rattle.wire.specs.Frame.{bytesOf}
 use Rattle.wire.specs.Splice.{splice}
 use Rattle.model.specs.State.{Server, fresh}
 use Rattle.model.specs.Interface.{Event, Reply}
-use Rattle.model.specs.Step.{Result, step, final, log}
+use Rattle.model.specs.Step.{step, final, log}
 use Rattle.model.specs.Canonical.{canonical, kept}
 use Rattle.model.specs.Post.{Post}
 use Rattle.model.specs.Demand3.{Seen, seen, seenEvents, Calls, Calls.none, Calls.call, Demand3}

@@ -1,17 +1,16 @@
 -- G, proved: access goes to the exclusive holder alone, and there is at most one.
-use mathlib.Core.Path.{_≡_, refl, sym, ap, ap₂, _∙_}
-use mathlib.Core.Bool.{Bool, true, false, not, _&&_, _||_, cond, false≢true, true≢false}
-use mathlib.Core.List.{List, [], _∷_}
-use Prim.Native.Nat.{ℕ, zero, suc, _+_}
+use mathlib.Core.Path.{_≡_, refl, sym, ap, _∙_}
+use mathlib.Core.Bool.{Bool, true, false, not, _&&_, _||_, false≢true, true≢false}
+use mathlib.Core.List.{List}
+use Prim.Native.Nat.{ℕ, zero, suc}
 use native.Mathlib.Omega.{arith}
-use lib.Dec.{eqb}
 use Rattle.wire.specs.declared.Header.{Header}
 use Rattle.wire.specs.Message.{header}
-use Rattle.wire.specs.Class.{one-of, synchronous, asynchronous}
+use Rattle.wire.specs.Class.{one-of, asynchronous}
 use Rattle.model.specs.MessageTypes.{commands}
 use Rattle.model.specs.Lists.{all}
-use Rattle.model.specs.State.{Entry, at, live, Server, connectionAt, fresh}
-use Rattle.model.specs.Interface.{Event, Event.delivery, Outcome.acted, Reply, Reply.took}
+use Rattle.model.specs.State.{Entry, at, Server, connectionAt, fresh}
+use Rattle.model.specs.Interface.{Event, Event.delivery, Outcome.acted, Reply.took}
 use Rattle.model.specs.Scan.{Scan, Scan.empty, Scan.few, Scan.wrong, Scan.skipping, Scan.long, Scan.part, Scan.whole, scan}
 use Rattle.model.specs.Place.{slotOf, Role, Role.r-none, Role.r-halfOpen, Role.r-synchronous, Role.r-asynchronous, roleOf}
 use Rattle.model.specs.Locks.{noExclusive, noShared, access}
@@ -21,9 +20,8 @@ use Rattle.model.specs.Refusals.{refusal}
 use Rattle.model.specs.Step.{effect, received, plan, answered, finish, step, final}
 use Rattle.model.specs.Isolation.{Isolated}
 use Rattle.model.proofs.Classes.{asynchronousTypes}
-use Rattle.model.proofs.Basics.{and-l, and-r, not-off, all-at}
+use Rattle.model.proofs.Basics.{not-off, all-at}
 use Rattle.model.proofs.Scanning.{whole-scan}
-use Rattle.model.proofs.Place.{sync-live, async-live}
 use Rattle.model.proofs.Classes.{acted-class}
 use Rattle.model.proofs.Invariant.{Inv}
 use Rattle.model.proofs.Fits.{opening-passed, sync-passed, async-passed, inv-run}

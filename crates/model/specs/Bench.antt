@@ -1,7 +1,7 @@
 -- 01, "Bench examples": every example as a whole conversation, byte for byte; expected bytes are written as in 01. One table, one fact by
 -- computation. A star in a comment is 01's star. Assumes nothing.
 use mathlib.Core.Path.{_≡_, refl}
-use mathlib.Core.Bool.{true, false}
+use mathlib.Core.Bool.{true}
 use mathlib.Core.List.{List, [], _∷_, _++_, map}
 use lib.ListN.{replicate}
 use Rattle.wire.specs.Field.{field}
@@ -16,7 +16,7 @@ use Rattle.model.specs.Exchange.{controlled, mayAnswer, answerNumber, av
 use Rattle.model.specs.Checks.{verdict}
 use Rattle.model.specs.Acts.{acts, synchronousExchange, synchronousSaid, asynchronousRest, asynchronousSaid, asynchronousEvent}
 use Rattle.model.specs.Refusals.{refusal, causes}
-use Rattle.model.specs.Step.{final, log, step, answered, plan, finish, received, effect}
+use Rattle.model.specs.Step.{log, step, answered, plan, finish, received, effect}
 use Rattle.model.specs.Table.{Call, call, played, expected, message, send, request, release, cal, Cal, eightZeros, initialize, asyncInitialize, opened}
 
 pub table : List (List Call)

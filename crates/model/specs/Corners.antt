@@ -11,7 +11,7 @@ use Rattle.wire.specs.Frame.{frameBytes, bytesOf}
 use Rattle.wire.specs.Class.{classOf}
 use Rattle.model.specs.Sizes.{sessionLimit}
 use Rattle.model.specs.State.{Server, RemoteLocal, fresh, withSession}
-use Rattle.model.specs.Interface.{Event, Event.opening, Event.delivery, Event.cut, Event.clock, Event.answer, Event.status, Outcome.more-needed, Outcome.skipped, Outcome.held, Outcome.ignored, Outcome.error-sent, Outcome.closed, Outcome.acted, Reply, Reply.refused, Reply.done, Reply.took}
+use Rattle.model.specs.Interface.{Event, Event.opening, Event.delivery, Event.cut, Event.clock, Event.answer, Event.status, Outcome.more-needed, Outcome.skipped, Outcome.held, Outcome.ignored, Outcome.error-sent, Outcome.closed, Outcome.acted, Reply.refused, Reply.done, Reply.took, outcomeNumber, deliveryAnswer, doneAnswer}
 use Rattle.model.specs.Scan.{freshScan, scan}
 use Rattle.model.specs.Place.{placeOf}
 use Rattle.model.specs.Locks.{issued, mayGrant, access, passOver, grantPass, change}
@@ -300,3 +300,14 @@ flags-hold = refl
 pub flags-kept : (final (fresh 0x4141) (three ++ (send 1 (message 10 5 0 []) ∷ cut 0 2048 ∷ []))) .rest .remoteLocal ≡ flags true true true
 unfolding log final step refusal causes answered plan finish received effect verdict placeOf acts synchronousExchange synchronousSaid asynchronousRest asynchronousSaid asynchronousEvent controlled mayAnswer answerNumber availableAt scan freshScan header field encode headerBytes frameBytes bytesOf classOf mayGrant access passOver grantPass change
 flags-kept = refl
+
+-- the numbers that the C interface returns
+pub outcomes-hold : map outcomeNumber (more-needed ∷ skipped ∷ held ∷ ignored ∷ error-sent ∷ closed ∷ acted ∷ []) ≡ 0 ∷ 1 ∷ 2 ∷ 3 ∷ 4 ∷ 5 ∷ 6 ∷ []
+outcomes-hold = refl
+
+pub answers-hold : deliveryAnswer (refused 7) 0 ∷ deliveryAnswer (took acted 19 2) 17 ∷ []
+    ≡ record { refusal = 7; outcome = 0; session = 0; taken = 0; output = 0 } ∷ record { refusal = 0; outcome = 6; session = 2; taken = 19; output = 17 } ∷ []
+answers-hold = refl
+
+pub done-hold : doneAnswer (refused 3) 0 ∷ doneAnswer done 34 ∷ [] ≡ record { refusal = 3; output = 0 } ∷ record { refusal = 0; output = 34 } ∷ []
+done-hold = refl

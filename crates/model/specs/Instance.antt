@@ -3,7 +3,7 @@
 use mathlib.Core.Path.{_≡_, refl}
 use mathlib.Core.Bool.{Bool, true, false, not, _&&_, _||_, cond}
 use mathlib.Core.List.{List, [], _∷_, _++_, map}
-use Prim.Native.Nat.{ℕ, zero, suc, _+_, _*_}
+use Prim.Native.Nat.{ℕ, suc, _+_, _*_}
 use lib.Dec.{eqb, leb}
 use lib.ListN.{length, replicate, take}
 use Rattle.wire.specs.Field.{field}
@@ -13,7 +13,7 @@ use Rattle.wire.specs.Class.{classOf, one-of}
 use Rattle.model.specs.Lists.{same, all, any, tally}
 use Rattle.model.specs.MessageTypes.{commands}
 use Rattle.model.specs.State.{Server, Rest, Locks, Entry, Waiting, Exchange, Asked, Asked.none, Asked.some, Connection, at, live, slotOfNumber, fresh}
-use Rattle.model.specs.Interface.{Event, Event.opening, Event.delivery, Event.cut, Event.clock, Event.answer, Event.status, Outcome, Outcome.more-needed, Outcome.skipped, Outcome.held, Outcome.ignored, Outcome.error-sent, Outcome.closed, Outcome.acted, Reply, Reply.refused, Reply.done, Reply.took, outcomeNumber}
+use Rattle.model.specs.Interface.{Event, Event.opening, Event.delivery, Event.cut, Event.clock, Event.answer, Event.status, Outcome.more-needed, Outcome.skipped, Outcome.held, Outcome.ignored, Outcome.error-sent, Outcome.closed, Outcome.acted, Reply, Reply.refused, Reply.done, Reply.took, outcomeNumber}
 use Rattle.model.specs.Scan.{freshScan, scan}
 use Rattle.model.specs.Place.{placeOf}
 use Rattle.model.specs.Locks.{mayGrant, access, passOver, grantPass, change, noExclusive}
@@ -24,8 +24,8 @@ use Rattle.model.specs.Refusals.{refusal, causes}
 use Rattle.model.specs.Step.{Line, final, log, step, answered, plan, finish, received, effect, answerType}
 use Rattle.model.specs.Canonical.{canonical, kept, omits, taken, showed}
 use Rattle.model.specs.LockModel
-use Rattle.model.specs.LockModel.{Session, Request, Model, Told, Fed, freshModel, modelStep, modelRun, allowed, look, looked, notExclusive, notShared}
-use Rattle.model.specs.Agreement.{feed, feeds, asSession, asSessions, asRequest, toldFrame, isLock, lockSent}
+use Rattle.model.specs.LockModel.{Session, Request, Model, freshModel, modelStep, modelRun, allowed, look, looked, notExclusive, notShared}
+use Rattle.model.specs.Agreement.{feed, feeds, asSessions, asRequest, toldFrame, isLock}
 use Rattle.model.specs.Count.{count, isGrant, isRelease, dropped, locksHeld}
 use Rattle.model.specs.Granting.{hasAccess}
 use Rattle.model.specs.Tie.{askedBy}

@@ -1,13 +1,11 @@
 -- How the tables of examples are written: messages from clients, three sessions, one call with the reply and the whole output that it
 -- must have. Assumes nothing.
-use mathlib.Core.Bool.{Bool, true, false}
-use mathlib.Core.List.{List, [], _∷_, _++_, map}
+use mathlib.Core.List.{List, [], _∷_, map}
 use Prim.Native.Nat.{ℕ}
-use lib.ListN.{replicate}
 use Rattle.wire.specs.Message.{encode}
 use Rattle.wire.specs.Frame.{bytesOf}
 use Rattle.model.specs.Sizes.{outputMinimum}
-use Rattle.model.specs.State.{Server, fresh}
+use Rattle.model.specs.State.{fresh}
 use Rattle.model.specs.Interface.{Event, Event.opening, Event.delivery, Outcome.acted, Reply, Reply.done, Reply.took}
 use Rattle.model.specs.Step.{Line, step, final, log}
 
