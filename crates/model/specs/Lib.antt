@@ -32,3 +32,4 @@ pub mod FixedPoint
 pub mod Tie
 pub mod Demand3
 pub mod Instance
+pub mod Cases
