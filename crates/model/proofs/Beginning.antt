@@ -17,7 +17,7 @@ use Rattle.model.specs.State.{Locks, Entry, Waiting, blank, at, live, Se
 use Rattle.model.specs.Interface.{Event, Event.delivery, Outcome.acted, Reply.took}
 use Rattle.model.specs.Place.{slotOf}
 use Rattle.model.specs.Locks
-use Rattle.model.specs.Locks.{Answer, LockEvent, noShared, holds, mayGrant, give, grant, elsewhere, unexpired, refuse, tell, passOver, grantPass, change, settle, frees}
+use Rattle.model.specs.Locks.{Answer, LockEvent, noShared, holds, mayGrant, give, grant, elsewhere, unexpired, refuse, tell, passOver, grantPass, change, settle, frees, noPlace}
 use Rattle.model.specs.Refusals.{refusal}
 use Rattle.model.specs.Step.{Result, plan, answered, finish, step, lockFrame}
 use Rattle.model.specs.Agreement.{isLock}
@@ -149,7 +149,7 @@ module _ (l : Locks) (v : Inv l) (j : ℕ) (aw : awaitsExclusive l j ≡ true) (
   change-spare Locks.nothing f = refl
   change-spare (Locks.enter i n c) f = refl
   change-spare (Locks.join i c) f = refl
-  change-spare (Locks.request i t k) f = ask-spare i t k (holds k (at (l .entries) i)) (all (elsewhere i) (l .waiting)) (leb (suc stringLimit) (length k)) (mayGrant (l .entries) i k) (eqb t 0) refl f
+  change-spare (Locks.request i t k) f = ask-spare i t k (holds k (at (l .entries) i)) (all (elsewhere i) (l .waiting)) (leb (suc stringLimit) (length k)) (mayGrant (l .entries) i k) (eqb t 0 || noPlace (l .waiting)) refl f
   change-spare (Locks.release i) f = free-spare i ((at (l .entries) i) .exclusive) (noShared (at (l .entries) i)) refl f
   change-spare (Locks.clear i) f = refuse-spare (elsewhere i) (l .waiting)
   change-spare (Locks.close i) f = refl
@@ -248,7 +248,7 @@ later-holds d v j e aw real a = go (refusal d e) refl a
 -- at once
 ask-yes : (l : Locks) (i t : ℕ) (k : List ℕ) → any answers1 (map lockFrame ((change l (LockEvent.request i t k)) .answers)) ≡ true → (change l (LockEvent.request i t k)) .locks .entries ≡ grant (l .entries) i k
 unfolding change
-ask-yes l i t k a = go (holds k (at (l .entries) i)) (all (elsewhere i) (l .waiting)) (leb (suc stringLimit) (length k)) (mayGrant (l .entries) i k) (eqb t 0) a
+ask-yes l i t k a = go (holds k (at (l .entries) i)) (all (elsewhere i) (l .waiting)) (leb (suc stringLimit) (length k)) (mayGrant (l .entries) i k) (eqb t 0 || noPlace (l .waiting)) a
   where
     go : (h a s m z : Bool) → any answers1 (map lockFrame ((Locks.respond (Locks.ruling h a s m z) l i t k) .answers)) ≡ true → (Locks.respond (Locks.ruling h a s m z) l i t k) .locks .entries ≡ grant (l .entries) i k
     go true a s m z q = absurd (false≢true q)

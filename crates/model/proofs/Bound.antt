@@ -18,7 +18,7 @@ use Rattle.model.specs.Interface.{Event, Event.opening, Event.delivery, 
 use Rattle.model.specs.Scan.{Scan, Scan.empty, Scan.few, Scan.wrong, Scan.skipping, Scan.long, Scan.part, Scan.whole}
 use Rattle.model.specs.Place.{entryOf, Role, Role.r-none, Role.r-halfOpen, Role.r-synchronous, Role.r-asynchronous}
 use Rattle.model.specs.Locks
-use Rattle.model.specs.Locks.{Answer, LockEvent, noShared, mayGrant, holds, elsewhere, refuse, unexpired, after, put, passOver, grantPass, change, settle, frees}
+use Rattle.model.specs.Locks.{Answer, LockEvent, noShared, mayGrant, holds, elsewhere, refuse, unexpired, after, put, passOver, grantPass, change, settle, frees, noPlace}
 use Rattle.model.specs.Checks.{Verdict, Verdict.v-more, Verdict.v-skipped, Verdict.v-held, Verdict.v-ignored, Verdict.v-closed, Verdict.v-acts, Verdict.v-error, Verdict.v-fatal}
 use Rattle.model.specs.Acts
 use Rattle.model.specs.Refusals.{causes, refusal}
@@ -85,7 +85,7 @@ answers-bound l Locks.nothing = omega arith
 answers-bound l (Locks.enter i n c) = omega arith
 answers-bound l (Locks.join i c) = omega arith
 answers-bound l (Locks.request i t k) =
-    omega (arith, ask-length (Locks.ruling (holds k (at (l .entries) i)) (all (elsewhere i) (l .waiting)) (leb (suc stringLimit) (length k)) (mayGrant (l .entries) i k) (eqb t 0)) l i t k)
+    omega (arith, ask-length (Locks.ruling (holds k (at (l .entries) i)) (all (elsewhere i) (l .waiting)) (leb (suc stringLimit) (length k)) (mayGrant (l .entries) i k) (eqb t 0 || noPlace (l .waiting))) l i t k)
 answers-bound l (Locks.release i) = free-length ((at (l .entries) i) .exclusive) (noShared (at (l .entries) i)) l i
 answers-bound l (Locks.clear i) = omega (arith, refuse-length (l .entries) (elsewhere i) (l .waiting))
 answers-bound l (Locks.close i) = omega (arith, pass-length (keep (elsewhere i) (l .waiting)) (set (l .entries) i blank), keep-length (elsewhere i) (l .waiting))

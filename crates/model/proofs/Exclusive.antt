@@ -17,7 +17,7 @@ use Rattle.model.specs.Interface.{Event, Event.opening, Event.delivery, 
 use Rattle.model.specs.Scan.{Scan, Scan.empty, Scan.few, Scan.wrong, Scan.skipping, Scan.long, Scan.part, Scan.whole, scan}
 use Rattle.model.specs.Place.{slotOf, Role, Role.r-none, Role.r-halfOpen, Role.r-synchronous, Role.r-asynchronous, roleOf}
 use Rattle.model.specs.Locks
-use Rattle.model.specs.Locks.{LockEvent, noExclusive, noShared, holds, mayGrant, give, elsewhere, grantPass, change, settle, frees}
+use Rattle.model.specs.Locks.{LockEvent, noExclusive, noShared, holds, mayGrant, give, elsewhere, grantPass, change, settle, frees, noPlace}
 use Rattle.model.specs.Checks.{Verdict, Verdict.v-more, Verdict.v-skipped, Verdict.v-held, Verdict.v-ignored, Verdict.v-closed, Verdict.v-acts, Verdict.v-error, Verdict.v-fatal}
 use Rattle.model.specs.Acts
 use Rattle.model.specs.Refusals.{refusal}
@@ -84,7 +84,7 @@ module _ (l : Locks) (v : Inv l) (j : ℕ) (h : (at (l .entries) j) .exclusive �
   change-holds Locks.nothing f n = (refl, h)
   change-holds (Locks.enter i m c) f n = store i (Locks.opened m c) (λ q. absurd (true≢false (sym alive ∙ ap (λ z. live (at (l .entries) z)) q ∙ f .vacant)))
   change-holds (Locks.join i c) f n = store i (Locks.joined c (at (l .entries) i)) (λ q. (refl, there i q))
-  change-holds (Locks.request i t k) f n = asked-holds (Locks.ruling (holds k (at (l .entries) i)) (all (elsewhere i) (l .waiting)) (leb (suc stringLimit) (length k)) (mayGrant (l .entries) i k) (eqb t 0)) i t k
+  change-holds (Locks.request i t k) f n = asked-holds (Locks.ruling (holds k (at (l .entries) i)) (all (elsewhere i) (l .waiting)) (leb (suc stringLimit) (length k)) (mayGrant (l .entries) i k) (eqb t 0 || noPlace (l .waiting))) i t k
   change-holds (Locks.release i) f n = freed-holds ((at (l .entries) i) .exclusive) (noShared (at (l .entries) i)) i n
   change-holds (Locks.clear i) f n = (refl, h)
   change-holds (Locks.close i) f n = store i blank (λ q. absurd (n q))

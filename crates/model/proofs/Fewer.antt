@@ -14,12 +14,12 @@ use Rattle.wire.specs.Class.{classOf, synchronous}
 use Rattle.model.specs.Sizes.{stringLimit}
 use Rattle.model.specs.MessageTypes.{AsyncLock}
 use Rattle.model.specs.Lists.{all, any}
-use Rattle.model.specs.State.{Locks, Entry, at, live, Server, Rest, connectionAt, exchangeAt}
+use Rattle.model.specs.State.{Locks, Entry, Waiting, at, live, Server, Rest, connectionAt, exchangeAt}
 use Rattle.model.specs.Interface.{Event.delivery, Outcome.held, Outcome.acted, Reply.took}
 use Rattle.model.specs.Scan.{Scan, Scan.whole, scan}
 use Rattle.model.specs.Place.{onConnection, slotOf, entryOf, Role, Role.r-none, Role.r-halfOpen, Role.r-synchronous, Role.r-asynchronous, roleIn, roleOf}
 use Rattle.model.specs.Locks
-use Rattle.model.specs.Locks.{noExclusive, noShared, mayGrant, access, holds, elsewhere, change}
+use Rattle.model.specs.Locks.{noExclusive, noShared, mayGrant, access, holds, elsewhere, change, noPlace}
 use Rattle.model.specs.Checks
 use Rattle.model.specs.Checks.{Verdict.v-acts, first, verdict, judged, either, isUnrecognised}
 use Rattle.model.specs.Acts
@@ -120,10 +120,10 @@ module _ (l l′ : Locks) (i t : ℕ) (k : List ℕ) (f : Fewer i (l .entries) (
       let s = leb (suc stringLimit) (length k) in
       let m = mayGrant (l .entries) i k in
       let m′ = mayGrant (l′ .entries) i k in
-      let z = eqb t 0 in
+      let z = eqb t 0 || noPlace (l .waiting) in
       subst
       (λ (b : Locks.Ruling). Same (Locks.ruling h a s m z) b)
-      (sym (ap₂ (λ (x y : Bool). Locks.ruling x y s m′ z) (ap (holds k) (f .own)) (ap (all (elsewhere i)) ws)))
+      (sym (ap₂ (λ (x : Bool) (v : List Waiting). Locks.ruling x (all (elsewhere i) v) s m′ (eqb t 0 || noPlace v)) (ap (holds k) (f .own)) ws))
       (asked-same h a s m z m′ (may-fewer i (l .entries) (l′ .entries) f k) g)
 
 -- a request that acts, on any server: a whole AsyncLock with code 1 on the asynchronous connection, which the checks let pass

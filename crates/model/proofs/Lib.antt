@@ -32,5 +32,6 @@ pub mod Bound
 pub mod Exclusive
 pub mod Beginning
 pub mod IsolationRun
+pub mod AlwaysRoom
 pub mod OneString
 pub mod FixedPoint

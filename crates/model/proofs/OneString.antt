@@ -13,7 +13,7 @@ use Rattle.model.specs.Lists.{all, keep, same}
 use Rattle.model.specs.State.{Locks, Entry, Waiting, blank, at, Server, fresh}
 use Rattle.model.specs.Interface.{Event}
 use Rattle.model.specs.Locks
-use Rattle.model.specs.Locks.{LockEvent, noShared, fits, mayGrant, give, grant, holds, elsewhere, unexpired, after, put, passOver, grantPass, change, settle, frees}
+use Rattle.model.specs.Locks.{LockEvent, noShared, fits, mayGrant, give, grant, holds, elsewhere, unexpired, after, put, passOver, grantPass, change, settle, frees, noPlace}
 use Rattle.model.specs.Refusals.{refusal}
 use Rattle.model.specs.Step.{plan, answered, finish, step, final}
 use Rattle.model.specs.Granting.{MayShared}
@@ -90,9 +90,13 @@ pass-strings t (w ∷ ws) es s a b = go (mayGrant es (w .slot) (w .string)) refl
         let r = ih es s in
         record { strung = r .strung; shortly = both _ _ (and-l (short w) _ a) (r .shortly); timely = both _ _ (and-l (ahead t w) _ b) (r .timely) }
 
+no-or : (a b : Bool) → (a || b) ≡ false → a ≡ false
+no-or true b e = e
+no-or false b e = refl
+
 -- each event
 module _ (l : Locks) (s : Strings l) where
-  ask-strings : (i t : ℕ) (k : List ℕ) (h a x m z : Bool) → leb (suc stringLimit) (length k) ≡ x → mayGrant (l .entries) i k ≡ m → eqb t 0 ≡ z → Strings ((Locks.respond (Locks.ruling h a x m z) l i t k) .locks)
+  ask-strings : (i t : ℕ) (k : List ℕ) (h a x m z : Bool) → leb (suc stringLimit) (length k) ≡ x → mayGrant (l .entries) i k ≡ m → (z ≡ false → eqb t 0 ≡ false) → Strings ((Locks.respond (Locks.ruling h a x m z) l i t k) .locks)
   ask-strings i t k true a x m z ex em ez = s
   ask-strings i t k false false x m z ex em ez = s
   ask-strings i t k false true true m z ex em ez = s
@@ -103,7 +107,7 @@ module _ (l : Locks) (s : Strings l) where
       record {
         strung = s .strung;
         shortly = all-snoc short (l .waiting) _ (s .shortly) (le-leb (length k) stringLimit (omega (arith, leb-false (suc stringLimit) (length k) ex)));
-        timely = all-snoc (ahead (l .clock)) (l .waiting) _ (s .timely) (lt-ltb (l .clock) (l .clock + t) (omega (arith, eqb-false t 0 ez)));
+        timely = all-snoc (ahead (l .clock)) (l .waiting) _ (s .timely) (lt-ltb (l .clock) (l .clock + t) (omega (arith, eqb-false t 0 (ez refl))));
       }
 
   free-strings : (i : ℕ) (x n : Bool) → Strings ((Locks.released x n l i) .locks)
@@ -124,7 +128,7 @@ module _ (l : Locks) (s : Strings l) where
   change-strings Locks.nothing = s
   change-strings (Locks.enter i n c) = record { strung = strung-less (l .entries) i (Locks.opened n c) refl (s .strung); shortly = s .shortly; timely = s .timely }
   change-strings (Locks.join i c) = record { strung = strung-same (l .entries) i (Locks.joined c (at (l .entries) i)) refl (s .strung); shortly = s .shortly; timely = s .timely }
-  change-strings (Locks.request i t k) = ask-strings i t k (holds k (at (l .entries) i)) (all (elsewhere i) (l .waiting)) (leb (suc stringLimit) (length k)) (mayGrant (l .entries) i k) (eqb t 0) refl refl refl
+  change-strings (Locks.request i t k) = ask-strings i t k (holds k (at (l .entries) i)) (all (elsewhere i) (l .waiting)) (leb (suc stringLimit) (length k)) (mayGrant (l .entries) i k) (eqb t 0 || noPlace (l .waiting)) refl refl (no-or (eqb t 0) _)
   change-strings (Locks.release i) = free-strings i ((at (l .entries) i) .exclusive) (noShared (at (l .entries) i))
   change-strings (Locks.clear i) = record { strung = s .strung; shortly = all-keep short (elsewhere i) (l .waiting) (s .shortly); timely = all-keep (ahead (l .clock)) (elsewhere i) (l .waiting) (s .timely) }
   change-strings (Locks.close i) =

@@ -1,17 +1,18 @@
 -- Waiting requests have different slots, so no more of them wait than there are slots, and fewer while some session has none waiting.
 use mathlib.Core.Path.{_≡_, refl, ap}
-use mathlib.Core.Bool.{Bool, true, false, cond}
+use mathlib.Core.Bool.{Bool, true, false, _||_, cond}
 use mathlib.Core.List.{List, [], _∷_}
 use Prim.Native.Nat.{ℕ, zero, suc, _≤_, _<_}
 use native.Mathlib.Omega.{arith}
-use lib.Dec.{ltb}
+use lib.Dec.{eqb, ltb}
 use lib.ListN.{length}
-use borrow.Author.Tests.{eqb-true, ltb-true, lt-ltb}
+use borrow.Author.Tests.{eqb-true, ltb-true, lt-ltb, lt-leb}
+use Rattle.model.specs.Sizes.{sessionLimit, stringLimit}
 use Rattle.model.specs.Lists.{all, keep}
-use Rattle.model.specs.State.{Entry, Waiting, at, live}
-use Rattle.model.specs.Locks.{elsewhere}
+use Rattle.model.specs.State.{Entry, Waiting, Locks, at, live}
+use Rattle.model.specs.Locks.{LockEvent.request, Ruling, elsewhere, holds, mayGrant, noPlace, ruling, respond, change}
 use Rattle.model.proofs.Basics.{and-l, and-r, both, not-off, apart, inside, all-keep, all-kept}
-use Rattle.model.proofs.Invariant.{Good}
+use Rattle.model.proofs.Invariant.{Good, Firm}
 
 -- no two requests of one slot
 abbrev Distinct : List Waiting → Type 0
@@ -74,3 +75,19 @@ pub room-to-wait : (es : List Entry) (ws : List Waiting) (i : ℕ) → Good es w
 room-to-wait es ws i g h a =
     let w : Waiting = record { slot = i; deadline = 0; string = [] } in
     slots-bound (length es) (w ∷ ws) (a, good-distinct es ws g) (both _ _ (lt-ltb _ _ (inside live es i refl h)) (good-inside es ws g))
+
+-- so the place test of a request never decides
+ruling-same : (h b s m z p : Bool) → (b ≡ true → p ≡ false) → ruling h b s m (z || p) ≡ ruling h b s m z
+ruling-same true b s m z p f = refl
+ruling-same false false s m z p f = refl
+ruling-same false true s m true p f = refl
+ruling-same false true s m false p f = ap (ruling false true s m) (f refl)
+
+pub request-rule : (l : Locks) → Good (l .entries) (l .waiting) → Firm (l .entries) → (i : ℕ) → live (at (l .entries) i) ≡ true → (t : ℕ) (k : List ℕ) → change l (request i t k)
+    ≡ respond (ruling (holds k (at (l .entries) i)) (all (elsewhere i) (l .waiting)) (ltb stringLimit (length k)) (mayGrant (l .entries) i k) (eqb t 0)) l i t k
+unfolding change
+request-rule l g f i h t k =
+    ap
+    (λ (r : Ruling). respond r l i t k)
+    (ruling-same (holds k (at (l .entries) i)) (all (elsewhere i) (l .waiting)) _ (mayGrant (l .entries) i k) (eqb t 0) (noPlace (l .waiting))
+    (λ a. lt-leb sessionLimit (length (l .waiting)) (omega (arith, room-to-wait (l .entries) (l .waiting) i g h a, f .slots))))

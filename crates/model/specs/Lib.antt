@@ -27,6 +27,7 @@ pub mod Fewer
 pub mod Closing
 pub mod Bound
 pub mod IsolationRun
+pub mod AlwaysRoom
 pub mod OneString
 pub mod FixedPoint
 pub mod Tie
