@@ -118,7 +118,7 @@ finish-idle : (d : Server) (r : Reply) → finish d (idle d r) ≡ stays d r
 unfolding finish change stays
 finish-idle d r = refl
 
-step-omitted : (d : Server) (e : Event) → omits ((step d e) .reply) ≡ true → step d e ≡ stays d ((step d e) .reply)
+pub step-omitted : (d : Server) (e : Event) → omits ((step d e) .reply) ≡ true → step d e ≡ record { server = d; reply = (step d e) .reply; frames = [] }
 unfolding step answered finish stays
 step-omitted d e = go (refusal d e)
   where

@@ -1,6 +1,6 @@
 -- Demand 3, proved: the statement is specs/Demand3.antt.
 use mathlib.Core.Path.{_≡_, refl, sym, ap, ap₂, _∙_}
-use mathlib.Core.List.{List, _∷_, map}
+use mathlib.Core.List.{List, [], _∷_, map}
 use Prim.Native.Nat.{ℕ, _+_}
 use lib.ListN.{length, take, drop}
 use lib.Seq.{take-at}
@@ -8,19 +8,32 @@ use Rattle.wire.specs.Frame.{bytesOf}
 use Rattle.wire.specs.Splice.{splice}
 use Rattle.model.specs.State.{Server, fresh}
 use Rattle.model.specs.Interface.{Event, Reply}
-use Rattle.model.specs.Step.{step, final, log}
+use Rattle.model.specs.Step.{Line, step, final, log}
 use Rattle.model.specs.Canonical.{canonical, kept}
 use Rattle.model.specs.Post.{Post}
-use Rattle.model.specs.Demand3.{Seen, seen, seenEvents, Calls, Calls.none, Calls.call, Demand3}
-use Rattle.model.proofs.Canonical.{canonical-history}
+use Rattle.model.specs.Agreement.{feed, feeds}
+use Rattle.model.specs.Demand3.{Seen, seen, seenEvents, Calls, Calls.none, Calls.call, Demand3, fedBy, OmittedIdle}
+use Rattle.model.proofs.Canonical.{canonical-history, step-omitted}
 use Rattle.model.proofs.Agreement.{agreement}
 use Rattle.model.proofs.Counting.{counted}
+use Rattle.model.proofs.FixedPoint.{fixed-point}
+use Rattle.model.proofs.Closing.{closings}
 use Rattle.model.proofs.Granting.{decides}
 
 -- what is written at the front of a buffer is read there
 front : (out x : List ℕ) (n : ℕ) → n ≡ length x → take n (splice out 0 x) ≡ x
 unfolding splice
 front out x n e = take-at x (drop (0 + length x) out) n (sym e)
+
+-- the lock model is fed what the log has
+fed-seen : (ls : List Line) → fedBy (map seen ls) ≡ feeds ls
+fed-seen [] = refl
+fed-seen (l ∷ ls) = ap (λ fs. feed (l .event) (l .reply) ∷ fs) (fed-seen ls)
+
+-- what is omitted is idle, call by call
+omitted : (es : List Event) (d : Server) → OmittedIdle d es
+omitted [] d = tt
+omitted (e ∷ es) d = (λ o. step-omitted d e o, omitted es ((step d e) .server))
 
 module _ {M : Type 0} (view : M → Server) where
   -- what the host sees of one call is what the definition says
@@ -51,14 +64,28 @@ module _ {M : Type 0} (view : M → Server) where
       )
 
   pub demand3 : (v : ℕ) (m : M) {m′ : M} {ss : List Seen} → view m ≡ fresh v → Calls view m ss m′ → Demand3 view v ss m′
-  demand3 v m {ss = ss} f c =
+  demand3 v m {m′ = m′} {ss = ss} f c =
       let h = made c in
+      let es = seenEvents ss in
+      let seen-is : ss ≡ map seen (log (fresh v) es) = h .0 ∙ ap (λ d. map seen (log d es)) f in
+      let server-is : view m′ ≡ final (fresh v) es = h .1 ∙ ap (λ d. final d es) f in
+      let fed : fedBy ss ≡ feeds (log (fresh v) es) = ap fedBy seen-is ∙ fed-seen (log (fresh v) es) in
+      let a = canonical-history es (fresh v) in
+      let b = agreement v es in
       record {
-        seen-is = h .0 ∙ ap (λ d. map seen (log d (seenEvents ss))) f;
-        server-is = h .1 ∙ ap (λ d. final d (seenEvents ss)) f;
+        seen-is = seen-is;
+        server-is = server-is;
+        same-server = a .same-server ∙ sym server-is;
+        taken-within = a .within;
+        only-taken = (fixed-point (fresh v) es) .fixed;
+        kept-calls = a .same-lines;
         replay = λ g b e. replayed v f c g b e;
-        history = canonical-history (seenEvents ss) (fresh v);
-        agreement = agreement v (seenEvents ss);
-        count = counted v (seenEvents ss);
-        by-holders = decides v (seenEvents ss);
+        omitted-idle = omitted es (fresh v);
+        holders = λ p. rw (fed, server-is) (b .locks .sessions p);
+        waiting = rw (fed, server-is) (b .locks .waiting);
+        clock = rw (fed, server-is) (b .locks .clock);
+        lock-answers = rw fed (b .answers);
+        closings = (closings v es) .each;
+        counted = rw (fed, server-is) ((counted v es) .balance);
+        by-holders = rw (fed, server-is) (decides v es);
       }

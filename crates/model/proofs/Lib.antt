@@ -21,3 +21,17 @@ pub mod Isolation
 pub mod Tying
 pub mod Tied
 pub mod Demand3
+pub mod Slots
+pub mod Waiting
+pub mod Replies
+pub mod Access
+pub mod SessionId
+pub mod Fewer
+pub mod Closing
+pub mod Bound
+pub mod Exclusive
+pub mod Beginning
+pub mod IsolationRun
+pub mod AlwaysRoom
+pub mod OneString
+pub mod FixedPoint

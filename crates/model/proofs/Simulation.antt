@@ -20,6 +20,7 @@ use Rattle.model.specs.Agreement.{asSession, asRequest, Agrees}
 use Rattle.model.proofs.Basics.{and-l, and-r, both, isn't, not-not, same?, apart, all-kept}
 use Rattle.model.proofs.Place.{place-sound, place-complete}
 use Rattle.model.proofs.Invariant.{Good, Firm}
+use Rattle.model.proofs.Waiting.{request-rule}
 use Rattle.model.proofs.Events.{Enters, Pairs}
 use Rattle.model.proofs.Seen.{Same, own-seen, channel-seen, alter-seen, enter-seen, allowed-seen, on-seen, drop-seen}
 
@@ -143,9 +144,9 @@ module _ (l : Locks) (m : Model) (a : Agrees l m) (g : Good (l .entries) (l .wai
         ap not (ap (λ ws. all (λ w. not (eqb (w .number) ((at (l .entries) i) .number))) ws) (a .waiting) ∙ all-requests (l .entries) (λ w. not (eqb (w .number) ((at (l .entries) i) .number))) (elsewhere i) (λ w u. ap not (num-slot (l .entries) f i (w .slot) v u)) (l .waiting) g)
 
     pub sim-ask : (t : ℕ) (k : List ℕ) → Alike (change l (Locks.request i t k)) (LockModel.request m ((at (l .entries) i) .number) t k)
-    unfolding change LockModel.request
+    unfolding LockModel.request
     sim-ask t k =
-        rw (own-seen (m .sessions) (l .entries) (a .sessions) f i v (has k), holds-seen k (at (l .entries) i), waits-seen, allowed-seen (m .sessions) (l .entries) (a .sessions) f i v k)
+        rw (request-rule l g f i v t k, own-seen (m .sessions) (l .entries) (a .sessions) f i v (has k), holds-seen k (at (l .entries) i), waits-seen, allowed-seen (m .sessions) (l .entries) (a .sessions) f i v k)
         (ask-seen t k (holds k (at (l .entries) i)) (all (elsewhere i) (l .waiting)) _ (mayGrant (l .entries) i k) (eqb t 0))
 
     free-seen : (x s : Bool) → Alike (Locks.released x s l i) (LockModel.freed x (not s) m ((at (l .entries) i) .number))

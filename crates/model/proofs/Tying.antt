@@ -1,6 +1,6 @@
 -- F, proved: what a slot has pending is what the log says that its session has asked.
 use mathlib.Core.Path.{_≡_, refl, sym, ap, _∙_}
-use mathlib.Core.Bool.{Bool, true, false, not, cond, true≢false}
+use mathlib.Core.Bool.{Bool, true, false, not, _||_, cond, true≢false}
 use mathlib.Core.List.{List, [], _∷_}
 use mathlib.Core.Logic.{_⊎_, inl, inr}
 use Prim.Native.Nat.{ℕ, zero, suc, _<_}
@@ -13,7 +13,7 @@ use Rattle.wire.specs.declared.Header.{Header}
 use Rattle.wire.specs.Class.{one-of}
 use Rattle.model.specs.Sizes.{stringLimit}
 use Rattle.model.specs.Lists.{all}
-use Rattle.model.specs.State.{Locks, Entry, blank, at, live, Rest, Exchange, Asked, Asked.none, Asked.some, exchangeAt, freshExchange, fresh, withExchange}
+use Rattle.model.specs.State.{Locks, Entry, blank, at, live, Rest, Exchange, Asked, Asked.none, Asked.some, exchangeAt, freshExchange, withExchange}
 use Rattle.model.specs.Locks
 use Rattle.model.specs.Locks.{LockEvent, give, mayGrant, grantPass, change, settle, frees}
 use Rattle.model.specs.Exchange
@@ -84,7 +84,7 @@ unfolding change
 change-calm l Locks.nothing x j = refl
 change-calm l (Locks.enter i n c) x j = absurd x
 change-calm l (Locks.join i c) x j = num-same (l .entries) i (Locks.joined c (at (l .entries) i)) refl j
-change-calm l (Locks.request i t k) x j = asked-num (Locks.ruling (Locks.holds k (at (l .entries) i)) (all (Locks.elsewhere i) (l .waiting)) (lib.Dec.ltb stringLimit (length k)) (mayGrant (l .entries) i k) (eqb t 0))
+change-calm l (Locks.request i t k) x j = asked-num (Locks.ruling (Locks.holds k (at (l .entries) i)) (all (Locks.elsewhere i) (l .waiting)) (lib.Dec.ltb stringLimit (length k)) (mayGrant (l .entries) i k) (eqb t 0 || Locks.noPlace (l .waiting)))
   where
     asked-num : (a : Locks.Ruling) → (at ((Locks.respond a l i t k) .locks .entries) j) .number ≡ (at (l .entries) j) .number
     asked-num Locks.invalid = refl

@@ -21,6 +21,16 @@ pub mod Agreement
 pub mod Count
 pub mod Granting
 pub mod Isolation
+pub mod Access
+pub mod SessionId
+pub mod Fewer
+pub mod Closing
+pub mod Bound
+pub mod IsolationRun
+pub mod AlwaysRoom
+pub mod OneString
+pub mod FixedPoint
 pub mod Tie
 pub mod Demand3
 pub mod Instance
+pub mod Cases
