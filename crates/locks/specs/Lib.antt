@@ -1,3 +1,4 @@
 pub mod Outcome
 pub mod Access
 pub mod Granting
+pub mod Release

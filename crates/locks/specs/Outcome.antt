@@ -66,3 +66,16 @@ met x m m′ out out′ at r l q e =
 -- one answer and no more
 pub ends-one : (a : Answer) (out : List ℕ) (at : ℕ) → at + 17 ≤ length out → ends (a ∷ []) out at ≡ spot (splice out at (frameBytes (lockFrame a))) (at + 17)
 ends-one a out at h = ends-cons a [] out at h ∙ ends-nil (splice out at (frameBytes (lockFrame a))) (at + 17)
+
+-- an event that leaves locks l with one answer
+abbrev pub told : Locks → Answer → LockResult
+told l a = record { locks = l; answers = a ∷ [] }
+
+pub met-one : (x : LockResult) (l : Locks) (a : Answer) (m m′ : Memory) (out out′ : List ℕ) (at r : ℕ) → x ≡ told l a
+    → view m′ ≡ record { locks = l; rest = view m .rest } → out′ ≡ splice out at (frameBytes (lockFrame a)) → r ≡ at + 17 → at + 17 ≤ length out
+    → Met x m m′ out out′ at r
+met-one x l a m m′ out out′ at r e v o p h =
+    met x m m′ out out′ at r
+    (ap (λ (d : Server). d .locks) v ∙ sym (ap (λ (y : LockResult). y .locks) e))
+    (ap (λ (d : Server). d .rest) v)
+    ((λ k. record { out = o k; place = p k }) ∙ sym (ends-one a out at h) ∙ ap (λ (y : LockResult). ends (y .answers) out at) (sym e))

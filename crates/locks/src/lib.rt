@@ -3,3 +3,4 @@
 pub mod access;
 pub mod answers;
 pub mod granting;
+pub mod release;
