@@ -2,3 +2,5 @@ pub mod Outcome
 pub mod Access
 pub mod Granting
 pub mod Release
+pub mod Info
+pub mod Sessions

@@ -3,4 +3,6 @@
 pub mod access;
 pub mod answers;
 pub mod granting;
+pub mod info;
 pub mod release;
+pub mod sessions;
