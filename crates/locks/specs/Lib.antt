@@ -4,3 +4,4 @@ pub mod Granting
 pub mod Release
 pub mod Info
 pub mod Sessions
+pub mod Waiting

@@ -6,3 +6,4 @@ pub mod granting;
 pub mod info;
 pub mod release;
 pub mod sessions;
+pub mod waiting;
