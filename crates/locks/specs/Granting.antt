@@ -1,0 +1,78 @@
+-- The granting rule by the tests of the code, and a grant as one change of the table. Assumes nothing.
+use mathlib.Core.Path.{_≡_, refl, sym, ap, _∙_}
+use mathlib.Core.Bool.{Bool, true, false, not, _&&_, _||_, true≢false}
+use mathlib.Core.List.{List, [], _∷_}
+use Prim.Native.Nat.{ℕ, suc, _<_, _≤_, _^_, _%_}
+use native.Mathlib.Nat.{not-suc-le-zero}
+use native.Mathlib.Omega.{arith}
+use lib.Dec.{eqb}
+use lib.ListN.{length}
+use borrow.Author.Tests.{eqb-true, eqb-false}
+use Rattle.model.specs.Sizes.{sessionLimit}
+use Rattle.model.specs.Lists.{isNil, same, all, allBut}
+use Rattle.model.specs.State.{Entry, at, blank}
+use Rattle.model.specs.Locks.{noExclusive, noShared, fits, mayGrant, give, grant}
+use Rattle.state.specs.Grid.{upd, upd-set}
+use Rattle.state.specs.Layout.{SHARERS}
+use Rattle.state.specs.View.{word, keyOf, locksOf}
+use Rattle.state.specs.Holders.{sharers-test, fits-none, fits-some}
+
+-- all strings fit where nobody shares; else the shared one decides
+pub fits-free : (w s k : List ℕ) → all noShared (locksOf w s .entries) ≡ true → all (fits k) (locksOf w s .entries) ≡ true
+fits-free w s k e = fits-none w s k (eqb-true (word w SHARERS % 2 ^ sessionLimit) 0 (sym (sharers-test w s) ∙ e))
+
+pub fits-key : (w s k : List ℕ) → all noShared (locksOf w s .entries) ≡ false → all (fits k) (locksOf w s .entries) ≡ same (keyOf w s) k
+fits-key w s k e = fits-some w s k (eqb-false (word w SHARERS % 2 ^ sessionLimit) 0 (sym (sharers-test w s) ∙ e))
+
+module _ (es : List Entry) (i : ℕ) where
+  -- somebody else holds exclusive
+  pub may-not : (k : List ℕ) → allBut noExclusive i es ≡ false → mayGrant es i k ≡ false
+  unfolding mayGrant
+  may-not [] e = rw e
+  may-not (x ∷ k) e = rw e
+
+  -- exclusive: nobody else shares, or slot i itself does
+  pub may-alone : (k : List ℕ) → length k ≡ 0 → allBut noExclusive i es ≡ true → allBut noShared i es ≡ true → mayGrant es i k ≡ true
+  unfolding mayGrant
+  may-alone [] n e o = rw (e, o)
+  may-alone (x ∷ k) n e o = absurd (omega arith)
+
+  pub may-among : (k : List ℕ) (b : Bool) → length k ≡ 0 → allBut noExclusive i es ≡ true → allBut noShared i es ≡ false → noShared (at es i) ≡ not b → mayGrant es i k ≡ b
+  unfolding mayGrant
+  may-among [] true n e o p = rw (e, o, p)
+  may-among [] false n e o p = rw (e, o, p)
+  may-among (x ∷ k) b n e o p = absurd (omega arith)
+
+  -- shared
+  pub may-share : (k : List ℕ) (b : Bool) → (length k ≡ 0 → ⊥) → allBut noExclusive i es ≡ true → all (fits k) es ≡ b → mayGrant es i k ≡ b
+  unfolding mayGrant
+  may-share [] b n e o = absurd (n refl)
+  may-share (x ∷ k) b n e o = rw (e, o)
+
+  -- what a grant that may be wants of the table
+  left : (p q : Bool) → (p && q) ≡ true → p ≡ true
+  left true q e = refl
+  left false q e = e
+
+  right : (p q : Bool) → (p && q) ≡ true → q ≡ true
+  right true q e = e
+  right false q e = absurd (true≢false (sym e))
+
+  pub may-exclusive : (k : List ℕ) → mayGrant es i k ≡ true → allBut noExclusive i es ≡ true
+  unfolding mayGrant
+  may-exclusive [] e = left (allBut noExclusive i es) (allBut noShared i es || not (noShared (at es i))) e
+  may-exclusive (x ∷ k) e = left (allBut noExclusive i es) (all (fits (x ∷ k)) es) e
+
+  pub may-fits : (k : List ℕ) → (length k ≡ 0 → ⊥) → mayGrant es i k ≡ true → all (fits k) es ≡ true
+  unfolding mayGrant
+  may-fits [] n e = absurd (n refl)
+  may-fits (x ∷ k) n e = right (allBut noExclusive i es) (all (fits (x ∷ k)) es) e
+
+-- no string at all asks for the exclusive lock
+pub no-string : (k : List ℕ) → length k ≡ 0 → k ≡ []
+no-string [] n = refl
+no-string (x ∷ k) n = absurd (omega arith)
+
+-- a grant, as the model writes it
+pub grant-upd : (es : List Entry) (i : ℕ) (k : List ℕ) → grant es i k ≡ upd es i (give k)
+grant-upd es i k = upd-set es i blank (give k)

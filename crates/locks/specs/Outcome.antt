@@ -1,0 +1,81 @@
+-- What a function of this crate ensures that does what the model says of one lock event: the locks in memory, the rest of the server,
+-- the frames in the lent buffer, and the place behind them. Assumes nothing.
+use mathlib.Core.Path.{_≡_, refl, sym, ap, _∙_}
+use mathlib.Core.Bool.{Bool, true, false}
+use mathlib.Core.List.{List, [], _∷_, _++_, map, append-nil}
+use Prim.Native.Nat.{ℕ, _+_, _≤_}
+use native.Mathlib.Nat.{add-zero, add-assoc}
+use native.Mathlib.Omega.{arith}
+use lib.ListN.{length, length-append}
+use Rattle.wire.specs.Frame.{Frame, frameBytes, bytesOf, length-frame}
+use Rattle.wire.specs.Splice.{splice, splice-nil, splice-then}
+use Rattle.model.specs.State.{Entry, Locks, Server}
+use Rattle.model.specs.Locks.{Answer, LockResult, tell}
+use Rattle.model.specs.Step.{lockFrame}
+use Rattle.state.specs.View.{Memory, memory, view}
+
+-- x is the model's answer, m and m′ the memory before and after, r the place behind the frames that were written from `at` on
+pub record Met (x : LockResult) (m m′ : Memory) (out out′ : List ℕ) (at r : ℕ) : Type 0 where
+  pub locks : view m′ .locks ≡ x .locks
+  pub rest : view m′ .rest ≡ view m .rest
+  pub buffer : out′ ≡ splice out at (bytesOf (map lockFrame (x .answers)))
+  pub place : r ≡ at + length (bytesOf (map lockFrame (x .answers)))
+
+-- the same of an event that is never answered
+pub record Quiet (x : LockResult) (m m′ : Memory) : Type 0 where
+  pub locks : view m′ .locks ≡ x .locks
+  pub rest : view m′ .rest ≡ view m .rest
+  pub silent : x .answers ≡ []
+
+-- an answer to slot i, as a frame; whether it answers a request or a release is not seen
+abbrev pub answerFrame : List Entry → ℕ → ℕ → Frame
+answerFrame es i n = lockFrame (tell es i n true)
+
+-- where writing ends: the buffer and the place behind the last frame
+pub record Spot : Type 0 where
+  pub out : List ℕ
+  pub place : ℕ
+
+abbrev pub spot : List ℕ → ℕ → Spot
+spot out at = record { out = out; place = at }
+
+unfoldable pub ends : List Answer → List ℕ → ℕ → Spot
+ends xs out at = spot (splice out at (bytesOf (map lockFrame xs))) (at + length (bytesOf (map lockFrame xs)))
+
+pub ends-nil : (out : List ℕ) (at : ℕ) → ends [] out at ≡ spot out at
+unfolding ends bytesOf
+ends-nil out at = λ k. record { out = splice-nil out at k; place = add-zero at k }
+
+-- one frame is written, the others are still to be written behind it
+pub ends-cons : (a : Answer) (xs : List Answer) (out : List ℕ) (at : ℕ) → at + 17 ≤ length out
+    → ends (a ∷ xs) out at ≡ ends xs (splice out at (frameBytes (lockFrame a))) (at + 17)
+unfolding ends bytesOf
+ends-cons a xs out at h =
+    let e : length (frameBytes (lockFrame a)) ≡ 17 = length-frame (lockFrame a) in
+    let x : List ℕ = bytesOf (map lockFrame xs) in
+    let g : at + length (frameBytes (lockFrame a) ++ x) ≡ at + 17 + length x = simp (length-append, e) (omega arith) in
+    λ k. record { out = sym (splice-then out at (frameBytes (lockFrame a)) 17 x e h) k; place = g k }
+
+-- the contract, from where the writing ends
+pub met : (x : LockResult) (m m′ : Memory) (out out′ : List ℕ) (at r : ℕ) → view m′ .locks ≡ x .locks → view m′ .rest ≡ view m .rest
+    → spot out′ r ≡ ends (x .answers) out at → Met x m m′ out out′ at r
+unfolding ends
+met x m m′ out out′ at r l q e =
+    record { locks = l; rest = q; buffer = ap (λ (p : Spot). p .out) e; place = ap (λ (p : Spot). p .place) e }
+
+-- one answer and no more
+pub ends-one : (a : Answer) (out : List ℕ) (at : ℕ) → at + 17 ≤ length out → ends (a ∷ []) out at ≡ spot (splice out at (frameBytes (lockFrame a))) (at + 17)
+ends-one a out at h = ends-cons a [] out at h ∙ ends-nil (splice out at (frameBytes (lockFrame a))) (at + 17)
+
+-- an event that leaves locks l with one answer
+abbrev pub told : Locks → Answer → LockResult
+told l a = record { locks = l; answers = a ∷ [] }
+
+pub met-one : (x : LockResult) (l : Locks) (a : Answer) (m m′ : Memory) (out out′ : List ℕ) (at r : ℕ) → x ≡ told l a
+    → view m′ ≡ record { locks = l; rest = view m .rest } → out′ ≡ splice out at (frameBytes (lockFrame a)) → r ≡ at + 17 → at + 17 ≤ length out
+    → Met x m m′ out out′ at r
+met-one x l a m m′ out out′ at r e v o p h =
+    met x m m′ out out′ at r
+    (ap (λ (d : Server). d .locks) v ∙ sym (ap (λ (y : LockResult). y .locks) e))
+    (ap (λ (d : Server). d .rest) v)
+    ((λ k. record { out = o k; place = p k }) ∙ sym (ends-one a out at h) ∙ ap (λ (y : LockResult). ends (y .answers) out at) (sym e))

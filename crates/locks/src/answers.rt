@@ -1,0 +1,21 @@
+// Answers to lock messages.
+ghost use Prim.Native.Nat.{ℕ, _+_, _<_, _≤_};
+ghost use Rattle.locks.specs.Outcome.{answerFrame};
+ghost use Rattle.state.specs.View.{locksOf};
+ghost use Rattle.wire.specs.Frame.{frameBytes};
+ghost use Rattle.wire.specs.Splice.{splice};
+ghost use lib.ListN.{length};
+ghost use mathlib.Core.List.{List};
+ghost use mathlib.Core.Path.{_≡_};
+use state::tables;
+use wire::frame;
+
+// An answer (type 5) to the asynchronous connection of slot i.
+pub fn put_answer(w: &[u64; 235], out: &mut [u8], at: usize, i: usize, code: u8) -> usize
+    requires { ⌜ (i < 16) × (at + 17 ≤ length (now out)) ⌝ }
+    ensures { λ r. ⌜ (r ≡ at + 17) × ((s : List ℕ) → now (out .exit) ≡ splice (now (out .entry)) at (frameBytes (answerFrame (locksOf (now (w .entry)) s .entries) i code))) ⌝ }
+{
+    let c = (tables::entry(w, i, 2) % 256) as u8;
+    frame::put_frame(out, at, c, 5, code, 0);
+    at + 17
+}

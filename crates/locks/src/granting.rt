@@ -1,0 +1,53 @@
+// The granting rule, and a grant.
+ghost use Prim.Native.Nat.{ℕ, _<_, _≤_};
+ghost use Rattle.model.specs.Locks.{give, mayGrant};
+ghost use Rattle.state.specs.Change.{onEntry};
+ghost use Rattle.state.specs.Requests.{stringAt};
+ghost use Rattle.state.specs.View.{locksOf, memory, view};
+ghost use lib.ListN.{length};
+ghost use mathlib.Core.Bool.{true};
+ghost use mathlib.Core.List.{List};
+ghost use mathlib.Core.Path.{_≡_};
+use state::holders;
+use state::requests;
+
+// The length of the string of slot i's request; 0 asks for the exclusive lock.
+fn asked_length(w: &[u64; 235], strings: &[u8], i: usize) -> usize
+    requires { ⌜ (i < 16) × (length (now strings) ≡ 1088) ⌝ }
+    ensures { λ r. ⌜ (r ≤ 64) × (r ≡ length (stringAt (now (w .entry)) (now (strings .entry)) i)) ⌝ }
+{
+    requests::string_length(w, i)
+}
+
+// May the request of slot i be granted?
+pub fn may_grant(w: &[u64; 235], strings: &[u8; 1088], i: usize) -> bool
+    requires { ⌜ i < 16 ⌝ }
+    ensures { λ r. ⌜ mayGrant (locksOf (now (w .entry)) (now (strings .entry)) .entries) i (stringAt (now (w .entry)) (now (strings .entry)) i) ≡ r ⌝ }
+{
+    if !holders::no_other_exclusive(w, i) {
+        return false;
+    }
+    if asked_length(w, strings, i) == 0 {
+        if holders::no_other_shares(w, i) {
+            return true;
+        }
+        return holders::is_sharing(w, i);
+    }
+    if holders::nobody_shares(w) {
+        return true;
+    }
+    requests::has_key(w, strings, i)
+}
+
+// Slot i gets the lock that its request asks for.
+pub fn grant(w: &mut [u64; 235], strings: &mut [u8; 1088], i: usize)
+    requires { ⌜ (i < 16) × (mayGrant (locksOf (now w) (now strings) .entries) i (stringAt (now w) (now strings) i) ≡ true) ⌝ }
+    ensures { λ _. ⌜ view (memory (now (w .exit)) (now (strings .exit))) ≡ onEntry (view (memory (now (w .entry)) (now (strings .entry)))) i (give (stringAt (now (w .entry)) (now (strings .entry)) i)) ⌝ }
+{
+    let n = asked_length(w, strings, i);
+    if n == 0 {
+        holders::give_exclusive(w, i);
+        return;
+    }
+    holders::give_shared(w, strings, i, n);
+}

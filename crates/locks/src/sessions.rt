@@ -1,0 +1,42 @@
+// The slots of the table as sessions open and close. None of this is answered by a lock message.
+ghost use Prim.Native.Nat.{ℕ, _<_};
+ghost use Rattle.locks.specs.Outcome.{Quiet};
+ghost use Rattle.locks.specs.Sessions.{slotOf};
+ghost use Rattle.model.specs.Locks.LockEvent.{enter, join};
+ghost use Rattle.model.specs.Locks.{change};
+ghost use Rattle.state.specs.Change.{onEntry};
+ghost use Rattle.state.specs.View.{locksOf, memory, view};
+ghost use mathlib.Core.List.{List};
+ghost use mathlib.Core.Path.{_≡_};
+use state::holders;
+use state::tables;
+
+// No connection.
+const NONE: u64 = 255;
+
+fn renew(w: &mut [u64; 235], i: usize, n: u64, a: u64, b: u64)
+    requires { ⌜ (i < 16) × (a < 256) × (b < 256) ⌝ }
+    ensures { λ _. ⌜ ((s : List ℕ) → view (memory (now (w .exit)) s) ≡ onEntry (view (memory (now (w .entry)) s)) i (λ e. slotOf n a b)) ⌝ }
+{
+    tables::set_entry(w, i, 0, n);
+    tables::set_entry(w, i, 1, a);
+    tables::set_entry(w, i, 2, b);
+    holders::drop_exclusive(w, i);
+    holders::drop_shared(w, i);
+}
+
+// Session n opens in slot i over connection c.
+pub fn enter_slot(w: &mut [u64; 235], i: usize, n: u64, c: u64)
+    requires { ⌜ (i < 16) × (c < 256) ⌝ }
+    ensures { λ _. ⌜ ((s : List ℕ) → Quiet (change (locksOf (now (w .entry)) s) (enter i n c)) (memory (now (w .entry)) s) (memory (now (w .exit)) s)) ⌝ }
+{
+    renew(w, i, n, c, NONE);
+}
+
+// Connection c is the second of slot i.
+pub fn join_slot(w: &mut [u64; 235], i: usize, c: u64)
+    requires { ⌜ (i < 16) × (c < 256) ⌝ }
+    ensures { λ _. ⌜ ((s : List ℕ) → Quiet (change (locksOf (now (w .entry)) s) (join i c)) (memory (now (w .entry)) s) (memory (now (w .exit)) s)) ⌝ }
+{
+    tables::set_entry(w, i, 2, c);
+}
