@@ -1,0 +1,1 @@
+// One delivery, check by check: what is to be done with a message, decided without changing anything.
