@@ -1,0 +1,111 @@
+//! Running a workload: once to compare every answer and byte, then timed, sides taking turns.
+
+use std::hint::black_box;
+use std::time::Instant;
+
+use hislip::sys::hislip_delivery;
+
+use crate::contender::{Contender, Library, Reference};
+use crate::workload::{message, Step, Workload};
+
+const OUTPUT: usize = 2048;
+
+/// Nanoseconds per event of each repetition.
+pub struct Times {
+    pub library: Vec<f64>,
+    pub reference: Vec<f64>,
+}
+
+/// A server with the workload's sessions open.
+fn ready<C: Contender>(workload: &Workload, out: &mut [u8]) -> C {
+    let mut server = C::new();
+    for session in 1..=workload.sessions {
+        let synchronous = 2 * (session - 1);
+        server.open(synchronous);
+        server.deliver(synchronous, &message(0, 0, 0x0100_4141, b"hislip0"), out);
+        server.open(synchronous + 1);
+        server.deliver(synchronous + 1, &message(17, 0, session, b""), out);
+    }
+    for step in &workload.before {
+        one(&mut server, workload, *step, out);
+    }
+    server
+}
+
+#[inline(always)]
+fn one<C: Contender>(
+    server: &mut C,
+    workload: &Workload,
+    step: Step,
+    out: &mut [u8],
+) -> hislip_delivery {
+    match step {
+        Step::Deliver(connection, place) => server.deliver(connection, &workload.bytes[place], out),
+        Step::Answer(session, place) => {
+            let done = server.answer(session, &workload.bytes[place], out);
+            hislip_delivery {
+                refusal: done.refusal,
+                outcome: 0,
+                session: 0,
+                taken: 0,
+                output: done.output,
+            }
+        }
+    }
+}
+
+/// Every answer and every byte of the buffer, side by side. Returns how often each outcome came, so
+/// that a workload which does something else than its name says is noticed.
+pub fn compare(workload: &Workload) -> Result<[usize; 8], String> {
+    let (mut left_out, mut right_out) = (vec![0x5a; OUTPUT], vec![0x5a; OUTPUT]);
+    let mut left: Library = ready(workload, &mut left_out);
+    let mut right: Reference = ready(workload, &mut right_out);
+    let mut outcomes = [0; 8];
+    for (place, step) in workload.steps.iter().enumerate() {
+        let told = one(&mut left, workload, *step, &mut left_out);
+        if told != one(&mut right, workload, *step, &mut right_out) || left_out != right_out {
+            return Err(format!("{}: event {place} differs", workload.name));
+        }
+        let refused = told.refusal != 0;
+        outcomes[if refused { 7 } else { told.outcome as usize }] += 1;
+    }
+    Ok(outcomes)
+}
+
+fn time<C: Contender>(workload: &Workload) -> f64 {
+    let mut out = vec![0; OUTPUT];
+    let mut server: C = ready(workload, &mut out);
+    let mut sum = 0;
+    let start = Instant::now();
+    for step in &workload.steps {
+        if workload.clear {
+            black_box(&mut out[..]).fill(0);
+        }
+        let told = one(&mut server, workload, *step, &mut out);
+        sum += told.taken + told.output;
+    }
+    let nanoseconds = start.elapsed().as_nanos() as f64;
+    black_box(sum);
+    black_box(&out);
+    nanoseconds / workload.steps.len() as f64
+}
+
+/// Each repetition runs both sides; who goes first changes every time.
+pub fn measure(workload: &Workload, repetitions: usize) -> Times {
+    let mut times = Times {
+        library: Vec::new(),
+        reference: Vec::new(),
+    };
+    time::<Library>(workload);
+    time::<Reference>(workload);
+    for repetition in 0..repetitions {
+        if repetition % 2 == 0 {
+            times.library.push(time::<Library>(workload));
+            times.reference.push(time::<Reference>(workload));
+        } else {
+            times.reference.push(time::<Reference>(workload));
+            times.library.push(time::<Library>(workload));
+        }
+    }
+    times
+}

@@ -1,0 +1,467 @@
+//! Random lists, seeded. A list has a temper: some are calm with many locks, some throw rubbish,
+//! some run out of sessions; most get deep before they get wild.
+
+use reference::{Event, Reply};
+
+use crate::bout::{Bout, Difference, Failed, Pair};
+use crate::messages::{header, message, ROOM};
+use crate::numbers::Numbers;
+use crate::reach::Reach;
+use crate::watch::{Side, LONGEST};
+use crate::world::{Known, Role, World};
+
+/// Lock strings: few, so that sessions meet.
+const STRINGS: [&[u8]; 7] = [b"", b"", b"", b"cal", b"cal", b"Cal", b"\0\xff"];
+const TIMEOUTS: [u32; 8] = [0, 0, 1, 5, 40, 300, 5000, u32::MAX];
+const LARGE: [u64; 8] = [
+    1025,
+    1026,
+    1500,
+    65_536,
+    1 << 32,
+    u64::MAX - 16,
+    u64::MAX - 15,
+    u64::MAX,
+];
+
+/// How likely each kind of event is.
+#[derive(Clone, Debug)]
+struct Temper {
+    /// Sessions wanted before anything else.
+    sessions: usize,
+    weights: [usize; 12],
+    /// Of a thousand deliveries, how many show a part of the bytes.
+    pieces: usize,
+    /// Of a thousand messages, how many are of any type, code and length.
+    rubbish: usize,
+    /// Of a thousand buffers, how many have an odd length.
+    odd_room: usize,
+}
+
+/// Runs the list of a seed on both; returns the events run and adds to what was reached.
+pub fn check(pair: Pair, seed: u64, reach: &mut Reach) -> Result<usize, Failed> {
+    let mut author = Author::new(seed);
+    let vendor = author.vendor;
+    let mut bout = Bout::new(pair, vendor);
+    let mut list = Vec::with_capacity(author.length);
+    let mut ran = Ok(());
+    for place in 0..author.length {
+        let event = author.event();
+        let reply = bout.event(&event);
+        match reply {
+            Ok(reply) => author.learn(&event, &reply),
+            Err(what) => ran = Err(Difference { place, what }),
+        }
+        list.push(event);
+        if ran.is_err() {
+            break;
+        }
+    }
+    let ran = ran.and_then(|()| bout.demand3(vendor, &list));
+    match ran {
+        Ok(()) => {
+            reach.list(&list, &bout.left.log);
+            Ok(list.len())
+        }
+        Err(difference) => Err(Failed {
+            vendor,
+            list,
+            difference,
+            again: format!("seed {seed}"),
+        }),
+    }
+}
+
+/// The list of a seed as this server's answers lead to it.
+pub fn list(side: &Side, seed: u64) -> (u16, Vec<Event>) {
+    let mut author = Author::new(seed);
+    let mut subject = (side.new)(author.vendor);
+    let mut out = vec![0; LONGEST];
+    let mut list = Vec::with_capacity(author.length);
+    for _ in 0..author.length {
+        let event = author.event();
+        let reply = subject.apply(&event, &mut out[..event.room()]);
+        author.learn(&event, &reply);
+        list.push(event);
+    }
+    (author.vendor, list)
+}
+
+pub struct Author {
+    numbers: Numbers,
+    temper: Temper,
+    world: World,
+    /// The bytes of the last delivery were the wire's unread ones.
+    own: bool,
+    pub vendor: u16,
+    pub length: usize,
+}
+
+impl Author {
+    pub fn new(seed: u64) -> Author {
+        let mut numbers = Numbers::new(seed);
+        let temper = Temper::any(&mut numbers);
+        let vendor = numbers.any() as u16;
+        let length = 30 + numbers.below(600);
+        Author {
+            numbers,
+            temper,
+            world: World::new(),
+            own: false,
+            vendor,
+            length,
+        }
+    }
+
+    /// The next event, given what the answers so far were.
+    pub fn event(&mut self) -> Event {
+        self.own = false;
+        if self.world.sessions.len() < self.temper.sessions && self.numbers.permille(700) {
+            return self.towards_a_session();
+        }
+        match self.numbers.weighted(&self.temper.weights.clone()) {
+            0 => self.towards_a_session(),
+            1 => self.synchronous_message(),
+            2 => self.lock_message(),
+            3 => self.asynchronous_message(),
+            4 => self.deliver_unread(),
+            5 => self.cut(),
+            6 => self.clock(),
+            7 => self.answer(),
+            8 => Event::Status {
+                status: self.numbers.byte(),
+            },
+            9 => self.odd_call(),
+            10 => self.odd_bytes(),
+            _ => self.opening_message(),
+        }
+    }
+
+    pub fn learn(&mut self, event: &Event, reply: &Reply) {
+        self.world.learn(event, reply, self.own);
+    }
+
+    fn room(&mut self) -> usize {
+        if self.numbers.permille(self.temper.odd_room) {
+            self.numbers.pick(&[0, 1, 2047, 2047, 2048, 2049, 4096])
+        } else {
+            ROOM
+        }
+    }
+
+    /// The program sends; the host shows all that is unread, or a part of it.
+    fn send(&mut self, connection: u32, bytes: &[u8]) -> Event {
+        let wire = &mut self.world.wires[connection as usize];
+        if wire.unread.len() < 3000 {
+            wire.unread.extend_from_slice(bytes);
+        }
+        self.show(connection)
+    }
+
+    fn show(&mut self, connection: u32) -> Event {
+        let unread = &self.world.wires[connection as usize].unread;
+        let mut shown = unread.len();
+        if self.numbers.permille(self.temper.pieces) {
+            shown = self.numbers.below(unread.len() + 1);
+        }
+        self.own = true;
+        Event::Deliver {
+            connection,
+            bytes: self.world.wires[connection as usize].unread[..shown].to_vec(),
+            room: self.room(),
+        }
+    }
+
+    /// Opens what is missing for one more session.
+    fn towards_a_session(&mut self) -> Event {
+        let undecided = self.world.with_role(|role| role == Role::Undecided);
+        let not_open = self.world.not_open();
+        let half_open = self.world.half_open();
+        if undecided.is_empty() && !not_open.is_empty() {
+            let connection = self.numbers.pick(&not_open);
+            return Event::Open { connection };
+        }
+        if undecided.is_empty() {
+            return self.cut();
+        }
+        let connection = self.numbers.pick(&undecided);
+        if !self.world.wires[connection as usize].unread.is_empty() {
+            return self.show(connection);
+        }
+        if !half_open.is_empty() && self.numbers.permille(900) {
+            let number = self.numbers.pick(&half_open).number;
+            return self.send(connection, &message(17, 0, number.into(), b""));
+        }
+        let sub_address: &[u8] = self.numbers.pick(&[b"", b"hislip0"]);
+        let parameter = self.numbers.pick(&[0x0100_5858, 0x0200_4141, 0x0000_0000]);
+        self.send(connection, &message(0, 0, parameter, sub_address))
+    }
+
+    /// A first message that may well be wrong.
+    fn opening_message(&mut self) -> Event {
+        let undecided = self.world.with_role(|role| role == Role::Undecided);
+        if undecided.is_empty() {
+            return self.towards_a_session();
+        }
+        let connection = self.numbers.pick(&undecided);
+        let payload: &[u8] =
+            self.numbers
+                .pick(&[b"", b"x", b"hislip0", b"HISLIP0", b"hislip0\0", b"hislip1"]);
+        let kind = self.numbers.pick(&[0, 0, 17, 17, 2, 3, 6, 21, 128]);
+        let number = self.any_session_number();
+        let parameter = self.numbers.pick(&[number, number | 0x1_0000, 0, u32::MAX]);
+        self.send(connection, &message(kind, 0, parameter, payload))
+    }
+
+    fn any_established(&mut self) -> Option<Known> {
+        let known = self.world.established();
+        (!known.is_empty()).then(|| self.numbers.pick(&known))
+    }
+
+    fn any_session_number(&mut self) -> u32 {
+        match self.world.sessions.len() {
+            0 => 1,
+            count => self.world.sessions[self.numbers.below(count)].number.into(),
+        }
+    }
+
+    fn payload(&mut self) -> Vec<u8> {
+        let length = match self.numbers.below(40) {
+            0 => 1024,
+            1 => 1023,
+            2 => self.numbers.below(1025),
+            _ => self.numbers.below(30),
+        };
+        let first = self.numbers.byte();
+        (0..length).map(|i| first.wrapping_add(i as u8)).collect()
+    }
+
+    fn synchronous_message(&mut self) -> Event {
+        let Some(known) = self.any_established() else {
+            return self.towards_a_session();
+        };
+        let connection = known.synchronous;
+        if self.numbers.permille(self.temper.rubbish) {
+            return self.rubbish(connection);
+        }
+        let number = self.world.next_number(known.number);
+        let code = self.numbers.pick(&[0, 0, 0, 1, 1, 1, 1, 2]);
+        let bytes = match self.numbers.below(20) {
+            0..=4 => message(6, code, number, &self.payload()),
+            5..=12 => message(7, code, number, &self.payload()),
+            13..=15 => message(12, code, number, b""),
+            16..=17 => message(8, code, 0, b""),
+            18 => message(3, code, 0, &self.payload()),
+            _ => message(self.numbers.pick(&[6, 7, 12]), code, number, b"x"),
+        };
+        self.send(connection, &bytes)
+    }
+
+    fn lock_message(&mut self) -> Event {
+        let Some(known) = self.any_established() else {
+            return self.towards_a_session();
+        };
+        let connection = known.asynchronous.unwrap_or(known.synchronous);
+        let timeout = self.numbers.pick(&TIMEOUTS);
+        let request = if known.wants { 4 } else { 17 };
+        let bytes = match self.numbers.below(24) {
+            choice if choice < request => message(4, 1, timeout, self.numbers.pick(&STRINGS)),
+            0..=19 => message(4, 0, 0xffff_fefe, b""),
+            20 => message(24, 0, 0, b""),
+            21 => message(4, 1, timeout, &[b'k'; 64]),
+            22 => message(4, 1, timeout, &[b'k'; 65]),
+            _ => message(4, 0, 0, b"x"),
+        };
+        self.send(connection, &bytes)
+    }
+
+    fn asynchronous_message(&mut self) -> Event {
+        let Some(known) = self.any_established() else {
+            return self.towards_a_session();
+        };
+        let connection = known.asynchronous.unwrap_or(known.synchronous);
+        if self.numbers.permille(self.temper.rubbish) {
+            return self.rubbish(connection);
+        }
+        let code = self.numbers.pick(&[0, 0, 1, 1, 2]);
+        let size = self
+            .numbers
+            .pick(&[0, 3, 20, 1024, 1025, 1 << 40, u64::MAX]);
+        let bytes = match self.numbers.below(16) {
+            0..=5 => message(21, code, 0, b""),
+            6..=7 => message(24, code, 0, b""),
+            8..=9 => message(10, self.numbers.below(8) as u8, 0, b""),
+            10 => message(15, code, 0, &size.to_be_bytes()),
+            11..=13 => message(19, code, 0, b""),
+            14 => message(3, code, 0, b"?"),
+            _ => message(self.numbers.pick(&[10, 15, 19, 21, 24]), code, 0, b"x"),
+        };
+        self.send(connection, &bytes)
+    }
+
+    /// Any type and code; sometimes a length that is too large, with some of its bytes.
+    fn rubbish(&mut self, connection: u32) -> Event {
+        let kind = match self.numbers.below(3) {
+            0 => self.numbers.byte(),
+            1 => self.numbers.below(40) as u8,
+            _ => self.numbers.pick(&[0, 2, 3, 6, 7, 8, 12, 17, 128]),
+        };
+        let code = self.numbers.pick(&[0, 1, 2, 6, 7, 255]);
+        let bytes = if self.numbers.permille(250) {
+            let length = self.numbers.pick(&LARGE);
+            let mut bytes = header(kind, code, 9, length);
+            bytes.resize(16 + length.min(1600) as usize, 0x48);
+            bytes
+        } else {
+            message(kind, code, 9, &self.payload())
+        };
+        self.send(connection, &bytes)
+    }
+
+    fn deliver_unread(&mut self) -> Event {
+        let waiting = |number: &u32| !self.world.wires[*number as usize].unread.is_empty();
+        let open = self.world.with_role(|role| role != Role::NotOpen);
+        let some: Vec<u32> = open.iter().copied().filter(waiting).collect();
+        match (some.is_empty(), open.is_empty()) {
+            (false, _) => {
+                let connection = self.numbers.pick(&some);
+                self.show(connection)
+            }
+            (true, false) => {
+                let connection = self.numbers.pick(&open);
+                self.show(connection)
+            }
+            (true, true) => self.towards_a_session(),
+        }
+    }
+
+    fn cut(&mut self) -> Event {
+        let open = self.world.with_role(|role| role != Role::NotOpen);
+        if open.is_empty() {
+            return self.towards_a_session();
+        }
+        Event::Cut {
+            connection: self.numbers.pick(&open),
+            room: self.room(),
+        }
+    }
+
+    fn clock(&mut self) -> Event {
+        let now = self.world.clock;
+        let milliseconds = match self.numbers.below(40) {
+            0..=4 => now,
+            5..=7 => now.saturating_sub(1 + self.numbers.below(50) as u64),
+            8 => (1 << 62) + 1 + self.numbers.below(9) as u64,
+            9 => u64::MAX - self.numbers.below(3) as u64,
+            10 if self.numbers.permille(20) => 1 << 62,
+            11 => now + (1 << 32),
+            12..=25 => now + 1 + self.numbers.below(6) as u64,
+            26..=33 => now + self.numbers.pick(&[39, 40, 41, 299, 300, 301]),
+            _ => now + self.numbers.below(6000) as u64,
+        };
+        Event::Clock {
+            milliseconds,
+            room: self.room(),
+        }
+    }
+
+    /// Mostly to a session that has asked.
+    fn answer(&mut self) -> Event {
+        let asked = self.world.sessions.iter().filter(|known| known.asked);
+        let asked: Vec<u32> = asked.map(|known| known.number.into()).collect();
+        if asked.is_empty() && self.numbers.permille(800) {
+            return self.synchronous_message();
+        }
+        let session = match self.numbers.below(30) {
+            0 => self.numbers.pick(&[0, 65_536, 65_537, u32::MAX]),
+            1 => self.numbers.below(70_000) as u32,
+            2 => self.any_session_number() | 0x1_0000,
+            3..=26 if !asked.is_empty() => self.numbers.pick(&asked),
+            _ => self.any_session_number(),
+        };
+        let mut payload = self.payload();
+        if self.numbers.permille(150) {
+            let length = self.numbers.pick(&[3, 4, 20, 21, 1024, 1025, 1500]);
+            payload.resize(length, 7);
+        }
+        Event::Answer {
+            session,
+            payload,
+            end: self.numbers.pick(&[0, 0, 1, 1, 1, 2, 255]),
+            room: self.room(),
+        }
+    }
+
+    /// Numbers that no good host would give.
+    fn odd_call(&mut self) -> Event {
+        let any = self.numbers.below(40) as u32;
+        let connection =
+            self.numbers
+                .pick(&[any, any, 31, 32, 33, 255, 256, 0x1_0000, 1 << 31, u32::MAX]);
+        match self.numbers.below(4) {
+            0 | 1 => Event::Open { connection },
+            2 => Event::Cut {
+                connection,
+                room: self.room(),
+            },
+            _ => Event::Deliver {
+                connection,
+                bytes: message(7, 0, 1, b"odd"),
+                room: self.room(),
+            },
+        }
+    }
+
+    /// Bytes that no program has sent.
+    fn odd_bytes(&mut self) -> Event {
+        let open = self.world.with_role(|role| role != Role::NotOpen);
+        let connection = match open.len() {
+            0 => 0,
+            _ => self.numbers.pick(&open),
+        };
+        let length = self.numbers.pick(&[0, 1, 2, 15, 16, 17, 40]);
+        let mut bytes: Vec<u8> = (0..length).map(|_| self.numbers.byte()).collect();
+        let prologue = self.numbers.pick(&[&b"HS"[..], b"HS", b"HS", b"HT", b"hs"]);
+        for (byte, good) in bytes.iter_mut().zip(prologue) {
+            *byte = *good;
+        }
+        if self.numbers.permille(800) {
+            bytes.iter_mut().skip(8).take(6).for_each(|byte| *byte = 0);
+        }
+        Event::Deliver {
+            connection,
+            bytes,
+            room: self.room(),
+        }
+    }
+}
+
+impl Temper {
+    fn any(numbers: &mut Numbers) -> Temper {
+        let sessions = numbers.pick(&[0, 1, 2, 3, 3, 4, 4, 5, 6, 8, 12, 15, 16, 17]);
+        let wild = numbers.permille(250);
+        let mut weights = [1, 8, 14, 6, 10, 1, 6, 6, 1, 1, 0, 1];
+        for weight in &mut weights {
+            *weight *= numbers.pick(&[1, 1, 2, 2, 6]);
+        }
+        if numbers.permille(500) {
+            weights[5] = 0;
+        }
+        if wild {
+            weights[9] += 6;
+            weights[10] += 3;
+            weights[11] += 4;
+        }
+        Temper {
+            sessions,
+            weights,
+            pieces: numbers.pick(&[0, 50, 200, 600]),
+            rubbish: if wild {
+                300
+            } else {
+                numbers.pick(&[0, 20, 60])
+            },
+            odd_room: numbers.pick(&[0, 5, 60]),
+        }
+    }
+}

@@ -1,0 +1,21 @@
+//! Conformance: two servers get the same events; every answer, every output byte, every byte that
+//! must stay as it was, and demand 3 on the whole list are compared.
+
+pub mod bench_examples;
+pub mod bout;
+pub mod cables;
+pub mod command;
+pub mod demand3;
+pub mod hostile;
+pub mod library;
+pub mod messages;
+pub mod numbers;
+pub mod reach;
+pub mod report;
+pub mod selftest;
+pub mod shrink;
+pub mod sizes;
+pub mod systematic;
+pub mod watch;
+pub mod world;
+pub mod wrap;

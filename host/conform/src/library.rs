@@ -1,0 +1,128 @@
+//! The proved library as a subject, through the C interface itself, with guards around what it is
+//! lent: a store outside the lent memory is seen.
+
+use hislip::sys;
+use reference::{Reply, Subject};
+
+const GUARD: usize = 8;
+const GUARD_WORD: u64 = 0x5afe_5afe_5afe_5afe;
+
+#[derive(Clone)]
+pub struct Library {
+    words: Vec<u64>,
+    strings: Vec<u8>,
+}
+
+impl Library {
+    fn lent(&mut self) -> (*mut u64, *mut u8) {
+        let words = self.words[GUARD..].as_mut_ptr();
+        let strings = self.strings[GUARD..].as_mut_ptr();
+        (words, strings)
+    }
+}
+
+fn done(done: sys::hislip_done) -> Reply {
+    Reply {
+        refusal: done.refusal,
+        output: done.output,
+        ..Reply::default()
+    }
+}
+
+// SAFETY of all calls: the lent memory has the lengths that the library asks for, between guards;
+// inputs and outputs are slices that Rust keeps apart; `&mut self` keeps calls one after another.
+impl Subject for Library {
+    fn new(vendor: u16) -> Library {
+        let (words, strings) = unsafe { (sys::hislip_words(), sys::hislip_string_bytes()) };
+        let mut library = Library {
+            words: vec![GUARD_WORD; words as usize + 2 * GUARD],
+            strings: vec![GUARD_WORD as u8; strings as usize + 2 * GUARD],
+        };
+        let (words, strings) = library.lent();
+        unsafe { sys::hislip_new(words, strings, vendor) };
+        library
+    }
+
+    fn open(&mut self, connection: u32) -> Reply {
+        let (words, strings) = self.lent();
+        done(unsafe { sys::hislip_open(words, strings, connection) })
+    }
+
+    fn deliver(&mut self, connection: u32, bytes: &[u8], out: &mut [u8]) -> Reply {
+        let (words, strings) = self.lent();
+        let (shown, len) = (bytes.as_ptr(), bytes.len());
+        let (out, out_len) = (out.as_mut_ptr(), out.len());
+        let delivery =
+            unsafe { sys::hislip_deliver(words, strings, connection, shown, len, out, out_len) };
+        Reply {
+            refusal: delivery.refusal,
+            outcome: delivery.outcome,
+            session: delivery.session,
+            taken: delivery.taken,
+            output: delivery.output,
+        }
+    }
+
+    fn cut(&mut self, connection: u32, out: &mut [u8]) -> Reply {
+        let (words, strings) = self.lent();
+        done(unsafe { sys::hislip_cut(words, strings, connection, out.as_mut_ptr(), out.len()) })
+    }
+
+    fn clock(&mut self, milliseconds: u64, out: &mut [u8]) -> Reply {
+        let (words, strings) = self.lent();
+        let (out, out_len) = (out.as_mut_ptr(), out.len());
+        done(unsafe { sys::hislip_clock(words, strings, milliseconds, out, out_len) })
+    }
+
+    fn answer(&mut self, session: u32, payload: &[u8], end: u8, out: &mut [u8]) -> Reply {
+        let (words, strings) = self.lent();
+        let (bytes, len) = (payload.as_ptr(), payload.len());
+        let (out, out_len) = (out.as_mut_ptr(), out.len());
+        done(unsafe { sys::hislip_answer(words, strings, session, bytes, len, end, out, out_len) })
+    }
+
+    fn status(&mut self, status: u8) {
+        let (words, strings) = self.lent();
+        unsafe { sys::hislip_status(words, strings, status) };
+    }
+
+    fn fork(&self) -> Box<dyn Subject> {
+        Box::new(self.clone())
+    }
+
+    /// All lent memory, and the guards around it, which never change.
+    fn memory(&self, image: &mut Vec<u8>) {
+        image.clear();
+        for word in &self.words {
+            image.extend_from_slice(&word.to_le_bytes());
+        }
+        image.extend_from_slice(&self.strings);
+    }
+
+    fn intact(&self) -> bool {
+        let ends = |length: usize| (0..GUARD).chain(length - GUARD..length);
+        ends(self.words.len()).all(|place| self.words[place] == GUARD_WORD)
+            && ends(self.strings.len()).all(|place| self.strings[place] == GUARD_WORD as u8)
+    }
+}
+
+#[cfg(test)]
+mod tests {
+    use super::{Library, GUARD};
+    use reference::Subject;
+
+    #[test]
+    fn a_store_beside_the_lent_memory_is_seen() {
+        let library = Library::new(0x4141);
+        assert!(library.intact());
+        let last = library.words.len() - 1;
+        for place in [0, GUARD - 1, last - GUARD + 1, last] {
+            let mut wrong = library.clone();
+            wrong.words[place] ^= 1;
+            assert!(!wrong.intact(), "word {place}");
+        }
+        let mut wrong = library.clone();
+        wrong.strings[GUARD - 1] ^= 1;
+        assert!(!wrong.intact());
+    }
+}

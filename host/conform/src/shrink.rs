@@ -1,0 +1,79 @@
+//! A shorter list that still fails: parts are left out, then bytes, as long as it fails.
+
+use std::time::{Duration, Instant};
+
+use reference::Event;
+
+use crate::bout::Difference;
+
+/// Shrinks within the time given. `fails` runs a list.
+pub fn shrink(
+    list: &[Event],
+    time: Duration,
+    fails: impl Fn(&[Event]) -> Option<Difference>,
+) -> (Vec<Event>, Difference) {
+    let found = fails(list).expect("the list fails");
+    let mut list = list[..=found.place.min(list.len() - 1)].to_vec();
+    let until = Instant::now() + time;
+    if fails(&list).is_none() {
+        // What failed needs the end of the list.
+        return (list, found);
+    }
+    let mut part = list.len().div_ceil(2);
+    while part > 0 && Instant::now() < until {
+        let before = list.len();
+        leave_out(&mut list, part, until, &fails);
+        if part == 1 && list.len() == before {
+            break;
+        }
+        part = if part == 1 { 1 } else { part / 2 };
+    }
+    shorten_bytes(&mut list, until, &fails);
+    let difference = fails(&list).unwrap_or(found);
+    (list, difference)
+}
+
+/// Tries to leave out each part of so many events.
+fn leave_out(
+    list: &mut Vec<Event>,
+    part: usize,
+    until: Instant,
+    fails: &impl Fn(&[Event]) -> Option<Difference>,
+) {
+    let mut end = list.len();
+    while end > 0 && Instant::now() < until {
+        let start = end.saturating_sub(part);
+        let shorter = [&list[..start], &list[end..]].concat();
+        if fails(&shorter).is_some() {
+            *list = shorter;
+        }
+        end = start.min(list.len());
+    }
+}
+
+/// Tries to show fewer bytes in each delivery.
+fn shorten_bytes(
+    list: &mut Vec<Event>,
+    until: Instant,
+    fails: &impl Fn(&[Event]) -> Option<Difference>,
+) {
+    for place in 0..list.len() {
+        let Event::Deliver { bytes, .. } = &list[place] else {
+            continue;
+        };
+        let length = bytes.len();
+        for fewer in [0, 1, 15, 16, 17, 24, length / 2, length.saturating_sub(1)] {
+            if fewer >= length || Instant::now() >= until {
+                continue;
+            }
+            let mut shorter = list.clone();
+            if let Event::Deliver { bytes, .. } = &mut shorter[place] {
+                bytes.truncate(fewer);
+            }
+            if fails(&shorter).is_some() {
+                *list = shorter;
+                break;
+            }
+        }
+    }
+}

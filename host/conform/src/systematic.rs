@@ -1,0 +1,250 @@
+//! Every type, code and length class in every state of a connection.
+
+use reference::history::omitted;
+use reference::Event;
+
+use crate::bench_examples::VENDOR;
+use crate::bout::{run, Bout, Difference, Failed, Pair};
+use crate::messages::{
+    answer, clock, cut, deliver, half_open, header, lock, message, release, session,
+};
+use crate::numbers::mix;
+
+const CODES: [u8; 10] = [0, 1, 2, 3, 4, 5, 6, 7, 128, 255];
+const LENGTHS: [u64; 12] = [
+    0,
+    1,
+    7,
+    8,
+    9,
+    64,
+    65,
+    1024,
+    1025,
+    1 << 32,
+    u64::MAX - 15,
+    u64::MAX,
+];
+
+/// How much of the payload is in the delivery.
+#[derive(Clone, Copy)]
+enum Shown {
+    Nothing,
+    Part,
+    All,
+}
+
+pub struct State {
+    pub name: &'static str,
+    setup: Vec<Event>,
+    /// The connection that gets the message.
+    connection: u32,
+    /// Half-open session's number, MessageID or timeout.
+    parameter: u32,
+}
+
+/// Sessions 1 and 2 on connections 0 to 3, then what is given.
+fn two(then: &[Event]) -> Vec<Event> {
+    [session(0, 1, 1), session(2, 3, 2), then.to_vec()].concat()
+}
+
+/// So many live sessions, the last one half-open, and connection 31 without a role.
+fn crowd(live: u32) -> Vec<Event> {
+    let mut events = Vec::new();
+    for number in 1..live {
+        let connection = 2 * (number - 1);
+        events.extend(session(connection, connection + 1, number));
+    }
+    events.extend(half_open(30));
+    events.push(Event::Open { connection: 31 });
+    events
+}
+
+fn state(name: &'static str, connection: u32, parameter: u32, setup: Vec<Event>) -> State {
+    State {
+        name,
+        setup,
+        connection,
+        parameter,
+    }
+}
+
+pub fn states() -> Vec<State> {
+    [opening(), plain(), clearing(), locking(), remaining()]
+        .into_iter()
+        .flatten()
+        .collect()
+}
+
+/// Connections that have no session yet, or half of one.
+fn opening() -> Vec<State> {
+    let undecided = Event::Open { connection: 31 };
+    let alone = [&half_open(0)[..], std::slice::from_ref(&undecided)].concat();
+    let beside = two(&[&half_open(8)[..], std::slice::from_ref(&undecided)].concat());
+    vec![
+        state("no role, nobody there", 31, 1, vec![undecided]),
+        state("no role, number 1 half-open", 31, 1, alone),
+        state("no role, number 3 half-open", 31, 3, beside.clone()),
+        state("no role, naming an established session", 31, 2, beside),
+        state("half-open", 0, 1, half_open(0).to_vec()),
+        state("15 sessions live", 31, 15, crowd(15)),
+        state("16 sessions live", 31, 16, crowd(16)),
+    ]
+}
+
+fn plain() -> Vec<State> {
+    let answered = two(&[deliver(0, message(7, 0, 5, b"?")), answer(1, b"x", 0)]);
+    vec![
+        state("synchronous", 0, 7, two(&[])),
+        state("asynchronous", 1, 7, two(&[])),
+        state("asynchronous, timeout 0", 1, 0, two(&[])),
+        state("synchronous, answered", 0, 7, answered.clone()),
+        state("asynchronous, answered", 1, 7, answered),
+    ]
+}
+
+fn clearing() -> Vec<State> {
+    let clear = deliver(1, header(19, 0, 0, 0));
+    let locked = two(&[lock(3, b"", 0), lock(1, b"k", 50), clear.clone()]);
+    vec![
+        state(
+            "synchronous in a clear",
+            0,
+            7,
+            two(std::slice::from_ref(&clear)),
+        ),
+        state("asynchronous in a clear", 1, 7, two(&[clear])),
+        state("in a clear without access", 0, 7, locked),
+    ]
+}
+
+fn locking() -> Vec<State> {
+    let exclusive = two(&[lock(3, b"", 0)]);
+    let shared = two(&[lock(3, b"k", 0)]);
+    let waits = two(&[lock(3, b"", 0), lock(1, b"k", 50)]);
+    let holds = two(&[lock(1, b"k", 0), lock(1, b"", 0), lock(3, b"k", 50)]);
+    vec![
+        state("synchronous without access", 0, 7, exclusive),
+        state("synchronous, others shared", 0, 7, shared.clone()),
+        state("asynchronous, others shared", 1, 7, shared),
+        state("asynchronous, waiting", 1, 7, waits),
+        state("synchronous, another waits", 0, 7, holds.clone()),
+        state("asynchronous, another waits", 1, 7, holds),
+    ]
+}
+
+/// Connections with payload of a too large message still to come.
+fn remaining() -> Vec<State> {
+    let skip = |on: u32, length: u64| deliver(on, header(6, 0, 0, length));
+    let few = two(&[skip(0, 1025), deliver(0, vec![0; 985])]);
+    let endless = two(&[skip(1, u64::MAX)]);
+    vec![
+        state("remainder of 40", 0, 7, few),
+        state("remainder near 2^64", 1, 7, endless),
+    ]
+}
+
+fn case(state: &State, kind: u8, code: u8, length: u64, shown: Shown) -> Event {
+    let mut bytes = header(kind, code, state.parameter, length);
+    let here = length.min(1100) as usize;
+    let here = match shown {
+        Shown::Nothing => 0,
+        Shown::Part => here / 2,
+        Shown::All => here,
+    };
+    // The first seven bytes are the good sub-address.
+    bytes.extend(b"hislip0".iter().chain([b'q'].iter().cycle()).take(here));
+    deliver(state.connection, bytes)
+}
+
+/// Events that show what a message left behind.
+fn probes(state: &State) -> Vec<Event> {
+    vec![
+        deliver(state.connection, header(3, 0, 0, 0)),
+        deliver(0, message(7, 1, 8, b"probe")),
+        deliver(2, message(6, 0, 8, b"probe")),
+        deliver(1, header(21, 0, 0, 0)),
+        deliver(3, header(24, 0, 0, 0)),
+        answer(1, b"1234567890", 1),
+        answer(1, b"", 1),
+        clock(7),
+        release(1),
+        release(3),
+        cut(state.connection),
+        Event::Open { connection: 29 },
+        deliver(29, message(0, 0, 0x0100_0000, b"")),
+    ]
+}
+
+/// Runs all cases of the states; of the cases with an effect, one in `thin` is followed by probes,
+/// and one in 64 `thin` by demand 3. Returns the events run.
+pub fn check(pair: Pair, thin: u64) -> Result<usize, Failed> {
+    let mut count = 0;
+    for state in states() {
+        count += check_state(pair, &state, thin)?;
+    }
+    Ok(count)
+}
+
+/// Every message of the list, in a fixed order.
+fn cases(state: &State) -> impl Iterator<Item = Event> + '_ {
+    let shown = [Shown::Nothing, Shown::Part, Shown::All];
+    (0..=255).flat_map(move |kind| {
+        CODES.into_iter().flat_map(move |code| {
+            LENGTHS.into_iter().flat_map(move |length| {
+                let one = move |shown| case(state, kind, code, length, shown);
+                shown.into_iter().map(one)
+            })
+        })
+    })
+}
+
+fn check_state(pair: Pair, state: &State, thin: u64) -> Result<usize, Failed> {
+    let failed = |list: &[Event], place: usize, what: String| Failed {
+        vendor: VENDOR,
+        list: list.to_vec(),
+        difference: Difference {
+            place,
+            what: format!("state \"{}\": {what}", state.name),
+        },
+        again: "systematic".into(),
+    };
+    let mut ready = Bout::new(pair, VENDOR);
+    for (place, event) in state.setup.iter().enumerate() {
+        let ran = ready.event(event);
+        ran.map_err(|what| failed(&state.setup, place, what))?;
+    }
+    let mut bout = Bout::new(pair, VENDOR);
+    let all_probes = probes(state);
+    let mut count = state.setup.len();
+    for (number, event) in (0..).zip(cases(state)) {
+        let chosen = mix(number).is_multiple_of(thin);
+        let probes = if chosen { &all_probes[..] } else { &[] };
+        let list = || [&state.setup[..], std::slice::from_ref(&event), probes].concat();
+        let ran = check_case(&mut bout, &ready, &event, probes);
+        count += ran.map_err(|(place, what)| failed(&list(), state.setup.len() + place, what))?;
+        if mix(number).is_multiple_of(64 * thin) {
+            let ran = run(pair, VENDOR, &list());
+            ran.map_err(|found| failed(&list(), found.place, found.what))?;
+        }
+    }
+    Ok(count)
+}
+
+/// One case from the prepared state; returns the events run, or the place of the difference.
+fn check_case(
+    bout: &mut Bout,
+    ready: &Bout,
+    event: &Event,
+    probes: &[Event],
+) -> Result<usize, (usize, String)> {
+    bout.restart_from(ready);
+    let reply = bout.event(event).map_err(|what| (0, what))?;
+    if omitted(event, &reply) {
+        return Ok(1);
+    }
+    for (place, probe) in probes.iter().enumerate() {
+        bout.event(probe).map_err(|what| (place + 1, what))?;
+    }
+    Ok(1 + probes.len())
+}

@@ -1,0 +1,195 @@
+//! The programs at the other end, as a list's author sees them: which connections are open, what
+//! they have sent and nobody has taken yet, and which sessions they got.
+
+use reference::{Event, Reply};
+
+#[derive(Clone, Copy, Debug, PartialEq, Eq)]
+pub enum Role {
+    NotOpen,
+    Undecided,
+    Synchronous(u16),
+    Asynchronous(u16),
+}
+
+#[derive(Clone, Debug)]
+pub struct Wire {
+    pub role: Role,
+    pub unread: Vec<u8>,
+}
+
+#[derive(Clone, Copy, Debug)]
+pub struct Known {
+    pub number: u16,
+    pub synchronous: u32,
+    pub asynchronous: Option<u32>,
+    /// MessageID of the program's next message.
+    pub next: u32,
+    /// A question has gone to the instrument.
+    pub asked: bool,
+    /// The last lock message asked for a lock.
+    pub wants: bool,
+}
+
+#[derive(Clone, Debug)]
+pub struct World {
+    pub wires: Vec<Wire>,
+    pub sessions: Vec<Known>,
+    pub clock: u64,
+}
+
+impl World {
+    pub fn new() -> World {
+        let wire = Wire {
+            role: Role::NotOpen,
+            unread: Vec::new(),
+        };
+        World {
+            wires: vec![wire; 32],
+            sessions: Vec::new(),
+            clock: 0,
+        }
+    }
+
+    pub fn not_open(&self) -> Vec<u32> {
+        self.with_role(|role| role == Role::NotOpen)
+    }
+
+    pub fn with_role(&self, wanted: impl Fn(Role) -> bool) -> Vec<u32> {
+        let numbers = 0..self.wires.len() as u32;
+        numbers
+            .filter(|number| wanted(self.wires[*number as usize].role))
+            .collect()
+    }
+
+    pub fn established(&self) -> Vec<Known> {
+        let both = |known: &&Known| known.asynchronous.is_some();
+        self.sessions.iter().filter(both).copied().collect()
+    }
+
+    pub fn half_open(&self) -> Vec<Known> {
+        let one = |known: &&Known| known.asynchronous.is_none();
+        self.sessions.iter().filter(one).copied().collect()
+    }
+
+    /// The next MessageID of a session, and the one after it for the next time.
+    pub fn next_number(&mut self, number: u16) -> u32 {
+        let known = self
+            .sessions
+            .iter_mut()
+            .find(|known| known.number == number);
+        known.map_or(0, |known| {
+            let next = known.next;
+            known.next = next.wrapping_add(2);
+            next
+        })
+    }
+
+    /// What an event did, by its answer. `own` says that the bytes shown were the unread ones.
+    pub fn learn(&mut self, event: &Event, reply: &Reply, own: bool) {
+        if reply.refusal != 0 {
+            return;
+        }
+        match event {
+            Event::Open { connection } => self.set_role(*connection, Role::Undecided),
+            Event::Cut { connection, .. } => self.close(*connection),
+            Event::Clock { milliseconds, .. } => self.clock = *milliseconds,
+            Event::Deliver {
+                connection, bytes, ..
+            } => {
+                if own {
+                    self.took(*connection, reply.taken as usize);
+                }
+                match (reply.outcome, bytes.get(2)) {
+                    (Reply::CLOSED, _) => self.close(*connection),
+                    (Reply::ACTED_ON, Some(0)) => self.begin(*connection, reply.session as u16),
+                    (Reply::ACTED_ON, Some(17)) => self.join(*connection, reply.session as u16),
+                    (Reply::ACTED_ON, Some(kind)) => {
+                        let code = bytes.get(3).copied().unwrap_or(0);
+                        self.acted_on(reply.session as u16, *kind, code);
+                    }
+                    _ => {}
+                }
+            }
+            Event::Answer { session, end, .. } => {
+                if let Some(known) = self.known(*session) {
+                    known.asked &= *end == 0;
+                }
+            }
+            Event::Status { .. } => {}
+        }
+    }
+
+    fn known(&mut self, number: u32) -> Option<&mut Known> {
+        let mut sessions = self.sessions.iter_mut();
+        sessions.find(|known| u32::from(known.number) == number)
+    }
+
+    fn acted_on(&mut self, number: u16, kind: u8, code: u8) {
+        let Some(known) = self.known(number.into()) else {
+            return;
+        };
+        match kind {
+            4 => known.wants = code == 1,
+            7 | 12 => known.asked = true,
+            19 => known.asked = false,
+            _ => {}
+        }
+    }
+
+    fn set_role(&mut self, connection: u32, role: Role) {
+        if let Some(wire) = self.wires.get_mut(connection as usize) {
+            wire.role = role;
+        }
+    }
+
+    fn took(&mut self, connection: u32, taken: usize) {
+        if let Some(wire) = self.wires.get_mut(connection as usize) {
+            wire.unread.drain(..taken.min(wire.unread.len()));
+        }
+    }
+
+    fn begin(&mut self, connection: u32, number: u16) {
+        self.set_role(connection, Role::Synchronous(number));
+        self.sessions.push(Known {
+            number,
+            synchronous: connection,
+            asynchronous: None,
+            next: 0xffff_ff00,
+            asked: false,
+            wants: false,
+        });
+    }
+
+    fn join(&mut self, connection: u32, number: u16) {
+        self.set_role(connection, Role::Asynchronous(number));
+        for known in &mut self.sessions {
+            if known.number == number {
+                known.asynchronous = Some(connection);
+            }
+        }
+    }
+
+    fn close(&mut self, connection: u32) {
+        let Some(wire) = self.wires.get_mut(connection as usize) else {
+            return;
+        };
+        let role = std::mem::replace(&mut wire.role, Role::NotOpen);
+        wire.unread.clear();
+        if let Role::Synchronous(number) | Role::Asynchronous(number) = role {
+            self.sessions.retain(|known| known.number != number);
+            for wire in &mut self.wires {
+                if wire.role == Role::Synchronous(number) || wire.role == Role::Asynchronous(number)
+                {
+                    wire.role = Role::NotOpen;
+                    wire.unread.clear();
+                }
+            }
+        }
+    }
+}
+
+impl Default for World {
+    fn default() -> World {
+        World::new()
+    }
+}

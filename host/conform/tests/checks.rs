@@ -1,0 +1,120 @@
+//! The conformance run itself: it reaches what it should, and shortens what it finds.
+
+use std::time::Duration;
+
+use conform::bout::{run, Pair};
+use conform::command::REFERENCE;
+use conform::reach::Reach;
+use conform::watch::Side;
+use conform::{hostile, shrink};
+use reference::event::Frame;
+use reference::{Event, Subject};
+
+const TWICE: Pair = Pair {
+    left: REFERENCE,
+    right: REFERENCE,
+};
+
+fn wrong(name: &str) -> Pair {
+    let fault = faults::ALL.iter().find(|fault| fault.name == name);
+    let fault = fault.expect("in faults.txt");
+    Pair {
+        left: REFERENCE,
+        right: Side {
+            name: fault.name,
+            new: fault.new,
+            compare_memory: true,
+            see_locks: false,
+        },
+    }
+}
+
+#[test]
+fn random_lists_reach_every_answer() {
+    let mut reach = Reach::default();
+    for seed in 1..=150 {
+        hostile::check(TWICE, seed, &mut reach).expect("one server agrees with itself");
+    }
+    assert!(
+        reach.refusals[1..].iter().all(|count| *count > 20),
+        "{reach:?}"
+    );
+    assert!(reach.outcomes.iter().all(|count| *count > 200), "{reach:?}");
+    assert!(
+        reach.fatal_errors[1..].iter().all(|count| *count > 5),
+        "{reach:?}"
+    );
+    assert!(reach.errors.iter().all(|count| *count > 50), "{reach:?}");
+    assert!(
+        reach.lock_answers.iter().all(|count| *count > 200),
+        "{reach:?}"
+    );
+    for kind in [1, 2, 3, 5, 6, 7, 9, 11, 16, 18, 22, 23, 25] {
+        assert!(reach.frames[kind] > 20, "type {kind}: {reach:?}");
+    }
+    assert!(reach.most_lock_answers >= 5, "{reach:?}");
+}
+
+#[test]
+fn a_seed_gives_the_same_list_each_time() {
+    assert_eq!(hostile::list(&REFERENCE, 77), hostile::list(&REFERENCE, 77));
+    assert_ne!(hostile::list(&REFERENCE, 77), hostile::list(&REFERENCE, 78));
+}
+
+/// Shrinks the first failing list of a wrong server.
+fn shrunk(name: &str) -> Vec<Event> {
+    let pair = wrong(name);
+    let failed = (1..300).find_map(|seed| hostile::check(pair, seed, &mut Reach::default()).err());
+    let failed = failed.expect("found");
+    let fails = |list: &[Event]| run(pair, failed.vendor, list).err();
+    let (list, difference) = shrink::shrink(&failed.list, Duration::from_secs(60), fails);
+    assert!(difference.place < list.len());
+    assert!(fails(&list).is_some(), "the short list still fails");
+    list
+}
+
+#[test]
+fn a_late_deadline_shrinks_to_two_sessions_and_a_clock() {
+    let list = shrunk("deadline_one_late");
+    // Two sessions (eight events), two locks, one reading; perhaps a reading before.
+    assert!((10..=14).contains(&list.len()), "{list:?}");
+    assert!(matches!(list.last(), Some(Event::Clock { .. })));
+}
+
+#[test]
+fn a_wrong_refusal_shrinks_to_almost_nothing() {
+    assert!(shrunk("clock_equal_refused").len() <= 2);
+    assert!(shrunk("refusal_writes_the_buffer").len() <= 2);
+}
+
+#[test]
+fn the_library_agrees_on_its_first_lists() {
+    use conform::library::Library;
+    let pair = Pair {
+        left: REFERENCE,
+        right: Side {
+            name: "library",
+            new: |vendor| Box::new(<Library as Subject>::new(vendor)),
+            compare_memory: false,
+            see_locks: false,
+        },
+    };
+    for seed in 1..=20 {
+        hostile::check(pair, seed, &mut Reach::default()).expect("no difference");
+    }
+}
+
+#[test]
+fn frames_are_read_whole_or_not_at_all() {
+    let output = [&[7][..], b"HS\x05\x01\0\0\0\x09\0\0\0\0\0\0\0\x01!"].concat();
+    let frame = Frame {
+        connection: 7,
+        kind: 5,
+        code: 1,
+        parameter: 9,
+        payload: b"!",
+    };
+    assert_eq!(reference::event::frames(&output), Some(vec![frame]));
+    assert_eq!(reference::event::frames(&output[..17]), None);
+    assert_eq!(reference::event::frames(&output[1..]), None);
+}

@@ -1,0 +1,192 @@
+//! A client by IVI-6.1's client rules in synchronized mode: message numbers from ffffff00 by two,
+//! answers checked against the last number sent, RMT-delivered told once, device clear in its steps.
+
+use std::io::{ErrorKind, Read, Write};
+use std::net::{SocketAddr, TcpStream};
+use std::time::Duration;
+
+pub const FIRST: u32 = 0xffff_ff00;
+const BEFORE_FIRST: u32 = 0xffff_fefe;
+
+#[derive(Debug, PartialEq, Eq)]
+pub struct Message {
+    pub kind: u8,
+    pub code: u8,
+    pub parameter: u32,
+    pub payload: Vec<u8>,
+}
+
+pub struct Client {
+    pub sync: TcpStream,
+    pub asynchronous: TcpStream,
+    pub session: u16,
+    /// The next MessageID, and the most recent one sent.
+    next: u32,
+    pub sent: u32,
+    /// An answer's end was delivered, and no message has told the server so yet.
+    rmt_delivered: bool,
+}
+
+pub fn bytes(kind: u8, code: u8, parameter: u32, payload: &[u8]) -> Vec<u8> {
+    let mut bytes = vec![b'H', b'S', kind, code];
+    bytes.extend(parameter.to_be_bytes());
+    bytes.extend((payload.len() as u64).to_be_bytes());
+    bytes.extend(payload);
+    bytes
+}
+
+pub fn connect(to: SocketAddr) -> TcpStream {
+    let stream = TcpStream::connect(to).expect("the gateway listens");
+    stream.set_nodelay(true).expect("a live socket");
+    stream
+        .set_read_timeout(Some(Duration::from_secs(5)))
+        .expect("not zero");
+    stream
+}
+
+pub fn receive(stream: &mut TcpStream) -> Message {
+    let mut header = [0; 16];
+    stream.read_exact(&mut header).expect("a header in time");
+    assert_eq!(&header[..2], b"HS");
+    let length = u64::from_be_bytes(header[8..].try_into().expect("eight bytes"));
+    let mut payload = vec![0; length as usize];
+    stream.read_exact(&mut payload).expect("a payload in time");
+    Message {
+        kind: header[2],
+        code: header[3],
+        parameter: u32::from_be_bytes(header[4..8].try_into().expect("four bytes")),
+        payload,
+    }
+}
+
+/// Nothing arrives for a while.
+pub fn silent(stream: &mut TcpStream) -> bool {
+    stream
+        .set_read_timeout(Some(Duration::from_millis(120)))
+        .expect("not zero");
+    let got = stream.peek(&mut [0]);
+    stream
+        .set_read_timeout(Some(Duration::from_secs(5)))
+        .expect("not zero");
+    got.is_err()
+}
+
+/// The other side has closed: the stream ends, or the connection was reset.
+pub fn closed(stream: &mut TcpStream) -> bool {
+    match stream.read(&mut [0]) {
+        Ok(count) => count == 0,
+        Err(error) => !matches!(error.kind(), ErrorKind::WouldBlock | ErrorKind::TimedOut),
+    }
+}
+
+impl Client {
+    pub fn open(to: SocketAddr) -> Client {
+        let mut sync = connect(to);
+        sync.write_all(&bytes(0, 0, 0x0100_5858, b"hislip0"))
+            .expect("sent");
+        let opened = receive(&mut sync);
+        assert_eq!(
+            (opened.kind, opened.code, opened.parameter >> 16),
+            (1, 0, 0x0100)
+        );
+        let session = opened.parameter as u16;
+        let mut asynchronous = connect(to);
+        asynchronous
+            .write_all(&bytes(17, 0, session.into(), b""))
+            .expect("sent");
+        let joined = receive(&mut asynchronous);
+        assert_eq!((joined.kind, joined.parameter), (18, 0x524b), "vendor RK");
+        Client {
+            sync,
+            asynchronous,
+            session,
+            next: FIRST,
+            sent: BEFORE_FIRST,
+            rmt_delivered: false,
+        }
+    }
+
+    /// Sends Data, DataEND or Trigger with the next number.
+    pub fn send(&mut self, kind: u8, payload: &[u8]) {
+        self.sent = self.next;
+        self.next = self.next.wrapping_add(2);
+        let rmt = u8::from(std::mem::take(&mut self.rmt_delivered));
+        let message = bytes(kind, rmt, self.sent, payload);
+        self.sync.write_all(&message).expect("sent");
+    }
+
+    /// A whole answer: Data until DataEND, each with the number of the most recent message sent.
+    pub fn answer(&mut self) -> String {
+        let mut text = Vec::new();
+        loop {
+            let message = receive(&mut self.sync);
+            assert!(matches!(message.kind, 6 | 7), "{message:?}");
+            assert_eq!(
+                message.parameter, self.sent,
+                "the answer to another question"
+            );
+            text.extend(message.payload);
+            if message.kind == 7 {
+                self.rmt_delivered = true;
+                return String::from_utf8(text).expect("the meter speaks ASCII");
+            }
+        }
+    }
+
+    pub fn query(&mut self, command: &str) -> String {
+        self.send(7, command.as_bytes());
+        self.answer()
+    }
+
+    fn ask(&mut self, kind: u8, code: u8, parameter: u32, payload: &[u8]) -> Message {
+        let message = bytes(kind, code, parameter, payload);
+        self.asynchronous.write_all(&message).expect("sent");
+        receive(&mut self.asynchronous)
+    }
+
+    pub fn request(&mut self, string: &[u8], milliseconds: u32) {
+        let message = bytes(4, 1, milliseconds, string);
+        self.asynchronous.write_all(&message).expect("sent");
+    }
+
+    pub fn lock_answer(&mut self) -> u8 {
+        let answer = receive(&mut self.asynchronous);
+        assert_eq!(answer.kind, 5);
+        answer.code
+    }
+
+    pub fn lock(&mut self, string: &[u8], milliseconds: u32) -> u8 {
+        self.request(string, milliseconds);
+        self.lock_answer()
+    }
+
+    pub fn release(&mut self) -> u8 {
+        let answer = self.ask(4, 0, self.sent, b"");
+        assert_eq!(answer.kind, 5);
+        answer.code
+    }
+
+    pub fn status(&mut self) -> u8 {
+        let rmt = u8::from(std::mem::take(&mut self.rmt_delivered));
+        let answer = self.ask(21, rmt, self.sent, b"");
+        assert_eq!(answer.kind, 22);
+        answer.code
+    }
+
+    /// Exclusive held, and how many sessions hold a lock.
+    pub fn lock_info(&mut self) -> (u8, u32) {
+        let answer = self.ask(24, 0, 0, b"");
+        assert_eq!(answer.kind, 25);
+        (answer.code, answer.parameter)
+    }
+
+    /// Steps 2 to 8 of the client's device clear.
+    pub fn device_clear(&mut self) {
+        let acknowledged = self.ask(19, 0, 0, b"");
+        assert_eq!((acknowledged.kind, acknowledged.code), (23, 0));
+        self.sync.write_all(&bytes(8, 0, 0, b"")).expect("sent");
+        while receive(&mut self.sync).kind != 9 {}
+        (self.next, self.sent) = (FIRST, BEFORE_FIRST);
+        self.rmt_delivered = false;
+    }
+}

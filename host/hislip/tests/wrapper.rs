@@ -1,0 +1,165 @@
+//! The safe wrapper: typed answers, and nothing that is passed can do harm.
+
+use hislip::{Answer, Event, Frame, Frames, Outcome, Refusal, Server};
+
+fn message(kind: u8, code: u8, parameter: u32, payload: &[u8]) -> Vec<u8> {
+    let mut bytes = vec![b'H', b'S', kind, code];
+    bytes.extend(parameter.to_be_bytes());
+    bytes.extend((payload.len() as u64).to_be_bytes());
+    bytes.extend(payload);
+    bytes
+}
+
+/// A server with session 1 on connections 0 and 1.
+fn with_session() -> Server {
+    let mut server = Server::new(*b"AA");
+    server.open(0).expect("not open");
+    server
+        .deliver(0, &message(0, 0, 0x0100_0000, b"hislip0"))
+        .expect("open");
+    server.open(1).expect("not open");
+    let joined = server.deliver(1, &message(17, 0, 1, b"")).expect("open");
+    assert_eq!(joined.outcome, Outcome::ActedOn { session: 1 });
+    assert_eq!(
+        joined
+            .frames
+            .map(|frame| frame.parameter)
+            .collect::<Vec<_>>(),
+        [0x4141]
+    );
+    server
+}
+
+#[test]
+fn refusals_have_number_and_cause() {
+    let mut server = with_session();
+    server.clock(9).expect("forwards");
+    let told: Vec<(u64, String)> = [
+        server.open(32).unwrap_err(),
+        server.open(0).unwrap_err(),
+        server.clock(8).unwrap_err(),
+        server.clock(u64::MAX).unwrap_err(),
+        server.answer(1, b"", true).unwrap_err(),
+        server.answer(7, b"", true).unwrap_err(),
+    ]
+    .map(|refusal| (refusal.number(), refusal.to_string()))
+    .to_vec();
+    let numbers: Vec<u64> = told.iter().map(|(number, _)| *number).collect();
+    assert_eq!(numbers, [1, 2, 3, 4, 5, 8]);
+    assert_eq!(told[2].1, "refusal 3: the clock is below the last reading");
+    let error: Box<dyn std::error::Error> = Box::new(Refusal::NoSession);
+    assert_eq!(
+        error.to_string(),
+        "refusal 8: no live session has that number"
+    );
+}
+
+#[test]
+fn a_question_and_its_answer() {
+    let mut server = with_session();
+    server
+        .deliver(0, &message(7, 0, 0xffff_ff00, b"*IDN?"))
+        .expect("open");
+    let too_long = server.answer(1, &[0; 1025], true).unwrap_err();
+    assert_eq!(too_long, Refusal::AnswerTooLong);
+    let frames: Vec<Frame> = server.answer(1, b"meter", true).expect("asked").collect();
+    assert_eq!(frames.len(), 1);
+    assert_eq!((frames[0].connection, frames[0].kind), (0, 7));
+    assert_eq!(
+        (frames[0].parameter, frames[0].payload),
+        (0xffff_ff00, &b"meter"[..])
+    );
+    assert_eq!(frames[0].message, message(7, 0, 0xffff_ff00, b"meter"));
+}
+
+#[test]
+fn several_frames_come_in_order() {
+    let mut server = with_session();
+    let closed = server.deliver(1, &[0; 16]).expect("open");
+    assert_eq!(closed.outcome, Outcome::Closed { session: Some(1) });
+    assert_eq!(closed.taken, 0);
+    let to: Vec<(u8, u8, u8)> = closed
+        .frames
+        .map(|f| (f.connection, f.kind, f.code))
+        .collect();
+    assert_eq!(to, [(0, 2, 1), (1, 2, 1)]);
+}
+
+#[test]
+fn a_connection_without_a_session_closes_without_a_number() {
+    let mut server = Server::new(*b"ZZ");
+    server.open(31).expect("not open");
+    let closed = server.deliver(31, &[0; 16]).expect("open");
+    assert_eq!(closed.outcome, Outcome::Closed { session: None });
+}
+
+#[test]
+fn any_output_buffer_is_safe() {
+    for length in [0, 1, 2047] {
+        let mut server = Server::with_output(*b"AA", vec![0; length]);
+        server.open(0).expect("not open");
+        assert_eq!(server.deliver(0, b"").unwrap_err(), Refusal::ShortBuffer);
+        assert_eq!(server.cut(0).unwrap_err(), Refusal::ShortBuffer);
+        assert_eq!(server.clock(0).unwrap_err(), Refusal::ShortBuffer);
+        assert_eq!(
+            server.answer(0, b"", false).unwrap_err(),
+            Refusal::ShortBuffer
+        );
+    }
+    let mut server = Server::with_output(*b"AA", vec![0; 5000]);
+    server.open(0).expect("not open");
+    assert_eq!(
+        server.deliver(0, b"").expect("open").outcome,
+        Outcome::MoreNeeded
+    );
+}
+
+#[test]
+fn events_as_values() {
+    let mut server = with_session();
+    let mut frames_of = |event: Event| match server.apply(event).expect("accepted") {
+        Answer::Done => 0,
+        Answer::Frames(frames) => frames.count(),
+        Answer::Delivery(delivery) => delivery.frames.count(),
+    };
+    let bytes = &message(21, 0, 0, b"")[..];
+    assert_eq!(frames_of(Event::Open { connection: 5 }), 0);
+    assert_eq!(frames_of(Event::Status { status: 3 }), 0);
+    assert_eq!(
+        frames_of(Event::Deliver {
+            connection: 1,
+            bytes
+        }),
+        1
+    );
+    assert_eq!(frames_of(Event::Clock { milliseconds: 5 }), 0);
+    assert_eq!(frames_of(Event::Cut { connection: 5 }), 0);
+    let answer = Event::Answer {
+        session: 1,
+        payload: b"",
+        end: true,
+    };
+    assert_eq!(server.apply(answer).unwrap_err(), Refusal::NothingAsked);
+}
+
+#[test]
+fn a_clone_is_a_second_server() {
+    let mut first = with_session();
+    let mut second = first.clone();
+    first.cut(0).expect("open");
+    assert_eq!(first.cut(1).unwrap_err(), Refusal::Connection);
+    assert_eq!(second.cut(1).expect("still open").count(), 0);
+}
+
+#[test]
+fn frames_end_at_what_is_no_frame() {
+    let whole = [&[9][..], &message(5, 1, 0, b"ab")].concat();
+    let two = [&whole[..], &whole[..]].concat();
+    assert_eq!(Frames::new(&two).count(), 2);
+    for length in 1..whole.len() {
+        assert_eq!(Frames::new(&whole[..length]).count(), 0);
+    }
+    let mut wrong = whole.clone();
+    wrong[9..17].fill(0xff);
+    assert_eq!(Frames::new(&wrong).count(), 0, "a length near 2^64");
+}

@@ -1,0 +1,109 @@
+//! The six events and the answer to one, as plain values, so that lists of them can be kept.
+
+/// What the host tells the server. `room` is the length of the lent output buffer.
+#[derive(Clone, Debug, PartialEq, Eq)]
+pub enum Event {
+    Open {
+        connection: u32,
+    },
+    Deliver {
+        connection: u32,
+        bytes: Vec<u8>,
+        room: usize,
+    },
+    Cut {
+        connection: u32,
+        room: usize,
+    },
+    Clock {
+        milliseconds: u64,
+        room: usize,
+    },
+    Answer {
+        session: u32,
+        payload: Vec<u8>,
+        /// 0 is no END, any other value is END.
+        end: u8,
+        room: usize,
+    },
+    Status {
+        status: u8,
+    },
+}
+
+impl Event {
+    /// Length of the lent output buffer; 0 for events that have none.
+    pub fn room(&self) -> usize {
+        match *self {
+            Event::Deliver { room, .. }
+            | Event::Cut { room, .. }
+            | Event::Clock { room, .. }
+            | Event::Answer { room, .. } => room,
+            Event::Open { .. } | Event::Status { .. } => 0,
+        }
+    }
+}
+
+/// The answer in 01's numbers: refusal 0 is none, outcomes count from 0 (more needed) to 6 (acted
+/// on), `output` counts the bytes of frames.
+#[derive(Clone, Copy, Debug, Default, PartialEq, Eq)]
+pub struct Reply {
+    pub refusal: u64,
+    pub outcome: u64,
+    pub session: u64,
+    pub taken: u64,
+    pub output: u64,
+}
+
+impl Reply {
+    pub const MORE_NEEDED: u64 = 0;
+    pub const SKIPPED: u64 = 1;
+    pub const HELD: u64 = 2;
+    pub const IGNORED: u64 = 3;
+    pub const ERROR_SENT: u64 = 4;
+    pub const CLOSED: u64 = 5;
+    pub const ACTED_ON: u64 = 6;
+
+    pub fn refused(refusal: u64) -> Reply {
+        Reply {
+            refusal,
+            ..Reply::default()
+        }
+    }
+
+    pub fn done(output: u64) -> Reply {
+        Reply {
+            output,
+            ..Reply::default()
+        }
+    }
+}
+
+/// One frame of an output.
+#[derive(Clone, Copy, Debug, PartialEq, Eq)]
+pub struct Frame<'a> {
+    pub connection: u8,
+    pub kind: u8,
+    pub code: u8,
+    pub parameter: u32,
+    pub payload: &'a [u8],
+}
+
+/// The frames of an output; None if it is not a row of whole frames.
+pub fn frames(mut output: &[u8]) -> Option<Vec<Frame<'_>>> {
+    let mut found = Vec::new();
+    while let [connection, b'H', b'S', kind, code, rest @ ..] = output {
+        let (parameter, rest) = rest.split_first_chunk::<4>()?;
+        let (length, rest) = rest.split_first_chunk::<8>()?;
+        let length = usize::try_from(u64::from_be_bytes(*length)).ok()?;
+        found.push(Frame {
+            connection: *connection,
+            kind: *kind,
+            code: *code,
+            parameter: u32::from_be_bytes(*parameter),
+            payload: rest.get(..length)?,
+        });
+        output = &rest[length..];
+    }
+    output.is_empty().then_some(found)
+}

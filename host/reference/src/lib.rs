@@ -1,0 +1,26 @@
+//! The rules of document 01 a second time, in ordinary Rust.
+//!
+//! Written from the papers alone, so that it can disagree with the proved library. It is also the
+//! program that the library's speed is compared with: no allocation per call, all state in place.
+//!
+//! `lock_model` is 01's ledger and shares no rule with `server`; `history` is 01's shortened list.
+
+#![forbid(unsafe_code)]
+
+pub mod acts;
+pub mod delivery;
+pub mod event;
+pub mod history;
+pub mod limits;
+pub mod lock_model;
+pub mod lock_view;
+pub mod locks;
+pub mod reply;
+pub mod server;
+pub mod subject;
+pub mod wire;
+
+pub use event::{Event, Reply};
+pub use reply::{Delivery, Outcome, Refusal};
+pub use server::Server;
+pub use subject::Subject;

@@ -1,0 +1,18 @@
+//! Sizes at the bench (01). Each stands here once.
+
+/// Live sessions, half-open ones included.
+pub const SESSIONS: usize = 16;
+/// Connections are numbered from 0 to one less.
+pub const CONNECTIONS: usize = 32;
+/// Payload bytes taken from a client, or sent as an instrument's answer.
+pub const PAYLOAD: usize = 1024;
+/// Bytes of a lock string.
+pub const LOCK_STRING: usize = 64;
+/// Highest clock reading.
+pub const CLOCK: u64 = 1 << 62;
+/// Smallest output buffer.
+pub const OUTPUT: usize = 2048;
+
+// The longest output: an answer, one direct reply, a lock answer for every session and two
+// FatalErrors with one frame to spare.
+const _: () = assert!(17 + PAYLOAD + 17 + 17 * SESSIONS + 51 <= OUTPUT);

@@ -1,0 +1,49 @@
+//! What the host is told.
+
+/// Why a call was turned away; the discriminants are 01's numbers.
+#[derive(Clone, Copy, Debug, PartialEq, Eq)]
+pub enum Refusal {
+    Connection = 1,
+    AlreadyOpen = 2,
+    ClockBackwards = 3,
+    ClockTooHigh = 4,
+    NothingAsked = 5,
+    AnswerTooLong = 6,
+    ShortBuffer = 7,
+    NoSession = 8,
+}
+
+/// What became of a delivery.
+#[derive(Clone, Copy, Debug, PartialEq, Eq)]
+pub enum Outcome {
+    MoreNeeded = 0,
+    Skipped = 1,
+    Held = 2,
+    Ignored = 3,
+    ErrorSent = 4,
+    Closed = 5,
+    ActedOn = 6,
+}
+
+/// An accepted delivery: `session` is 0 unless it closed one or was acted on.
+#[derive(Clone, Copy, Debug, PartialEq, Eq)]
+pub struct Delivery {
+    pub outcome: Outcome,
+    pub session: u16,
+    pub taken: usize,
+    pub output: usize,
+}
+
+impl Delivery {
+    pub const MORE_NEEDED: Delivery = Delivery::of(Outcome::MoreNeeded, 0, 0);
+    pub const HELD: Delivery = Delivery::of(Outcome::Held, 0, 0);
+
+    pub const fn of(outcome: Outcome, session: u16, taken: usize) -> Delivery {
+        Delivery {
+            outcome,
+            session,
+            taken,
+            output: 0,
+        }
+    }
+}

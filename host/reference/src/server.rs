@@ -1,0 +1,242 @@
+//! The server's state and the events that are not deliveries (01: the desk).
+
+use crate::limits::{CLOCK, CONNECTIONS, OUTPUT, PAYLOAD, SESSIONS};
+use crate::lock_view::{LockView, SessionView, WaitingView};
+use crate::locks::{Locks, Request};
+use crate::reply::Refusal;
+use crate::wire::{kind, Frames};
+
+#[derive(Clone, Copy, Debug, PartialEq, Eq, Hash)]
+pub(crate) enum Role {
+    NotOpen,
+    /// Open, and no message has given it a role yet.
+    Undecided,
+    /// The number is the session's slot.
+    Synchronous(u8),
+    Asynchronous(u8),
+}
+
+#[derive(Clone, Copy, Debug, PartialEq, Eq, Hash)]
+pub(crate) struct Connection {
+    pub role: Role,
+    /// Payload bytes of a too large message that are still to come.
+    pub skip: u64,
+}
+
+const NOT_OPEN: Connection = Connection {
+    role: Role::NotOpen,
+    skip: 0,
+};
+
+#[derive(Clone, Copy, Debug, PartialEq, Eq, Hash)]
+pub(crate) struct Session {
+    pub number: u16,
+    pub synchronous: u8,
+    /// None while the session is half-open.
+    pub asynchronous: Option<u8>,
+    /// MessageID that the instrument's answer will carry.
+    pub asked: Option<u32>,
+    pub message_available: bool,
+    pub in_clear: bool,
+    pub client_size: u64,
+}
+
+/// Shared by all sessions, and outlives them.
+#[derive(Clone, Copy, Debug, Default, PartialEq, Eq, Hash)]
+pub struct RemoteLocal {
+    pub enable: bool,
+    pub lockout: bool,
+    pub remote: bool,
+}
+
+#[derive(Clone, Debug, PartialEq, Eq, Hash)]
+pub struct Server {
+    pub(crate) vendor: u16,
+    pub(crate) status: u8,
+    pub(crate) clock: u64,
+    pub(crate) last_issued: u16,
+    pub(crate) remote_local: RemoteLocal,
+    pub(crate) connections: [Connection; CONNECTIONS],
+    pub(crate) sessions: [Option<Session>; SESSIONS],
+    pub(crate) locks: Locks,
+}
+
+impl Server {
+    pub fn new(vendor: u16) -> Server {
+        Server {
+            vendor,
+            status: 0,
+            clock: 0,
+            last_issued: 0,
+            remote_local: RemoteLocal::default(),
+            connections: [NOT_OPEN; CONNECTIONS],
+            sessions: [None; SESSIONS],
+            locks: Locks::new(),
+        }
+    }
+
+    pub fn open(&mut self, connection: u32) -> Result<(), Refusal> {
+        let connection = self
+            .connections
+            .get_mut(connection as usize)
+            .ok_or(Refusal::Connection)?;
+        if connection.role != Role::NotOpen {
+            return Err(Refusal::AlreadyOpen);
+        }
+        connection.role = Role::Undecided;
+        Ok(())
+    }
+
+    /// Returns the bytes of output.
+    pub fn cut(&mut self, connection: u32, out: &mut [u8]) -> Result<usize, Refusal> {
+        if out.len() < OUTPUT {
+            return Err(Refusal::ShortBuffer);
+        }
+        let connection = self.opened(connection)?;
+        let mut frames = Frames::new(out);
+        self.close(connection, &mut frames);
+        Ok(frames.used())
+    }
+
+    /// Returns the bytes of output.
+    pub fn clock(&mut self, milliseconds: u64, out: &mut [u8]) -> Result<usize, Refusal> {
+        if out.len() < OUTPUT {
+            return Err(Refusal::ShortBuffer);
+        }
+        if milliseconds > CLOCK {
+            return Err(Refusal::ClockTooHigh);
+        }
+        if milliseconds < self.clock {
+            return Err(Refusal::ClockBackwards);
+        }
+        self.clock = milliseconds;
+        let mut frames = Frames::new(out);
+        let sessions = &self.sessions;
+        self.locks.expire(milliseconds, |slot| {
+            answer_lock(sessions, slot, 0, &mut frames);
+        });
+        Ok(frames.used())
+    }
+
+    /// The instrument's answer to a session. Returns the bytes of output.
+    pub fn answer(
+        &mut self,
+        session: u32,
+        payload: &[u8],
+        end: bool,
+        out: &mut [u8],
+    ) -> Result<usize, Refusal> {
+        if out.len() < OUTPUT {
+            return Err(Refusal::ShortBuffer);
+        }
+        let session = self
+            .sessions
+            .iter_mut()
+            .flatten()
+            .find(|live| u32::from(live.number) == session)
+            .ok_or(Refusal::NoSession)?;
+        let asked = session.asked.ok_or(Refusal::NothingAsked)?;
+        if payload.len() > PAYLOAD || payload.len() as u64 > session.client_size {
+            return Err(Refusal::AnswerTooLong);
+        }
+        session.message_available = true;
+        if end {
+            session.asked = None;
+        }
+        let mut frames = Frames::new(out);
+        let kind = if end { kind::DATA_END } else { kind::DATA };
+        frames.send_with(session.synchronous, kind, 0, asked, payload);
+        Ok(frames.used())
+    }
+
+    pub fn status(&mut self, status: u8) {
+        self.status = status;
+    }
+
+    pub fn remote_local(&self) -> RemoteLocal {
+        self.remote_local
+    }
+
+    /// What demand 3 compares with the lock model.
+    pub fn lock_view(&self) -> LockView {
+        let number = |slot: u8| self.session(slot).number;
+        let live = (0..SESSIONS as u8).filter(|slot| self.sessions[usize::from(*slot)].is_some());
+        let session = |slot: u8| SessionView {
+            session: number(slot),
+            synchronous: self.session(slot).synchronous,
+            asynchronous: self.session(slot).asynchronous,
+            exclusive: self.locks.exclusive_holder() == Some(slot),
+            shared: self.locks.shared_string(slot).map(<[u8]>::to_vec),
+        };
+        let waiting = |request: &Request| WaitingView {
+            session: number(request.slot),
+            string: request.string.as_bytes().to_vec(),
+            deadline: request.deadline,
+        };
+        let mut sessions: Vec<_> = live.map(session).collect();
+        sessions.sort_by_key(|view| view.session);
+        LockView {
+            clock: self.clock,
+            sessions,
+            waiting: self.locks.waiting().iter().map(waiting).collect(),
+        }
+    }
+
+    /// The number of an open connection.
+    #[inline]
+    pub(crate) fn opened(&self, connection: u32) -> Result<u8, Refusal> {
+        match self.connections.get(connection as usize) {
+            Some(found) if found.role != Role::NotOpen => Ok(connection as u8),
+            _ => Err(Refusal::Connection),
+        }
+    }
+
+    pub(crate) fn session_of(&self, connection: u8) -> Option<u8> {
+        match self.connections[usize::from(connection)].role {
+            Role::Synchronous(slot) | Role::Asynchronous(slot) => Some(slot),
+            Role::NotOpen | Role::Undecided => None,
+        }
+    }
+
+    /// Closes as if cut: the connection, its session if it has one, and all that goes with it.
+    /// Returns the session's number, or 0.
+    pub(crate) fn close(&mut self, connection: u8, frames: &mut Frames) -> u16 {
+        let slot = self.session_of(connection);
+        self.connections[usize::from(connection)] = NOT_OPEN;
+        let Some(slot) = slot else {
+            return 0;
+        };
+        let Some(session) = self.sessions[usize::from(slot)].take() else {
+            return 0;
+        };
+        self.connections[usize::from(session.synchronous)] = NOT_OPEN;
+        if let Some(asynchronous) = session.asynchronous {
+            self.connections[usize::from(asynchronous)] = NOT_OPEN;
+        }
+        self.locks.forget(slot);
+        self.grant_pass(frames);
+        session.number
+    }
+
+    pub(crate) fn grant_pass(&mut self, frames: &mut Frames) {
+        let sessions = &self.sessions;
+        self.locks
+            .grant_pass(|slot| answer_lock(sessions, slot, 1, frames));
+    }
+}
+
+/// Sends AsyncLockResponse on the slot's asynchronous connection.
+pub(crate) fn answer_lock(
+    sessions: &[Option<Session>; SESSIONS],
+    slot: u8,
+    code: u8,
+    frames: &mut Frames,
+) {
+    if let Some(Session {
+        asynchronous: Some(connection),
+        ..
+    }) = sessions[usize::from(slot)]
+    {
+        frames.send(connection, kind::LOCK_RESPONSE, code, 0);
+    }
+}

@@ -1,0 +1,151 @@
+//! What a conformance run drives: any server, by the C interface's calls and numbers.
+
+use std::hash::{Hash, Hasher};
+
+use crate::event::{Event, Reply};
+use crate::lock_view::LockView;
+use crate::server::Server;
+
+pub trait Subject {
+    fn new(vendor: u16) -> Self
+    where
+        Self: Sized;
+    fn open(&mut self, connection: u32) -> Reply;
+    fn deliver(&mut self, connection: u32, bytes: &[u8], out: &mut [u8]) -> Reply;
+    fn cut(&mut self, connection: u32, out: &mut [u8]) -> Reply;
+    fn clock(&mut self, milliseconds: u64, out: &mut [u8]) -> Reply;
+    fn answer(&mut self, session: u32, payload: &[u8], end: u8, out: &mut [u8]) -> Reply;
+    fn status(&mut self, status: u8);
+
+    /// A second server in the same state.
+    fn fork(&self) -> Box<dyn Subject>;
+
+    /// Everything the server holds, as bytes: equal images are equal servers.
+    fn memory(&self, image: &mut Vec<u8>);
+
+    /// False if memory that was never lent has been changed.
+    fn intact(&self) -> bool {
+        true
+    }
+
+    /// Its locks, if it can tell more than its answers do.
+    fn lock_view(&self) -> Option<LockView> {
+        None
+    }
+
+    fn apply(&mut self, event: &Event, out: &mut [u8]) -> Reply {
+        match event {
+            Event::Open { connection } => self.open(*connection),
+            Event::Deliver {
+                connection, bytes, ..
+            } => self.deliver(*connection, bytes, out),
+            Event::Cut { connection, .. } => self.cut(*connection, out),
+            Event::Clock { milliseconds, .. } => self.clock(*milliseconds, out),
+            Event::Answer {
+                session,
+                payload,
+                end,
+                ..
+            } => self.answer(*session, payload, *end, out),
+            Event::Status { status } => {
+                self.status(*status);
+                Reply::default()
+            }
+        }
+    }
+}
+
+/// Collects what a derived `Hash` feeds it: every field, and no padding.
+pub struct Image<'a>(pub &'a mut Vec<u8>);
+
+impl Hasher for Image<'_> {
+    fn write(&mut self, bytes: &[u8]) {
+        self.0.extend_from_slice(bytes);
+    }
+
+    fn finish(&self) -> u64 {
+        0
+    }
+}
+
+pub fn image_of(held: &impl Hash, image: &mut Vec<u8>) {
+    image.clear();
+    held.hash(&mut Image(image));
+}
+
+/// Makes a server with the reference's methods a `Subject`.
+#[macro_export]
+macro_rules! subject_of {
+    ($server:path) => {
+        impl $crate::Subject for $server {
+            fn new(vendor: u16) -> Self {
+                <$server>::new(vendor)
+            }
+
+            fn open(&mut self, connection: u32) -> $crate::Reply {
+                match <$server>::open(self, connection) {
+                    Ok(()) => $crate::Reply::default(),
+                    Err(refusal) => $crate::Reply::refused(refusal as u64),
+                }
+            }
+
+            fn deliver(&mut self, connection: u32, bytes: &[u8], out: &mut [u8]) -> $crate::Reply {
+                match <$server>::deliver(self, connection, bytes, out) {
+                    Ok(delivery) => $crate::Reply {
+                        refusal: 0,
+                        outcome: delivery.outcome as u64,
+                        session: u64::from(delivery.session),
+                        taken: delivery.taken as u64,
+                        output: delivery.output as u64,
+                    },
+                    Err(refusal) => $crate::Reply::refused(refusal as u64),
+                }
+            }
+
+            fn cut(&mut self, connection: u32, out: &mut [u8]) -> $crate::Reply {
+                match <$server>::cut(self, connection, out) {
+                    Ok(output) => $crate::Reply::done(output as u64),
+                    Err(refusal) => $crate::Reply::refused(refusal as u64),
+                }
+            }
+
+            fn clock(&mut self, milliseconds: u64, out: &mut [u8]) -> $crate::Reply {
+                match <$server>::clock(self, milliseconds, out) {
+                    Ok(output) => $crate::Reply::done(output as u64),
+                    Err(refusal) => $crate::Reply::refused(refusal as u64),
+                }
+            }
+
+            fn answer(
+                &mut self,
+                session: u32,
+                payload: &[u8],
+                end: u8,
+                out: &mut [u8],
+            ) -> $crate::Reply {
+                match <$server>::answer(self, session, payload, end != 0, out) {
+                    Ok(output) => $crate::Reply::done(output as u64),
+                    Err(refusal) => $crate::Reply::refused(refusal as u64),
+                }
+            }
+
+            fn status(&mut self, status: u8) {
+                <$server>::status(self, status);
+            }
+
+            fn fork(&self) -> Box<dyn $crate::Subject> {
+                Box::new(self.clone())
+            }
+
+            fn memory(&self, image: &mut Vec<u8>) {
+                $crate::subject::image_of(self, image);
+            }
+
+            fn lock_view(&self) -> Option<$crate::lock_view::LockView> {
+                Some(<$server>::lock_view(self))
+            }
+        }
+    };
+}
+
+subject_of!(Server);

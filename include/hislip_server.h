@@ -1,0 +1,163 @@
+/* hislip_server.h - the server side of HiSLIP protocol 1.0 (IVI-6.1), synchronized mode.
+ *
+ * The host owns sockets, clock and instrument; this library owns the protocol. The host tells the
+ * server of six events: a connection opens, unread bytes of a connection are delivered, a connection
+ * is cut, the clock reads so many milliseconds, the instrument answers a session, the instrument's
+ * status byte changes. What is to be sent comes back as frames in the host's output buffer.
+ *
+ * MEMORY. The library allocates nothing and keeps nothing between calls but what is in the memory it
+ * is lent: hislip_words() words and hislip_string_bytes() bytes, one pair for each server. Both must
+ * stay lent, and be written by nobody else, from hislip_new to the last call. Copying both copies
+ * the server.
+ *
+ * WHAT THE HOST OWES. The library checks every number and every byte; it relies on pointers alone:
+ *  - `words` points to hislip_words() uint64_t, aligned as uint64_t; `strings` to
+ *    hislip_string_bytes() bytes; `bytes`, `payload` and `out` to `len` and `out_len` bytes. No
+ *    pointer is null, also where a length is 0 (any valid pointer will do then). Byte memory needs
+ *    no alignment.
+ *  - words, strings, bytes or payload, and out do not overlap one another.
+ *  - Two threads do not use one server at once. Different servers are independent.
+ *  - hislip_new has written the memory before the other calls see it.
+ *
+ * OUTPUT. A row of frames: one byte of connection number, then a whole message (16 bytes of header
+ * and its payload), to be sent on that connection in this order. `output` counts its bytes. Bytes of
+ * `out` after them keep their values. A buffer of HISLIP_OUTPUT bytes always suffices.
+ *
+ * REFUSALS. A refused call has a number and one cause. It changes nothing: neither the server nor
+ * any lent byte, and every other field of the answer is 0. If several causes hold, the first in the
+ * order given at each function is told.
+ *
+ * EXAMPLE (host/c/example.c runs it):
+ *
+ *   static uint64_t words[8192]; static uint8_t strings[32768], out[HISLIP_OUTPUT];
+ *
+ *   static int first_session(void)
+ *   {
+ *       static const uint8_t initialize[16] = "HS\0\0\1\0AA";
+ *       hislip_delivery told;
+ *       if (hislip_words() > 8192 || hislip_string_bytes() > 32768)
+ *           return 1;
+ *       hislip_new(words, strings, 0x4141);
+ *       if (hislip_open(words, strings, 0).refusal != HISLIP_ACCEPTED)
+ *           return 1;
+ *       told = hislip_deliver(words, strings, 0, initialize, sizeof initialize, out, sizeof out);
+ *       if (told.outcome != HISLIP_ACTED_ON || told.session != 1 || told.taken != 16)
+ *           return 1;
+ *       for (uint64_t at = 0; at < told.output;) {
+ *           uint64_t length = 16 + hislip_payload_length(out + at + 1);
+ *           printf("to connection %u: %u bytes, type %u\n", out[at], (unsigned)length, out[at + 3]);
+ *           at += 1 + length;
+ *       }
+ *       return 0;
+ *   }
+ */
+#ifndef HISLIP_SERVER_H
+#define HISLIP_SERVER_H
+
+#include <stddef.h>
+#include <stdint.h>
+
+#ifdef __cplusplus
+extern "C" {
+#endif
+
+/* Sizes. */
+#define HISLIP_SESSIONS 16     /* live sessions, half-open ones included */
+#define HISLIP_CONNECTIONS 32  /* connections are numbered 0 to 31       */
+#define HISLIP_PAYLOAD 1024    /* bytes of payload, either way           */
+#define HISLIP_LOCK_STRING 64  /* bytes of a lock string                 */
+#define HISLIP_OUTPUT 2048     /* smallest output buffer                 */
+#define HISLIP_CLOCK_MAX ((uint64_t)1 << 62)
+
+/* Refusals, by number and cause. */
+#define HISLIP_ACCEPTED 0
+#define HISLIP_REFUSED_CONNECTION 1      /* connection above 31; for a delivery or a cut, also not open */
+#define HISLIP_REFUSED_ALREADY_OPEN 2    /* opening one already open                                    */
+#define HISLIP_REFUSED_CLOCK_BACKWARDS 3 /* clock below the last reading (equal is fine)                */
+#define HISLIP_REFUSED_CLOCK_TOO_HIGH 4  /* clock above 2^62                                            */
+#define HISLIP_REFUSED_NOTHING_ASKED 5   /* the session has asked nothing                               */
+#define HISLIP_REFUSED_ANSWER_TOO_LONG 6 /* answer above 1,024 bytes or above the client's size         */
+#define HISLIP_REFUSED_SHORT_BUFFER 7    /* output buffer under 2,048 bytes                             */
+#define HISLIP_REFUSED_NO_SESSION 8      /* no live session of that number                              */
+
+/* Outcomes of a delivery. */
+#define HISLIP_MORE_NEEDED 0 /* too few bytes; show them again with more. Nothing taken, nothing changed   */
+#define HISLIP_SKIPPED 1     /* payload of a too large message went by                                     */
+#define HISLIP_HELD 2        /* Data, DataEND or Trigger without access: keep it, show it again after any
+                                event. Nothing taken, nothing changed                                      */
+#define HISLIP_IGNORED 3     /* taken without effect                                                       */
+#define HISLIP_ERROR_SENT 4  /* taken; an Error is in the output                                           */
+#define HISLIP_CLOSED 5      /* the session, or the connection without one, is closed: send the output,
+                                close its sockets, drop its unread bytes. Taken is 0                       */
+#define HISLIP_ACTED_ON 6    /* taken; if it is Data, DataEND or Trigger (type 6, 7 or 12 in byte 2 of
+                                `bytes`), pass it to the instrument                                        */
+
+/* The answer to a delivery. `session`: the session's number if the outcome is closed (0 if the
+ * connection had none) or acted on, else 0. `taken`: bytes the host drops from the front of the
+ * unread ones. `output`: bytes of frames in `out`. */
+typedef struct {
+    uint64_t refusal, outcome, session, taken, output;
+} hislip_delivery;
+
+/* The answer to any other event that has one. An opening's `output` is 0. */
+typedef struct {
+    uint64_t refusal, output;
+} hislip_done;
+
+/* How many uint64_t to lend as `words`. Always the same. */
+uint64_t hislip_words(void);
+
+/* How many bytes to lend as `strings`. Always the same. */
+uint64_t hislip_string_bytes(void);
+
+/* Makes a fresh server: clock 0, status byte 0, nothing open. `vendor` is the two-letter vendor
+ * number, first letter in the upper byte ("AA" is 0x4141). Writes every lent word and byte; what they
+ * held before does not matter. Never refused. */
+void hislip_new(uint64_t *words, uint8_t *strings, uint16_t vendor);
+
+/* A connection opens. Refusals: 1 (above 31), 2 (already open). Sends nothing. */
+hislip_done hislip_open(uint64_t *words, uint8_t *strings, uint32_t connection);
+
+/* Unread bytes of a connection: all of them, from the first one not yet taken. At most one message is
+ * taken; deliver again while bytes are taken and some are left. Refusals, in this order: 7 (`out_len`
+ * under 2,048), 1 (above 31, or not open). Outcomes: all seven. `len` may be 0 (more needed). */
+hislip_delivery hislip_deliver(uint64_t *words, uint8_t *strings, uint32_t connection,
+                               const uint8_t *bytes, size_t len, uint8_t *out, size_t out_len);
+
+/* A connection is cut. Its session, if it has one, closes with both connections, its locks and its
+ * waiting request; the output holds the lock answers of others who are now granted. The number may be
+ * opened again at once. Refusals, in this order: 7, 1 (above 31, or not open). */
+hislip_done hislip_cut(uint64_t *words, uint8_t *strings, uint32_t connection,
+                       uint8_t *out, size_t out_len);
+
+/* The clock reads so many milliseconds, counted from any start. Lock requests whose time is over are
+ * answered. Refusals, in this order: 7, 4 (above 2^62), 3 (below the last reading; equal is fine). */
+hislip_done hislip_clock(uint64_t *words, uint8_t *strings, uint64_t milliseconds,
+                         uint8_t *out, size_t out_len);
+
+/* The instrument answers a session: sent as Data, or as DataEND if `end` is not 0, with the MessageID
+ * of the question. `len` may be 0. Refusals, in this order: 7, 8 (no live session of that number),
+ * 5 (it has asked nothing: no DataEND or Trigger since the last answer with END, or a device clear
+ * came after it), 6 (`len` above 1,024 or above the size the client announced). */
+hislip_done hislip_answer(uint64_t *words, uint8_t *strings, uint32_t session,
+                          const uint8_t *payload, size_t len, uint8_t end,
+                          uint8_t *out, size_t out_len);
+
+/* The instrument's status byte changes. Never refused; sends nothing. In status responses the value
+ * 16 is replaced by the session's own message available. */
+void hislip_status(uint64_t *words, uint8_t *strings, uint8_t status);
+
+/* The payload length of a message, from its 16 header bytes: a help for going through frames. */
+static inline uint64_t hislip_payload_length(const uint8_t *message)
+{
+    uint64_t length = 0;
+    for (int i = 8; i < 16; i++)
+        length = length << 8 | message[i];
+    return length;
+}
+
+#ifdef __cplusplus
+}
+#endif
+
+#endif
