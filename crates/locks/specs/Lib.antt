@@ -6,3 +6,4 @@ pub mod Info
 pub mod Sessions
 pub mod Waiting
 pub mod Sweep
+pub mod Pass
