@@ -2,28 +2,28 @@
 use mathlib.Core.Path.{_≡_, refl, sym, ap, ap₂, _∙_}
 use mathlib.Core.Bool.{Bool, true, false, cond}
 use mathlib.Core.List.{List, [], _∷_, _++_, map}
-use Prim.Native.Nat.{ℕ, zero, suc, _+_}
+use Prim.Native.Nat.{ℕ, zero, suc}
 use Rattle.wire.specs.declared.Header.{Header}
 use Rattle.wire.specs.Frame.{Frame, frameOf}
 use Rattle.model.specs.MessageTypes.{FatalError}
 use Rattle.model.specs.Lists.{keep}
-use Rattle.model.specs.State.{Locks, Server, fresh}
+use Rattle.model.specs.State.{Server, fresh}
 use Rattle.model.specs.Interface.{Event, Event.opening, Event.delivery, Event.cut, Event.clock, Event.answer, Event.status}
 use Rattle.model.specs.Scan.{Scan, Scan.empty, Scan.few, Scan.wrong, Scan.skipping, Scan.long, Scan.part, Scan.whole}
 use Rattle.model.specs.Place.{Role, Role.r-none, Role.r-halfOpen, Role.r-synchronous, Role.r-asynchronous}
-use Rattle.model.specs.Locks.{LockEvent, Answer, change, grantPass, frees, settle}
+use Rattle.model.specs.Locks.{Answer, change, grantPass}
 use Rattle.model.specs.Checks.{Verdict, Verdict.v-more, Verdict.v-skipped, Verdict.v-held, Verdict.v-ignored, Verdict.v-closed, Verdict.v-acts, Verdict.v-error, Verdict.v-fatal}
 use Rattle.model.specs.Acts
 use Rattle.model.specs.Refusals.{refusal}
-use Rattle.model.specs.Step.{effect, received, plan, answered, finish, step, final, log, lockFrame, channels, answerType}
-use Rattle.model.specs.LockModel.{Model, ModelResult, Told, Fed, modelStep, modelRun, freshModel}
+use Rattle.model.specs.Step.{effect, received, plan, answered, finish, step, final, log, lockFrame, channels}
+use Rattle.model.specs.LockModel.{Model, Told, modelStep, modelRun, freshModel}
 use Rattle.model.specs.Agreement.{feed, feeds, Agrees, toldFrame, isLock, lockSent, Agreement}
 use Rattle.model.proofs.Invariant.{Inv}
-use Rattle.model.proofs.Events.{Fit, change-sound, always-settled, inv-fresh}
+use Rattle.model.proofs.Events.{change-sound, always-settled, inv-fresh}
 use Rattle.model.proofs.Fits.{plan-fit, inv-call}
 use Rattle.model.proofs.Simulation.{toldOf}
 use Rattle.model.proofs.Looking.{AlikeAll, sim-look}
-use Rattle.model.proofs.ReadOff.{Core, plan-core}
+use Rattle.model.proofs.ReadOff.{plan-core}
 
 -- what a call says directly is never of type 5
 fatal-no : (n : ℕ) (cs : List ℕ) → keep isLock (map (λ x. frameOf x FatalError n 0 []) cs) ≡ []
@@ -74,7 +74,7 @@ effect-no v-acts (long h) r d i c = refl
 effect-no v-acts (part h) r d i c = refl
 effect-no v-acts (whole h p) r d i c = acts-no r d i c h p
 
-plan-no : (d : Server) (e : Event) → keep isLock ((plan d e) .said) ≡ []
+pub plan-no : (d : Server) (e : Event) → keep isLock ((plan d e) .said) ≡ []
 unfolding plan received
 plan-no d (opening c) = refl
 plan-no d (delivery c bs room) = effect-no _ _ _ d _ c
@@ -84,7 +84,7 @@ plan-no d (answer n p true room) = refl
 plan-no d (answer n p false room) = refl
 plan-no d (status b) = refl
 
-keep-append : (xs ys : List Frame) → keep isLock (xs ++ ys) ≡ keep isLock xs ++ keep isLock ys
+pub keep-append : (xs ys : List Frame) → keep isLock (xs ++ ys) ≡ keep isLock xs ++ keep isLock ys
 keep-append [] ys = refl
 keep-append (x ∷ xs) ys = go (isLock x) (keep-append xs ys)
   where
@@ -93,7 +93,7 @@ keep-append (x ∷ xs) ys = go (isLock x) (keep-append xs ys)
     go true e = ap (λ l. x ∷ l) e
     go false e = e
 
-keep-locks : (xs : List Answer) → keep isLock (map lockFrame xs) ≡ map lockFrame xs
+pub keep-locks : (xs : List Answer) → keep isLock (map lockFrame xs) ≡ map lockFrame xs
 keep-locks [] = refl
 keep-locks (x ∷ xs) = ap (λ l. lockFrame x ∷ l) (keep-locks xs)
 

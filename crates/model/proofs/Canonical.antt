@@ -1,7 +1,7 @@
 -- A, proved: the canonical history leaves the same server, with the same lines; no invariant is needed.
 use mathlib.Core.Path.{_≡_, refl, sym, ap, _∙_}
 use mathlib.Core.Bool.{Bool, true, false, cond, false≢true, true≢false}
-use mathlib.Core.List.{List, [], _∷_, map}
+use mathlib.Core.List.{List, [], _∷_}
 use Prim.Native.Nat.{ℕ, zero, suc, _+_, _<_, _≤_}
 use native.Mathlib.Omega.{arith}
 use lib.Dec.{eqb}
@@ -11,12 +11,12 @@ use Rattle.model.specs.State.{Server, connectionAt}
 use Rattle.model.specs.Interface.{Event, Event.opening, Event.delivery, Event.cut, Event.clock, Event.answer, Event.status, Reply}
 use Rattle.model.specs.Scan.{Scan, Scan.empty, Scan.few, Scan.wrong, Scan.skipping, Scan.long, Scan.part, Scan.whole, size, scan}
 use Rattle.model.specs.Place.{slotOf, Role, Role.r-none, Role.r-halfOpen, Role.r-synchronous, Role.r-asynchronous, roleOf}
-use Rattle.model.specs.Locks.{LockEvent, change, frees, settle, unanswered}
+use Rattle.model.specs.Locks.{change}
 use Rattle.model.specs.Checks.{Verdict, Verdict.v-more, Verdict.v-skipped, Verdict.v-held, Verdict.v-ignored, Verdict.v-closed, Verdict.v-acts, Verdict.v-error, Verdict.v-fatal, verdict}
-use Rattle.model.specs.Acts.{Plan, acts, opens}
+use Rattle.model.specs.Acts.{acts, opens}
 use Rattle.model.specs.Refusals.{refusal}
 use Rattle.model.specs.Step.{Result, Line, idle, effect, received, plan, answered, finish, step, final, log}
-use Rattle.model.specs.Canonical.{omits, taken, bytes, shown, kept, events, canonical, Silent, Within, showed, Canonical}
+use Rattle.model.specs.Canonical.{omits, taken, bytes, shown, kept, events, showed, Canonical}
 use Rattle.model.proofs.Scanning.{scan-cut, scan-le}
 
 -- what acts takes its whole message, and is not omitted
@@ -118,7 +118,7 @@ finish-idle : (d : Server) (r : Reply) → finish d (idle d r) ≡ stays d r
 unfolding finish change stays
 finish-idle d r = refl
 
-step-omitted : (d : Server) (e : Event) → omits ((step d e) .reply) ≡ true → step d e ≡ stays d ((step d e) .reply)
+pub step-omitted : (d : Server) (e : Event) → omits ((step d e) .reply) ≡ true → step d e ≡ record { server = d; reply = (step d e) .reply; frames = [] }
 unfolding step answered finish stays
 step-omitted d e = go (refusal d e)
   where

@@ -1,15 +1,15 @@
 -- C, proved: each event and each pass keeps the count; what the lock model drops is what the server's slot locksHeld.
 use mathlib.Core.Path.{_≡_, refl, sym, ap, ap₂, _∙_}
-use mathlib.Core.Bool.{Bool, true, false, not, _&&_, _||_, cond, false≢true, true≢false}
+use mathlib.Core.Bool.{Bool, true, false, not, _&&_, cond, false≢true, true≢false}
 use mathlib.Core.List.{List, [], _∷_, _++_, map}
 use mathlib.Core.Logic.{_⊎_, inl, inr}
-use Prim.Native.Nat.{ℕ, zero, suc, _+_, _<_}
+use Prim.Native.Nat.{ℕ, zero, suc, _+_}
 use native.Mathlib.Omega.{arith}
-use lib.Dec.{eqb, leb}
-use lib.ListN.{set, length, replicate}
+use lib.Dec.{eqb}
+use lib.ListN.{set}
 use Rattle.wire.specs.declared.Header.{Header}
 use Rattle.model.specs.Sizes.{noConnection}
-use Rattle.model.specs.Lists.{all, keep, tally}
+use Rattle.model.specs.Lists.{tally}
 use Rattle.model.specs.State.{Locks, Entry, Waiting, blank, at, live, Server, fresh}
 use Rattle.model.specs.Interface.{Event, Event.opening, Event.delivery, Event.cut, Event.clock, Event.answer, Event.status}
 use Rattle.model.specs.Scan.{Scan, Scan.empty, Scan.few, Scan.wrong, Scan.skipping, Scan.long, Scan.part, Scan.whole}
@@ -21,18 +21,17 @@ use Rattle.model.specs.Acts
 use Rattle.model.specs.Refusals.{refusal}
 use Rattle.model.specs.Step.{effect, received, plan, answered, finish, step, final, log}
 use Rattle.model.specs.LockModel.{Session, Model, Told, Fed, modelStep, modelRun, freshModel, on, notShared}
-use Rattle.model.specs.Agreement.{asSession, asSessions, feed, feeds, Agrees}
+use Rattle.model.specs.Agreement.{asSession, feed, Agrees}
 use Rattle.model.specs.Count.{locksOf, locksHeld, isGrant, isRelease, count, locksOn, lost, dropped, Balanced, Count}
-use Rattle.model.proofs.Basics.{and-l, and-r, both, not-of, isn't, inside, pos-found, all-at}
-use Rattle.model.proofs.Places.{place-sound, place-complete}
-use Rattle.model.proofs.GrantingRule.{ready}
+use Rattle.model.proofs.Basics.{and-l, and-r, both, not-of, isn't, inside, all-at}
+use Rattle.model.proofs.Place.{place-sound, place-complete}
 use Rattle.model.proofs.Invariant.{Inv, Good, Firm, clean, good-apart}
 use Rattle.model.proofs.Events.{Fit, change-sound, always-settled, inv-fresh}
 use Rattle.model.proofs.Fits.{plan-fit, inv-call, real-delivery, real-cut}
 use Rattle.model.proofs.Tallies.{one, lower, tally-seen, tallyBut, tally-split, tally-cong, tallyBut-cong}
 use Rattle.model.proofs.Seen.{Same, while, on-seen}
 use Rattle.model.proofs.Simulation.{toldOf}
-use Rattle.model.proofs.Looking.{AlikeAll, map-append}
+use Rattle.model.proofs.Looking.{map-append}
 use Rattle.model.proofs.Agreement.{call-core, call-locks, fresh-agrees}
 
 -- a store at a slot: of a live session; of as many locks; of none

@@ -1,20 +1,19 @@
 -- Each lock event that fits keeps the invariant; only release and closing can leave something to grant, so a pass after any other event does nothing.
 use mathlib.Core.Path.{_≡_, refl, sym, ap, _∙_}
-use mathlib.Core.Bool.{Bool, true, false, not, _&&_, _||_, cond, false≢true, true≢false}
-use mathlib.Core.List.{List, [], _∷_, _++_}
+use mathlib.Core.Bool.{Bool, true, false, not, _&&_, false≢true, true≢false}
+use mathlib.Core.List.{List, [], _∷_}
 use mathlib.Core.Logic.{_⊎_, inl, inr}
-use Prim.Native.Nat.{ℕ, zero, suc, _+_, _<_}
-use native.Mathlib.Omega.{arith}
-use lib.Dec.{eqb, leb}
+use Prim.Native.Nat.{ℕ, zero, suc, _<_}
+use lib.Dec.{eqb}
 use lib.ListN.{set, length, length-set, replicate}
-use borrow.Author.Tests.{eqb-true, eqb-false}
+use borrow.Author.Tests.{eqb-true}
 use Rattle.model.specs.Sizes.{noConnection, sessionLimit}
 use Rattle.model.specs.Lists.{all, keep, isNil}
 use Rattle.model.specs.State.{Entry, Waiting, blank, at, live, Locks, freshLocks}
 use Rattle.model.specs.Place.{onConnection}
 use Rattle.model.specs.Locks
 use Rattle.model.specs.Locks.{elsewhere, holds, noExclusive, noShared, grant, mayGrant, change, settle, frees}
-use Rattle.model.proofs.Basics.{and-l, and-r, both, not-of, contra, or-of, or-r, or→, apart, all-set, all-snoc, all-keep, all-kept, all-at, Sole, sole-store, sole-same}
+use Rattle.model.proofs.Basics.{and-l, and-r, both, not-of, contra, or-of, or-r, or→, apart, all-set, all-snoc, all-keep, all-kept, all-at, sole-store, sole-same}
 use Rattle.model.proofs.GrantingRule.{ready, may-back, may-same}
 use Rattle.model.proofs.Invariant.{Good, clean, blocked, numbered, exclusive, Firm, Sound, Inv, firm-give, firm-unexcl, firm-unshared, firm-blank, good-apart, good-weaker, good-keep, good-snoc, pass-after, pass-still}
 

@@ -1,30 +1,29 @@
 -- What the checks make sure of: the lock event of every call that is not refused fits the locks, so the invariant goes from call to call.
 use mathlib.Core.Path.{_≡_, refl, sym, ap, _∙_}
-use mathlib.Core.Bool.{Bool, true, false, not, _&&_, _||_, cond, false≢true, true≢false}
+use mathlib.Core.Bool.{Bool, true, false, not, _&&_, cond, true≢false}
 use mathlib.Core.List.{List, [], _∷_}
-use Prim.Native.Nat.{ℕ, zero, suc, _+_, _<_, _≤_}
+use Prim.Native.Nat.{ℕ, zero, suc, _<_}
 use native.Mathlib.Omega.{arith}
-use lib.Dec.{eqb, leb, ltb}
+use lib.Dec.{eqb, leb}
 use lib.ListN.{length}
-use borrow.Author.Tests.{eqb-true, eqb-false, ltb-false}
+use borrow.Author.Tests.{eqb-true, eqb-false}
 use Rattle.wire.specs.declared.Header.{Header}
 use Rattle.model.specs.Sizes.{connectionLimit, noConnection}
-use Rattle.model.specs.Lists.{all, position}
+use Rattle.model.specs.Lists.{all}
 use Rattle.model.specs.State.{Entry, at, live, halfOpen, slotOfNumber, Server, connectionAt, fresh}
 use Rattle.model.specs.Interface.{Event, Event.opening, Event.delivery, Event.cut, Event.clock, Event.answer, Event.status}
 use Rattle.model.specs.Scan.{Scan, Scan.empty, Scan.few, Scan.wrong, Scan.skipping, Scan.long, Scan.part, Scan.whole, scan}
-use Rattle.model.specs.Place.{slotIn, onConnection, slotOf, Role, Role.r-none, Role.r-halfOpen, Role.r-synchronous, Role.r-asynchronous, roleBy, roleOf}
-use Rattle.model.specs.Locks.{issued, LockEvent}
+use Rattle.model.specs.Place.{onConnection, slotOf, Role, Role.r-none, Role.r-halfOpen, Role.r-synchronous, Role.r-asynchronous, roleOf}
 use Rattle.model.specs.Checks
 use Rattle.model.specs.Checks.{Verdict, Verdict.v-more, Verdict.v-skipped, Verdict.v-held, Verdict.v-ignored, Verdict.v-closed, Verdict.v-acts, Verdict.v-error, Verdict.v-fatal, Rule, first, verdict, judged, either}
 use Rattle.model.specs.Acts
 use Rattle.model.specs.Refusals.{Cause, firstCause, causes, refusal}
 use Rattle.model.specs.Step.{effect, received, plan, answered, finish, step, final}
-use Rattle.model.proofs.Basics.{and-l, and-r, not-of, not-off, contra, pos-found, pos-passes}
-use Rattle.model.proofs.Places.{no-role, async-live}
+use Rattle.model.proofs.Basics.{and-l, and-r, not-of, not-off, pos-passes}
+use Rattle.model.proofs.Place.{no-role, async-live, place-unique}
 use Rattle.model.proofs.Invariant.{Inv}
 use Rattle.model.proofs.Numbers.{issues}
-use Rattle.model.proofs.Events.{Fit, Enters, Pairs, always-settled, inv-event, inv-fresh}
+use Rattle.model.proofs.Events.{Fit, always-settled, inv-event, inv-fresh}
 
 -- what a message that acts has passed: every rule's test is false
 pub stops : Verdict → Bool
@@ -189,3 +188,7 @@ inv-list (e ∷ es) d i = inv-list es ((step d e) .server) (inv-call d e i)
 
 pub inv-run : (v : ℕ) (es : List Event) → Inv ((final (fresh v) es) .locks)
 inv-run v es = inv-list es (fresh v) inv-fresh
+
+-- so the session found is the only one on the connection
+pub found-run : (v : ℕ) (es : List Event) (c j : ℕ) → (c ≡ noConnection → ⊥) → onConnection c (at ((final (fresh v) es) .locks .entries) j) ≡ true → j ≡ slotOf (final (fresh v) es) c
+found-run v es c j r h = place-unique ((final (fresh v) es) .locks .entries) c j ((inv-run v es) .sound .firm .connections c r) h

@@ -1,22 +1,18 @@
 -- D, proved: the computed granting rule says what the paper says, both ways; and the server decides by exactly the lock model's holders.
 use mathlib.Core.Path.{_≡_, refl, sym, ap, ap₂, _∙_}
-use mathlib.Core.Bool.{Bool, true, false, not, _&&_, _||_, cond, false≢true, true≢false}
-use mathlib.Core.List.{List, [], _∷_}
-use mathlib.Core.Logic.{_⊎_, inl, inr}
-use Prim.Native.Nat.{ℕ, zero, suc, _+_}
-use native.Mathlib.Omega.{arith}
-use lib.Dec.{eqb}
-use borrow.Author.Tests.{eqb-true, eq-eqb}
-use Rattle.model.specs.Lists.{isNil, same, all, allBut, tally}
-use Rattle.model.specs.State.{Locks, Entry, blank, at, live, fresh}
+use mathlib.Core.Bool.{Bool, true, false, not, _&&_, _||_}
+use mathlib.Core.List.{List}
+use Prim.Native.Nat.{ℕ}
+use Rattle.model.specs.Lists.{all}
+use Rattle.model.specs.State.{Locks, Entry, at, live, fresh}
 use Rattle.model.specs.Interface.{Event}
-use Rattle.model.specs.Locks.{noExclusive, noShared, fits, mayGrant, access}
+use Rattle.model.specs.Locks.{noExclusive, noShared, access}
 use Rattle.model.specs.Acts.{holder}
 use Rattle.model.specs.Step.{final, log}
 use Rattle.model.specs.LockModel.{Model, notExclusive, notShared, modelRun, freshModel}
-use Rattle.model.specs.Agreement.{asSession, Agrees, feeds}
-use Rattle.model.specs.Granting.{MayExclusive, MayShared, ByHolders, hasAccess}
-use Rattle.model.proofs.Basics.{and-l, and-r, both, not-of, isn't, or-of, or-r, or→, all-at, all-cong, allBut→}
+use Rattle.model.specs.Agreement.{Agrees, feeds}
+use Rattle.model.specs.Granting.{ByHolders}
+use Rattle.model.proofs.Basics.{all-at, all-cong}
 use Rattle.model.proofs.Invariant.{Inv, clean}
 use Rattle.model.proofs.Tallies.{lower, tally-seen, tally-cong}
 use Rattle.model.proofs.Seen.{all-lift, lift, lift-excl, lift-shared, own-seen, allowed-seen}

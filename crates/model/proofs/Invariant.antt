@@ -2,20 +2,19 @@
 use mathlib.Core.Path.{_≡_, refl, sym, ap, _∙_}
 use mathlib.Core.Bool.{Bool, true, false, not, _&&_, _||_, cond, false≢true, true≢false}
 use mathlib.Core.List.{List, [], _∷_, _++_}
-use Prim.Native.Nat.{ℕ, zero, suc, _+_, _<_}
-use native.Mathlib.Omega.{arith}
-use lib.Dec.{eqb, leb}
-use lib.ListN.{getD, set, length, length-set}
+use Prim.Native.Nat.{ℕ, zero, suc}
+use lib.Dec.{eqb}
+use lib.ListN.{set, length, length-set}
 use lib.Seq.{getD-set-other}
-use borrow.Author.Tests.{eqb-true, eqb-false, eq-eqb, ne-eqb}
+use borrow.Author.Tests.{ne-eqb}
 use Rattle.model.specs.Sizes.{noConnection, sessionLimit}
-use Rattle.model.specs.Lists.{all, allBut, keep}
+use Rattle.model.specs.Lists.{all, keep}
 use Rattle.model.specs.State.{Entry, Waiting, blank, at, live, Locks}
 use Rattle.model.specs.Place.{onConnection}
 use Rattle.model.specs.Locks
-use Rattle.model.specs.Locks.{Passed, elsewhere, holds, noExclusive, noShared, fits, give, grant, mayGrant, after, put, passOver}
+use Rattle.model.specs.Locks.{Passed, elsewhere, noExclusive, noShared, give, grant, mayGrant, after, put, passOver}
 use Rattle.model.proofs.GrantingRule.{ready, may-exclusive, may-back}
-use Rattle.model.proofs.Basics.{and-l, and-r, both, not-of, contra, or-of, or-map, not-not, apart, all-set, all-snoc, all-keep, all-kept, all-back, allBut-back, all-same, allBut-same, Sole, sole-store, sole-same, allBut→}
+use Rattle.model.proofs.Basics.{and-l, and-r, both, not-of, contra, or-of, apart, all-set, all-snoc, all-keep, Sole, sole-store, sole-same}
 
 -- each waiting request is of such a session, and a session has at most one
 abbrev pub Good : List Entry → List Waiting → Type 0

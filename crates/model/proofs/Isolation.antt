@@ -1,17 +1,16 @@
 -- G, proved: access goes to the exclusive holder alone, and there is at most one.
-use mathlib.Core.Path.{_≡_, refl, sym, ap, ap₂, _∙_}
-use mathlib.Core.Bool.{Bool, true, false, not, _&&_, _||_, cond, false≢true, true≢false}
-use mathlib.Core.List.{List, [], _∷_}
-use Prim.Native.Nat.{ℕ, zero, suc, _+_}
+use mathlib.Core.Path.{_≡_, refl, sym, ap, _∙_}
+use mathlib.Core.Bool.{Bool, true, false, not, _&&_, _||_, false≢true, true≢false}
+use mathlib.Core.List.{List}
+use Prim.Native.Nat.{ℕ, zero, suc}
 use native.Mathlib.Omega.{arith}
-use lib.Dec.{eqb}
 use Rattle.wire.specs.declared.Header.{Header}
 use Rattle.wire.specs.Message.{header}
-use Rattle.wire.specs.Class.{one-of, synchronous, asynchronous}
+use Rattle.wire.specs.Class.{one-of, asynchronous}
 use Rattle.model.specs.MessageTypes.{commands}
 use Rattle.model.specs.Lists.{all}
-use Rattle.model.specs.State.{Entry, at, live, Server, connectionAt, fresh}
-use Rattle.model.specs.Interface.{Event, Event.delivery, Outcome.acted, Reply, Reply.took}
+use Rattle.model.specs.State.{Entry, at, Server, connectionAt, fresh}
+use Rattle.model.specs.Interface.{Event, Event.delivery, Outcome.acted, Reply.took}
 use Rattle.model.specs.Scan.{Scan, Scan.empty, Scan.few, Scan.wrong, Scan.skipping, Scan.long, Scan.part, Scan.whole, scan}
 use Rattle.model.specs.Place.{slotOf, Role, Role.r-none, Role.r-halfOpen, Role.r-synchronous, Role.r-asynchronous, roleOf}
 use Rattle.model.specs.Locks.{noExclusive, noShared, access}
@@ -21,9 +20,8 @@ use Rattle.model.specs.Refusals.{refusal}
 use Rattle.model.specs.Step.{effect, received, plan, answered, finish, step, final}
 use Rattle.model.specs.Isolation.{Isolated}
 use Rattle.model.proofs.Classes.{asynchronousTypes}
-use Rattle.model.proofs.Basics.{and-l, and-r, not-off, all-at}
+use Rattle.model.proofs.Basics.{not-off, all-at}
 use Rattle.model.proofs.Scanning.{whole-scan}
-use Rattle.model.proofs.Places.{sync-live, async-live}
 use Rattle.model.proofs.Classes.{acted-class}
 use Rattle.model.proofs.Invariant.{Inv}
 use Rattle.model.proofs.Fits.{opening-passed, sync-passed, async-passed, inv-run}
@@ -39,10 +37,10 @@ holder-only es i j h a = go ((at es i) .exclusive) (all noExclusive es) refl ref
     go false true e q a = absurd (true≢false (sym (all-at noExclusive es j refl q) ∙ ap not h))
     go false false e q a = absurd (false≢true a)
 
-not-opening : (t : ℕ) → one-of commands t ≡ true → either 0 17 t ≡ false
+pub not-opening : (t : ℕ) → one-of commands t ≡ true → either 0 17 t ≡ false
 not-opening t e = each-of (λ t. either 0 17 t ≡ false) commands (refl, (refl, (refl, tt))) t e
 
-not-async : (t : ℕ) → one-of commands t ≡ true → one-of asynchronousTypes t ≡ false
+pub not-async : (t : ℕ) → one-of commands t ≡ true → one-of asynchronousTypes t ≡ false
 not-async t e = each-of (λ t. one-of asynchronousTypes t ≡ false) commands (refl, (refl, (refl, tt))) t e
 
 module _ (d : Server) (i : Inv (d .locks)) (j : ℕ) (h : (at (d .locks .entries) j) .exclusive ≡ true) (c k n : ℕ) where
@@ -77,7 +75,7 @@ module _ (d : Server) (i : Inv (d .locks)) (j : ℕ) (h : (at (d .locks .entries
   effect-own bs l v-acts (part x) r es ev t e = absurd (let z : _≡_ {A = ℕ} 0 1 = cc in omega arith)
   effect-own bs l v-acts (whole x p) r es ev t e = acts-own x p r ev (rw ((whole-scan l bs x p es) .0) at t) e
 
-  step-own : (bs : List ℕ) (room : ℕ) → (step d (delivery c bs room)) .reply ≡ took acted k n → one-of commands ((header bs) .kind) ≡ true → n ≡ (at (d .locks .entries) j) .number
+  pub step-own : (bs : List ℕ) (room : ℕ) → (step d (delivery c bs room)) .reply ≡ took acted k n → one-of commands ((header bs) .kind) ≡ true → n ≡ (at (d .locks .entries) j) .number
   unfolding step answered plan received finish
   step-own bs room e t = go (refusal d (delivery c bs room)) e
     where

@@ -1,17 +1,15 @@
 -- The grant pass of the server against the lock model's look, and one whole event with its pass.
 use mathlib.Core.Path.{_≡_, refl, sym, ap, ap₂, _∙_}
-use mathlib.Core.Bool.{Bool, true, false, not, _&&_, _||_, cond, false≢true, true≢false}
+use mathlib.Core.Bool.{Bool, true, false}
 use mathlib.Core.List.{List, [], _∷_, _++_, map}
-use Prim.Native.Nat.{ℕ, zero, suc, _+_, _<_}
+use Prim.Native.Nat.{ℕ}
 use lib.ListN.{set}
-use Rattle.model.specs.Lists.{all, keep}
-use Rattle.model.specs.State.{Locks, Entry, Waiting, at, live}
-use Rattle.model.specs.Locks.{LockResult, Answer, Passed, give, grant, mayGrant, after, put, passOver, grantPass, tell}
+use Rattle.model.specs.State.{Entry, Waiting, at, live}
+use Rattle.model.specs.Locks.{LockResult, Answer, Passed, give, grant, mayGrant, after, put, passOver, grantPass}
 use Rattle.model.specs.LockModel
-use Rattle.model.specs.LockModel.{Session, Request, Model, Told, ModelResult, Looked, allowed, tells, look, looked, given, noted}
+use Rattle.model.specs.LockModel.{Session, Request, Told, ModelResult, Looked, look, looked, given, noted}
 use Rattle.model.specs.Agreement.{asRequest, Agrees}
 use Rattle.model.proofs.Basics.{and-l}
-use Rattle.model.proofs.GrantingRule.{ready}
 use Rattle.model.proofs.Invariant.{Good, Firm, Sound, firm-give, good-apart}
 use Rattle.model.proofs.Seen.{Same, channel-seen, alter-seen, allowed-seen}
 use Rattle.model.proofs.Simulation.{toldOf, Alike, requests-same, num-same, give-num, give-live, give-seen}

@@ -1,43 +1,40 @@
 -- What the lock model reads off a call (outcome, number, taken bytes) is the server's lock event, for every call that is not refused.
-use mathlib.Core.Path.{_≡_, refl, sym, ap, ap₂, subst, _∙_}
-use mathlib.Core.Bool.{Bool, true, false, not, _&&_, _||_, cond, false≢true, true≢false}
-use mathlib.Core.List.{List, [], _∷_, _++_, map}
+use mathlib.Core.Path.{_≡_, refl, sym, ap, subst}
+use mathlib.Core.Bool.{Bool, true, false, cond, false≢true, true≢false}
+use mathlib.Core.List.{List, [], _∷_}
 use mathlib.Core.Logic.{_⊎_, inl, inr}
-use Prim.Native.Nat.{ℕ, zero, suc, _+_}
+use Prim.Native.Nat.{ℕ, _+_}
 use native.Mathlib.Omega.{arith}
 use lib.Dec.{eqb}
 use lib.ListN.{take, drop}
 use borrow.Author.Tests.{eqb-true}
 use Rattle.wire.specs.declared.Header.{Header}
 use Rattle.wire.specs.Message.{header}
-use Rattle.wire.specs.Frame.{Frame}
 use Rattle.wire.specs.Class.{one-of, synchronous, asynchronous}
 use Rattle.model.specs.Sizes.{noConnection}
-use Rattle.model.specs.Lists.{keep, all}
-use Rattle.model.specs.State.{Locks, Entry, at, live, halfOpen, slotOfNumber, Server, connectionAt, fresh}
+use Rattle.model.specs.State.{Locks, at, live, slotOfNumber, Server, connectionAt}
 use Rattle.model.specs.Interface.{Event, Event.opening, Event.delivery, Event.cut, Event.clock, Event.answer, Event.status, Outcome.acted, Reply}
 use Rattle.model.specs.Scan.{Scan, Scan.empty, Scan.few, Scan.wrong, Scan.skipping, Scan.long, Scan.part, Scan.whole, scan}
-use Rattle.model.specs.Place.{slotIn, slotOf, Role, Role.r-none, Role.r-halfOpen, Role.r-synchronous, Role.r-asynchronous, roleOf}
-use Rattle.model.specs.Locks.{LockEvent, Answer, change, grantPass}
+use Rattle.model.specs.Place.{slotOf, Role, Role.r-none, Role.r-halfOpen, Role.r-synchronous, Role.r-asynchronous, roleOf}
+use Rattle.model.specs.Locks.{LockEvent, change}
 use Rattle.model.specs.Checks
 use Rattle.model.specs.Checks.{Verdict, Verdict.v-more, Verdict.v-skipped, Verdict.v-held, Verdict.v-ignored, Verdict.v-closed, Verdict.v-acts, Verdict.v-error, Verdict.v-fatal, verdict, judged, either}
 use Rattle.model.specs.Acts
 use Rattle.model.specs.Refusals.{refusal}
-use Rattle.model.specs.Step.{effect, received, plan, answered, finish, step, final, log, lockFrame, channels}
+use Rattle.model.specs.Step.{effect, received, plan}
 use Rattle.model.specs.LockModel
-use Rattle.model.specs.LockModel.{Model, ModelResult, Told, Fed, Act, actOf, doAct, delivered, looked, modelStep, modelRun, asBefore, freshModel}
-use Rattle.model.specs.Agreement.{feed, feeds, Agrees, toldFrame, isLock, lockSent, Agreement}
+use Rattle.model.specs.LockModel.{Model, ModelResult, Fed, Act, actOf, doAct, delivered, looked, modelStep, asBefore}
+use Rattle.model.specs.Agreement.{feed, Agrees}
 use Rattle.model.proofs.Classes.{synchronousTypes, asynchronousTypes}
-use Rattle.model.proofs.Basics.{and-l, and-r, not-off, or→}
+use Rattle.model.proofs.Basics.{not-off, or→}
 use Rattle.model.proofs.Scanning.{header-cut, payload-cut}
-use Rattle.model.proofs.Places.{sync-live, async-live}
+use Rattle.model.proofs.Place.{async-live}
 use Rattle.model.proofs.Classes.{acted-class}
 use Rattle.model.proofs.Invariant.{Inv}
 use Rattle.model.proofs.Numbers.{live-found}
-use Rattle.model.proofs.Events.{Fit, Enters, Pairs, change-sound, always-settled, inv-event, inv-fresh}
-use Rattle.model.proofs.Fits.{Passes, opening-passed, sync-passed, async-passed, opens-fit, plan-fit, inv-call, real-delivery, real-cut}
-use Rattle.model.proofs.Simulation.{toldOf, Alike, sim-ask, sim-free, sim-clear, sim-tick, sim-enter, sim-pair, sim-drop}
-use Rattle.model.proofs.Looking.{AlikeAll, sim-look}
+use Rattle.model.proofs.Events.{Pairs}
+use Rattle.model.proofs.Fits.{Passes, opening-passed, sync-passed, async-passed, opens-fit, real-delivery, real-cut}
+use Rattle.model.proofs.Simulation.{Alike, sim-ask, sim-free, sim-clear, sim-tick, sim-enter, sim-pair, sim-drop}
 
 -- a number of a list is one of its numbers
 abbrev Each : (ℕ → Type 0) → List ℕ → Type 0

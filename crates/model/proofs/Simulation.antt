@@ -1,27 +1,26 @@
 -- The simulation: each lock event of the server, and the grant pass, against the lock model's own request, release, reading, removal and look.
 use mathlib.Core.Path.{_≡_, refl, sym, ap, ap₂, _∙_}
-use mathlib.Core.Bool.{Bool, true, false, not, _&&_, _||_, cond, false≢true, true≢false}
+use mathlib.Core.Bool.{Bool, true, false, not, _&&_, _||_, cond, true≢false}
 use mathlib.Core.List.{List, [], _∷_, _++_, map}
 use mathlib.Core.Logic.{_⊎_, inl, inr}
-use Prim.Native.Nat.{ℕ, zero, suc, _+_, _<_}
-use native.Mathlib.Omega.{arith}
-use lib.Dec.{eqb, leb, ltb}
-use lib.ListN.{getD, set, length}
-use lib.Seq.{getD-set-same, getD-set-other}
-use borrow.Author.Tests.{eqb-true, eqb-false, eq-eqb, ne-eqb}
+use Prim.Native.Nat.{ℕ, zero, suc, _+_}
+use lib.Dec.{eqb, leb}
+use lib.ListN.{set}
+use lib.Seq.{getD-set-other}
+use borrow.Author.Tests.{eq-eqb, ne-eqb}
 use Rattle.model.specs.Sizes.{noConnection}
 use Rattle.model.specs.Lists.{all, keep, any}
 use Rattle.model.specs.State.{Locks, Entry, Waiting, blank, at, live}
 use Rattle.model.specs.Place.{onConnection, slotIn}
 use Rattle.model.specs.Locks
-use Rattle.model.specs.Locks.{LockResult, Answer, Passed, elsewhere, holds, noShared, give, grant, mayGrant, after, put, passOver, change, grantPass, tell, refuse, ruling}
+use Rattle.model.specs.Locks.{LockResult, Answer, elsewhere, holds, noShared, give, mayGrant, change, tell, refuse, ruling}
 use Rattle.model.specs.LockModel
-use Rattle.model.specs.LockModel.{Session, Request, Model, Told, ModelResult, Looked, own, allowed, has, secondConnection, tells, zeros, look, looked, given, noted, decided}
-use Rattle.model.specs.Agreement.{asSession, asSessions, asRequest, Agrees}
-use Rattle.model.proofs.Basics.{and-l, and-r, both, not-of, isn't, not-not, same?, apart, at-set, pos-found, all-kept}
-use Rattle.model.proofs.Places.{place-sound, place-complete}
-use Rattle.model.proofs.GrantingRule.{ready}
-use Rattle.model.proofs.Invariant.{Good, Firm, numbered, firm-give, good-apart, good-keep}
+use Rattle.model.specs.LockModel.{Session, Request, Model, Told, ModelResult, own, has, tells, zeros, decided}
+use Rattle.model.specs.Agreement.{asSession, asRequest, Agrees}
+use Rattle.model.proofs.Basics.{and-l, and-r, both, isn't, not-not, same?, apart, all-kept}
+use Rattle.model.proofs.Place.{place-sound, place-complete}
+use Rattle.model.proofs.Invariant.{Good, Firm}
+use Rattle.model.proofs.Waiting.{request-rule}
 use Rattle.model.proofs.Events.{Enters, Pairs}
 use Rattle.model.proofs.Seen.{Same, own-seen, channel-seen, alter-seen, enter-seen, allowed-seen, on-seen, drop-seen}
 
@@ -145,9 +144,9 @@ module _ (l : Locks) (m : Model) (a : Agrees l m) (g : Good (l .entries) (l .wai
         ap not (ap (λ ws. all (λ w. not (eqb (w .number) ((at (l .entries) i) .number))) ws) (a .waiting) ∙ all-requests (l .entries) (λ w. not (eqb (w .number) ((at (l .entries) i) .number))) (elsewhere i) (λ w u. ap not (num-slot (l .entries) f i (w .slot) v u)) (l .waiting) g)
 
     pub sim-ask : (t : ℕ) (k : List ℕ) → Alike (change l (Locks.request i t k)) (LockModel.request m ((at (l .entries) i) .number) t k)
-    unfolding change LockModel.request
+    unfolding LockModel.request
     sim-ask t k =
-        rw (own-seen (m .sessions) (l .entries) (a .sessions) f i v (has k), holds-seen k (at (l .entries) i), waits-seen, allowed-seen (m .sessions) (l .entries) (a .sessions) f i v k)
+        rw (request-rule l g f i v t k, own-seen (m .sessions) (l .entries) (a .sessions) f i v (has k), holds-seen k (at (l .entries) i), waits-seen, allowed-seen (m .sessions) (l .entries) (a .sessions) f i v k)
         (ask-seen t k (holds k (at (l .entries) i)) (all (elsewhere i) (l .waiting)) _ (mayGrant (l .entries) i k) (eqb t 0))
 
     free-seen : (x s : Bool) → Alike (Locks.released x s l i) (LockModel.freed x (not s) m ((at (l .entries) i) .number))

@@ -1,17 +1,17 @@
 -- F, proved, from call to call and over any list from the fresh server.
-use mathlib.Core.Path.{_≡_, refl, sym, ap, ap₂, _∙_}
-use mathlib.Core.Bool.{Bool, true, false, not, _&&_, _||_, cond, false≢true, true≢false}
-use mathlib.Core.List.{List, [], _∷_, _++_, map}
-use Prim.Native.Nat.{ℕ, zero, suc, _+_, _<_}
+use mathlib.Core.Path.{_≡_, refl, sym, ap, _∙_}
+use mathlib.Core.Bool.{Bool, true, false, _&&_, cond, false≢true}
+use mathlib.Core.List.{List, [], _∷_}
+use Prim.Native.Nat.{ℕ, zero, suc, _<_}
 use native.Mathlib.Omega.{arith}
 use lib.Dec.{eqb}
 use lib.ListN.{length, length-set}
 use Rattle.wire.specs.declared.Header.{Header}
 use Rattle.wire.specs.Message.{header}
-use Rattle.wire.specs.Class.{one-of, synchronous, asynchronous}
+use Rattle.wire.specs.Class.{synchronous, asynchronous}
 use Rattle.model.specs.Sizes.{noConnection, sessionLimit}
-use Rattle.model.specs.State.{Entry, at, live, slotOfNumber, Server, Rest, Exchange, Asked, Asked.none, Asked.some, exchangeAt, freshExchange, connectionAt, withExchange, withSession, fresh}
-use Rattle.model.specs.Interface.{Event, Event.opening, Event.delivery, Event.cut, Event.clock, Event.answer, Event.status, Outcome.acted, Reply}
+use Rattle.model.specs.State.{at, live, slotOfNumber, Server, Rest, Exchange, Asked, Asked.none, exchangeAt, freshExchange, connectionAt, withExchange, withSession, fresh}
+use Rattle.model.specs.Interface.{Event, Event.opening, Event.delivery, Event.cut, Event.clock, Event.answer, Event.status, Reply}
 use Rattle.model.specs.Scan.{Scan, Scan.empty, Scan.few, Scan.wrong, Scan.skipping, Scan.long, Scan.part, Scan.whole, scan}
 use Rattle.model.specs.Place.{slotOf, Role, Role.r-none, Role.r-halfOpen, Role.r-synchronous, Role.r-asynchronous, roleOf}
 use Rattle.model.specs.Locks.{LockEvent, change}
@@ -23,14 +23,13 @@ use Rattle.model.specs.Acts.{Plan}
 use Rattle.model.specs.Refusals.{causes, refusal}
 use Rattle.model.specs.Step.{effect, received, plan, answered, finish, step, final, log, closing}
 use Rattle.model.specs.Tie.{follows, track, askedBy, Tie}
-use Rattle.model.proofs.Classes.{synchronousTypes, asynchronousTypes}
 use Rattle.model.proofs.Basics.{not-off, inside}
 use Rattle.model.proofs.Scanning.{whole-scan}
-use Rattle.model.proofs.Places.{sync-live, async-live}
+use Rattle.model.proofs.Place.{sync-live, async-live}
 use Rattle.model.proofs.Classes.{acted-class}
-use Rattle.model.proofs.Exchanges.{may-answer}
+use Rattle.model.proofs.Exchange.{may-answer}
 use Rattle.model.proofs.Invariant.{Inv}
-use Rattle.model.proofs.Events.{Enters, Pairs, inv-fresh, blank-at}
+use Rattle.model.proofs.Events.{Enters, inv-fresh, blank-at}
 use Rattle.model.proofs.Fits.{Passes, uncaused, opening-passed, sync-passed, async-passed, opens-fit, real-delivery, inv-call}
 use Rattle.model.proofs.Numbers.{live-found}
 use Rattle.model.proofs.Tying.{Tied, ends, Calm, calm-num, touch, rest-same, extra-here, extra-there, drop-tied, enter-tied, syncPending, sync-extra, sync-follows, asyncPending, async-follows, async-here, async-there, async-size}

@@ -1,32 +1,27 @@
 -- F, proved: what a slot has pending is what the log says that its session has asked.
-use mathlib.Core.Path.{_≡_, refl, sym, ap, ap₂, _∙_}
-use mathlib.Core.Bool.{Bool, true, false, not, _&&_, _||_, cond, false≢true, true≢false}
-use mathlib.Core.List.{List, [], _∷_, _++_, map}
+use mathlib.Core.Path.{_≡_, refl, sym, ap, _∙_}
+use mathlib.Core.Bool.{Bool, true, false, not, _||_, cond, true≢false}
+use mathlib.Core.List.{List, [], _∷_}
 use mathlib.Core.Logic.{_⊎_, inl, inr}
-use Prim.Native.Nat.{ℕ, zero, suc, _+_, _<_}
-use native.Mathlib.Omega.{arith}
+use Prim.Native.Nat.{ℕ, zero, suc, _<_}
 use lib.Dec.{eqb}
-use lib.ListN.{getD, set, length, length-set, replicate}
+use lib.ListN.{set, length, length-set}
 use lib.Seq.{getD-set-same, getD-set-other}
-use borrow.Author.Tests.{eqb-true, eqb-false, eq-eqb, ne-eqb}
+use borrow.Author.Tests.{eq-eqb, ne-eqb}
 use Rattle.wire.specs.Field.{number}
 use Rattle.wire.specs.declared.Header.{Header}
-use Rattle.wire.specs.Message.{header}
 use Rattle.wire.specs.Class.{one-of}
 use Rattle.model.specs.Sizes.{stringLimit}
 use Rattle.model.specs.Lists.{all}
-use Rattle.model.specs.State.{Locks, Entry, Waiting, blank, at, live, slotOfNumber, Server, Rest, Exchange, Asked, Asked.none, Asked.some, exchangeAt, freshExchange, connectionAt, fresh, withExchange}
-use Rattle.model.specs.Interface.{Event, Event.opening, Event.delivery, Event.cut, Event.clock, Event.answer, Event.status, Outcome.acted, Reply}
-use Rattle.model.specs.Scan.{Scan, Scan.empty, Scan.few, Scan.wrong, Scan.skipping, Scan.long, Scan.part, Scan.whole, scan}
-use Rattle.model.specs.Place.{slotOf}
+use Rattle.model.specs.State.{Locks, Entry, blank, at, live, Rest, Exchange, Asked, Asked.none, Asked.some, exchangeAt, freshExchange, withExchange}
 use Rattle.model.specs.Locks
-use Rattle.model.specs.Locks.{LockResult, LockEvent, grant, give, mayGrant, after, put, passOver, grantPass, change, settle, frees}
+use Rattle.model.specs.Locks.{LockEvent, give, mayGrant, grantPass, change, settle, frees}
 use Rattle.model.specs.Exchange
 use Rattle.model.specs.Acts
-use Rattle.model.specs.Tie.{follows, track, askedBy, Tie}
+use Rattle.model.specs.Tie.{follows}
 use Rattle.model.proofs.Classes.{synchronousTypes, asynchronousTypes}
-use Rattle.model.proofs.Basics.{and-l, and-r, both, isn't, same?, inside}
-use Rattle.model.proofs.Invariant.{Inv, Firm, numbered}
+use Rattle.model.proofs.Basics.{both, same?}
+use Rattle.model.proofs.Invariant.{Firm}
 use Rattle.model.proofs.Events.{Enters}
 use Rattle.model.proofs.ReadOff.{each-of}
 use Rattle.model.proofs.Simulation.{num-same, give-num}
@@ -89,7 +84,7 @@ unfolding change
 change-calm l Locks.nothing x j = refl
 change-calm l (Locks.enter i n c) x j = absurd x
 change-calm l (Locks.join i c) x j = num-same (l .entries) i (Locks.joined c (at (l .entries) i)) refl j
-change-calm l (Locks.request i t k) x j = asked-num (Locks.ruling (Locks.holds k (at (l .entries) i)) (all (Locks.elsewhere i) (l .waiting)) (lib.Dec.ltb stringLimit (length k)) (mayGrant (l .entries) i k) (eqb t 0))
+change-calm l (Locks.request i t k) x j = asked-num (Locks.ruling (Locks.holds k (at (l .entries) i)) (all (Locks.elsewhere i) (l .waiting)) (lib.Dec.ltb stringLimit (length k)) (mayGrant (l .entries) i k) (eqb t 0 || Locks.noPlace (l .waiting)))
   where
     asked-num : (a : Locks.Ruling) → (at ((Locks.respond a l i t k) .locks .entries) j) .number ≡ (at (l .entries) j) .number
     asked-num Locks.invalid = refl

@@ -1,9 +1,8 @@
 -- B. The lock model agrees with the server: what it is fed, how the server's locks are seen as its sessions and requests, and the
 -- claim. Assumes nothing.
 use mathlib.Core.Path.{_≡_}
-use mathlib.Core.Bool.{Bool, true, false, not, _&&_, _||_, cond}
+use mathlib.Core.Bool.{Bool, cond}
 use mathlib.Core.List.{List, [], _∷_, _++_, map}
-use Prim.Native.Nat.{ℕ}
 use lib.Dec.{eqb}
 use lib.ListN.{take}
 use Rattle.wire.specs.Frame.{Frame, frameOf}
@@ -13,7 +12,7 @@ use Rattle.model.specs.Lists.{tally, keep}
 use Rattle.model.specs.State.{Locks, Entry, Waiting, at, live, Server}
 use Rattle.model.specs.Interface.{Event, Event.opening, Event.delivery, Event.cut, Event.clock, Event.answer, Event.status, Reply, Reply.refused, Reply.done, Reply.took}
 use Rattle.model.specs.Step.{Line, final, log}
-use Rattle.model.specs.LockModel.{Session, Request, Model, Told, Fed, Fed.f-refused, Fed.f-other, Fed.f-cut, Fed.f-clock, Fed.f-delivery, freshModel, modelRun}
+use Rattle.model.specs.LockModel.{Session, Request, Model, Told, Fed, Fed.f-refused, Fed.f-other, Fed.f-cut, Fed.f-clock, Fed.f-delivery, modelRun}
 
 -- a call that was not refused and is no delivery: cuts and clock readings matter, the others do not
 abbrev pub fedCall : Event → Fed

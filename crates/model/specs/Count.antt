@@ -1,6 +1,7 @@
--- C: the count: locks granted, counted from the answers sent = released + dropped by closings + still held in the server.
+-- C. The count: locks granted, counted from the answers sent = those released + those dropped by closings + those still held in the server.
+-- Assumes nothing.
 use mathlib.Core.Path.{_≡_}
-use mathlib.Core.Bool.{Bool, true, false, cond, _&&_, _||_, not}
+use mathlib.Core.Bool.{Bool, cond, _&&_, _||_, not}
 use mathlib.Core.List.{List, [], _∷_}
 use Prim.Native.Nat.{ℕ, _+_}
 use lib.Dec.{eqb}

@@ -1,5 +1,5 @@
 -- 01, "Clear, status, remote, sizes": what a session has asked and been sent. Three definitions are shut, and proofs go by the laws in
--- proofs/Exchanges.antt: whether an answer may be given, the number that it carries, message available at a status query.
+-- proofs/Exchange.antt: whether an answer may be given, the number that it carries, message available at a status query.
 -- Assumes nothing.
 use mathlib.Core.Bool.{Bool, true, false, not, _&&_, cond}
 use Prim.Native.Nat.{ℕ, _+_, _*_, _-_, _/_, _%_}
@@ -15,7 +15,7 @@ afterRmt code available = not (eqb code 1) && available
 abbrev pub noteRmt : ℕ → Exchange → Exchange
 noteRmt code x = record { inClear = x .inClear; asked = x .asked; messageAvailable = afterRmt code (x .messageAvailable); clientSize = x .clientSize }
 
--- DataEND and Trigger acted on set what is asked to their MessageID
+-- DataEND and Trigger acted on set what is asked to their MessageID; the number is the client's and is not tested
 abbrev pub ask : ℕ → ℕ → Exchange → Exchange
 ask code id x = record { inClear = x .inClear; asked = some id; messageAvailable = afterRmt code (x .messageAvailable); clientSize = x .clientSize }
 

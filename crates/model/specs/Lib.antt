@@ -11,7 +11,9 @@ pub mod Checks
 pub mod Acts
 pub mod Refusals
 pub mod Step
+pub mod Table
 pub mod Bench
+pub mod Corners
 pub mod Canonical
 pub mod Post
 pub mod LockModel
@@ -19,5 +21,16 @@ pub mod Agreement
 pub mod Count
 pub mod Granting
 pub mod Isolation
+pub mod Access
+pub mod SessionId
+pub mod Fewer
+pub mod Closing
+pub mod Bound
+pub mod IsolationRun
+pub mod AlwaysRoom
+pub mod OneString
+pub mod FixedPoint
 pub mod Tie
 pub mod Demand3
+pub mod Instance
+pub mod Cases

@@ -6,7 +6,7 @@ use Prim.Native.Nat.{ℕ, zero, suc, _+_, _%_}
 use lib.Dec.{eqb, leb, ltb}
 use lib.ListN.{set, length}
 use Rattle.model.specs.Lists.{isNil, same, all, allBut, keep}
-use Rattle.model.specs.Sizes.{stringLimit, lastSessionId, noConnection}
+use Rattle.model.specs.Sizes.{sessionLimit, stringLimit, lastSessionId, noConnection}
 use Rattle.model.specs.State.{Entry, Waiting, Locks, at, live, blank, slotOfNumber}
 
 -- an answer (type 5): to which connection, the code, and whether it answers a request (true) or a release (false)
@@ -110,12 +110,16 @@ unanswered l = record { locks = l; answers = [] }
 abbrev pub elsewhere : ℕ → Waiting → Bool
 elsewhere i w = not (eqb (w .slot) i)
 
+-- no place is left to wait: every place of the table of waiting requests is taken
+abbrev pub noPlace : List Waiting → Bool
+noPlace ws = leb sessionLimit (length ws)
+
 -- request answers, in this order: 3 if S already holds that kind, has a request waiting, or the string exceeds 64; 1 if it may be
--- granted, and it is; 0 if timeout is 0; else it waits
+-- granted, and it is; 0 if timeout is 0; also if no place is left to wait, which no run reaches (theorem AlwaysRoom); else it waits
 pub data Ruling : Type 0 where
   invalid granted denied queued : Ruling
 
--- by the tests: that kind is held, no request of the session waits, the string is too long, the granting rule, timeout 0
+-- by the tests: that kind is held, no request of the session waits, the string is too long, the granting rule, timeout 0 or no place
 abbrev pub ruling : Bool → Bool → Bool → Bool → Bool → Ruling
 ruling true a s m z = invalid
 ruling false false s m z = invalid
@@ -152,7 +156,7 @@ change l (enter i n c) = unanswered (withEntries l (set (l .entries) i (opened n
 change l (join i c) = unanswered (withEntries l (update (l .entries) i (joined c)))
 change l (request i t k) =
     let es = l .entries in
-    respond (ruling (holds k (at es i)) (all (elsewhere i) (l .waiting)) (ltb stringLimit (length k)) (mayGrant es i k) (eqb t 0)) l i t k
+    respond (ruling (holds k (at es i)) (all (elsewhere i) (l .waiting)) (ltb stringLimit (length k)) (mayGrant es i k) (eqb t 0 || noPlace (l .waiting))) l i t k
 change l (release i) = released ((at (l .entries) i) .exclusive) (noShared (at (l .entries) i)) l i
 -- 01: AsyncDeviceClear: a waiting request is answered 0
 change l (clear i) =

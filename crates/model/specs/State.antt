@@ -1,7 +1,7 @@
 -- What the server keeps (01: desk): the sessions with their locks, the waiting requests, the clock, and the rest. Every value of
 -- these records means something, also one that no run reaches. Assumes nothing.
 use mathlib.Core.Bool.{Bool, true, false, not, _&&_}
-use mathlib.Core.List.{List, [], _∷_}
+use mathlib.Core.List.{List, []}
 use Prim.Native.Nat.{ℕ}
 use lib.Dec.{eqb}
 use lib.ListN.{getD, set, replicate}

@@ -1,15 +1,14 @@
 -- F. The tie: an answer's MessageID is that of the session's last DataEND or Trigger that acted, with no device clear and no END
 -- answer of that session in between. Assumes nothing.
 use mathlib.Core.Path.{_≡_}
-use mathlib.Core.Bool.{Bool, true, false, cond, _&&_}
+use mathlib.Core.Bool.{Bool, cond, _&&_}
 use mathlib.Core.List.{List, [], _∷_}
 use Prim.Native.Nat.{ℕ}
 use lib.Dec.{eqb}
-use Rattle.wire.specs.declared.Header.{Header}
 use Rattle.wire.specs.Message.{header}
 use Rattle.wire.specs.Frame.{frameOf}
 use Rattle.model.specs.MessageTypes.{Initialize, DataEND, Trigger, AsyncDeviceClear}
-use Rattle.model.specs.State.{at, slotOfNumber, Server, Asked, Asked.none, Asked.some, fresh}
+use Rattle.model.specs.State.{at, slotOfNumber, Asked, Asked.none, Asked.some, fresh}
 use Rattle.model.specs.Interface.{Event, Event.opening, Event.delivery, Event.cut, Event.clock, Event.answer, Event.status, Outcome, Outcome.more-needed, Outcome.skipped, Outcome.held, Outcome.ignored, Outcome.error-sent, Outcome.closed, Outcome.acted, Reply, Reply.refused, Reply.done, Reply.took}
 use Rattle.model.specs.Checks.{either}
 use Rattle.model.specs.Step.{Line, step, final, log, answerType}

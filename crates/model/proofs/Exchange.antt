@@ -1,6 +1,6 @@
 -- The laws of the three shut definitions about a session's exchange. Nothing else opens them.
 use mathlib.Core.Path.{_≡_, refl}
-use mathlib.Core.Bool.{Bool, true, false, false≢true}
+use mathlib.Core.Bool.{true, false≢true}
 use Prim.Native.Nat.{ℕ}
 use Rattle.wire.specs.declared.Header.{Header}
 use Rattle.model.specs.State.{Exchange, Asked, Asked.none, Asked.some}

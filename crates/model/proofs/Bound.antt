@@ -1,0 +1,225 @@
+-- K, proved: a lock event and its pass answer at most each waiting request and the call itself; waiting requests have different slots.
+use mathlib.Core.Path.{_≡_, refl}
+use mathlib.Core.Bool.{Bool, true, false, _||_, cond}
+use mathlib.Core.List.{List, [], _∷_, _++_, map}
+use Prim.Native.Nat.{ℕ, zero, suc, _+_, _*_, _≤_}
+use native.Mathlib.Omega.{arith}
+use lib.Dec.{eqb, leb, ltb}
+use lib.ListN.{set, length, length-append}
+use borrow.Author.Tests.{ltb-false}
+use Rattle.wire.specs.Field.{length-field}
+use Rattle.wire.specs.declared.Header.{Header}
+use Rattle.wire.specs.Frame.{Frame, bytesOf, frameOf, length-frame}
+use Rattle.model.specs.Sizes.{stringLimit, payloadLimit, sessionLimit, outputMinimum, noConnection}
+use Rattle.model.specs.MessageTypes.{FatalError}
+use Rattle.model.specs.Lists.{all, keep}
+use Rattle.model.specs.State.{Locks, Entry, Waiting, at, live, Server, fresh, blank}
+use Rattle.model.specs.Interface.{Event, Event.opening, Event.delivery, Event.cut, Event.clock, Event.answer, Event.status}
+use Rattle.model.specs.Scan.{Scan, Scan.empty, Scan.few, Scan.wrong, Scan.skipping, Scan.long, Scan.part, Scan.whole}
+use Rattle.model.specs.Place.{entryOf, Role, Role.r-none, Role.r-halfOpen, Role.r-synchronous, Role.r-asynchronous}
+use Rattle.model.specs.Locks
+use Rattle.model.specs.Locks.{Answer, LockEvent, noShared, mayGrant, holds, elsewhere, refuse, unexpired, after, put, passOver, grantPass, change, settle, frees, noPlace}
+use Rattle.model.specs.Checks.{Verdict, Verdict.v-more, Verdict.v-skipped, Verdict.v-held, Verdict.v-ignored, Verdict.v-closed, Verdict.v-acts, Verdict.v-error, Verdict.v-fatal}
+use Rattle.model.specs.Acts
+use Rattle.model.specs.Refusals.{causes, refusal}
+use Rattle.model.specs.Step.{effect, received, plan, answered, finish, step, final, lockFrame}
+use Rattle.model.specs.Bound.{outputBound, roomOf, Output, Bound, BoundRun, OutputFits, frameSize}
+use Rattle.model.proofs.Waiting.{few-wait}
+use Rattle.model.proofs.Fits.{uncaused, inv-run}
+
+-- bytes of frames
+bytes-append : (xs ys : List Frame) → length (bytesOf (xs ++ ys)) ≡ length (bytesOf xs) + length (bytesOf ys)
+unfolding bytesOf
+bytes-append [] ys = omega arith
+bytes-append (x ∷ xs) ys = simp length-append (omega (arith, bytes-append xs ys))
+
+lock-bytes : (xs : List Answer) → length (bytesOf (map lockFrame xs)) ≡ frameSize * length xs
+unfolding bytesOf
+lock-bytes [] = refl
+lock-bytes (x ∷ xs) = simp length-append (omega (arith, length-frame (lockFrame x), lock-bytes xs))
+
+-- how many answers
+refuse-length : (es : List Entry) (p : Waiting → Bool) (ws : List Waiting) → length (refuse es p ws) ≤ length ws
+refuse-length es p [] = omega arith
+refuse-length es p (w ∷ ws) = go (p w) (refuse-length es p ws)
+  where
+    go : (b : Bool) → length (refuse es p ws) ≤ length ws → length (cond b (refuse es p ws) (Locks.tell es (w .slot) 0 true ∷ refuse es p ws)) ≤ suc (length ws)
+    go true l = omega arith
+    go false l = omega arith
+
+keep-length : (p : Waiting → Bool) (ws : List Waiting) → length (keep p ws) ≤ length ws
+keep-length p [] = omega arith
+keep-length p (w ∷ ws) = go (p w) (keep-length p ws)
+  where
+    go : (b : Bool) → length (keep p ws) ≤ length ws → length (cond b (w ∷ keep p ws) (keep p ws)) ≤ suc (length ws)
+    go true l = omega arith
+    go false l = omega arith
+
+pass-length : (ws : List Waiting) (es : List Entry) → length ((passOver ws es) .answers) ≤ length ws
+unfolding passOver
+pass-length [] es = omega arith
+pass-length (w ∷ ws) es = go (mayGrant es (w .slot) (w .string)) (λ es. pass-length ws es)
+  where
+    go : (b : Bool) → ((es : List Entry) → length ((passOver ws es) .answers) ≤ length ws) → length ((put b w es (passOver ws (after b w es))) .answers) ≤ suc (length ws)
+    go true ih = omega (arith, ih (after true w es))
+    go false ih = omega (arith, ih es)
+
+-- of an event and its pass
+abbrev answers : Locks → LockEvent → ℕ
+answers l e = length ((change l e) .answers) + length ((settle (frees e) ((change l e) .locks)) .answers)
+
+ask-length : (a : Locks.Ruling) (l : Locks) (i t : ℕ) (k : List ℕ) → length ((Locks.respond a l i t k) .answers) ≤ 1
+ask-length Locks.invalid l i t k = omega arith
+ask-length Locks.granted l i t k = omega arith
+ask-length Locks.denied l i t k = omega arith
+ask-length Locks.queued l i t k = omega arith
+
+free-length : (x s : Bool) (l : Locks) (i : ℕ) → length ((Locks.released x s l i) .answers) + length ((passOver ((Locks.released x s l i) .locks .waiting) ((Locks.released x s l i) .locks .entries)) .answers) ≤ length (l .waiting) + 1
+free-length true s l i = omega (arith, pass-length (l .waiting) ((Locks.released true s l i) .locks .entries))
+free-length false false l i = omega (arith, pass-length (l .waiting) ((Locks.released false false l i) .locks .entries))
+free-length false true l i = omega (arith, pass-length (l .waiting) ((Locks.released false true l i) .locks .entries))
+
+answers-bound : (l : Locks) (e : LockEvent) → answers l e ≤ length (l .waiting) + 1
+unfolding change grantPass
+answers-bound l Locks.nothing = omega arith
+answers-bound l (Locks.enter i n c) = omega arith
+answers-bound l (Locks.join i c) = omega arith
+answers-bound l (Locks.request i t k) =
+    omega (arith, ask-length (Locks.ruling (holds k (at (l .entries) i)) (all (elsewhere i) (l .waiting)) (leb (suc stringLimit) (length k)) (mayGrant (l .entries) i k) (eqb t 0 || noPlace (l .waiting))) l i t k)
+answers-bound l (Locks.release i) = free-length ((at (l .entries) i) .exclusive) (noShared (at (l .entries) i)) l i
+answers-bound l (Locks.clear i) = omega (arith, refuse-length (l .entries) (elsewhere i) (l .waiting))
+answers-bound l (Locks.close i) = omega (arith, pass-length (keep (elsewhere i) (l .waiting)) (set (l .entries) i blank), keep-length (elsewhere i) (l .waiting))
+answers-bound l (Locks.reading t) = omega (arith, refuse-length (l .entries) (unexpired t) (l .waiting))
+
+-- what a call says directly
+abbrev Small : List Frame → Type 0
+Small fs = length (bytesOf fs) ≤ frameSize + payloadLimit
+
+one-small : (f : Frame) → length (f .message .payload) ≤ payloadLimit → Small (f ∷ [])
+unfolding bytesOf
+one-small f l = simp length-append (omega (arith, length-frame f))
+
+none-small : Small []
+unfolding bytesOf
+none-small = omega arith
+
+fatal-small : (n : ℕ) (a b : Bool) (x y c : ℕ) → Small (map (λ x. frameOf x FatalError n 0 []) (cond a (x ∷ cond b [] (y ∷ [])) (c ∷ [])))
+unfolding bytesOf
+fatal-small n true true x y c = simp (length-append, length-frame) (omega arith)
+fatal-small n true false x y c = simp (length-append, length-frame) (omega arith)
+fatal-small n false b x y c = simp (length-append, length-frame) (omega arith)
+
+opens-small : (b : Bool) (d : Server) (c : ℕ) (h : Header) → Small ((Acts.opens b d c h) .said)
+opens-small true d c h = one-small _ (omega arith)
+opens-small false d c h = one-small _ (omega arith)
+
+sync-small : (k : Acts.SynchronousKind) (c : ℕ) → Small (Acts.synchronousSaid k c)
+unfolding Acts.synchronousSaid
+sync-small Acts.k-data c = none-small
+sync-small Acts.k-dataEnd c = none-small
+sync-small Acts.k-trigger c = none-small
+sync-small Acts.k-clearComplete c = one-small _ (omega arith)
+
+async-small : (k : Acts.AsynchronousKind) (d : Server) (i c : ℕ) (h : Header) → Small (Acts.asynchronousSaid k d i c h)
+unfolding Acts.asynchronousSaid
+async-small Acts.k-lock d i c h = none-small
+async-small Acts.k-remoteLocal d i c h = one-small _ (omega arith)
+async-small Acts.k-maximumSize d i c h = one-small _ (omega (arith, length-field 8 payloadLimit))
+async-small Acts.k-deviceClear d i c h = one-small _ (omega arith)
+async-small Acts.k-statusQuery d i c h = one-small _ (omega arith)
+async-small Acts.k-lockInfo d i c h = one-small _ (omega arith)
+
+acts-small : (r : Role) (d : Server) (i c : ℕ) (h : Header) (p : List ℕ) → Small ((Acts.acts r d i c h p) .said)
+unfolding Acts.acts
+acts-small r-none d i c h p = opens-small (eqb (h .kind) 0) d c h
+acts-small r-halfOpen d i c h p = none-small
+acts-small r-synchronous d i c h p = sync-small (Acts.synchronousKind (h .kind)) c
+acts-small r-asynchronous d i c h p = async-small (Acts.asynchronousKind (h .kind)) d i c h
+
+effect-small : (v : Verdict) (s : Scan) (r : Role) (d : Server) (i c : ℕ) → Small ((effect v s r d i c) .said)
+unfolding effect
+effect-small v-more s r d i c = none-small
+effect-small v-held s r d i c = none-small
+effect-small v-skipped s r d i c = none-small
+effect-small v-ignored s r d i c = none-small
+effect-small (v-error n) s r d i c = one-small _ (omega arith)
+effect-small (v-fatal n) s r d i c = fatal-small n (live (entryOf d c)) (eqb ((entryOf d c) .asynchronous) noConnection) ((entryOf d c) .synchronous) ((entryOf d c) .asynchronous) c
+effect-small v-closed s r d i c = none-small
+effect-small v-acts empty r d i c = none-small
+effect-small v-acts few r d i c = none-small
+effect-small v-acts wrong r d i c = none-small
+effect-small v-acts (skipping k) r d i c = none-small
+effect-small v-acts (long h) r d i c = none-small
+effect-small v-acts (part h) r d i c = none-small
+effect-small v-acts (whole h p) r d i c = acts-small r d i c h p
+
+neither : (a b : Bool) → (a || b) ≡ false → a ≡ false
+neither true b e = e
+neither false b e = refl
+
+plan-small : (d : Server) (e : Event) → refusal d e ≡ 0 → Small ((plan d e) .said)
+unfolding plan received refusal causes
+plan-small d (opening c) z = none-small
+plan-small d (delivery c bs room) z = effect-small _ _ _ d _ c
+plan-small d (cut c room) z = none-small
+plan-small d (clock t room) z = none-small
+plan-small d (answer n p end room) z = one-small _ (ltb-false payloadLimit (length p) (neither _ _ ((uncaused (causes d (answer n p end room)) refl z) .1 .1 .1 .0)))
+plan-small d (status b) z = none-small
+
+pub output : (d : Server) (e : Event) → Output d e
+unfolding step answered finish bytesOf
+output d e = record { total = go (refusal d e) refl }
+  where
+    go : (n : ℕ) → refusal d e ≡ n → length (bytesOf ((answered n d e) .frames)) ≤ frameSize + payloadLimit + frameSize * (length (d .locks .waiting) + 1)
+    go (suc n) z = omega arith
+    go zero z =
+        let x = change (d .locks) ((plan d e) .event) in
+        let y = settle (frees ((plan d e) .event)) (x .locks) in
+        omega (
+          arith,
+          bytes-append (map lockFrame (x .answers)) ((plan d e) .said ++ map lockFrame (y .answers)),
+          bytes-append ((plan d e) .said) (map lockFrame (y .answers)),
+          lock-bytes (x .answers),
+          lock-bytes (y .answers),
+          answers-bound (d .locks) ((plan d e) .event),
+          plan-small d e z,
+        )
+
+-- a call that is not refused
+openings-silent : (d : Server) (c : ℕ) → length (bytesOf ((finish d (plan d (opening c))) .frames)) ≤ 0
+unfolding finish plan change bytesOf
+openings-silent d c = omega arith
+
+statuses-silent : (d : Server) (b : ℕ) → length (bytesOf ((finish d (plan d (status b))) .frames)) ≤ 0
+unfolding finish plan change bytesOf
+statuses-silent d b = omega arith
+
+pub bound : (d : Server) → length (d .locks .waiting) ≤ sessionLimit → Bound d
+unfolding step answered refusal causes
+bound d l = record { within = within; has-room = has-room }
+  where
+    within : (e : Event) → length (bytesOf ((step d e) .frames)) ≤ outputBound
+    within e = omega (arith, (output d e) .total)
+
+    roomy : (room : ℕ) (n : ℕ) → ltb room outputMinimum ≡ false → n ≤ outputBound → n ≤ room
+    roomy room n t h = omega (arith, ltb-false room outputMinimum t)
+
+    has-room : (e : Event) → refusal d e ≡ 0 → length (bytesOf ((step d e) .frames)) ≤ roomOf e
+    has-room (opening c) z = rw z (openings-silent d c)
+    has-room (delivery c bs room) z = roomy room _ ((uncaused (causes d (delivery c bs room)) refl z) .0) (within (delivery c bs room))
+    has-room (cut c room) z = roomy room _ ((uncaused (causes d (cut c room)) refl z) .0) (within (cut c room))
+    has-room (clock t room) z = roomy room _ ((uncaused (causes d (clock t room)) refl z) .0) (within (clock t room))
+    has-room (answer n p end room) z = roomy room _ ((uncaused (causes d (answer n p end room)) refl z) .0) (within (answer n p end room))
+    has-room (status b) z = rw z (statuses-silent d b)
+
+pub bound-run : (v : ℕ) (es : List Event) → BoundRun v es
+bound-run v es = record { waiting = few; bound = bound (final (fresh v) es) few }
+  where
+    few : length ((final (fresh v) es) .locks .waiting) ≤ sessionLimit
+    few =
+        let i = inv-run v es in
+        let l = (final (fresh v) es) .locks in
+        omega (arith, few-wait (l .entries) (l .waiting) (i .sound .good), i .sound .firm .slots)
+
+pub output-fits : OutputFits
+output-fits = record { any-server = output; few-waiting = bound; any-run = bound-run; enough = omega arith }

@@ -1,0 +1,313 @@
+-- Corners of 01 that its examples leave out: the order of the checks, roles, refusals, locks, clear, status. Each row is some calls from the
+-- fresh server, then one call with its reply and its whole output. Assumes nothing.
+use mathlib.Core.Path.{_≡_, refl}
+use mathlib.Core.Bool.{true, false}
+use mathlib.Core.List.{List, [], _∷_, _++_, map}
+use Prim.Native.Nat.{ℕ, zero, suc}
+use lib.ListN.{replicate, take}
+use Rattle.wire.specs.Field.{field}
+use Rattle.wire.specs.Message.{header, encode, headerBytes}
+use Rattle.wire.specs.Frame.{frameBytes, bytesOf}
+use Rattle.wire.specs.Class.{classOf}
+use Rattle.model.specs.Sizes.{sessionLimit}
+use Rattle.model.specs.State.{Server, RemoteLocal, fresh, withSession}
+use Rattle.model.specs.Interface.{Event, Event.opening, Event.delivery, Event.cut, Event.clock, Event.answer, Event.status, Outcome.more-needed, Outcome.skipped, Outcome.held, Outcome.ignored, Outcome.error-sent, Outcome.closed, Outcome.acted, Reply.refused, Reply.done, Reply.took, outcomeNumber, deliveryAnswer, doneAnswer}
+use Rattle.model.specs.Scan.{freshScan, scan}
+use Rattle.model.specs.Place.{placeOf}
+use Rattle.model.specs.Locks.{issued, mayGrant, access, passOver, grantPass, change}
+use Rattle.model.specs.Exchange.{controlled, flags, mayAnswer, answerNumber, availableAt}
+use Rattle.model.specs.Checks.{verdict}
+use Rattle.model.specs.Acts.{acts, synchronousExchange, synchronousSaid, asynchronousRest, asynchronousSaid, asynchronousEvent}
+use Rattle.model.specs.Refusals.{refusal, causes}
+use Rattle.model.specs.Step.{final, log, step, answered, plan, finish, received, effect}
+use Rattle.model.specs.Table.{Corner, corner, found, sought, message, send, request, release, cal, Cal, eightZeros, initialize, asyncInitialize, three}
+
+-- a message without payload and with parameter 0, to a connection
+abbrev plain : ℕ → ℕ → ℕ → List ℕ
+plain c t n = c ∷ 0x48 ∷ 0x53 ∷ t ∷ n ∷ 0 ∷ 0 ∷ 0 ∷ 0 ∷ eightZeros
+
+-- a half-open session; A in device clear; A exclusive; A and B shared "cal"
+abbrev half : List Event
+half = opening 0 ∷ send 0 initialize ∷ []
+
+abbrev inClear : List Event
+inClear = three ++ (send 1 (message 19 0 0 []) ∷ [])
+
+abbrev exclusive : List Event
+exclusive = three ++ (request 1 0 [] ∷ [])
+
+abbrev shared : List Event
+shared = three ++ (request 1 0 cal ∷ request 3 0 cal ∷ [])
+
+-- A's command with MessageID 2, and an answer without END; status byte 41 hex
+abbrev asked : List Event
+asked = three ++ (status 0x41 ∷ send 0 (message 7 0 2 []) ∷ answer 1 [] false 2048 ∷ [])
+
+-- "hislip" and one byte
+abbrev hislip : ℕ → List ℕ
+hislip n = 0x68 ∷ 0x69 ∷ 0x73 ∷ 0x6c ∷ 0x69 ∷ 0x70 ∷ n ∷ []
+
+-- checks 1 to 10 and their order
+pub checks : List Corner
+checks =
+    -- 1: the remainder is skipped before a header is looked for; no bytes are more needed even then; the delivery ends there
+    corner (three ++ (send 0 (message 6 0 0 (replicate 1025 7)) ∷ [])) (send 0 (replicate 5 7)) (took skipped 5 0) []
+    ∷ corner (three ++ (send 0 (message 6 0 0 (replicate 1025 7)) ∷ [])) (send 0 (replicate 2000 7)) (took skipped 1025 0) []
+    ∷ corner (three ++ (send 0 (message 6 0 0 (replicate 1025 7)) ∷ [])) (send 0 []) (took more-needed 0 0) []
+    ∷ corner (three ++ (send 0 (message 6 0 0 (replicate 1025 7)) ∷ send 0 (replicate 1024 7) ∷ [])) (send 0 (7 ∷ message 6 0 0 [])) (took skipped 1 0) []
+    -- 2 before 3: a wrong prologue of a half-open session; in 15 bytes it is not looked at
+    ∷ corner half (send 0 (0x48 ∷ 0x54 ∷ replicate 14 0)) (took closed 0 1) (plain 0 2 1)
+    ∷ corner half (send 0 (0x48 ∷ 0x54 ∷ replicate 13 0)) (took more-needed 0 0) []
+    -- 3 before 4, 5 and 6: half-open, whatever comes
+    ∷ corner half (send 0 (message 6 0 0 [])) (took closed 0 1) (plain 0 2 2)
+    ∷ corner half (send 0 (message 3 0 0 (replicate 1025 0))) (took closed 0 1) (plain 0 2 2)
+    ∷ corner half (send 0 (take 16 (message 6 0 0 cal))) (took closed 0 1) (plain 0 2 2)
+    ∷ corner half (send 0 (message 2 0 0 [])) (took closed 0 1) (plain 0 2 2)
+    -- 3: without a role, any type but 0 and 17, or a length above 1,024; then 5
+    ∷ corner (opening 9 ∷ []) (send 9 (message 2 0 0 [])) (took closed 0 0) (plain 9 2 3)
+    ∷ corner (opening 9 ∷ []) (send 9 (take 16 (message 6 0 0 cal))) (took closed 0 0) (plain 9 2 3)
+    ∷ corner (opening 9 ∷ []) (send 9 (message 0 0 0 (replicate 1025 0))) (took closed 0 0) (plain 9 2 3)
+    ∷ corner (opening 9 ∷ []) (send 9 (take 20 (message 0 0 0 (hislip 0x30)))) (took more-needed 0 0) []
+    ∷ corner (opening 9 ∷ []) (send 9 (take 16 (message 17 0 0 cal))) (took more-needed 0 0) []
+    -- 4 before 5, 6 and 7: the header alone is taken, though payload is missing or here
+    ∷ corner three (send 0 (take 16 (message 6 0 0 (replicate 1025 7)))) (took error-sent 16 0) (plain 0 3 4)
+    ∷ corner three (send 1 (message 2 0 0 (replicate 1025 7))) (took error-sent 16 0) (plain 1 3 4)
+    ∷ corner three (send 1 (message 3 0 0 (replicate 1025 7))) (took error-sent 16 0) (plain 1 3 4)
+    ∷ corner inClear (send 0 (message 8 0 0 (replicate 1025 7))) (took error-sent 16 0) (plain 0 3 4)
+    ∷ corner three (send 0 (0x48 ∷ 0x53 ∷ 6 ∷ 0 ∷ 0 ∷ 0 ∷ 0 ∷ 0 ∷ 0xff ∷ 0xff ∷ 0xff ∷ 0xff ∷ 0xff ∷ 0xff ∷ 0xff ∷ 0xff ∷ [])) (took error-sent 16 0) (plain 0 3 4)
+    -- 5 before 6: a FatalError whose payload is not all here
+    ∷ corner three (send 1 (take 18 (message 2 0 0 cal))) (took more-needed 0 0) []
+    -- 6: FatalError closes without reply; Error is ignored. Before 7: in a clear too
+    ∷ corner three (send 1 (message 2 0 0 [])) (took closed 0 1) []
+    ∷ corner three (send 1 (message 3 0 0 cal)) (took ignored 19 0) []
+    ∷ corner inClear (send 0 (message 2 0 0 [])) (took closed 0 1) []
+    -- 7 before 8, 9 and 10: vendor, type 0, and Data without access, in a clear; the asynchronous channel goes on
+    ∷ corner inClear (send 0 (message 200 0 0 [])) (took ignored 16 0) []
+    ∷ corner inClear (send 0 (message 0 0 0 [])) (took ignored 16 0) []
+    ∷ corner (exclusive ++ (send 3 (message 19 0 0 []) ∷ [])) (send 2 (message 6 9 0 cal)) (took ignored 19 0) []
+    ∷ corner inClear (send 1 (message 200 0 0 [])) (took error-sent 16 0) (plain 1 3 3)
+    ∷ corner inClear (send 1 (message 24 0 0 [])) (took acted 16 1) (plain 1 25 0)
+    -- 8: types 0 and 17 on their own channel and on the other; before 9 and 10
+    ∷ corner three (send 0 initialize) (took closed 0 1) (plain 0 2 3 ++ plain 1 2 3)
+    ∷ corner three (send 1 (message 17 0 1 [])) (took closed 0 1) (plain 0 2 3 ++ plain 1 2 3)
+    ∷ corner three (send 0 (message 17 0 1 [])) (took error-sent 16 0) (plain 0 3 1)
+    ∷ corner three (send 1 (message 6 0 0 [])) (took error-sent 16 0) (plain 1 3 1)
+    ∷ corner exclusive (send 2 (message 128 9 0 cal)) (took error-sent 19 0) (plain 2 3 3)
+    ∷ corner exclusive (send 2 (message 1 9 0 cal)) (took error-sent 19 0) (plain 2 3 1)
+    -- 9 before 10: held though code and payload are wrong; Trigger and DataEND too
+    ∷ corner exclusive (send 2 (message 12 9 0 cal)) (took held 0 0) []
+    ∷ corner exclusive (send 2 (message 7 0 0 [])) (took held 0 0) []
+    ∷ corner exclusive (send 0 (message 7 0 0 [])) (took acted 16 1) []
+    ∷ corner shared (send 4 (message 6 0 0 [])) (took held 0 0) []
+    ∷ corner shared (send 2 (message 6 0 0 [])) (took acted 16 2) []
+    -- 10: code before payload
+    ∷ corner three (send 0 (message 12 9 0 cal)) (took error-sent 19 0) (plain 0 3 2)
+    ∷ corner three (send 0 (message 6 2 0 cal)) (took error-sent 19 0) (plain 0 3 2)
+    ∷ corner three (send 1 (message 10 7 0 cal)) (took error-sent 19 0) (plain 1 3 2)
+    ∷ corner three (send 1 (message 10 6 0 [])) (took acted 16 1) (plain 1 11 0)
+    ∷ corner three (send 1 (message 4 2 0 [])) (took error-sent 16 0) (plain 1 3 2)
+    ∷ corner three (send 1 (message 21 2 0 [])) (took error-sent 16 0) (plain 1 3 2)
+    ∷ corner three (send 0 (message 12 1 0 cal)) (took error-sent 19 0) (plain 0 3 0)
+    ∷ corner inClear (send 0 (message 8 0 0 cal)) (took error-sent 19 0) (plain 0 3 0)
+    ∷ corner three (send 1 (message 4 0 0 cal)) (took error-sent 19 0) (plain 1 3 0)
+    ∷ corner three (send 1 (message 19 9 0 cal)) (took error-sent 19 0) (plain 1 3 0)
+    ∷ corner three (send 1 (message 15 0 0 [])) (took error-sent 16 0) (plain 1 3 0)
+    ∷ corner three (send 1 (message 15 0 0 (replicate 9 0))) (took error-sent 25 0) (plain 1 3 0)
+    ∷ []
+
+pub checks-hold : map found checks ≡ map sought checks
+unfolding checks log final step refusal causes answered plan finish received effect verdict placeOf acts synchronousExchange synchronousSaid asynchronousRest asynchronousSaid asynchronousEvent controlled mayAnswer answerNumber availableAt scan freshScan header field encode headerBytes frameBytes bytesOf classOf mayGrant access passOver grantPass change
+checks-hold = refl
+
+-- opening a session
+pub openings : List Corner
+openings =
+    -- sub-address "hislip0", an older client, a code; "hislip1"; no NUL is added
+    corner (opening 0 ∷ []) (send 0 (message 0 5 0x504141 (hislip 0x30))) (took acted 23 1) (0 ∷ 0x48 ∷ 0x53 ∷ 1 ∷ 0 ∷ 0 ∷ 0x50 ∷ 0 ∷ 1 ∷ eightZeros)
+    ∷ corner (opening 0 ∷ []) (send 0 (message 0 0 0x1004141 (hislip 0x31))) (took closed 0 0) (plain 0 2 3)
+    ∷ corner (opening 0 ∷ []) (send 0 (message 0 0 0x1004141 (hislip 0x30 ++ (0 ∷ [])))) (took closed 0 0) (plain 0 2 3)
+    ∷ corner (opening 0 ∷ []) (send 0 (message 0 0 0x2004141 [])) (took acted 16 1) (0 ∷ 0x48 ∷ 0x53 ∷ 1 ∷ 0 ∷ 1 ∷ 0 ∷ 0 ∷ 1 ∷ eightZeros)
+    -- AsyncInitialize: an unknown number, an established session, all 32 bits of the parameter, number 0, payload
+    ∷ corner (three ++ (opening 6 ∷ [])) (send 6 (asyncInitialize 9)) (took closed 0 0) (plain 6 2 3)
+    ∷ corner (three ++ (opening 6 ∷ [])) (send 6 (asyncInitialize 1)) (took closed 0 0) (plain 6 2 3)
+    ∷ corner (half ++ (opening 6 ∷ [])) (send 6 (message 17 0 0x10001 [])) (took closed 0 0) (plain 6 2 3)
+    ∷ corner (half ++ (opening 6 ∷ [])) (send 6 (asyncInitialize 0)) (took closed 0 0) (plain 6 2 3)
+    ∷ corner (half ++ (opening 6 ∷ [])) (send 6 (message 17 0 1 (7 ∷ []))) (took closed 0 0) (plain 6 2 3)
+    -- a number is not used again at once, and a half-open session is live
+    ∷ corner (half ++ (cut 0 2048 ∷ opening 0 ∷ [])) (send 0 initialize) (took acted 16 2) (0 ∷ 0x48 ∷ 0x53 ∷ 1 ∷ 0 ∷ 1 ∷ 0 ∷ 0 ∷ 2 ∷ eightZeros)
+    ∷ []
+
+pub openings-hold : map found openings ≡ map sought openings
+unfolding openings log final step refusal causes answered plan finish received effect verdict placeOf acts synchronousExchange synchronousSaid asynchronousRest asynchronousSaid asynchronousEvent controlled mayAnswer answerNumber availableAt scan freshScan header field encode headerBytes frameBytes bytesOf classOf mayGrant access passOver grantPass change
+openings-hold = refl
+
+-- locks
+pub locks : List Corner
+locks =
+    -- 3: that kind is held, a request waits, a string of 65 bytes; 64 bytes are taken
+    corner exclusive (request 1 9 []) (took acted 16 1) (plain 1 5 3)
+    ∷ corner (three ++ (request 1 0 cal ∷ [])) (request 1 0 Cal) (took acted 19 1) (plain 1 5 3)
+    ∷ corner (exclusive ++ (request 3 9 [] ∷ [])) (request 3 9 cal) (took acted 19 2) (plain 3 5 3)
+    ∷ corner three (request 1 9 (replicate 65 1)) (took acted 81 1) (plain 1 5 3)
+    ∷ corner three (request 1 9 (replicate 64 1)) (took acted 80 1) (plain 1 5 1)
+    -- the exclusive holder may have shared; another's right string while one holds both may not be granted
+    ∷ corner exclusive (request 1 0 cal) (took acted 19 1) (plain 1 5 1)
+    ∷ corner (exclusive ++ (request 1 0 cal ∷ [])) (request 3 0 cal) (took acted 19 2) (plain 3 5 0)
+    ∷ corner shared (request 5 0 []) (took acted 16 3) (plain 5 5 0)
+    -- a release while a request waits; nothing held
+    ∷ corner (shared ++ (request 1 0 [] ∷ request 3 9 [] ∷ [])) (release 3) (took acted 16 2) (plain 3 5 2)
+    ∷ corner three (release 1) (took acted 16 1) (plain 1 5 3)
+    -- the grant pass: oldest first; past one that may not be granted; each once
+    ∷ corner (exclusive ++ (request 3 9 [] ∷ request 5 9 [] ∷ [])) (release 1) (took acted 16 1) (plain 1 5 1 ++ plain 3 5 1)
+    ∷ corner (exclusive ++ (request 5 9 cal ∷ request 3 9 cal ∷ [])) (release 1) (took acted 16 1) (plain 1 5 1 ++ (plain 5 5 1 ++ plain 3 5 1))
+    ∷ corner (three ++ (request 1 0 cal ∷ request 1 0 [] ∷ request 3 9 [] ∷ request 5 9 cal ∷ [])) (release 1) (took acted 16 1) (plain 1 5 1 ++ plain 5 5 1)
+    -- a deadline counts from arrival, and expired requests are answered oldest first
+    ∷ corner (exclusive ++ (clock 7 2048 ∷ request 3 900 [] ∷ request 5 500 cal ∷ [])) (clock 507 2048) done (plain 5 5 0)
+    ∷ corner (exclusive ++ (request 3 900 [] ∷ request 5 500 cal ∷ [])) (clock 900 2048) done (plain 3 5 0 ++ plain 5 5 0)
+    -- a cut and a client's FatalError take both locks and the request; whoever may now be granted is granted
+    ∷ corner (exclusive ++ (request 3 9 [] ∷ [])) (cut 0 2048) done (plain 3 5 1)
+    ∷ corner (exclusive ++ (request 1 0 cal ∷ request 3 9 Cal ∷ [])) (send 1 (message 2 0 0 [])) (took closed 0 1) (plain 3 5 1)
+    ∷ corner (exclusive ++ (request 1 0 cal ∷ request 3 9 Cal ∷ cut 1 2048 ∷ [])) (send 5 (message 24 0 0 [])) (took acted 16 3) (5 ∷ 0x48 ∷ 0x53 ∷ 25 ∷ 0 ∷ 0 ∷ 0 ∷ 0 ∷ 1 ∷ eightZeros)
+    ∷ corner (exclusive ++ (request 3 9 [] ∷ cut 3 2048 ∷ [])) (release 1) (took acted 16 1) (plain 1 5 1)
+    ∷ corner (exclusive ++ (request 3 9 [] ∷ [])) (send 0 (replicate 16 0)) (took closed 0 1) (plain 0 2 1 ++ (plain 1 2 1 ++ plain 3 5 1))
+    -- AsyncLockInfo: each holder once
+    ∷ corner (shared ++ (request 1 0 [] ∷ [])) (send 5 (message 24 0 0 [])) (took acted 16 3) (5 ∷ 0x48 ∷ 0x53 ∷ 25 ∷ 1 ∷ 0 ∷ 0 ∷ 0 ∷ 2 ∷ eightZeros)
+    ∷ corner (exclusive ++ (release 1 ∷ [])) (send 1 (message 24 7 0 [])) (took acted 16 1) (plain 1 25 0)
+    ∷ []
+
+pub locks-hold : map found locks ≡ map sought locks
+unfolding locks log final step refusal causes answered plan finish received effect verdict placeOf acts synchronousExchange synchronousSaid asynchronousRest asynchronousSaid asynchronousEvent controlled mayAnswer answerNumber availableAt scan freshScan header field encode headerBytes frameBytes bytesOf classOf mayGrant access passOver grantPass change
+locks-hold = refl
+
+-- clear, status, remote, sizes, answers
+pub exchanges : List Corner
+exchanges =
+    -- AsyncDeviceClear: a waiting request is answered 0 first; nothing is asked any more; message available goes off; once again
+    corner (exclusive ++ (request 3 9 [] ∷ [])) (send 3 (message 19 0 0 [])) (took acted 16 2) (plain 3 5 0 ++ plain 3 23 0)
+    ∷ corner (asked ++ (send 1 (message 19 0 0 []) ∷ [])) (answer 1 [] true 2048) (refused 5) []
+    ∷ corner (asked ++ (send 1 (message 19 0 0 []) ∷ [])) (send 1 (message 21 0 0 [])) (took acted 16 1) (plain 1 22 0x41)
+    ∷ corner inClear (send 1 (message 19 0 0 [])) (took acted 16 1) (plain 1 23 0)
+    -- DeviceClearComplete ends it; outside a clear Error 0
+    ∷ corner inClear (send 0 (message 8 0 0 [])) (took acted 16 1) (plain 0 9 0)
+    ∷ corner (inClear ++ (send 0 (message 8 0 0 []) ∷ [])) (send 0 (message 8 0 0 [])) (took error-sent 16 0) (plain 0 3 0)
+    ∷ corner (inClear ++ (send 0 (message 8 0 0 []) ∷ [])) (send 0 (message 6 0 0 [])) (took acted 16 1) []
+    -- message available: on when an answer is sent, off by RMT-delivered of Data, DataEND, Trigger and of a status query before its response
+    ∷ corner asked (send 1 (message 21 0 0 [])) (took acted 16 1) (plain 1 22 0x51)
+    ∷ corner asked (send 1 (message 21 1 0 [])) (took acted 16 1) (plain 1 22 0x41)
+    ∷ corner (asked ++ (send 1 (message 21 1 0 []) ∷ [])) (send 1 (message 21 0 0 [])) (took acted 16 1) (plain 1 22 0x41)
+    ∷ corner (asked ++ (send 0 (message 6 1 4 []) ∷ [])) (send 1 (message 21 0 0 [])) (took acted 16 1) (plain 1 22 0x41)
+    ∷ corner (asked ++ (send 0 (message 7 1 4 []) ∷ [])) (send 1 (message 21 0 0 [])) (took acted 16 1) (plain 1 22 0x41)
+    ∷ corner (asked ++ (send 0 (message 12 1 4 []) ∷ [])) (send 1 (message 21 0 0 [])) (took acted 16 1) (plain 1 22 0x41)
+    ∷ corner (asked ++ (send 0 (message 7 0 4 []) ∷ [])) (send 1 (message 21 0 0 [])) (took acted 16 1) (plain 1 22 0x51)
+    ∷ corner (status 0xff ∷ three) (send 1 (message 21 0 0 [])) (took acted 16 1) (plain 1 22 0xef)
+    -- what is asked: not by Data; by the last DataEND or Trigger; an answer without END keeps it, one with END clears it; each session's own
+    ∷ corner (three ++ (send 0 (message 6 0 2 []) ∷ [])) (answer 1 [] true 2048) (refused 5) []
+    ∷ corner (asked ++ (send 0 (message 12 0 6 []) ∷ [])) (answer 1 [] true 2048) done (0 ∷ 0x48 ∷ 0x53 ∷ 7 ∷ 0 ∷ 0 ∷ 0 ∷ 0 ∷ 6 ∷ eightZeros)
+    ∷ corner (asked ++ (send 0 (message 6 0 6 []) ∷ [])) (answer 1 (9 ∷ []) false 2048) done (0 ∷ 0x48 ∷ 0x53 ∷ 6 ∷ 0 ∷ 0 ∷ 0 ∷ 0 ∷ 2 ∷ 0 ∷ 0 ∷ 0 ∷ 0 ∷ 0 ∷ 0 ∷ 0 ∷ 1 ∷ 9 ∷ [])
+    ∷ corner (asked ++ (answer 1 [] true 2048 ∷ [])) (answer 1 [] true 2048) (refused 5) []
+    ∷ corner (asked ++ (send 2 (message 7 0 8 []) ∷ [])) (answer 2 [] true 2048) done (2 ∷ 0x48 ∷ 0x53 ∷ 7 ∷ 0 ∷ 0 ∷ 0 ∷ 0 ∷ 8 ∷ eightZeros)
+    -- an answer flows though another holds the lock; the client's size; the reply says 1,024
+    ∷ corner (asked ++ (request 3 0 [] ∷ [])) (answer 1 [] true 2048) done (0 ∷ 0x48 ∷ 0x53 ∷ 7 ∷ 0 ∷ 0 ∷ 0 ∷ 0 ∷ 2 ∷ eightZeros)
+    ∷ corner three (send 1 (message 15 0 0 (0 ∷ 0 ∷ 0 ∷ 0 ∷ 0 ∷ 0 ∷ 2 ∷ 0 ∷ []))) (took acted 24 1) (1 ∷ 0x48 ∷ 0x53 ∷ 16 ∷ 0 ∷ 0 ∷ 0 ∷ 0 ∷ 0 ∷ 0 ∷ 0 ∷ 0 ∷ 0 ∷ 0 ∷ 0 ∷ 0 ∷ 8 ∷ 0 ∷ 0 ∷ 0 ∷ 0 ∷ 0 ∷ 0 ∷ 4 ∷ 0 ∷ [])
+    ∷ corner (asked ++ (send 1 (message 15 0 0 (0 ∷ 0 ∷ 0 ∷ 0 ∷ 0 ∷ 0 ∷ 0 ∷ 3 ∷ [])) ∷ [])) (answer 1 (1 ∷ 2 ∷ 3 ∷ 4 ∷ []) true 2048) (refused 6) []
+    ∷ corner (asked ++ (send 1 (message 15 0 0 (0 ∷ 0 ∷ 0 ∷ 0 ∷ 0 ∷ 0 ∷ 0 ∷ 3 ∷ [])) ∷ [])) (answer 1 (1 ∷ 2 ∷ 3 ∷ []) true 2048) done (0 ∷ 0x48 ∷ 0x53 ∷ 7 ∷ 0 ∷ 0 ∷ 0 ∷ 0 ∷ 2 ∷ 0 ∷ 0 ∷ 0 ∷ 0 ∷ 0 ∷ 0 ∷ 0 ∷ 3 ∷ 1 ∷ 2 ∷ 3 ∷ [])
+    ∷ []
+
+pub exchanges-hold : map found exchanges ≡ map sought exchanges
+unfolding exchanges log final step refusal causes answered plan finish received effect verdict placeOf acts synchronousExchange synchronousSaid asynchronousRest asynchronousSaid asynchronousEvent controlled mayAnswer answerNumber availableAt scan freshScan header field encode headerBytes frameBytes bytesOf classOf mayGrant access passOver grantPass change
+exchanges-hold = refl
+
+-- refusals 1 to 8 and their order
+pub refusals : List Corner
+refusals =
+    corner [] (opening 31) done []
+    ∷ corner [] (opening 32) (refused 1) []
+    ∷ corner three (send 32 []) (refused 1) []
+    ∷ corner three (send 7 []) (refused 1) []
+    ∷ corner three (cut 7 2048) (refused 1) []
+    ∷ corner (three ++ (cut 0 2048 ∷ [])) (send 1 []) (refused 1) []
+    ∷ corner three (opening 0) (refused 2) []
+    ∷ corner (clock 5 2048 ∷ []) (clock 4 2048) (refused 3) []
+    ∷ corner (clock 5 2048 ∷ clock 4 2048 ∷ []) (clock 5 2048) done []
+    ∷ corner [] (clock 4611686018427387905 2048) (refused 4) []
+    ∷ corner [] (clock 4611686018427387904 2048) done []
+    ∷ corner three (answer 1 [] true 2048) (refused 5) []
+    ∷ corner half (answer 1 [] true 2048) (refused 5) []
+    ∷ corner three (answer 1 (replicate 1025 0) true 2048) (refused 5) []
+    ∷ corner asked (answer 1 (replicate 1025 0) true 2048) (refused 6) []
+    ∷ corner three (delivery 40 [] 2047) (refused 7) []
+    ∷ corner three (cut 40 2047) (refused 7) []
+    ∷ corner [] (clock 4611686018427387905 2047) (refused 7) []
+    ∷ corner three (answer 4 [] true 2047) (refused 7) []
+    ∷ corner three (answer 4 [] true 2048) (refused 8) []
+    ∷ corner three (answer 0 (replicate 1025 0) true 2048) (refused 8) []
+    ∷ corner (half ++ (cut 0 2048 ∷ [])) (answer 1 [] true 2048) (refused 8) []
+    ∷ []
+
+pub refusals-hold : map found refusals ≡ map sought refusals
+unfolding refusals log final step refusal causes answered plan finish received effect verdict placeOf acts synchronousExchange synchronousSaid asynchronousRest asynchronousSaid asynchronousEvent controlled mayAnswer answerNumber availableAt scan freshScan header field encode headerBytes frameBytes bytesOf classOf mayGrant access passOver grantPass change
+refusals-hold = refl
+
+-- sixteen half-open sessions are sixteen live ones; the sub-address is looked at first; a cut frees a place
+abbrev halves : ℕ → List Event
+halves zero = []
+halves (suc n) = halves n ++ (opening n ∷ send n initialize ∷ [])
+
+-- sixteen sessions
+pub places : List Corner
+places =
+    corner (halves 15 ++ (opening 20 ∷ [])) (send 20 initialize) (took acted 16 16) (20 ∷ 0x48 ∷ 0x53 ∷ 1 ∷ 0 ∷ 1 ∷ 0 ∷ 0 ∷ 16 ∷ eightZeros)
+    ∷ corner (halves 16 ++ (opening 20 ∷ [])) (send 20 initialize) (took closed 0 0) (plain 20 2 4)
+    ∷ corner (halves 16 ++ (opening 20 ∷ [])) (send 20 (message 0 0 0x1004141 (hislip 0x31))) (took closed 0 0) (plain 20 2 3)
+    ∷ corner (halves 16 ++ (cut 3 2048 ∷ opening 20 ∷ [])) (send 20 initialize) (took acted 16 17) (20 ∷ 0x48 ∷ 0x53 ∷ 1 ∷ 0 ∷ 1 ∷ 0 ∷ 0 ∷ 17 ∷ eightZeros)
+    ∷ []
+
+pub places-hold : map found places ≡ map sought places
+unfolding places log final step refusal causes answered plan finish received effect verdict placeOf acts synchronousExchange synchronousSaid asynchronousRest asynchronousSaid asynchronousEvent controlled mayAnswer answerNumber availableAt scan freshScan header field encode headerBytes frameBytes bytesOf classOf mayGrant access passOver grantPass change
+places-hold = refl
+
+-- SessionIDs with 1, 2 and 3 live: from 65,535 back to 1, passing over live ones
+abbrev issuedAfter : ℕ → ℕ
+issuedAfter last = issued sessionLimit 0 ((final (fresh 0x4141) three) .locks .entries) last
+
+pub numbers-hold : map issuedAfter (0 ∷ 2 ∷ 3 ∷ 7 ∷ 65534 ∷ 65535 ∷ []) ≡ 4 ∷ 4 ∷ 4 ∷ 8 ∷ 65535 ∷ 4 ∷ []
+unfolding log final step refusal causes answered plan finish received effect verdict placeOf acts synchronousExchange synchronousSaid asynchronousRest asynchronousSaid asynchronousEvent controlled mayAnswer answerNumber availableAt scan freshScan header field encode headerBytes frameBytes bytesOf classOf mayGrant access passOver grantPass change
+numbers-hold = refl
+
+-- and a new session gets such a number: after 65,535, with 1, 2 and 3 live
+abbrev wrapped : Server
+wrapped = let d = final (fresh 0x4141) (three ++ (opening 6 ∷ [])) in record { locks = d .locks; rest = withSession (d .rest) 9 65535 }
+
+pub wrapped-hold : bytesOf ((step wrapped (send 6 initialize)) .frames) ≡ 6 ∷ 0x48 ∷ 0x53 ∷ 1 ∷ 0 ∷ 1 ∷ 0 ∷ 0 ∷ 4 ∷ eightZeros
+unfolding log final step refusal causes answered plan finish received effect verdict placeOf acts synchronousExchange synchronousSaid asynchronousRest asynchronousSaid asynchronousEvent controlled mayAnswer answerNumber availableAt scan freshScan header field encode headerBytes frameBytes bytesOf classOf mayGrant access passOver grantPass change
+wrapped-hold = refl
+
+-- what the wire does not show: the flags after codes 0 to 6, from all off and from all on
+pub flagsTable : List RemoteLocal
+flagsTable =
+    flags false false false ∷ flags true false false ∷ flags false false false ∷ flags true false true ∷ flags true true false ∷ flags true true true ∷ flags false false false
+    ∷ flags false false false ∷ flags true true true ∷ flags false false false ∷ flags true true true ∷ flags true true true ∷ flags true true true ∷ flags true true false
+    ∷ []
+
+abbrev codes : List ℕ
+codes = 0 ∷ 1 ∷ 2 ∷ 3 ∷ 4 ∷ 5 ∷ 6 ∷ []
+
+pub flags-hold : map (λ k. controlled k (flags false false false)) codes ++ map (λ k. controlled k (flags true true true)) codes ≡ flagsTable
+unfolding flagsTable controlled
+flags-hold = refl
+
+-- the message on the wire reaches them: after code 5 all three are on, and a closing leaves them so
+pub flags-kept : (final (fresh 0x4141) (three ++ (send 1 (message 10 5 0 []) ∷ cut 0 2048 ∷ []))) .rest .remoteLocal ≡ flags true true true
+unfolding log final step refusal causes answered plan finish received effect verdict placeOf acts synchronousExchange synchronousSaid asynchronousRest asynchronousSaid asynchronousEvent controlled mayAnswer answerNumber availableAt scan freshScan header field encode headerBytes frameBytes bytesOf classOf mayGrant access passOver grantPass change
+flags-kept = refl
+
+-- the numbers that the C interface returns
+pub outcomes-hold : map outcomeNumber (more-needed ∷ skipped ∷ held ∷ ignored ∷ error-sent ∷ closed ∷ acted ∷ []) ≡ 0 ∷ 1 ∷ 2 ∷ 3 ∷ 4 ∷ 5 ∷ 6 ∷ []
+outcomes-hold = refl
+
+pub answers-hold : deliveryAnswer (refused 7) 0 ∷ deliveryAnswer (took acted 19 2) 17 ∷ []
+    ≡ record { refusal = 7; outcome = 0; session = 0; taken = 0; output = 0 } ∷ record { refusal = 0; outcome = 6; session = 2; taken = 19; output = 17 } ∷ []
+answers-hold = refl
+
+pub done-hold : doneAnswer (refused 3) 0 ∷ doneAnswer done 34 ∷ [] ≡ record { refusal = 3; output = 0 } ∷ record { refusal = 0; output = 34 } ∷ []
+done-hold = refl
