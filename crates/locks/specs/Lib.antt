@@ -5,3 +5,5 @@ pub mod Release
 pub mod Info
 pub mod Sessions
 pub mod Waiting
+pub mod Sweep
+pub mod Pass

@@ -1,6 +1,6 @@
 -- What a function of this crate ensures that does what the model says of one lock event: the locks in memory, the rest of the server,
 -- the frames in the lent buffer, and the place behind them. Assumes nothing.
-use mathlib.Core.Path.{_≡_, refl, sym, ap, _∙_}
+use mathlib.Core.Path.{_≡_, refl, sym, ap, subst, _∙_}
 use mathlib.Core.Bool.{Bool, true, false}
 use mathlib.Core.List.{List, [], _∷_, _++_, map, append-nil}
 use Prim.Native.Nat.{ℕ, _+_, _≤_}
@@ -79,3 +79,17 @@ met-one x l a m m′ out out′ at r e v o p h =
     (ap (λ (d : Server). d .locks) v ∙ sym (ap (λ (y : LockResult). y .locks) e))
     (ap (λ (d : Server). d .rest) v)
     ((λ k. record { out = o k; place = p k }) ∙ sym (ends-one a out at h) ∙ ap (λ (y : LockResult). ends (y .answers) out at) (sym e))
+
+-- what does x does y, where the two are one
+pub met-is : (x y : LockResult) (m m′ : Memory) (out out′ : List ℕ) (at r : ℕ) → x ≡ y → Met x m m′ out out′ at r → Met y m m′ out out′ at r
+met-is x y m m′ out out′ at r e p = subst (λ (z : LockResult). Met z m m′ out out′ at r) e p
+
+-- a place that did not move: nothing was written
+pub no-answers : (xs : List Answer) (out : List ℕ) (at : ℕ) (out′ : List ℕ) (r : ℕ) → ends xs out at ≡ spot out′ r → r ≡ at → xs ≡ []
+unfolding ends bytesOf
+no-answers [] out at out′ r e p = refl
+no-answers (x ∷ xs) out at out′ r e p =
+    let f : length (frameBytes (lockFrame x)) ≡ 17 = length-frame (lockFrame x) in
+    let g : length (frameBytes (lockFrame x) ++ bytesOf (map lockFrame xs)) ≡ 17 + length (bytesOf (map lockFrame xs)) = simp (length-append, f) in
+    let q : at + length (frameBytes (lockFrame x) ++ bytesOf (map lockFrame xs)) ≡ r = ap (λ (s : Spot). s .place) e in
+    absurd (omega arith)

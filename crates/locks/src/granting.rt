@@ -1,5 +1,6 @@
 // The granting rule, and a grant.
-ghost use Prim.Native.Nat.{ℕ, _<_, _≤_};
+ghost use Prim.Native.Nat.{ℕ, _+_, _<_, _≤_};
+ghost use Rattle.locks.specs.Pass.{Granted};
 ghost use Rattle.model.specs.Locks.{give, mayGrant};
 ghost use Rattle.state.specs.Change.{onEntry};
 ghost use Rattle.state.specs.Requests.{stringAt};
@@ -8,6 +9,7 @@ ghost use lib.ListN.{length};
 ghost use mathlib.Core.Bool.{true};
 ghost use mathlib.Core.List.{List};
 ghost use mathlib.Core.Path.{_≡_};
+use crate::answers::put_answer;
 use state::holders;
 use state::requests;
 
@@ -50,4 +52,20 @@ pub fn grant(w: &mut [u64; 235], strings: &mut [u8; 1088], i: usize)
         return;
     }
     holders::give_shared(w, strings, i, n);
+}
+
+// Slot i gets the lock that its request asks for, and is told (1).
+pub fn grant_and_answer(
+    w: &mut [u64; 235],
+    strings: &mut [u8; 1088],
+    out: &mut [u8],
+    at: usize,
+    i: usize,
+) -> usize
+    requires { ⌜ (i < 16) × (at + 17 ≤ length (now out)) × (mayGrant (locksOf (now w) (now strings) .entries) i (stringAt (now w) (now strings) i) ≡ true) ⌝ }
+    ensures { λ r. ⌜ Granted i (now (w .entry)) (now (w .exit)) (now (strings .entry)) (now (strings .exit)) (now (out .entry)) (now (out .exit)) at r ⌝ }
+{
+    let r = put_answer(w, out, at, i, 1);
+    grant(w, strings, i);
+    r
 }

@@ -2,12 +2,13 @@
 ghost use Prim.Native.Nat.{ℕ, _<_};
 ghost use Rattle.locks.specs.Outcome.{Quiet};
 ghost use Rattle.locks.specs.Sessions.{slotOf};
-ghost use Rattle.model.specs.Locks.LockEvent.{enter, join};
+ghost use Rattle.model.specs.Locks.LockEvent.{close, enter, join};
 ghost use Rattle.model.specs.Locks.{change};
 ghost use Rattle.state.specs.Change.{onEntry};
 ghost use Rattle.state.specs.View.{locksOf, memory, view};
 ghost use mathlib.Core.List.{List};
 ghost use mathlib.Core.Path.{_≡_};
+use crate::waiting::drop_request;
 use state::holders;
 use state::tables;
 
@@ -39,4 +40,13 @@ pub fn join_slot(w: &mut [u64; 235], i: usize, c: u64)
     ensures { λ _. ⌜ ((s : List ℕ) → Quiet (change (locksOf (now (w .entry)) s) (join i c)) (memory (now (w .entry)) s) (memory (now (w .exit)) s)) ⌝ }
 {
     tables::set_entry(w, i, 2, c);
+}
+
+// The session of slot i closes: its locks and its waiting request go, and nobody is told.
+pub fn close_slot(w: &mut [u64; 235], i: usize)
+    requires { ⌜ i < 16 ⌝ }
+    ensures { λ _. ⌜ ((s : List ℕ) → Quiet (change (locksOf (now (w .entry)) s) (close i)) (memory (now (w .entry)) s) (memory (now (w .exit)) s)) ⌝ }
+{
+    renew(w, i, 0, NONE, NONE);
+    drop_request(w, i);
 }

@@ -1,9 +1,10 @@
 // The queue of those that wait, swept: requests whose deadline is reached, or the request of one slot, leave it.
 ghost use Prim.Native.Nat.{ℕ, _+_, _<_, _≤_};
 ghost use Rattle.locks.specs.Outcome.{Met, ends, spot};
-ghost use Rattle.locks.specs.Waiting.{stays};
+ghost use Rattle.locks.specs.Waiting.{stays, swept};
 ghost use Rattle.model.specs.Lists.{keep};
-ghost use Rattle.model.specs.Locks.{refuse};
+ghost use Rattle.model.specs.Locks.LockEvent.{clear, reading};
+ghost use Rattle.model.specs.Locks.{change, elsewhere, refuse};
 ghost use Rattle.state.specs.Queue.{onWaiting};
 ghost use Rattle.state.specs.View.{locksOf, memory, requestAt, view};
 ghost use lib.ListN.{length};
@@ -11,6 +12,10 @@ ghost use mathlib.Core.List.{List};
 ghost use mathlib.Core.Path.{_≡_};
 use crate::answers::put_answer;
 use state::requests;
+use state::tables;
+
+// Stands for no slot.
+const NO_SLOT: usize = 16;
 
 // Does the request of slot x stay? With a slot i, where x is another; with none, where its deadline is past t.
 fn may_stay(w: &[u64; 235], x: usize, i: usize, t: u64) -> bool
@@ -42,7 +47,7 @@ fn answer_leaving(w: &[u64; 235], out: &mut [u8], start: usize, i: usize, t: u64
 }
 
 // Those that stay go on waiting, in their order.
-pub fn keep_staying(w: &mut [u64; 235], i: usize, t: u64)
+fn keep_staying(w: &mut [u64; 235], i: usize, t: u64)
     ensures { λ _. ⌜ ((s : List ℕ) → view (memory (now (w .exit)) s) ≡ onWaiting (view (memory (now (w .entry)) s)) (keep (stays i t))) ⌝ }
 {
     let n = requests::waiting_count(w);
@@ -57,4 +62,43 @@ pub fn keep_staying(w: &mut [u64; 235], i: usize, t: u64)
         j += 1;
     }
     requests::keep_first(w, k);
+}
+
+// What does not stay is answered 0 and leaves the queue.
+fn sweep(w: &mut [u64; 235], out: &mut [u8], at: usize, i: usize, t: u64) -> usize
+    requires { ⌜ at + 272 ≤ length (now out) ⌝ }
+    ensures { λ r. ⌜ ((s : List ℕ) → Met (swept (locksOf (now (w .entry)) s) i t) (memory (now (w .entry)) s) (memory (now (w .exit)) s) (now (out .entry)) (now (out .exit)) at r) ⌝ }
+{
+    let r = answer_leaving(w, out, at, i, t);
+    // Nobody was answered, so all stay.
+    if r == at {
+        return r;
+    }
+    keep_staying(w, i, t);
+    r
+}
+
+// A device clear: the request of slot i is answered 0.
+pub fn clear_request(w: &mut [u64; 235], out: &mut [u8], at: usize, i: usize) -> usize
+    requires { ⌜ (i < 16) × (at + 272 ≤ length (now out)) ⌝ }
+    ensures { λ r. ⌜ ((s : List ℕ) → Met (change (locksOf (now (w .entry)) s) (clear i)) (memory (now (w .entry)) s) (memory (now (w .exit)) s) (now (out .entry)) (now (out .exit)) at r) ⌝ }
+{
+    sweep(w, out, at, i, 0)
+}
+
+// The clock reads t: a request whose deadline is t or before is answered 0.
+pub fn expire(w: &mut [u64; 235], out: &mut [u8], at: usize, t: u64) -> usize
+    requires { ⌜ (t < 9223372036854775808) × (at + 272 ≤ length (now out)) ⌝ }
+    ensures { λ r. ⌜ ((s : List ℕ) → Met (change (locksOf (now (w .entry)) s) (reading t)) (memory (now (w .entry)) s) (memory (now (w .exit)) s) (now (out .entry)) (now (out .exit)) at r) ⌝ }
+{
+    tables::set_clock(w, t);
+    sweep(w, out, at, NO_SLOT, t)
+}
+
+// The request of slot i leaves the queue unanswered.
+pub fn drop_request(w: &mut [u64; 235], i: usize)
+    requires { ⌜ i < 16 ⌝ }
+    ensures { λ _. ⌜ ((s : List ℕ) → view (memory (now (w .exit)) s) ≡ onWaiting (view (memory (now (w .entry)) s)) (keep (elsewhere i))) ⌝ }
+{
+    keep_staying(w, i, 0);
 }

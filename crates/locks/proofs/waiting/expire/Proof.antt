@@ -1,0 +1,12 @@
+-- `waiting::expire` meets its contract.
+use Rattle.locks.specs.Sweep.{expired}
+use Rattle.state.specs.View.{locksOf, memory}
+use borrow.Author.Needs.{needs}
+use Rattle.locks.proofs.waiting.expire.Statement.{statement}
+use Rattle.locks.proofs.waiting.expire.Tie as tie
+
+returns : tie.Need-returns
+returns c = let a = c .before .before .before .before .before .before .before .before .args in λ s. expired _ _ _ (a .t) _ _ _ _ (c .before .before .before .before .before .set-clock .ensures s) (c .before .before .sweep .ensures s)
+
+pub expire-spec : {M : Type 1} → statement M
+expire-spec = tie.close (tie.spec (λ c κs. search needs) (λ c κs. search needs) (λ c. search needs) returns)

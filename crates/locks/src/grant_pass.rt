@@ -1,0 +1,36 @@
+// The grant pass: after a lock was freed, those that wait are looked at once.
+ghost use Prim.Native.Nat.{ℕ, _+_, _<_, _≤_};
+ghost use Rattle.locks.specs.Outcome.{Met};
+ghost use Rattle.model.specs.Locks.{grantPass};
+ghost use Rattle.state.specs.View.{locksOf, memory};
+ghost use lib.ListN.{length};
+use crate::granting;
+use state::requests;
+
+// Oldest first, each that may be granted is, and is told; the others go on waiting.
+pub fn grant_waiting(
+    w: &mut [u64; 235],
+    strings: &mut [u8; 1088],
+    out: &mut [u8],
+    start: usize,
+) -> usize
+    requires { ⌜ start + 272 ≤ length (now out) ⌝ }
+    ensures { λ r. ⌜ Met (grantPass (locksOf (now (w .entry)) (now (strings .entry)))) (memory (now (w .entry)) (now (strings .entry))) (memory (now (w .exit)) (now (strings .exit))) (now (out .entry)) (now (out .exit)) start r ⌝ }
+{
+    let n = requests::waiting_count(w);
+    let mut at = start;
+    let mut k = 0;
+    let mut j = 0;
+    while j < n {
+        let x = requests::waiting_slot(w, j);
+        if granting::may_grant(w, strings, x) {
+            at = granting::grant_and_answer(w, strings, out, at, x);
+        } else {
+            requests::move_waiting(w, j, k);
+            k += 1;
+        }
+        j += 1;
+    }
+    requests::keep_first(w, k);
+    at
+}
