@@ -1,0 +1,34 @@
+-- `closing::close_parts` meets its contract: the connection alone, or the session with all that it has.
+use mathlib.Core.Path.{sym, ap, _∙_}
+use mathlib.Core.List.{List}
+use Prim.Native.Nat.{ℕ}
+use Rattle.model.specs.State.{Rest, Server, withConnections}
+use Rattle.model.specs.Step.{shutAll}
+use Rattle.state.specs.Change.{onRest}
+use Rattle.state.specs.View.{memory, view}
+use Rattle.effects.specs.Closing.{channels-of, closed-alone, closed-session}
+use borrow.Author.Needs.{needs}
+use Rattle.effects.proofs.closing.close_parts.Statement.{statement}
+use Rattle.effects.proofs.closing.close_parts.Tie as tie
+
+returns : tie.Need-returns
+returns c = let a = c .before .before .before .args in λ s. closed-alone (a .w .now) s (a .c) (a .i) (c .before .before .before .pre s) (search needs) _ (c .shut-connection .ensures s)
+
+returns-2 : tie.Need-returns-2
+returns-2 c = let a = c .before .before .before .before .before .before .before .args in
+    λ s. let d : Server = view (memory (a .w .now) s) in
+    let f = c .before .before .before .before .before .before .before .pre s in
+    closed-session (a .w .now) s (a .c) (a .i) f (search needs) _ _ _
+    (c .before .before .before .before .shut-channels .ensures s ∙ ap (λ (l : List ℕ). onRest d (λ (r : Rest). withConnections r (shutAll (r .connections) l))) (sym (channels-of (a .w .now) s (a .c) (a .i) f (search needs))))
+    (c .before .before .renew-exchange .ensures s) (c .close-slot .ensures s .locks) (c .close-slot .ensures s .rest)
+
+pub close-parts-spec : {M : Type 1} → statement M
+close-parts-spec =
+    tie.close
+    (tie.spec
+    (λ c κs. search needs)
+    returns
+    (λ c κs. search needs)
+    (λ c κs. search needs)
+    (λ c κs. search needs)
+    returns-2)

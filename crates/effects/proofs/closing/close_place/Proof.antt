@@ -1,0 +1,13 @@
+-- `closing::close_place` meets its contract: the parts are closed, then the grant pass.
+use Rattle.effects.specs.Closing.{closes}
+use Rattle.state.specs.View.{memory}
+use borrow.Author.Needs.{needs}
+use Rattle.effects.proofs.closing.close_place.Statement.{statement}
+use Rattle.effects.proofs.closing.close_place.Tie as tie
+
+returns : tie.Need-returns
+returns c = let a = c .before .before .before .before .before .before .before .before .before .args in closes _ (a .c) (a .i) _ _ _ _ _ _ (c .before .before .before .before .before .before .close-parts .ensures (a .strings .now)) (c .before .before .grant-waiting .ensures)
+
+pub close-place-spec : {M : Type 1} → statement M
+close-place-spec =
+    tie.close (tie.spec (λ c κs. search needs) (λ c κs. search needs) (λ c. search needs) returns)

@@ -1,0 +1,44 @@
+-- `closing::shut_channels` meets its contract: the synchronous connection, and the asynchronous one if there is one.
+use mathlib.Core.Path.{_≡_, sym, ap, _∙_}
+use mathlib.Core.List.{List, [], _∷_}
+use Prim.Native.Nat.{ℕ, _%_}
+use Rattle.model.specs.State.{Entry, Rest, Server, at, withConnections}
+use Rattle.model.specs.Step.{shutAll}
+use Rattle.state.specs.Change.{onRest}
+use Rattle.state.specs.View.{locksOf, memory, view}
+use Rattle.state.specs.Search.{synchronous-read, asynchronous-read}
+use Rattle.effects.specs.Closing.{one-channel, two-channels, shut-both}
+use borrow.Author.Needs.{needs}
+use Rattle.effects.proofs.closing.shut_channels.Statement.{statement}
+use Rattle.effects.proofs.closing.shut_channels.Tie as tie
+
+returns : tie.Need-returns
+returns c = let a = c .before .before .before .before .before .before .before .args in
+    λ s. let e : Entry = at (locksOf (a .w .now) s .entries) (a .i) in
+    let d : Server = view (memory (a .w .now) s) in
+    let x = c .before .before .before .before .before .entry .result % 256 in
+    let y = c .before .before .before .entry2 .result % 256 in
+    let p = synchronous-read e (c .before .before .before .before .before .entry .result) (c .before .before .before .before .before .entry .ensures s) in
+    let q = asynchronous-read e (c .before .before .before .entry2 .result) (c .before .before .before .entry2 .ensures s) in
+    c .before .shut-connection .ensures s ∙ ap (λ (l : List ℕ). onRest d (λ (r : Rest). withConnections r (shutAll (r .connections) l))) (sym (one-channel e x y p q (c .if1 .taken)))
+
+returns-2 : tie.Need-returns-2
+returns-2 c = let a = c .before .before .before .before .before .before .before .before .before .args in
+    λ s. let e : Entry = at (locksOf (a .w .now) s .entries) (a .i) in
+    let d : Server = view (memory (a .w .now) s) in
+    let x = c .before .before .before .before .before .before .before .entry .result % 256 in
+    let y = c .before .before .before .before .before .entry2 .result % 256 in
+    let p = synchronous-read e (c .before .before .before .before .before .before .before .entry .result) (c .before .before .before .before .before .before .before .entry .ensures s) in
+    let q = asynchronous-read e (c .before .before .before .before .before .entry2 .result) (c .before .before .before .before .before .entry2 .ensures s) in
+    shut-both d _ _ x y (c .before .before .before .shut-connection .ensures s) (c .shut-connection2 .ensures s) ∙ ap (λ (l : List ℕ). onRest d (λ (r : Rest). withConnections r (shutAll (r .connections) l))) (sym (two-channels e x y p q (c .before .before .if1 .left)))
+
+pub shut-channels-spec : {M : Type 1} → statement M
+shut-channels-spec =
+    tie.close
+    (tie.spec
+    (λ c κs. search needs)
+    (λ c κs. search needs)
+    (λ c κs. search needs)
+    returns
+    (λ c κs. search needs)
+    returns-2)

@@ -1,0 +1,83 @@
+// Closing a connection and, if it has one, its session.
+ghost use Prim.Native.Nat.{ℕ, _+_, _<_, _≤_};
+ghost use Rattle.effects.specs.Closing.{Closes, closedServer, shut};
+ghost use Rattle.model.specs.Place.{slotIn};
+ghost use Rattle.model.specs.Sizes.{noConnection};
+ghost use Rattle.model.specs.State.{at, freshExchange, withConnections, withExchange};
+ghost use Rattle.model.specs.Step.{shutAll};
+ghost use Rattle.state.specs.Change.{onRest};
+ghost use Rattle.state.specs.View.{locksOf, memory, view};
+ghost use lib.Dec.{eqb};
+ghost use lib.ListN.{length};
+ghost use mathlib.Core.Bool.{cond};
+ghost use mathlib.Core.List.{List, [], _∷_};
+ghost use mathlib.Core.Path.{_≡_};
+use locks::grant_pass;
+use locks::sessions;
+use state::tables;
+
+// Connection x is closed, and what is left to skip of it is dropped.
+fn shut_connection(w: &mut [u64; 235], x: u64)
+    ensures { λ _. ⌜ ((s : List ℕ) → view (memory (now (w .exit)) s) ≡ onRest (view (memory (now (w .entry)) s)) (shut x)) ⌝ }
+{
+    if x >= 32 {
+        return;
+    }
+    tables::set_connection(w, x as usize, 0, 0);
+    tables::set_connection(w, x as usize, 1, 0);
+}
+
+// Slot i's exchange is as of a session that opens.
+fn renew_exchange(w: &mut [u64; 235], i: usize)
+    requires { ⌜ i < 16 ⌝ }
+    ensures { λ _. ⌜ ((s : List ℕ) → view (memory (now (w .exit)) s) ≡ onRest (view (memory (now (w .entry)) s)) (λ r. withExchange r i freshExchange)) ⌝ }
+{
+    tables::set_exchange(w, i, 0, 0);
+    tables::set_exchange(w, i, 1, 0);
+    tables::set_exchange(w, i, 2, 0);
+    tables::set_exchange(w, i, 3, 1024);
+}
+
+// The connections of slot i's session are closed.
+fn shut_channels(w: &mut [u64; 235], i: usize)
+    requires { ⌜ i < 16 ⌝ }
+    ensures { λ _. ⌜ ((s : List ℕ) → view (memory (now (w .exit)) s) ≡ onRest (view (memory (now (w .entry)) s)) (λ r. withConnections r (shutAll (r .connections) ((at (locksOf (now (w .entry)) s .entries) i) .synchronous ∷ cond (eqb ((at (locksOf (now (w .entry)) s .entries) i) .asynchronous) noConnection) [] ((at (locksOf (now (w .entry)) s .entries) i) .asynchronous ∷ []))))) ⌝ }
+{
+    let x = tables::entry(w, i, 1) % 256;
+    let y = tables::entry(w, i, 2) % 256;
+    shut_connection(w, x);
+    if y == 255 {
+        return;
+    }
+    shut_connection(w, y);
+}
+
+// Connection c is closed, with its session in slot i if it has one (16: none).
+fn close_parts(w: &mut [u64; 235], c: u64, i: usize)
+    requires { ⌜ ((s : List ℕ) → slotIn (locksOf (now w) s .entries) c ≡ i) ⌝ }
+    ensures { λ _. ⌜ ((s : List ℕ) → view (memory (now (w .exit)) s) ≡ closedServer (view (memory (now (w .entry)) s)) c i) ⌝ }
+{
+    if i >= 16 {
+        shut_connection(w, c);
+        return;
+    }
+    shut_channels(w, i);
+    renew_exchange(w, i);
+    sessions::close_slot(w, i);
+}
+
+// The same, and then those that wait are looked at; the place behind the frames.
+pub fn close_place(
+    w: &mut [u64; 235],
+    strings: &mut [u8; 1088],
+    out: &mut [u8],
+    at: usize,
+    c: u64,
+    i: usize,
+) -> usize
+    requires { ⌜ (at + 272 ≤ length (now out)) × ((s : List ℕ) → slotIn (locksOf (now w) s .entries) c ≡ i) ⌝ }
+    ensures { λ r. ⌜ Closes (view (memory (now (w .entry)) (now (strings .entry)))) c i (memory (now (w .exit)) (now (strings .exit))) (now (out .entry)) (now (out .exit)) at r ⌝ }
+{
+    close_parts(w, c, i);
+    grant_pass::grant_waiting(w, strings, out, at)
+}
