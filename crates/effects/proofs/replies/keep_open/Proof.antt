@@ -1,0 +1,11 @@
+-- `replies::keep_open` meets its contract: two stores write the row.
+use Rattle.effects.specs.Replies.{connection-written}
+use borrow.Author.Needs.{needs}
+use Rattle.effects.proofs.replies.keep_open.Statement.{statement}
+use Rattle.effects.proofs.replies.keep_open.Tie as tie
+
+returns : tie.Need-returns
+returns c = let a = c .before .before .before .before .args in λ s. connection-written (a .c) 1 (a .left) _ _ _ (c .before .before .set-connection .ensures s) (c .set-connection2 .ensures s)
+
+pub keep-open-spec : {M : Type 1} → statement M
+keep-open-spec = tie.close (tie.spec (λ c κs. search needs) (λ c κs. search needs) returns)

@@ -1,0 +1,139 @@
+// What is done with a message that does not act: skipped, ignored, answered with an Error; a FatalError, and a closing without reply.
+ghost use Prim.Native.Nat.{ℕ, _+_, _-_, _<_, _≤_};
+ghost use Rattle.effects.specs.Did.{Did};
+ghost use Rattle.effects.specs.Replies.{closePlan, errorPlan, fatals, ignorePlan, skipPlan};
+ghost use Rattle.model.specs.Place.{slotIn};
+ghost use Rattle.model.specs.State.{at, connectionAt, openConnection, withConnection};
+ghost use Rattle.model.specs.Step.{channels, finish};
+ghost use Rattle.state.specs.Change.{onRest};
+ghost use Rattle.state.specs.View.{locksOf, memory, restOf, view};
+ghost use Rattle.wire.specs.Frame.{bytesOf};
+ghost use Rattle.wire.specs.Splice.{splice};
+ghost use lib.ListN.{length};
+ghost use mathlib.Core.List.{List, []};
+ghost use mathlib.Core.Path.{_≡_};
+use crate::Delivery;
+use crate::closing;
+use state::tables;
+use wire::frame;
+
+// Connection c is open, with so many bytes to skip.
+pub fn keep_open(w: &mut [u64; 235], c: u64, left: u64)
+    requires { ⌜ c < 32 ⌝ }
+    ensures { λ _. ⌜ ((s : List ℕ) → view (memory (now (w .exit)) s) ≡ onRest (view (memory (now (w .entry)) s)) (λ r. withConnection r c (openConnection left))) ⌝ }
+{
+    tables::set_connection(w, c as usize, 0, 1);
+    tables::set_connection(w, c as usize, 1, left);
+}
+
+// An Error goes back to the connection; so many bytes are taken, and so many are left to skip.
+pub fn send_error(
+    w: &mut [u64; 235],
+    out: &mut [u8],
+    c: u64,
+    code: u8,
+    taken: u64,
+    left: u64,
+) -> Delivery
+    requires { ⌜ (c < 32) × (2048 ≤ length (now out)) ⌝ }
+    ensures { λ r. ⌜ ((s : List ℕ) → Did (finish (view (memory (now (w .entry)) s)) (errorPlan (view (memory (now (w .entry)) s)) c code taken left)) r (memory (now (w .entry)) s) (memory (now (w .exit)) s) (now (out .entry)) (now (out .exit))) ⌝ }
+{
+    keep_open(w, c, left);
+    frame::put_frame(out, 0, c as u8, 3, code, 0);
+    Delivery {
+        refusal: 0,
+        outcome: 4,
+        session: 0,
+        taken,
+        output: 17,
+    }
+}
+
+// So many bytes of the remainder r are skipped.
+pub fn skip(w: &mut [u64; 235], c: u64, r: u64, taken: u64) -> Delivery
+    requires { ⌜ (c < 32) × (taken ≤ r) × (r ≡ (connectionAt (restOf (now w)) c) .remainder) ⌝ }
+    ensures { λ r. ⌜ ((s out : List ℕ) → Did (finish (view (memory (now (w .entry)) s)) (skipPlan (view (memory (now (w .entry)) s)) c taken)) r (memory (now (w .entry)) s) (memory (now (w .exit)) s) out out) ⌝ }
+{
+    keep_open(w, c, r - taken);
+    Delivery {
+        refusal: 0,
+        outcome: 1,
+        session: 0,
+        taken,
+        output: 0,
+    }
+}
+
+// The FatalError to each connection of the session in slot i, or to connection c alone; the place behind it.
+fn put_fatal(w: &[u64; 235], out: &mut [u8], c: u64, i: usize, code: u8) -> usize
+    requires { ⌜ (c < 32) × (2048 ≤ length (now out)) × ((s : List ℕ) → slotIn (locksOf (now w) s .entries) c ≡ i) ⌝ }
+    ensures { λ r. ⌜ (r ≤ 34) × ((s : List ℕ) → now (out .exit) ≡ splice (now (out .entry)) 0 (bytesOf (fatals code (channels (view (memory (now (w .entry)) s)) c)))) × ((s : List ℕ) → r ≡ length (bytesOf (fatals code (channels (view (memory (now (w .entry)) s)) c)))) ⌝ }
+{
+    if i >= 16 {
+        frame::put_frame(out, 0, c as u8, 2, code, 0);
+        return 17;
+    }
+    let x = (tables::entry(w, i, 1) % 256) as u8;
+    let y = tables::entry(w, i, 2) % 256;
+    frame::put_frame(out, 0, x, 2, code, 0);
+    if y == 255 {
+        return 17;
+    }
+    frame::put_frame(out, 17, y as u8, 2, code, 0);
+    34
+}
+
+fn number_of(w: &[u64; 235], i: usize) -> u64
+    ensures { λ r. ⌜ ((s : List ℕ) → (at (locksOf (now (w .entry)) s .entries) i) .number ≡ r) ⌝ }
+{
+    if i >= 16 {
+        return 0;
+    }
+    tables::entry(w, i, 0)
+}
+
+// A FatalError, and the session, or the connection, closes.
+pub fn send_fatal(
+    w: &mut [u64; 235],
+    strings: &mut [u8; 1088],
+    out: &mut [u8],
+    c: u64,
+    i: usize,
+    code: u8,
+) -> Delivery
+    requires { ⌜ (c < 32) × (2048 ≤ length (now out)) × ((s : List ℕ) → slotIn (locksOf (now w) s .entries) c ≡ i) ⌝ }
+    ensures { λ r. ⌜ Did (finish (view (memory (now (w .entry)) (now (strings .entry)))) (closePlan (view (memory (now (w .entry)) (now (strings .entry)))) c i (fatals code (channels (view (memory (now (w .entry)) (now (strings .entry)))) c)))) r (memory (now (w .entry)) (now (strings .entry))) (memory (now (w .exit)) (now (strings .exit))) (now (out .entry)) (now (out .exit)) ⌝ }
+{
+    let session = number_of(w, i);
+    let at = put_fatal(w, out, c, i, code);
+    let end = closing::close_place(w, strings, out, at, c, i);
+    Delivery {
+        refusal: 0,
+        outcome: 5,
+        session,
+        taken: 0,
+        output: end as u64,
+    }
+}
+
+// The session closes without reply.
+pub fn close_silently(
+    w: &mut [u64; 235],
+    strings: &mut [u8; 1088],
+    out: &mut [u8],
+    c: u64,
+    i: usize,
+) -> Delivery
+    requires { ⌜ (c < 32) × (2048 ≤ length (now out)) × ((s : List ℕ) → slotIn (locksOf (now w) s .entries) c ≡ i) ⌝ }
+    ensures { λ r. ⌜ Did (finish (view (memory (now (w .entry)) (now (strings .entry)))) (closePlan (view (memory (now (w .entry)) (now (strings .entry)))) c i [])) r (memory (now (w .entry)) (now (strings .entry))) (memory (now (w .exit)) (now (strings .exit))) (now (out .entry)) (now (out .exit)) ⌝ }
+{
+    let session = number_of(w, i);
+    let end = closing::close_place(w, strings, out, 0, c, i);
+    Delivery {
+        refusal: 0,
+        outcome: 5,
+        session,
+        taken: 0,
+        output: end as u64,
+    }
+}
