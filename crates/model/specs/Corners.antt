@@ -55,6 +55,9 @@ checks =
     ∷ corner (three ++ (send 0 (message 6 0 0 (replicate 1025 7)) ∷ [])) (send 0 (replicate 2000 7)) (took skipped 1025 0) []
     ∷ corner (three ++ (send 0 (message 6 0 0 (replicate 1025 7)) ∷ [])) (send 0 []) (took more-needed 0 0) []
     ∷ corner (three ++ (send 0 (message 6 0 0 (replicate 1025 7)) ∷ send 0 (replicate 1024 7) ∷ [])) (send 0 (7 ∷ message 6 0 0 [])) (took skipped 1 0) []
+    -- a remainder survives a device clear; a closing drops it
+    ∷ corner (three ++ (send 0 (message 6 0 0 (replicate 1025 7)) ∷ send 1 (message 19 0 0 []) ∷ [])) (send 0 (message 8 0 0 [])) (took skipped 16 0) []
+    ∷ corner (three ++ (send 0 (message 6 0 0 (replicate 1025 7)) ∷ cut 1 2048 ∷ opening 0 ∷ [])) (send 0 initialize) (took acted 16 4) (0 ∷ 0x48 ∷ 0x53 ∷ 1 ∷ 0 ∷ 1 ∷ 0 ∷ 0 ∷ 4 ∷ eightZeros)
     -- 2 before 3: a wrong prologue of a half-open session; in 15 bytes it is not looked at
     ∷ corner half (send 0 (0x48 ∷ 0x54 ∷ replicate 14 0)) (took closed 0 1) (plain 0 2 1)
     ∷ corner half (send 0 (0x48 ∷ 0x54 ∷ replicate 13 0)) (took more-needed 0 0) []
@@ -157,6 +160,8 @@ locks =
     -- a release while a request waits; nothing held
     ∷ corner (shared ++ (request 1 0 [] ∷ request 3 9 [] ∷ [])) (release 3) (took acted 16 2) (plain 3 5 2)
     ∷ corner three (release 1) (took acted 16 1) (plain 1 5 3)
+    -- a new request does not queue behind a waiting one
+    ∷ corner (three ++ (request 1 0 cal ∷ request 3 9 [] ∷ [])) (request 5 9 cal) (took acted 19 3) (plain 5 5 1)
     -- the grant pass: oldest first; past one that may not be granted; each once
     ∷ corner (exclusive ++ (request 3 9 [] ∷ request 5 9 [] ∷ [])) (release 1) (took acted 16 1) (plain 1 5 1 ++ plain 3 5 1)
     ∷ corner (exclusive ++ (request 5 9 cal ∷ request 3 9 cal ∷ [])) (release 1) (took acted 16 1) (plain 1 5 1 ++ (plain 5 5 1 ++ plain 3 5 1))
@@ -171,6 +176,7 @@ locks =
     ∷ corner (exclusive ++ (request 3 9 [] ∷ cut 3 2048 ∷ [])) (release 1) (took acted 16 1) (plain 1 5 1)
     ∷ corner (exclusive ++ (request 3 9 [] ∷ [])) (send 0 (replicate 16 0)) (took closed 0 1) (plain 0 2 1 ++ (plain 1 2 1 ++ plain 3 5 1))
     -- AsyncLockInfo: each holder once
+    ∷ corner exclusive (send 1 (message 24 0 0 [])) (took acted 16 1) (1 ∷ 0x48 ∷ 0x53 ∷ 25 ∷ 1 ∷ 0 ∷ 0 ∷ 0 ∷ 1 ∷ eightZeros)
     ∷ corner (shared ++ (request 1 0 [] ∷ [])) (send 5 (message 24 0 0 [])) (took acted 16 3) (5 ∷ 0x48 ∷ 0x53 ∷ 25 ∷ 1 ∷ 0 ∷ 0 ∷ 0 ∷ 2 ∷ eightZeros)
     ∷ corner (exclusive ++ (release 1 ∷ [])) (send 1 (message 24 7 0 [])) (took acted 16 1) (plain 1 25 0)
     ∷ []
@@ -187,6 +193,7 @@ exchanges =
     ∷ corner (asked ++ (send 1 (message 19 0 0 []) ∷ [])) (answer 1 [] true 2048) (refused 5) []
     ∷ corner (asked ++ (send 1 (message 19 0 0 []) ∷ [])) (send 1 (message 21 0 0 [])) (took acted 16 1) (plain 1 22 0x41)
     ∷ corner inClear (send 1 (message 19 0 0 [])) (took acted 16 1) (plain 1 23 0)
+    ∷ corner (exclusive ++ (send 3 (message 19 0 0 []) ∷ request 3 9 [] ∷ [])) (send 3 (message 19 0 0 [])) (took acted 16 2) (plain 3 5 0 ++ plain 3 23 0)
     -- DeviceClearComplete ends it; outside a clear Error 0
     ∷ corner inClear (send 0 (message 8 0 0 [])) (took acted 16 1) (plain 0 9 0)
     ∷ corner (inClear ++ (send 0 (message 8 0 0 []) ∷ [])) (send 0 (message 8 0 0 [])) (took error-sent 16 0) (plain 0 3 0)
@@ -210,6 +217,7 @@ exchanges =
     ∷ corner (asked ++ (request 3 0 [] ∷ [])) (answer 1 [] true 2048) done (0 ∷ 0x48 ∷ 0x53 ∷ 7 ∷ 0 ∷ 0 ∷ 0 ∷ 0 ∷ 2 ∷ eightZeros)
     ∷ corner three (send 1 (message 15 0 0 (0 ∷ 0 ∷ 0 ∷ 0 ∷ 0 ∷ 0 ∷ 2 ∷ 0 ∷ []))) (took acted 24 1) (1 ∷ 0x48 ∷ 0x53 ∷ 16 ∷ 0 ∷ 0 ∷ 0 ∷ 0 ∷ 0 ∷ 0 ∷ 0 ∷ 0 ∷ 0 ∷ 0 ∷ 0 ∷ 0 ∷ 8 ∷ 0 ∷ 0 ∷ 0 ∷ 0 ∷ 0 ∷ 0 ∷ 4 ∷ 0 ∷ [])
     ∷ corner (asked ++ (send 1 (message 15 0 0 (0 ∷ 0 ∷ 0 ∷ 0 ∷ 0 ∷ 0 ∷ 0 ∷ 3 ∷ [])) ∷ [])) (answer 1 (1 ∷ 2 ∷ 3 ∷ 4 ∷ []) true 2048) (refused 6) []
+    ∷ corner (asked ++ (send 1 (message 15 0 0 (0 ∷ 0 ∷ 0 ∷ 0 ∷ 0 ∷ 0 ∷ 0 ∷ 0 ∷ [])) ∷ [])) (answer 1 [] true 2048) done (0 ∷ 0x48 ∷ 0x53 ∷ 7 ∷ 0 ∷ 0 ∷ 0 ∷ 0 ∷ 2 ∷ eightZeros)
     ∷ corner (asked ++ (send 1 (message 15 0 0 (0 ∷ 0 ∷ 0 ∷ 0 ∷ 0 ∷ 0 ∷ 0 ∷ 3 ∷ [])) ∷ [])) (answer 1 (1 ∷ 2 ∷ 3 ∷ []) true 2048) done (0 ∷ 0x48 ∷ 0x53 ∷ 7 ∷ 0 ∷ 0 ∷ 0 ∷ 0 ∷ 2 ∷ 0 ∷ 0 ∷ 0 ∷ 0 ∷ 0 ∷ 0 ∷ 0 ∷ 3 ∷ 1 ∷ 2 ∷ 3 ∷ [])
     ∷ []
 
