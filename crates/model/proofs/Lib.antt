@@ -1,11 +1,13 @@
 pub mod Scanning
 pub mod Canonical
 pub mod Basics
+pub mod Slots
 pub mod Classes
 pub mod Place
 pub mod Exchange
 pub mod GrantingRule
 pub mod Invariant
+pub mod Waiting
 pub mod Events
 pub mod Numbers
 pub mod Fits
@@ -20,9 +22,6 @@ pub mod Granting
 pub mod Isolation
 pub mod Tying
 pub mod Tied
-pub mod Demand3
-pub mod Slots
-pub mod Waiting
 pub mod Replies
 pub mod Access
 pub mod SessionId
@@ -35,3 +34,4 @@ pub mod IsolationRun
 pub mod AlwaysRoom
 pub mod OneString
 pub mod FixedPoint
+pub mod Demand3

@@ -14,7 +14,7 @@ use Rattle.model.specs.State.{Entry, live, Server, fresh}
 use Rattle.model.specs.Interface.{Event, Event.opening, Event.delivery, Event.cut, Event.clock, Event.answer, Event.status, Outcome, Outcome.more-needed, Outcome.skipped, Outcome.held, Outcome.ignored, Outcome.error-sent, Outcome.closed, Outcome.acted, Reply, Reply.refused, Reply.done, Reply.took}
 use Rattle.model.specs.Step.{Line, step, final, log}
 
--- 01: "the first is 1; each later one is the next after the last issued, from 65,535 back to 1, passing over live ones"
+-- 01: "The first is 1; each later one is the next after the last issued, from 65,535 back to 1, passing over live ones"
 abbrev pub next : ℕ → ℕ
 next n = cond (ltb n lastSessionId) (suc n) 1
 
