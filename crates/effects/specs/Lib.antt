@@ -1,3 +1,4 @@
 pub mod Closing
 pub mod Did
 pub mod Replies
+pub mod Synchronous

@@ -1,0 +1,88 @@
+// Messages that act on the synchronous channel: Data, DataEND, Trigger, DeviceClearComplete.
+ghost use Prim.Native.Nat.{ℕ, _+_, _<_, _≤_};
+ghost use Rattle.effects.specs.Did.{Did};
+ghost use Rattle.effects.specs.Synchronous.{withSlot};
+ghost use Rattle.model.specs.Acts.{acts};
+ghost use Rattle.model.specs.Exchange.{ask, leaveClear, noteRmt};
+ghost use Rattle.model.specs.Place.{Role.r-synchronous};
+ghost use Rattle.model.specs.Step.{finish};
+ghost use Rattle.state.specs.Change.{onRest};
+ghost use Rattle.state.specs.View.{memory, view};
+ghost use lib.ListN.{length};
+ghost use mathlib.Core.List.{List};
+ghost use mathlib.Core.Path.{_≡_};
+use crate::Delivery;
+use state::tables;
+use wire::frame;
+
+// RMT-delivered (code 1) turns message available off.
+pub fn note_rmt(w: &mut [u64; 235], i: usize, code: u8)
+    requires { ⌜ i < 16 ⌝ }
+    ensures { λ _. ⌜ ((s : List ℕ) → view (memory (now (w .exit)) s) ≡ onRest (view (memory (now (w .entry)) s)) (withSlot i (noteRmt code))) ⌝ }
+{
+    if code != 1 {
+        return;
+    }
+    tables::set_exchange(w, i, 2, 0);
+}
+
+// What is asked is this message.
+fn note_asked(w: &mut [u64; 235], i: usize, code: u8, param: u32)
+    requires { ⌜ i < 16 ⌝ }
+    ensures { λ _. ⌜ ((s : List ℕ) → view (memory (now (w .exit)) s) ≡ onRest (view (memory (now (w .entry)) s)) (withSlot i (ask code param))) ⌝ }
+{
+    tables::set_exchange(w, i, 1, param as u64 + 1);
+    note_rmt(w, i, code);
+}
+
+fn leave_clear(w: &mut [u64; 235], i: usize)
+    requires { ⌜ i < 16 ⌝ }
+    ensures { λ _. ⌜ ((s : List ℕ) → view (memory (now (w .exit)) s) ≡ onRest (view (memory (now (w .entry)) s)) (withSlot i leaveClear)) ⌝ }
+{
+    tables::set_exchange(w, i, 0, 0);
+}
+
+fn acted(session: u64, len: u64, output: u64) -> Delivery
+    requires { ⌜ len ≤ 1024 ⌝ }
+    ensures { λ r. ⌜ r ≡ record { refusal = 0; outcome = 6; session = session; taken = 16 + len; output = output } ⌝ }
+{
+    Delivery {
+        refusal: 0,
+        outcome: 6,
+        session,
+        taken: 16 + len,
+        output,
+    }
+}
+
+// A message of a kind that passed all checks acts.
+pub fn act_synchronous(
+    w: &mut [u64; 235],
+    out: &mut [u8],
+    c: u64,
+    i: usize,
+    kind: u8,
+    code: u8,
+    param: u32,
+    len: u64,
+) -> Delivery
+    requires { ⌜ (c < 32) × (i < 16) × (len ≤ 1024) × (2048 ≤ length (now out)) ⌝ }
+    ensures { λ r. ⌜ ((s p : List ℕ) → Did (finish (view (memory (now (w .entry)) s)) (acts r-synchronous (view (memory (now (w .entry)) s)) i c (record { kind = kind; code = code; param = param; len = len }) p)) r (memory (now (w .entry)) s) (memory (now (w .exit)) s) (now (out .entry)) (now (out .exit))) ⌝ }
+{
+    let session = tables::entry(w, i, 0);
+    if kind == 6 {
+        note_rmt(w, i, code);
+        return acted(session, len, 0);
+    }
+    if kind == 7 {
+        note_asked(w, i, code, param);
+        return acted(session, len, 0);
+    }
+    if kind == 12 {
+        note_asked(w, i, code, param);
+        return acted(session, len, 0);
+    }
+    leave_clear(w, i);
+    frame::put_frame(out, 0, c as u8, 9, 0, 0);
+    acted(session, len, 17)
+}
