@@ -1,1 +1,3 @@
 // One delivery, check by check: what is to be done with a message, decided without changing anything.
+pub mod synchronous;
+pub mod verdict;
