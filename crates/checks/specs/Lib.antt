@@ -1,3 +1,4 @@
 pub mod Numbers
 pub mod Classes
 pub mod Synchronous
+pub mod Asynchronous

@@ -1,3 +1,4 @@
 // One delivery, check by check: what is to be done with a message, decided without changing anything.
+pub mod asynchronous;
 pub mod synchronous;
 pub mod verdict;
