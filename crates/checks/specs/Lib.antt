@@ -2,3 +2,5 @@ pub mod Numbers
 pub mod Classes
 pub mod Synchronous
 pub mod Asynchronous
+pub mod Opening
+pub mod Roles
