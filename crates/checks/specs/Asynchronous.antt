@@ -2,9 +2,9 @@
 use mathlib.Core.Path.{_≡_, refl, sym, _∙_}
 use mathlib.Core.Bool.{Bool, true, false, not, _&&_, _||_, cond}
 use mathlib.Core.List.{List, [], _∷_}
-use Prim.Native.Nat.{ℕ, _≤_, _<_}
+use Prim.Native.Nat.{ℕ}
 use lib.Dec.{eqb, ltb}
-use borrow.Author.Tests.{eq-eqb, ne-eqb, le-ltb}
+use borrow.Author.Tests.{ne-eqb}
 use Rattle.wire.specs.Class.{classOf, asynchronous, one-of}
 use Rattle.model.specs.MessageTypes.{FatalError, Error, AsyncLock, AsyncRemoteLocalControl, AsyncMaximumMessageSize, AsyncInitialize, AsyncDeviceClear, AsyncStatusQuery, AsyncLockInfo}
 use Rattle.model.specs.Checks.{Verdict, Verdict.v-ignored, Verdict.v-closed, Verdict.v-acts, Verdict.v-error, Verdict.v-fatal, first, either, isVendor, isUnrecognised, asynchronousRules}

@@ -1,11 +1,11 @@
 -- The row of rules of a connection without a role, by the tests of the code: one law for each way out. Assumes nothing.
 use mathlib.Core.Path.{_≡_, refl, sym, ap, _∙_}
-use mathlib.Core.Bool.{Bool, true, false, not, _&&_, _||_, cond}
+use mathlib.Core.Bool.{Bool, true, false, not, _&&_, _||_}
 use mathlib.Core.List.{List, [], _∷_}
 use Prim.Native.Nat.{ℕ, zero, suc, _%_, _≤_, _<_}
 use native.Mathlib.Nat.{le-of-suc-le-suc, not-suc-le-zero}
 use native.Mathlib.Omega.{arith}
-use lib.Dec.{eqb, ltb, lit<, eqb·zero-suc, eqb·suc-suc}
+use lib.Dec.{eqb, eqb·zero-suc, eqb·suc-suc}
 use lib.ListN.{length, getD, drop, drop-of-length-le, List·getD-eq-default}
 use lib.Seq.{drop-cons}
 use borrow.Author.Tests.{eqb-true, eq-eqb, ne-eqb, lt-ltb, le-ltb}
@@ -14,7 +14,7 @@ use Rattle.model.specs.Lists.{isNil, same, all}
 use Rattle.model.specs.MessageTypes.{Initialize, AsyncInitialize}
 use Rattle.model.specs.State.{Server, Entry, at, blank, live, halfOpen, slotOfNumber}
 use Rattle.model.specs.Checks.{Verdict, Verdict.v-acts, Verdict.v-fatal, first, hislip0, openingRules}
-use Rattle.state.specs.Table.{tab, length-tab}
+use Rattle.state.specs.Table.{length-tab}
 use Rattle.state.specs.Change.{entryWith}
 use Rattle.state.specs.Search.{asynchronous-read}
 use Rattle.state.specs.View.{keyOf, entryAt, entriesOf, locksOf}

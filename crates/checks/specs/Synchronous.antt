@@ -1,11 +1,11 @@
 -- The synchronous channel's row of rules, by the tests of the code: one law for each way out. Assumes nothing.
-use mathlib.Core.Path.{_≡_, refl, sym, ap, _∙_}
-use mathlib.Core.Bool.{Bool, true, false, not, _&&_, _||_, cond}
-use mathlib.Core.List.{List, [], _∷_}
+use mathlib.Core.Path.{_≡_, sym, ap}
+use mathlib.Core.Bool.{Bool, true, false, _&&_, cond}
+use mathlib.Core.List.{List}
 use Prim.Native.Nat.{ℕ, _≤_, _<_}
 use lib.Dec.{eqb, ltb, leb}
 use borrow.Author.Tests.{lt-ltb, le-ltb, ne-eqb}
-use Rattle.wire.specs.Class.{Class, Class.acted-on, Class.vendor, Class.unrecognised, classOf, synchronous, one-of, actedOn}
+use Rattle.wire.specs.Class.{classOf, synchronous, one-of, actedOn}
 use Rattle.model.specs.MessageTypes.{FatalError, Error, DeviceClearComplete, Initialize, Trigger, commands}
 use Rattle.model.specs.State.{Server, Exchange, exchangeAt}
 use Rattle.model.specs.Locks.{access}
