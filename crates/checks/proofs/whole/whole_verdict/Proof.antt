@@ -1,0 +1,39 @@
+-- `whole::whole_verdict` meets its contract: what each role's checks ensure is handed on.
+use mathlib.Core.Path.{sym, _∙_}
+use Rattle.state.specs.View.{memory, view}
+use Rattle.checks.specs.Numbers.{message}
+use Rattle.checks.specs.Roles.{judged-none, judged-half-open, judged-synchronous, judged-asynchronous}
+use borrow.Author.Needs.{needs}
+use Rattle.checks.proofs.whole.whole_verdict.Statement.{statement}
+use Rattle.checks.proofs.whole.whole_verdict.Tie as tie
+
+synchronous-verdict-requires : tie.Need-synchronous-verdict-requires
+synchronous-verdict-requires c κs = c .before .before .pre (c .match .keys3)
+
+returns : tie.Need-returns
+returns c = let a = c .before .before .before .args in
+    λ s r e. judged-none (view (memory (a .w .now) s)) (a .i) (message (a .kind) (a .code) (a .param) (a .len)) (a .payload .now) r (e ∙ c .before .match .keys1) ∙ c .opening-verdict .ensures s (a .code)
+
+returns-2 : tie.Need-returns-2
+returns-2 c = let a = c .before .before .args in
+    λ s r e. judged-half-open (view (memory (a .w .now) s)) (a .i) (message (a .kind) (a .code) (a .param) (a .len)) (a .payload .now) r (e ∙ c .match .keys2)
+
+returns-3 : tie.Need-returns-3
+returns-3 c = let a = c .before .before .before .args in
+    λ s r e. judged-synchronous (view (memory (a .w .now) s)) (a .i) (message (a .kind) (a .code) (a .param) (a .len)) (a .payload .now) r (e ∙ c .before .match .keys3) ∙ c .synchronous-verdict .ensures s (a .payload .now) (a .param)
+
+returns-4 : tie.Need-returns-4
+returns-4 c = let a = c .before .before .before .args in
+    λ s r e. judged-asynchronous (view (memory (a .w .now) s)) (a .i) (message (a .kind) (a .code) (a .param) (a .len)) (a .payload .now) r (λ q. c .before .match .rest .0 .0 .1 (sym e ∙ q)) (λ q. c .before .match .rest .0 .1 (sym e ∙ q)) (λ q. c .before .match .rest .1 (sym e ∙ q)) ∙ c .asynchronous-verdict .ensures (a .payload .now) (a .param)
+
+pub whole-verdict-spec : {M : Type 1} → statement M
+whole-verdict-spec =
+    tie.close
+    (tie.spec
+    (λ c κs. search needs)
+    synchronous-verdict-requires
+    (λ c κs. search needs)
+    returns
+    returns-2
+    returns-3
+    returns-4)

@@ -1,0 +1,96 @@
+// The checks of a whole message on a session's synchronous channel.
+ghost use Prim.Native.Nat.{ℕ, _<_};
+ghost use Rattle.checks.specs.Numbers.{message, verdictOf};
+ghost use Rattle.checks.specs.Synchronous.{commanded, completed};
+ghost use Rattle.model.specs.Checks.{first, synchronousRules};
+ghost use Rattle.model.specs.Locks.{access};
+ghost use Rattle.model.specs.State.{exchangeAt};
+ghost use Rattle.state.specs.View.{locksOf, memory, restOf, view};
+ghost use mathlib.Core.List.{List};
+ghost use mathlib.Core.Path.{_≡_};
+use crate::verdict::ACTS;
+use crate::verdict::CLOSED;
+use crate::verdict::ERROR_0;
+use crate::verdict::ERROR_1;
+use crate::verdict::ERROR_2;
+use crate::verdict::ERROR_3;
+use crate::verdict::FATAL_3;
+use crate::verdict::HELD;
+use crate::verdict::IGNORED;
+use locks::access;
+use state::tables;
+use wire::class;
+
+fn in_clear(w: &[u64; 235], i: usize) -> bool
+    requires { ⌜ i < 16 ⌝ }
+    ensures { λ r. ⌜ (exchangeAt (restOf (now (w .entry))) i) .inClear ≡ r ⌝ }
+{
+    tables::exchange(w, i, 0) == 1
+}
+
+// Check 10 of DeviceClearComplete: no payload, and only in a clear.
+fn complete_verdict(clearing: bool, len: u64) -> u8
+    ensures { λ r. ⌜ completed clearing len ≡ verdictOf r ⌝ }
+{
+    if len > 0 {
+        return ERROR_0;
+    }
+    if clearing {
+        return ACTS;
+    }
+    ERROR_0
+}
+
+// Checks 9 and 10 of Data, DataEND and Trigger (12).
+fn command_verdict(w: &[u64; 235], i: usize, kind: u8, code: u8, len: u64) -> u8
+    requires { ⌜ i < 16 ⌝ }
+    ensures { λ r. ⌜ ((s : List ℕ) → commanded (access (locksOf (now (w .entry)) s .entries) i) kind code len ≡ verdictOf r) ⌝ }
+{
+    if !access::has_access(w, i) {
+        return HELD;
+    }
+    if code > 1 {
+        return ERROR_2;
+    }
+    if kind != 12 {
+        return ACTS;
+    }
+    if len > 0 {
+        return ERROR_0;
+    }
+    ACTS
+}
+
+pub fn synchronous_verdict(w: &[u64; 235], i: usize, kind: u8, code: u8, len: u64) -> u8
+    requires { ⌜ i < 16 ⌝ }
+    ensures { λ r. ⌜ ((s p : List ℕ) (param : ℕ) → first (synchronousRules (view (memory (now (w .entry)) s)) i (message kind code param len) p) ≡ verdictOf r) ⌝ }
+{
+    // check 6
+    if kind == 2 {
+        return CLOSED;
+    }
+    if kind == 3 {
+        return IGNORED;
+    }
+    // check 7: type 8 passes, and is left with check 10
+    let clearing = in_clear(w, i);
+    if kind == 8 {
+        return complete_verdict(clearing, len);
+    }
+    if clearing {
+        return IGNORED;
+    }
+    // check 8
+    let class = class::class_of(0, kind);
+    if class == 1 {
+        return ERROR_3;
+    }
+    if class == 2 {
+        return ERROR_1;
+    }
+    if kind == 0 {
+        return FATAL_3;
+    }
+    // checks 9 and 10: 6, 7 and 12 are left
+    command_verdict(w, i, kind, code, len)
+}

@@ -1,0 +1,66 @@
+// The verdict by the connection's role: 0 none, 1 of a half-open session, 2 synchronous, 3 asynchronous.
+ghost use Prim.Native.Nat.{ℕ, _<_};
+ghost use Rattle.checks.specs.Numbers.{message, verdictOf};
+ghost use Rattle.model.specs.Checks.{judged, partly, tooLong};
+ghost use Rattle.model.specs.Place.{Role};
+ghost use Rattle.state.specs.Search.{roleNumber};
+ghost use Rattle.state.specs.View.{memory, view};
+ghost use mathlib.Core.List.{List};
+ghost use mathlib.Core.Path.{_≡_};
+use crate::asynchronous;
+use crate::opening;
+use crate::synchronous;
+use crate::verdict::ERROR_4;
+use crate::verdict::FATAL_2;
+use crate::verdict::FATAL_3;
+use crate::verdict::MORE;
+
+// Checks 3 and 4: the length is above 1,024.
+pub fn long_verdict(role: u8) -> u8
+    ensures { λ r. ⌜ ((ro : Role) → roleNumber ro ≡ role → tooLong ro ≡ verdictOf r) ⌝ }
+{
+    match role {
+        0 => FATAL_3,
+        1 => FATAL_2,
+        _ => ERROR_4,
+    }
+}
+
+// Checks 3 and 5: the payload is not all here.
+pub fn partial_verdict(role: u8, kind: u8) -> u8
+    ensures { λ r. ⌜ ((ro : Role) (code param len : ℕ) → roleNumber ro ≡ role → partly ro (message kind code param len) ≡ verdictOf r) ⌝ }
+{
+    if role == 1 {
+        return FATAL_2;
+    }
+    if role != 0 {
+        return MORE;
+    }
+    match kind {
+        0 => MORE,
+        17 => MORE,
+        _ => FATAL_3,
+    }
+}
+
+// Checks 3 and 6 to 10 of a message that is all here, payload and all; `i` is the slot of an established session.
+pub fn whole_verdict(
+    w: &[u64; 235],
+    role: u8,
+    i: usize,
+    kind: u8,
+    code: u8,
+    param: u32,
+    len: u64,
+    payload: &[u8],
+) -> u8
+    requires { ⌜ (role ≡ 2 → i < 16) ⌝ }
+    ensures { λ r. ⌜ ((s : List ℕ) (ro : Role) → roleNumber ro ≡ role → judged ro (view (memory (now (w .entry)) s)) i (message kind code param len) (now (payload .entry)) ≡ verdictOf r) ⌝ }
+{
+    match role {
+        0 => opening::opening_verdict(w, kind, param, len, payload),
+        1 => FATAL_2,
+        2 => synchronous::synchronous_verdict(w, i, kind, code, len),
+        _ => asynchronous::asynchronous_verdict(kind, code, len),
+    }
+}
