@@ -1,2 +1,4 @@
 pub mod Closing
 pub mod Did
+pub mod Opening
+pub mod SessionIds

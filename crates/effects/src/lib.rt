@@ -1,5 +1,7 @@
 // What a delivery, a cut and an answer do to the lent memory and the output, once it is decided what is to be done.
 pub mod closing;
+pub mod opening;
+pub mod session_id;
 
 // What a delivery answers the host: the refusal (0: none); the outcome (0 more needed, 1 skipped, 2 held, 3 ignored, 4 Error sent, 5
 // closed, 6 acted on); the session's number; the bytes taken; how many bytes of the output hold frames.
