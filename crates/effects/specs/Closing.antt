@@ -68,7 +68,7 @@ found-step : {A : Type 0} (p : A → Bool) (e : A) (es : List A) (d : A) (b : Bo
 found-step p e es d true q l r = q
 found-step p e es d false q l r = r (le-of-suc-le-suc l)
 
-found-passes : {A : Type 0} (p : A → Bool) (es : List A) (d : A) → position p es < length es → p (getD es (position p es) d) ≡ true
+pub found-passes : {A : Type 0} (p : A → Bool) (es : List A) (d : A) → position p es < length es → p (getD es (position p es) d) ≡ true
 found-passes p [] d h = absurd (not-suc-le-zero h)
 found-passes p (e ∷ es) d h = found-step p e es d (p e) refl h (found-passes p es d)
 

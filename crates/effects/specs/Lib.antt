@@ -2,3 +2,5 @@ pub mod Closing
 pub mod Did
 pub mod Replies
 pub mod Synchronous
+pub mod Opening
+pub mod SessionIds

@@ -28,7 +28,7 @@ fn shut_connection(w: &mut [u64; 235], x: u64)
 }
 
 // Slot i's exchange is as of a session that opens.
-fn renew_exchange(w: &mut [u64; 235], i: usize)
+pub fn renew_exchange(w: &mut [u64; 235], i: usize)
     requires { ⌜ i < 16 ⌝ }
     ensures { λ _. ⌜ ((s : List ℕ) → view (memory (now (w .exit)) s) ≡ onRest (view (memory (now (w .entry)) s)) (λ r. withExchange r i freshExchange)) ⌝ }
 {

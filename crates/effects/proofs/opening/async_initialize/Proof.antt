@@ -1,0 +1,38 @@
+-- `opening::async_initialize` meets its contract: the slot is found and gets its second connection.
+use mathlib.Core.List.{[]}
+use native.Mathlib.Omega.{arith}
+use Rattle.wire.specs.declared.Header.{Header}
+use Rattle.state.specs.View.{memory, view}
+use Rattle.effects.specs.Opening.{async-initialized}
+use Rattle.state.specs.View.{locksOf}
+use mathlib.Core.Path.{refl}
+use Prim.Native.Nat.{_%_}
+use Rattle.effects.specs.SessionIds.{vendor-read}
+use Rattle.state.specs.View.{restOf}
+use borrow.Author.Needs.{needs}
+use Rattle.effects.proofs.opening.async_initialize.Statement.{statement}
+use Rattle.effects.proofs.opening.async_initialize.Tie as tie
+
+join-slot-requires : tie.Need-join-slot-requires
+join-slot-requires c κs = let p = c .before .before .before .before .before .before .pre .3 [] in let q = c .before .before .before .slot-of-number .ensures .1 [] in omega arith
+
+returns : tie.Need-returns
+returns c = let a = c .before .before .before .before .before .before .before .before .before .before .before .args in
+    let h : Header = record { kind = 17; code = 0; param = a .param; len = a .len } in
+    λ s. async-initialized (view (memory (a .w .now) s)) (a .c) (c .before .before .before .before .before .before .before .before .slot-of-number .result) (c .before .before .before .before .before .before .single .result % 65536) h _ _ _ _ _
+    (c .before .before .before .before .before .before .before .before .slot-of-number .ensures .1 s) (vendor-read (restOf (a .w .now)) (c .before .before .before .before .before .before .single .result) (c .before .before .before .before .before .before .single .ensures)) refl
+    (c .before .before .before .before .join-slot .ensures s .locks) (c .before .before .before .before .join-slot .ensures s .rest) (c .before .before .put-frame .ensures)
+
+pub async-initialize-spec : {M : Type 1} → statement M
+async-initialize-spec =
+    tie.close
+    (tie.spec
+    (λ c κs. search needs)
+    (λ c κs. search needs)
+    (λ c. search needs)
+    join-slot-requires
+    (λ c. search needs)
+    (λ c κs. search needs)
+    (λ c. search needs)
+    (λ c. search needs)
+    returns)

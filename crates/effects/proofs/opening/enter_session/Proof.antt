@@ -1,0 +1,13 @@
+-- `opening::enter_session` meets its contract: the slot, the exchange, the number.
+use Rattle.effects.specs.Opening.{session-entered}
+use Rattle.state.specs.View.{memory, view}
+use borrow.Author.Needs.{needs}
+use Rattle.effects.proofs.opening.enter_session.Statement.{statement}
+use Rattle.effects.proofs.opening.enter_session.Tie as tie
+
+returns : tie.Need-returns
+returns c = let a = c .before .before .before .before .before .before .args in λ s. session-entered (view (memory (a .w .now) s)) _ _ _ _ (a .i) (a .n) (search needs) (c .before .before .before .before .enter-slot .ensures s .locks) (c .before .before .before .before .enter-slot .ensures s .rest) (c .before .before .renew-exchange .ensures s) (c .set-single .ensures s)
+
+pub enter-session-spec : {M : Type 1} → statement M
+enter-session-spec =
+    tie.close (tie.spec (λ c κs. search needs) (λ c κs. search needs) (λ c κs. search needs) returns)

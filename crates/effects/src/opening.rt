@@ -1,0 +1,101 @@
+// Opening a session: Initialize and AsyncInitialize that act, on a connection without a role.
+ghost use Prim.Native.Nat.{ℕ, _%_, _*_, _+_, _/_, _<_, _≤_, min};
+ghost use Rattle.effects.specs.Did.{Did};
+ghost use Rattle.effects.specs.Opening.{changed};
+ghost use Rattle.model.specs.Acts.{acts, opens};
+ghost use Rattle.model.specs.Locks.LockEvent.{enter};
+ghost use Rattle.model.specs.Place.Role.{r-none};
+ghost use Rattle.model.specs.State.{slotOfNumber, withSession};
+ghost use Rattle.model.specs.Step.{finish};
+ghost use Rattle.state.specs.View.{locksOf, memory, restOf, view};
+ghost use lib.ListN.{length};
+ghost use mathlib.Core.Bool.{false, true};
+ghost use mathlib.Core.List.{List};
+ghost use mathlib.Core.Path.{_≡_};
+use crate::Delivery;
+use crate::closing::renew_exchange;
+use crate::session_id;
+use locks::sessions;
+use state::search;
+use state::tables;
+use wire::frame;
+
+// Session n opens in slot i over connection c.
+fn enter_session(w: &mut [u64; 235], i: usize, n: u64, c: u64)
+    requires { ⌜ (i < 16) × (n < 65536) × (c < 256) ⌝ }
+    ensures { λ _. ⌜ ((s : List ℕ) → view (memory (now (w .exit)) s) ≡ changed (view (memory (now (w .entry)) s)) (enter i n c) (withSession (restOf (now (w .entry))) i n)) ⌝ }
+{
+    sessions::enter_slot(w, i, n, c);
+    renew_exchange(w, i);
+    tables::set_single(w, 2, n);
+}
+
+// The version that is agreed on: the smaller of the client's and 1.0.
+fn version(param: u32) -> u32
+    ensures { λ r. ⌜ (r ≡ min (param / 65536) 256) × (r ≤ 256) ⌝ }
+{
+    let v = param / 65536;
+    if v < 256 {
+        return v;
+    }
+    256
+}
+
+pub fn initialize(w: &mut [u64; 235], out: &mut [u8], c: u64, param: u32, len: u64) -> Delivery
+    requires { ⌜ (c < 32) × (len ≤ 1024) × (2048 ≤ length (now out)) × ((s : List ℕ) → slotOfNumber (locksOf (now w) s .entries) 0 < 16) ⌝ }
+    ensures { λ r. ⌜ ((s : List ℕ) → Did (finish (view (memory (now (w .entry)) s)) (opens true (view (memory (now (w .entry)) s)) c (record { kind = 0; code = 0; param = param; len = len }))) r (memory (now (w .entry)) s) (memory (now (w .exit)) s) (now (out .entry)) (now (out .exit))) ⌝ }
+{
+    let i = search::slot_of_number(w, 0);
+    let n = session_id::next_session_id(w);
+    let v = version(param);
+    enter_session(w, i, n, c);
+    frame::put_frame(out, 0, c as u8, 1, 0, v * 65536 + n as u32);
+    Delivery {
+        refusal: 0,
+        outcome: 6,
+        session: n,
+        taken: 16 + len,
+        output: 17,
+    }
+}
+
+pub fn async_initialize(
+    w: &mut [u64; 235],
+    out: &mut [u8],
+    c: u64,
+    param: u32,
+    len: u64,
+) -> Delivery
+    requires { ⌜ (c < 32) × (len ≤ 1024) × (2048 ≤ length (now out)) × ((s : List ℕ) → slotOfNumber (locksOf (now w) s .entries) param < 16) ⌝ }
+    ensures { λ r. ⌜ ((s : List ℕ) → Did (finish (view (memory (now (w .entry)) s)) (opens false (view (memory (now (w .entry)) s)) c (record { kind = 17; code = 0; param = param; len = len }))) r (memory (now (w .entry)) s) (memory (now (w .exit)) s) (now (out .entry)) (now (out .exit))) ⌝ }
+{
+    let i = search::slot_of_number(w, param as u64);
+    let vendor = (tables::single(w, 0) % 65536) as u32;
+    sessions::join_slot(w, i, c);
+    frame::put_frame(out, 0, c as u8, 18, 0, vendor);
+    Delivery {
+        refusal: 0,
+        outcome: 6,
+        session: param as u64,
+        taken: 16 + len,
+        output: 17,
+    }
+}
+
+// A message that acts on a connection without a role: Initialize by its kind, else AsyncInitialize.
+pub fn act_opening(
+    w: &mut [u64; 235],
+    out: &mut [u8],
+    c: u64,
+    kind: u8,
+    param: u32,
+    len: u64,
+) -> Delivery
+    requires { ⌜ (c < 32) × (len ≤ 1024) × (2048 ≤ length (now out)) × ((s : List ℕ) → kind ≡ 0 → slotOfNumber (locksOf (now w) s .entries) 0 < 16) × ((s : List ℕ) → (kind ≡ 0 → ⊥) → slotOfNumber (locksOf (now w) s .entries) param < 16) ⌝ }
+    ensures { λ r. ⌜ ((s p : List ℕ) (i code : ℕ) → Did (finish (view (memory (now (w .entry)) s)) (acts r-none (view (memory (now (w .entry)) s)) i c (record { kind = kind; code = code; param = param; len = len }) p)) r (memory (now (w .entry)) s) (memory (now (w .exit)) s) (now (out .entry)) (now (out .exit))) ⌝ }
+{
+    if kind == 0 {
+        return initialize(w, out, c, param, len);
+    }
+    async_initialize(w, out, c, param, len)
+}
