@@ -47,6 +47,7 @@ fn payload_wrong(kind: u8, code: u8, len: u64) -> bool
     }
 }
 
+// Checks 6, 8 and 10 of a message.
 pub fn asynchronous_verdict(kind: u8, code: u8, len: u64) -> u8
     ensures { λ r. ⌜ ((p : List ℕ) (param : ℕ) → first (asynchronousRules (message kind code param len) p) ≡ verdictOf r) ⌝ }
 {

@@ -14,6 +14,7 @@ use crate::verdict::FATAL_4;
 use state::search;
 use state::tables;
 
+// The seven bytes "hislip0".
 fn is_hislip0(p: &[u8]) -> bool
     ensures { λ r. ⌜ same (now (p .entry)) hislip0 ≡ r ⌝ }
 {
@@ -72,6 +73,7 @@ fn is_half_open(w: &[u64; 235], number: u64) -> bool
     tables::entry(w, slot, 2) % 256 == 255
 }
 
+// Initialize: the sub-address first, then room for one more session.
 fn initialize_verdict(w: &[u64; 235], payload: &[u8]) -> u8
     ensures { λ r. ⌜ ((s : List ℕ) (code param len : ℕ) → first (openingRules (view (memory (now (w .entry)) s)) (message 0 code param len) (now (payload .entry))) ≡ verdictOf r) ⌝ }
 {
@@ -84,6 +86,7 @@ fn initialize_verdict(w: &[u64; 235], payload: &[u8]) -> u8
     ACTS
 }
 
+// Checks 3 and 10 of a message, and whether a session can be opened or joined.
 pub fn opening_verdict(w: &[u64; 235], kind: u8, param: u32, len: u64, payload: &[u8]) -> u8
     ensures { λ r. ⌜ ((s : List ℕ) (code : ℕ) → first (openingRules (view (memory (now (w .entry)) s)) (message kind code param len) (now (payload .entry))) ≡ verdictOf r) ⌝ }
 {
@@ -98,6 +101,7 @@ pub fn opening_verdict(w: &[u64; 235], kind: u8, param: u32, len: u64, payload: 
     if len > 0 {
         return FATAL_3;
     }
+    // AsyncInitialize: the number of a half-open session
     if !is_half_open(w, param as u64) {
         return FATAL_3;
     }

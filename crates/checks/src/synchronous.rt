@@ -61,6 +61,7 @@ fn command_verdict(w: &[u64; 235], i: usize, kind: u8, code: u8, len: u64) -> u8
     ACTS
 }
 
+// Checks 6 to 10 of a message for the session in slot `i`.
 pub fn synchronous_verdict(w: &[u64; 235], i: usize, kind: u8, code: u8, len: u64) -> u8
     requires { ⌜ i < 16 ⌝ }
     ensures { λ r. ⌜ ((s p : List ℕ) (param : ℕ) → first (synchronousRules (view (memory (now (w .entry)) s)) i (message kind code param len) p) ≡ verdictOf r) ⌝ }
