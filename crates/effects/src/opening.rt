@@ -1,5 +1,5 @@
 // Opening a session: Initialize and AsyncInitialize that act, on a connection without a role.
-ghost use Prim.Native.Nat.{ℕ, _%_, _*_, _+_, _/_, _<_, _≤_, min};
+ghost use Prim.Native.Nat.{ℕ, _/_, _<_, _≤_, min};
 ghost use Rattle.effects.specs.Did.{Did};
 ghost use Rattle.effects.specs.Opening.{changed};
 ghost use Rattle.model.specs.Acts.{acts, opens};

@@ -1,5 +1,5 @@
 // The SessionID of a session that opens: the next after the last issued, from 65,535 back to 1, passing over live ones.
-ghost use Prim.Native.Nat.{ℕ, _<_, _≤_};
+ghost use Prim.Native.Nat.{ℕ, _≤_};
 ghost use Rattle.model.specs.Locks.{issued};
 ghost use Rattle.model.specs.Sizes.{sessionLimit};
 ghost use Rattle.state.specs.View.{locksOf, restOf};
