@@ -8,6 +8,7 @@ ghost use mathlib.Core.Path.{_≡_};
 use state::search;
 use state::tables;
 
+// At most 16 are live, so the 17th number that is tried is free without a look.
 pub fn next_session_id(w: &[u64; 235]) -> u64
     ensures { λ r. ⌜ (1 ≤ r) × (r ≤ 65535) × ((s : List ℕ) → issued sessionLimit 0 (locksOf (now (w .entry)) s .entries) (restOf (now (w .entry)) .lastIssued) ≡ r) ⌝ }
 {
