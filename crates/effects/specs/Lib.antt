@@ -4,3 +4,4 @@ pub mod Replies
 pub mod Synchronous
 pub mod Opening
 pub mod SessionIds
+pub mod Events

@@ -3,9 +3,8 @@
 use mathlib.Core.Path.{_≡_, refl, sym, ap, subst, _∙_}
 use mathlib.Core.Bool.{Bool, true, false, true≢false}
 use mathlib.Core.List.{List, [], _∷_, _++_, map, append-nil}
-use Prim.Native.Nat.{ℕ, _+_, _*_, _/_, _%_, _≤_, _<_, min}
+use Prim.Native.Nat.{ℕ, _+_, _*_, _/_, _<_, min}
 use native.Mathlib.Nat.{mod-eq-of-lt}
-use native.Mathlib.Omega.{arith}
 use lib.Dec.{eqb}
 use lib.ListN.{length, set}
 use Rattle.wire.specs.declared.Header.{Header}
@@ -13,7 +12,7 @@ use Rattle.wire.specs.Frame.{Frame, frameOf, frameBytes, bytesOf, written, leng
 use Rattle.wire.specs.Splice.{splice}
 use Rattle.model.specs.Sizes.{sessionLimit, protocolVersion}
 use Rattle.model.specs.MessageTypes.{InitializeResponse, AsyncInitializeResponse}
-use Rattle.model.specs.State.{Entry, Locks, Exchange, Rest, Server, at, slotOfNumber, freshExchange, withExchange, withSession}
+use Rattle.model.specs.State.{Locks, Rest, Server, slotOfNumber, freshExchange, withExchange, withSession}
 use Rattle.model.specs.Interface.{Reply, Reply.took, Outcome.acted, deliveryAnswer}
 use Rattle.model.specs.Canonical.{omits}
 use Rattle.model.specs.Place.{Role.r-none}

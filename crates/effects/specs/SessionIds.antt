@@ -1,13 +1,13 @@
 -- The number of the next session: what the code reads, and its turns, each a try of the model's. Assumes nothing.
-use mathlib.Core.Path.{_≡_, refl, sym, ap, _∙_}
+use mathlib.Core.Path.{_≡_, sym, ap, _∙_}
 use mathlib.Core.Bool.{Bool, true, false, not}
-use mathlib.Core.List.{List, [], _∷_}
-use Prim.Native.Nat.{ℕ, zero, suc, _+_, _-_, _%_, _≤_, _<_}
+use mathlib.Core.List.{List}
+use Prim.Native.Nat.{ℕ, suc, _+_, _-_, _%_, _≤_, _<_}
 use native.Mathlib.Omega.{arith}
 use lib.Dec.{eqb}
 use lib.ListN.{length, List·getD-eq-default}
 use borrow.Author.Tests.{ne-eqb, eqb-true}
-use Rattle.model.specs.Sizes.{sessionLimit, lastSessionId}
+use Rattle.model.specs.Sizes.{sessionLimit}
 use Rattle.model.specs.Lists.{position}
 use Rattle.model.specs.State.{Entry, Rest, at, blank, live, slotOfNumber}
 use Rattle.model.specs.Locks.{candidate, isLive, issued}

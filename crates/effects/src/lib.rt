@@ -1,5 +1,6 @@
 // What a delivery, a cut and an answer do to the lent memory and the output, once it is decided what is to be done.
 pub mod closing;
+pub mod events;
 pub mod opening;
 pub mod replies;
 pub mod session_id;

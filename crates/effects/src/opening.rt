@@ -1,5 +1,5 @@
 // Opening a session: Initialize and AsyncInitialize that act, on a connection without a role.
-ghost use Prim.Native.Nat.{ℕ, _%_, _*_, _+_, _/_, _<_, _≤_, min};
+ghost use Prim.Native.Nat.{ℕ, _/_, _<_, _≤_, min};
 ghost use Rattle.effects.specs.Did.{Did};
 ghost use Rattle.effects.specs.Opening.{changed};
 ghost use Rattle.model.specs.Acts.{acts, opens};
@@ -41,6 +41,7 @@ fn version(param: u32) -> u32
     256
 }
 
+// Initialize that acts: the first free slot, the next SessionID.
 pub fn initialize(w: &mut [u64; 235], out: &mut [u8], c: u64, param: u32, len: u64) -> Delivery
     requires { ⌜ (c < 32) × (len ≤ 1024) × (2048 ≤ length (now out)) × ((s : List ℕ) → slotOfNumber (locksOf (now w) s .entries) 0 < 16) ⌝ }
     ensures { λ r. ⌜ ((s : List ℕ) → Did (finish (view (memory (now (w .entry)) s)) (opens true (view (memory (now (w .entry)) s)) c (record { kind = 0; code = 0; param = param; len = len }))) r (memory (now (w .entry)) s) (memory (now (w .exit)) s) (now (out .entry)) (now (out .exit))) ⌝ }
@@ -59,6 +60,7 @@ pub fn initialize(w: &mut [u64; 235], out: &mut [u8], c: u64, param: u32, len: u
     }
 }
 
+// AsyncInitialize that acts: the second connection of the session with the number in the parameter.
 pub fn async_initialize(
     w: &mut [u64; 235],
     out: &mut [u8],

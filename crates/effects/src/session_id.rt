@@ -1,5 +1,5 @@
 // The SessionID of a session that opens: the next after the last issued, from 65,535 back to 1, passing over live ones.
-ghost use Prim.Native.Nat.{ℕ, _<_, _≤_};
+ghost use Prim.Native.Nat.{ℕ, _≤_};
 ghost use Rattle.model.specs.Locks.{issued};
 ghost use Rattle.model.specs.Sizes.{sessionLimit};
 ghost use Rattle.state.specs.View.{locksOf, restOf};
@@ -8,6 +8,7 @@ ghost use mathlib.Core.Path.{_≡_};
 use state::search;
 use state::tables;
 
+// At most 16 are live, so the 17th number that is tried is free without a look.
 pub fn next_session_id(w: &[u64; 235]) -> u64
     ensures { λ r. ⌜ (1 ≤ r) × (r ≤ 65535) × ((s : List ℕ) → issued sessionLimit 0 (locksOf (now (w .entry)) s .entries) (restOf (now (w .entry)) .lastIssued) ≡ r) ⌝ }
 {

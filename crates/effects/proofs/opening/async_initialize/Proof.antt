@@ -2,13 +2,11 @@
 use mathlib.Core.List.{[]}
 use native.Mathlib.Omega.{arith}
 use Rattle.wire.specs.declared.Header.{Header}
-use Rattle.state.specs.View.{memory, view}
+use Rattle.state.specs.View.{memory, restOf, view}
 use Rattle.effects.specs.Opening.{async-initialized}
-use Rattle.state.specs.View.{locksOf}
 use mathlib.Core.Path.{refl}
 use Prim.Native.Nat.{_%_}
 use Rattle.effects.specs.SessionIds.{vendor-read}
-use Rattle.state.specs.View.{restOf}
 use borrow.Author.Needs.{needs}
 use Rattle.effects.proofs.opening.async_initialize.Statement.{statement}
 use Rattle.effects.proofs.opening.async_initialize.Tie as tie

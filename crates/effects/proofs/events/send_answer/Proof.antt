@@ -1,0 +1,31 @@
+-- `events::send_answer` meets its contract: what is read, the exchange, the frame.
+use Rattle.effects.specs.Events.{answers}
+use Rattle.state.specs.View.{locksOf, memory, view}
+use Rattle.state.specs.Search.{synchronous-read}
+use Rattle.model.specs.State.{at}
+use mathlib.Core.Path.{refl}
+use Prim.Native.Nat.{_%_}
+use borrow.Author.Needs.{needs}
+use Rattle.effects.proofs.events.send_answer.Statement.{statement}
+use Rattle.effects.proofs.events.send_answer.Tie as tie
+
+returns : tie.Need-returns
+returns c = let a = c .before .before .before .before .before .before .before .before .before .before .before .before .before .args in
+    λ s. answers (view (memory (a .w .now) s)) (a .i) (a .«end») (a .payload .now) _ _ _ _ (c .before .before .before .before .before .before .before .before .before .entry .result % 256) (c .before .before .before .answer-kind .result) (c .before .before .before .before .before .before .before .number-asked .result)
+    (c .before .before .before .before .before .note-answer .ensures s)
+    (synchronous-read (at (locksOf (a .w .now) s .entries) (a .i)) (c .before .before .before .before .before .before .before .before .before .entry .result) (c .before .before .before .before .before .before .before .before .before .entry .ensures s)) (c .before .before .before .answer-kind .ensures) (c .before .before .before .before .before .before .before .number-asked .ensures)
+    (c .before .before .put-message .ensures) refl
+
+pub send-answer-spec : {M : Type 1} → statement M
+send-answer-spec =
+    tie.close
+    (tie.spec
+    (λ c κs. search needs)
+    (λ c. search needs)
+    (λ c κs. search needs)
+    (λ c κs. search needs)
+    (λ c κs. search needs)
+    (λ c κs. search needs)
+    (λ c. search needs)
+    (λ c. search needs)
+    returns)

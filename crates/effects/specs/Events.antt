@@ -1,0 +1,102 @@
+-- The events that are no deliveries, but for a cut and the clock: a connection opens, the status byte changes, the instrument answers. What
+-- the code's stores do is the model's plan. Assumes nothing.
+use mathlib.Core.Path.{_≡_, refl, sym, ap, _∙_}
+use mathlib.Core.Bool.{Bool, true, false}
+use mathlib.Core.List.{List, [], _∷_}
+use Prim.Native.Nat.{ℕ, _+_, _-_, _%_, _<_}
+use native.Mathlib.Nat.{mod-eq-of-lt}
+use lib.ListN.{length}
+use borrow.Author.Tests.{eq-eqb, ne-eqb}
+use Rattle.wire.specs.Frame.{Frame, frameOf, frameBytes, bytesOf, written, length-frame}
+use Rattle.wire.specs.Splice.{splice}
+use Rattle.model.specs.State.{Exchange, Connection, Rest, Server, at, slotOfNumber, exchangeAt, freshExchange, closedConnection, openConnection, withConnection, withConnections, withExchange, withStatus}
+use Rattle.model.specs.Exchange.{numberAsked, answerNumber, answeredWith}
+use Rattle.model.specs.Interface.{Event.opening, Event.answer, Event.status, Reply.done}
+use Rattle.model.specs.Locks.{change}
+use Rattle.model.specs.Step.{finish, plan, answerType}
+use Rattle.state.specs.Grid.{upd-upd, upd-set}
+use Rattle.state.specs.Change.{onRest, onConnection as onRow, connectionWith, onExchange, exchangeWith, singleWith}
+use Rattle.state.specs.View.{askedOf}
+use Rattle.effects.specs.Opening.{one-frame}
+
+-- two stores open a connection
+pub opened-stored : (x : ℕ) (d d₁ d₂ : Server) → d₁ ≡ onRow d x (connectionWith 0 1) → d₂ ≡ onRow d₁ x (connectionWith 1 0)
+    → d₂ ≡ onRest d (λ (r : Rest). withConnection r x (openConnection 0))
+opened-stored x d d₁ d₂ e₁ e₂ =
+    e₂
+    ∙ ap (λ (y : Server). onRow y x (connectionWith 1 0)) e₁
+    ∙ ap (λ (l : List Connection). onRest d (λ (r : Rest). withConnections r l))
+    (upd-upd (d .rest .connections) x (connectionWith 0 1) (connectionWith 1 0) ∙ sym (upd-set (d .rest .connections) x closedConnection (λ (y : Connection). openConnection 0)))
+
+-- one store is the status byte
+pub status-stored : (d d₁ : Server) (b : ℕ) → b < 256 → d₁ ≡ onRest d (singleWith 1 b) → d₁ ≡ onRest d (λ (r : Rest). withStatus r b)
+status-stored d d₁ b h e = e ∙ ap (λ (x : ℕ). onRest d (λ (r : Rest). withStatus r x)) (mod-eq-of-lt h)
+
+-- what is asked, from the word that was read
+module _ (x : Exchange) (v : ℕ) (e : exchangeWith 1 v x ≡ x) where
+  asked-read : x .asked ≡ askedOf v
+  asked-read = sym (ap (λ (y : Exchange). y .asked) e)
+
+  pub nothing-number : v ≡ 0 → answerNumber x ≡ 0
+  unfolding answerNumber
+  nothing-number h = ap numberAsked asked-read ∙ rw (eq-eqb v 0 h)
+
+  pub asked-number : (v ≡ 0 → ⊥) → answerNumber x ≡ (v - 1) % 4294967296
+  unfolding answerNumber
+  asked-number h = ap numberAsked asked-read ∙ rw (ne-eqb v 0 h)
+
+-- an answer without END: message available goes on; with END nothing is asked any more
+module _ (d d₁ : Server) (i : ℕ) (e₁ : d₁ ≡ onExchange d i (exchangeWith 2 1)) where
+  pub answered-part : (end : Bool) → end ≡ false → d₁ ≡ onRest d (λ (r : Rest). withExchange r i (answeredWith end (exchangeAt r i)))
+  answered-part end q =
+      rw q
+      (e₁
+      ∙ ap (λ (l : List Exchange). onRest d (λ (r : Rest). record { exchanges = l; connections = r .connections; lastIssued = r .lastIssued; vendor = r .vendor; status = r .status; remoteLocal = r .remoteLocal }))
+      (sym (upd-set (d .rest .exchanges) i freshExchange (answeredWith false))))
+
+  pub answered-whole : (end : Bool) → end ≡ true → (d₂ : Server) → d₂ ≡ onExchange d₁ i (exchangeWith 1 0) → d₂ ≡ onRest d (λ (r : Rest). withExchange r i (answeredWith end (exchangeAt r i)))
+  answered-whole end q d₂ e₂ =
+      rw q
+      (e₂
+      ∙ ap (λ (y : Server). onExchange y i (exchangeWith 1 0)) e₁
+      ∙ ap (λ (l : List Exchange). onRest d (λ (r : Rest). record { exchanges = l; connections = r .connections; lastIssued = r .lastIssued; vendor = r .vendor; status = r .status; remoteLocal = r .remoteLocal }))
+      (upd-upd (d .rest .exchanges) i (exchangeWith 2 1) (exchangeWith 1 0) ∙ sym (upd-set (d .rest .exchanges) i freshExchange (answeredWith true))))
+
+-- the frame of an answer of slot i
+abbrev pub answerFrame : Server → ℕ → Bool → List ℕ → Frame
+answerFrame d i end p = frameOf ((at (d .locks .entries) i) .synchronous) (answerType end) 0 (answerNumber (exchangeAt (d .rest) i)) p
+
+-- what sending an answer does; r is the place behind the frame
+pub record Answers (d : Server) (i : ℕ) (end : Bool) (p : List ℕ) (d′ : Server) (out out′ : List ℕ) (r : ℕ) : Type 0 where
+  pub server : d′ ≡ onRest d (λ (q : Rest). withExchange q i (answeredWith end (exchangeAt q i)))
+  pub buffer : out′ ≡ written out (answerFrame d i end p ∷ [])
+  pub place : r ≡ length (bytesOf (answerFrame d i end p ∷ []))
+
+pub answers : (d : Server) (i : ℕ) (end : Bool) (p : List ℕ) (d′ : Server) (out out′ : List ℕ) (r c t n : ℕ)
+    → d′ ≡ onRest d (λ (q : Rest). withExchange q i (answeredWith end (exchangeAt q i)))
+    → (at (d .locks .entries) i) .synchronous ≡ c → answerType end ≡ t → answerNumber (exchangeAt (d .rest) i) ≡ n
+    → out′ ≡ splice out 0 (frameBytes (frameOf c t 0 n p)) → r ≡ 17 + length p
+    → Answers d i end p d′ out out′ r
+answers d i end p d′ out out′ r c t n v ec et en b q =
+    let f : Frame = frameOf c t 0 n p in
+    let z : f ≡ answerFrame d i end p = (λ k. frameOf (sym ec k) (sym et k) 0 (sym en k) p) in
+    record {
+      server = v;
+      buffer = b ∙ ap (splice out 0) (sym (one-frame f)) ∙ ap (λ (x : Frame). written out (x ∷ [])) z;
+      place = q ∙ sym (length-frame f) ∙ ap length (sym (one-frame f)) ∙ ap (λ (x : Frame). length (bytesOf (x ∷ []))) z;
+    }
+
+-- the model's results of the three events; the answer is that of the slot of session n
+pub opening-finishes : (d : Server) (c : ℕ) → finish d (plan d (opening c)) ≡ record { server = onRest d (λ (r : Rest). withConnection r c (openConnection 0)); reply = done; frames = [] }
+unfolding finish plan change
+opening-finishes d c = refl
+
+pub status-finishes : (d : Server) (b : ℕ) → finish d (plan d (status b)) ≡ record { server = onRest d (λ (r : Rest). withStatus r b); reply = done; frames = [] }
+unfolding finish plan change
+status-finishes d b = refl
+
+pub answer-finishes : (d : Server) (n i : ℕ) (p : List ℕ) (end : Bool) (room : ℕ) → slotOfNumber (d .locks .entries) n ≡ i
+    → finish d (plan d (answer n p end room)) ≡ record { server = onRest d (λ (q : Rest). withExchange q i (answeredWith end (exchangeAt q i))); reply = done; frames = answerFrame d i end p ∷ [] }
+unfolding finish plan change
+answer-finishes d n i p end room e =
+    ap (λ (j : ℕ). record { server = onRest d (λ (q : Rest). withExchange q j (answeredWith end (exchangeAt q j))); reply = done; frames = answerFrame d j end p ∷ [] }) e

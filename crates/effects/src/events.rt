@@ -1,0 +1,75 @@
+// The events that are no deliveries, but for a cut and the clock: a connection opens, the status byte changes, the instrument answers.
+ghost use Prim.Native.Nat.{ℕ, _<_, _≤_};
+ghost use Rattle.effects.specs.Events.{Answers};
+ghost use Rattle.model.specs.Exchange.{answerNumber, answeredWith};
+ghost use Rattle.model.specs.State.{exchangeAt, openConnection, withConnection, withExchange, withStatus};
+ghost use Rattle.model.specs.Step.{answerType};
+ghost use Rattle.state.specs.Change.{onRest};
+ghost use Rattle.state.specs.View.{memory, restOf, view};
+ghost use lib.ListN.{length};
+ghost use mathlib.Core.List.{List};
+ghost use mathlib.Core.Path.{_≡_};
+use state::tables;
+use wire::frame;
+
+// Connection c opens, with nothing to skip.
+pub fn open_connection(w: &mut [u64; 235], c: u64)
+    requires { ⌜ c < 32 ⌝ }
+    ensures { λ _. ⌜ ((s : List ℕ) → view (memory (now (w .exit)) s) ≡ onRest (view (memory (now (w .entry)) s)) (λ r. withConnection r c (openConnection 0))) ⌝ }
+{
+    tables::set_connection(w, c as usize, 0, 1);
+    tables::set_connection(w, c as usize, 1, 0);
+}
+
+// The instrument's status byte changes.
+pub fn set_status(w: &mut [u64; 235], b: u8)
+    ensures { λ _. ⌜ ((s : List ℕ) → view (memory (now (w .exit)) s) ≡ onRest (view (memory (now (w .entry)) s)) (λ r. withStatus r b)) ⌝ }
+{
+    tables::set_single(w, 1, b as u64);
+}
+
+// The number that an answer of slot i carries: that of the message asked, 0 if nothing is asked.
+fn number_asked(w: &[u64; 235], i: usize) -> u32
+    requires { ⌜ i < 16 ⌝ }
+    ensures { λ r. ⌜ answerNumber (exchangeAt (restOf (now (w .entry))) i) ≡ r ⌝ }
+{
+    let v = tables::exchange(w, i, 1);
+    if v == 0 {
+        return 0;
+    }
+    ((v - 1) % 4294967296) as u32
+}
+
+// Slot i was sent an answer: message available goes on, and with END nothing is asked any more.
+fn note_answer(w: &mut [u64; 235], i: usize, end: bool)
+    requires { ⌜ i < 16 ⌝ }
+    ensures { λ _. ⌜ ((s : List ℕ) → view (memory (now (w .exit)) s) ≡ onRest (view (memory (now (w .entry)) s)) (λ r. withExchange r i (answeredWith end (exchangeAt r i)))) ⌝ }
+{
+    tables::set_exchange(w, i, 2, 1);
+    if !end {
+        return;
+    }
+    tables::set_exchange(w, i, 1, 0);
+}
+
+// Data, or DataEND with END.
+fn answer_kind(end: bool) -> u8
+    ensures { λ r. ⌜ answerType end ≡ r ⌝ }
+{
+    if end {
+        return 7;
+    }
+    6
+}
+
+// The instrument's answer to slot i goes to its synchronous connection; how many bytes of the output hold it.
+pub fn send_answer(w: &mut [u64; 235], out: &mut [u8], i: usize, end: bool, payload: &[u8]) -> usize
+    requires { ⌜ (i < 16) × (length (now payload) ≤ 1024) × (2048 ≤ length (now out)) ⌝ }
+    ensures { λ r. ⌜ ((s : List ℕ) → Answers (view (memory (now (w .entry)) s)) i end (now (payload .entry)) (view (memory (now (w .exit)) s)) (now (out .entry)) (now (out .exit)) r) ⌝ }
+{
+    let c = (tables::entry(w, i, 1) % 256) as u8;
+    let n = number_asked(w, i);
+    note_answer(w, i, end);
+    frame::put_message(out, 0, c, answer_kind(end), 0, n, payload);
+    17 + payload.len()
+}
