@@ -7,3 +7,4 @@ pub mod Sessions
 pub mod Waiting
 pub mod Sweep
 pub mod Pass
+pub mod Asking

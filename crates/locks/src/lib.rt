@@ -6,5 +6,6 @@ pub mod grant_pass;
 pub mod granting;
 pub mod info;
 pub mod release;
+pub mod request;
 pub mod sessions;
 pub mod waiting;

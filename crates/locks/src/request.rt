@@ -1,0 +1,113 @@
+// Asking for a lock.
+ghost use Prim.Native.Nat.{ℕ, _+_, _<_, _≤_};
+ghost use Rattle.locks.specs.Asking.{decided, unable};
+ghost use Rattle.locks.specs.Outcome.{Met};
+ghost use Rattle.model.specs.Lists.{all};
+ghost use Rattle.model.specs.Locks.LockEvent.{request};
+ghost use Rattle.model.specs.Locks.{change, elsewhere, holds, noPlace};
+ghost use Rattle.model.specs.State.{at};
+ghost use Rattle.state.specs.Requests.{stringAt};
+ghost use Rattle.state.specs.View.{locksOf, memory};
+ghost use lib.Dec.{eqb};
+ghost use lib.ListN.{length};
+ghost use mathlib.Core.Bool.{_||_, true};
+ghost use mathlib.Core.List.{List};
+ghost use mathlib.Core.Path.{_≡_};
+use crate::answers::put_answer;
+use crate::granting;
+use state::holders;
+use state::requests;
+use state::tables;
+
+// Does slot i hold the kind that a string of n bytes asks for?
+fn holds_kind(w: &[u64; 235], i: usize, n: usize) -> bool
+    requires { ⌜ i < 16 ⌝ }
+    ensures { λ r. ⌜ ((s k : List ℕ) → length k ≡ n → holds k (at (locksOf (now (w .entry)) s .entries) i) ≡ r) ⌝ }
+{
+    if n == 0 {
+        return holders::is_exclusive(w, i);
+    }
+    holders::is_sharing(w, i)
+}
+
+// Does no request of slot i wait?
+fn is_idle(w: &[u64; 235], i: usize) -> bool
+    ensures { λ r. ⌜ ((s : List ℕ) → all (elsewhere i) (locksOf (now (w .entry)) s .waiting) ≡ r) ⌝ }
+{
+    let n = requests::waiting_count(w);
+    let mut j = 0;
+    while j < n {
+        if requests::waiting_slot(w, j) == i {
+            return false;
+        }
+        j += 1;
+    }
+    true
+}
+
+// Is a request with a string of n bytes answered 3?
+fn is_invalid(w: &[u64; 235], i: usize, n: usize) -> bool
+    requires { ⌜ i < 16 ⌝ }
+    ensures { λ r. ⌜ ((s k : List ℕ) → length k ≡ n → unable (locksOf (now (w .entry)) s) i k ≡ r) ⌝ }
+{
+    if n > 64 {
+        return true;
+    }
+    if holds_kind(w, i, n) {
+        return true;
+    }
+    !is_idle(w, i)
+}
+
+// Can a request not wait?
+fn cannot_wait(w: &[u64; 235], timeout: u32) -> bool
+    ensures { λ r. ⌜ ((s : List ℕ) → (eqb timeout 0 || noPlace (locksOf (now (w .entry)) s .waiting)) ≡ r) ⌝ }
+{
+    if timeout == 0 {
+        return true;
+    }
+    requests::waiting_count(w) >= 16
+}
+
+// The request of slot i, its string laid: 1 if it may be granted, 0 if it cannot wait, else it waits until the clock and the timeout.
+fn decide(
+    w: &mut [u64; 235],
+    strings: &mut [u8; 1088],
+    out: &mut [u8],
+    at: usize,
+    i: usize,
+    timeout: u32,
+) -> usize
+    requires { ⌜ (i < 16) × (at + 17 ≤ length (now out)) × (all (elsewhere i) (locksOf (now w) (now strings) .waiting) ≡ true) ⌝ }
+    ensures { λ r. ⌜ Met (decided (locksOf (now (w .entry)) (now (strings .entry))) i timeout (stringAt (now (w .entry)) (now (strings .entry)) i)) (memory (now (w .entry)) (now (strings .entry))) (memory (now (w .exit)) (now (strings .exit))) (now (out .entry)) (now (out .exit)) at r ⌝ }
+{
+    if granting::may_grant(w, strings, i) {
+        return granting::grant_and_answer(w, strings, out, at, i);
+    }
+    if cannot_wait(w, timeout) {
+        return put_answer(w, out, at, i, 0);
+    }
+    let t = tables::clock(w) + timeout as u64;
+    requests::queue_request(w, i, t);
+    at
+}
+
+// A request of slot i. The order of the answers is the rule's: 3, 1, 0, or it waits.
+pub fn request_lock(
+    w: &mut [u64; 235],
+    strings: &mut [u8; 1088],
+    out: &mut [u8],
+    at: usize,
+    i: usize,
+    timeout: u32,
+    string: &[u8],
+) -> usize
+    requires { ⌜ (i < 16) × (at + 17 ≤ length (now out)) ⌝ }
+    ensures { λ r. ⌜ Met (change (locksOf (now (w .entry)) (now (strings .entry))) (request i timeout (now (string .entry)))) (memory (now (w .entry)) (now (strings .entry))) (memory (now (w .exit)) (now (strings .exit))) (now (out .entry)) (now (out .exit)) at r ⌝ }
+{
+    if is_invalid(w, i, string.len()) {
+        return put_answer(w, out, at, i, 3);
+    }
+    requests::lay_request(w, strings, i, string);
+    decide(w, strings, out, at, i, timeout)
+}
