@@ -1,4 +1,5 @@
 // What a delivery, a cut and an answer do to the lent memory and the output, once it is decided what is to be done.
+pub mod asynchronous;
 pub mod closing;
 
 // What a delivery answers the host: the refusal (0: none); the outcome (0 more needed, 1 skipped, 2 held, 3 ignored, 4 Error sent, 5
