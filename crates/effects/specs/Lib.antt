@@ -1,3 +1,6 @@
 pub mod Closing
 pub mod Did
 pub mod Asynchronous
+pub mod StatusQuery
+pub mod Control
+pub mod LockMessages

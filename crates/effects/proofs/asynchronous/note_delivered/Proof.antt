@@ -1,5 +1,5 @@
 -- `asynchronous::note_delivered` meets its contract: one store, or nothing.
-use Rattle.effects.specs.Asynchronous.{noted-delivered, noted-other}
+use Rattle.effects.specs.StatusQuery.{noted-delivered, noted-other}
 use Rattle.state.specs.View.{memory, view}
 use borrow.Author.Needs.{needs}
 use Rattle.effects.proofs.asynchronous.note_delivered.Statement.{statement}

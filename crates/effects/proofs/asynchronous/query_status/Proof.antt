@@ -1,5 +1,5 @@
 -- `asynchronous::query_status` meets its contract: the store, then the frame.
-use Rattle.effects.specs.Asynchronous.{status-told}
+use Rattle.effects.specs.StatusQuery.{status-told}
 use borrow.Author.Needs.{needs}
 use Rattle.effects.proofs.asynchronous.query_status.Statement.{statement}
 use Rattle.effects.proofs.asynchronous.query_status.Tie as tie

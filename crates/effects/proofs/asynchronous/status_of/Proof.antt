@@ -1,5 +1,5 @@
 -- `asynchronous::status_of` meets its contract: with message available, and without.
-use Rattle.effects.specs.Asynchronous.{byte-available, byte-quiet}
+use Rattle.effects.specs.StatusQuery.{byte-available, byte-quiet}
 use Rattle.state.specs.View.{restOf}
 use borrow.Author.Needs.{needs}
 use Rattle.effects.proofs.asynchronous.status_of.Statement.{statement}
