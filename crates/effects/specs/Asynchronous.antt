@@ -4,15 +4,15 @@ use mathlib.Core.Bool.{true≢false}
 use mathlib.Core.List.{List, [], _∷_, append-nil}
 use Prim.Native.Nat.{ℕ, _+_}
 use lib.ListN.{length}
+use borrow.Author.Tests.{ne-eqb}
 use Rattle.wire.specs.declared.Header.{Header}
-use Rattle.wire.specs.Field.{number}
 use Rattle.wire.specs.Frame.{Frame, frameBytes, bytesOf, written, length-frame}
 use Rattle.wire.specs.Splice.{splice}
 use Rattle.model.specs.State.{Entry, Locks, Exchange, Rest, Server, at, exchangeAt, freshExchange, withExchange}
 use Rattle.model.specs.Interface.{Reply.took, Outcome.acted}
 use Rattle.model.specs.Place.{Role.r-asynchronous}
 use Rattle.model.specs.Locks.{LockEvent, LockEvent.nothing, change}
-use Rattle.model.specs.Acts.{Plan, AsynchronousKind, asynchronousKind, asynchronousRest, asynchronousSaid, asynchronousEvent, acts}
+use Rattle.model.specs.Acts.{Plan, AsynchronousKind, AsynchronousKind.k-lockInfo, asynchronousKind, asynchronousRest, asynchronousSaid, asynchronousEvent, acts}
 use Rattle.model.specs.Step.{finish}
 use Rattle.state.specs.Grid.{upd-set}
 use Rattle.state.specs.Change.{onExchange, entryWith}
@@ -44,6 +44,10 @@ pub did-message : (k : AsynchronousKind) (i c t code param len : ℕ) (p : List 
 unfolding acts
 did-message k i c t code param len p r m m′ out out′ e x =
     rw e (x t)
+
+-- the last kind: lock info
+pub kind-last : (t : ℕ) → (t ≡ 4 → ⊥) → (t ≡ 10 → ⊥) → (t ≡ 15 → ⊥) → (t ≡ 19 → ⊥) → (t ≡ 21 → ⊥) → asynchronousKind t ≡ k-lockInfo
+kind-last t n₁ n₂ n₃ n₄ n₅ = rw (ne-eqb t 4 n₁, ne-eqb t 10 n₂, ne-eqb t 15 n₃, ne-eqb t 19 n₄, ne-eqb t 21 n₅)
 
 -- what is returned: of session n, with so many bytes of payload taken and so many bytes written
 abbrev pub delivered : ℕ → ℕ → ℕ → Delivery

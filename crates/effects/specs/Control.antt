@@ -15,12 +15,19 @@ use Rattle.model.specs.Locks.{noExclusive}
 use Rattle.model.specs.Lists.{all, tally}
 use Rattle.model.specs.Acts.{holder, AsynchronousKind.k-remoteLocal, AsynchronousKind.k-maximumSize, AsynchronousKind.k-lockInfo, asynchronousRest, asynchronousSaid, asynchronousEvent}
 use Rattle.state.specs.Change.{onRest, onExchange, exchangeWith, entryWith, singleWith}
-use Rattle.state.specs.View.{memory, view, restOf, locksOf}
+use Rattle.state.specs.View.{flag, memory, view, restOf, locksOf}
 use Rattle.effects.specs.Asynchronous.{DidKind, delivered, did-one, exchange-changed}
 
 -- stores of single values, one after the other
 twice : (d d₁ d₂ : Server) (f a g b : ℕ) → d₁ ≡ onRest d (singleWith f a) → d₂ ≡ onRest d₁ (singleWith g b) → d₂ ≡ onRest d (λ (r : Rest). singleWith g b (singleWith f a r))
 twice d d₁ d₂ f a g b e₁ e₂ = e₂ ∙ ap (λ (x : Server). onRest x (singleWith g b)) e₁
+
+-- all three flags
+abbrev pub flagging : ℕ → ℕ → ℕ → Rest → Rest
+flagging e l m r = withRemoteLocal r (flags (flag e) (flag l) (flag m))
+
+pub flagged : (d d₁ d₂ d₃ : Server) (e l m : ℕ) → d₁ ≡ onRest d (singleWith 3 e) → d₂ ≡ onRest d₁ (singleWith 4 l) → d₃ ≡ onRest d₂ (singleWith 5 m) → d₃ ≡ onRest d (flagging e l m)
+flagged d d₁ d₂ d₃ e l m v₁ v₂ v₃ = v₃ ∙ ap (λ (x : Server). onRest x (singleWith 5 m)) (twice d d₁ d₂ 3 e 4 l v₁ v₂)
 
 -- the flags as the code says
 abbrev pub controlling : ℕ → Rest → Rest
@@ -42,21 +49,21 @@ module _ (d : Server) (code : ℕ) where
   unfolding controlled
   enabled-lockout d₁ d₂ e v₁ v₂ = by-code 4 d₂ e (twice d d₁ d₂ 3 1 4 1 v₁ v₂)
 
-  pub enabled-all : (d₁ d₂ d₃ : Server) → code ≡ 5 → d₁ ≡ onRest d (singleWith 3 1) → d₂ ≡ onRest d₁ (singleWith 4 1) → d₃ ≡ onRest d₂ (singleWith 5 1) → d₃ ≡ onRest d (controlling code)
+  pub enabled-all : (d₁ : Server) → code ≡ 5 → d₁ ≡ onRest d (flagging 1 1 1) → d₁ ≡ onRest d (controlling code)
   unfolding controlled
-  enabled-all d₁ d₂ d₃ e v₁ v₂ v₃ = by-code 5 d₃ e (v₃ ∙ ap (λ (x : Server). onRest x (singleWith 5 1)) (twice d d₁ d₂ 3 1 4 1 v₁ v₂))
+  enabled-all d₁ e v = by-code 5 d₁ e v
 
   pub gone-local : (d₁ : Server) → code ≡ 6 → d₁ ≡ onRest d (singleWith 5 0) → d₁ ≡ onRest d (controlling code)
   unfolding controlled
   gone-local d₁ e v = by-code 6 d₁ e v
 
-  pub all-off : (d₁ d₂ d₃ : Server) → (code ≡ 1 → ⊥) → (code ≡ 3 → ⊥) → (code ≡ 4 → ⊥) → (code ≡ 5 → ⊥) → (code ≡ 6 → ⊥)
-      → d₁ ≡ onRest d (singleWith 3 0) → d₂ ≡ onRest d₁ (singleWith 4 0) → d₃ ≡ onRest d₂ (singleWith 5 0) → d₃ ≡ onRest d (controlling code)
+  pub all-off : (d₁ : Server) → (code ≡ 1 → ⊥) → (code ≡ 3 → ⊥) → (code ≡ 4 → ⊥) → (code ≡ 5 → ⊥) → (code ≡ 6 → ⊥)
+      → d₁ ≡ onRest d (flagging 0 0 0) → d₁ ≡ onRest d (controlling code)
   unfolding controlled
-  all-off d₁ d₂ d₃ n₁ n₃ n₄ n₅ n₆ v₁ v₂ v₃ =
+  all-off d₁ n₁ n₃ n₄ n₅ n₆ v =
       let x : RemoteLocal = d .rest .remoteLocal in
       let e : controlled code x ≡ flags false false false = rw (ne-eqb code 1 n₁, ne-eqb code 3 n₃, ne-eqb code 4 n₄, ne-eqb code 5 n₅, ne-eqb code 6 n₆) in
-      v₃ ∙ ap (λ (x : Server). onRest x (singleWith 5 0)) (twice d d₁ d₂ 3 0 4 0 v₁ v₂) ∙ ap (λ (y : RemoteLocal). onRest d (λ (r : Rest). withRemoteLocal r y)) (sym e)
+      v ∙ ap (λ (y : RemoteLocal). onRest d (λ (r : Rest). withRemoteLocal r y)) (sym e)
 
 module _ (w s w′ out out′ : List ℕ) (i c n : ℕ) (e : entryWith 0 n (at (locksOf w s .entries) i) ≡ at (locksOf w s .entries) i) where
   pub control-told : (code param len : ℕ) (p : List ℕ) → view (memory w′ s) ≡ onRest (view (memory w s)) (controlling code)
