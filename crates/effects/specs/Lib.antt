@@ -5,3 +5,7 @@ pub mod Synchronous
 pub mod Opening
 pub mod SessionIds
 pub mod Events
+pub mod Asynchronous
+pub mod StatusQuery
+pub mod Control
+pub mod LockMessages

@@ -1,0 +1,24 @@
+-- `asynchronous::note_size` meets its contract: the number in the payload, then the frame with 1,024.
+use Rattle.effects.specs.Control.{size-told}
+use borrow.Author.Needs.{needs}
+use Rattle.effects.proofs.asynchronous.note_size.Statement.{statement}
+use Rattle.effects.proofs.asynchronous.note_size.Tie as tie
+
+returns : tie.Need-returns
+returns c =     let a = c .before .before .before .before .before .before .before .before .before .before .before .before .args in
+    λ s code param. size-told (a .w .now) s _ (a .out .now) _ (a .i) (a .c) (c .before .before .before .before .before .before .before .before .entry .result) (c .before .before .before .before .before .before .before .before .entry .ensures s)
+    code param (a .len) (c .before .before .before .before .before .before .before .number8 .result) (a .payload .now) (search needs) (c .before .before .before .before .before .before .before .number8 .ensures) (c .before .before .before .before .before .set-exchange .ensures s) (c .before .before .put-message .ensures)
+
+pub note-size-spec : {M : Type 1} → statement M
+note-size-spec =
+    tie.close
+    (tie.spec
+    (λ c κs. search needs)
+    (λ c κs. search needs)
+    (λ c κs. search needs)
+    (λ c. search needs)
+    (λ c. search needs)
+    (λ c κs. search needs)
+    (λ c. search needs)
+    (λ c. search needs)
+    returns)

@@ -1,0 +1,78 @@
+-- The status query: message available, and the byte that is answered. Assumes nothing.
+use mathlib.Core.Path.{_≡_, refl, sym, ap, ap₂, _∙_}
+use mathlib.Core.Bool.{Bool, not, _&&_, cond}
+use mathlib.Core.List.{List, [], _∷_}
+use Prim.Native.Nat.{ℕ, zero, suc, _+_, _*_, _-_, _/_, _%_, _<_}
+use native.Mathlib.Omega.{arith}
+use lib.Dec.{eqb}
+use lib.ListN.{length}
+use lib.Seq.{getD-set-same}
+use borrow.Author.Tests.{eq-eqb, ne-eqb}
+use Rattle.wire.specs.declared.Header.{Header}
+use Rattle.wire.specs.Frame.{frameOf, frameBytes}
+use Rattle.wire.specs.Splice.{splice}
+use Rattle.model.specs.State.{Exchange, Rest, Server, at, exchangeAt, freshExchange, withExchange}
+use Rattle.model.specs.Sizes.{sessionLimit}
+use Rattle.model.specs.Exchange.{noteRmt, availableAt, statusByte}
+use Rattle.model.specs.Locks.{LockEvent.nothing}
+use Rattle.model.specs.Acts.{AsynchronousKind.k-statusQuery, asynchronousRest, asynchronousSaid, asynchronousEvent}
+use Rattle.state.specs.Grid.{upd}
+use Rattle.state.specs.Change.{onRest, onExchange, exchangeWith, entryWith, singleWith}
+use Rattle.state.specs.View.{memory, view, restOf, locksOf}
+use Rattle.effects.specs.Closing.{exchanges-held}
+use Rattle.effects.specs.Asynchronous.{heading, DidKind, delivered, did-one, exchange-changed}
+
+-- status query: message available goes off where the code is 1
+upd-same : {A : Type 0} (l : List A) (i : ℕ) → upd l i (λ (x : A). x) ≡ l
+unfolding upd
+upd-same [] i = refl
+upd-same (x ∷ xs) zero = refl
+upd-same {A} (x ∷ xs) (suc i) = ap (λ (l : List A). x ∷ l) (upd-same xs i)
+
+abbrev noted : Bool → Exchange → Exchange
+noted b x = record { inClear = x .inClear; asked = x .asked; messageAvailable = not b && (x .messageAvailable); clientSize = x .clientSize }
+
+module _ (d : Server) (i code : ℕ) where
+  pub noted-delivered : (d′ : Server) → code ≡ 1 → d′ ≡ onExchange d i (exchangeWith 2 0) → d′ ≡ onExchange d i (noteRmt code)
+  noted-delivered d′ e v = v ∙ ap (λ (b : Bool). onExchange d i (noted b)) (sym (eq-eqb code 1 e))
+
+  pub noted-other : (code ≡ 1 → ⊥) → d ≡ onExchange d i (noteRmt code)
+  noted-other e =
+      ap (λ (x : List Exchange). onRest d (λ (r : Rest). record { exchanges = x; connections = r .connections; lastIssued = r .lastIssued; vendor = r .vendor; status = r .status; remoteLocal = r .remoteLocal }))
+      (sym (upd-same (d .rest .exchanges) i))
+      ∙ ap (λ (b : Bool). onExchange d i (noted b)) (sym (ne-eqb code 1 e))
+
+-- the byte: the status byte with value 16 replaced by message available
+abbrev pub lowStatus : ℕ → ℕ
+lowStatus v = v % 256 % 16 + v % 256 / 32 * 32
+
+without-16 : (b : ℕ) → b - b / 16 % 2 * 16 ≡ b % 16 + b / 32 * 32
+without-16 b = omega arith
+
+module _ (r : Rest) (i v a : ℕ) (s : singleWith 1 v r ≡ r) (x : exchangeWith 2 a (exchangeAt r i) ≡ exchangeAt r i) where
+  byte-of : (z : ℕ) → cond (eqb a 1) 16 0 ≡ z → lowStatus v + z ≡ statusByte (r .status) ((exchangeAt r i) .messageAvailable)
+  byte-of z e =
+      ap₂ _+_ (sym (without-16 (v % 256)) ∙ ap (λ (y : Rest). y .status - y .status / 16 % 2 * 16) s) (sym e ∙ ap (λ (y : Exchange). cond (y .messageAvailable) 16 0) x)
+
+  pub byte-available : a ≡ 1 → lowStatus v + 16 ≡ statusByte (r .status) ((exchangeAt r i) .messageAvailable)
+  byte-available e = byte-of 16 (ap (λ (b : Bool). cond b 16 0) (eq-eqb a 1 e))
+
+  pub byte-quiet : (a ≡ 1 → ⊥) → lowStatus v ≡ statusByte (r .status) ((exchangeAt r i) .messageAvailable)
+  byte-quiet e = let z : lowStatus v ≡ lowStatus v + 0 = omega arith in z ∙ byte-of 0 (ap (λ (b : Bool). cond b 16 0) (ne-eqb a 1 e))
+
+module _ (w s w′ out out′ : List ℕ) (i c n : ℕ) (few : i < sessionLimit) (e : entryWith 0 n (at (locksOf w s .entries) i) ≡ at (locksOf w s .entries) i) where
+  pub status-told : (code param len b : ℕ) (p : List ℕ) → view (memory w′ s) ≡ onExchange (view (memory w s)) i (noteRmt code)
+      → b ≡ statusByte (restOf w′ .status) ((exchangeAt (restOf w′) i) .messageAvailable)
+      → out′ ≡ splice out 0 (frameBytes (frameOf c 22 b 0 []))
+      → DidKind k-statusQuery i c code param len p (delivered n len 17) (memory w s) (memory w′ s) out out′
+  unfolding asynchronousRest asynchronousSaid asynchronousEvent availableAt
+  status-told code param len b p v q o t =
+      let d : Server = view (memory w s) in
+      let h : Header = heading t code param len in
+      let l : i < length (d .rest .exchanges) = rw (exchanges-held w) few in
+      let u : view (memory w′ s) ≡ record { locks = d .locks; rest = withExchange (d .rest) i (noteRmt code (exchangeAt (d .rest) i)) } = v ∙ exchange-changed (d .rest) i (noteRmt code) (d .locks) in
+      let g : b ≡ statusByte (d .rest .status) (availableAt h (exchangeAt (d .rest) i)) =
+      q ∙ ap (λ (y : Server). statusByte (y .rest .status) ((exchangeAt (y .rest) i) .messageAvailable)) u
+      ∙ ap (λ (y : Exchange). statusByte (d .rest .status) (y .messageAvailable)) (getD-set-same (d .rest .exchanges) i (noteRmt code (exchangeAt (d .rest) i)) freshExchange l) in
+      did-one d i n len 0 (withExchange (d .rest) i (noteRmt code (exchangeAt (d .rest) i))) (frameOf c 22 (statusByte (d .rest .status) (availableAt h (exchangeAt (d .rest) i))) 0 []) (frameOf c 22 b 0 [])
+      (memory w s) (memory w′ s) out out′ e (ap (λ (y : ℕ). frameOf c 22 y 0 []) (sym g)) refl u o

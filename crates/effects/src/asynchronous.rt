@@ -1,0 +1,264 @@
+// The messages of the asynchronous lane that act, kind by kind.
+ghost use Prim.Native.Nat.{ℕ, _+_, _<_, _≤_};
+ghost use Rattle.effects.specs.Asynchronous.{DidKind, heading};
+ghost use Rattle.effects.specs.Control.{controlling, flagging};
+ghost use Rattle.effects.specs.Did.{Did};
+ghost use Rattle.model.specs.Acts.AsynchronousKind.{k-deviceClear, k-lock, k-lockInfo, k-maximumSize, k-remoteLocal, k-statusQuery};
+ghost use Rattle.model.specs.Acts.{acts};
+ghost use Rattle.model.specs.Exchange.{enterClear, noteRmt, statusByte};
+ghost use Rattle.model.specs.Place.Role.{r-asynchronous};
+ghost use Rattle.model.specs.State.{exchangeAt};
+ghost use Rattle.model.specs.Step.{finish};
+ghost use Rattle.state.specs.Change.{onExchange, onRest};
+ghost use Rattle.state.specs.View.{memory, restOf, view};
+ghost use lib.ListN.{length};
+ghost use mathlib.Core.List.{List};
+ghost use mathlib.Core.Path.{_≡_};
+use crate::Delivery;
+use locks::grant_pass;
+use locks::info;
+use locks::release;
+use locks::request;
+use locks::waiting;
+use state::tables;
+use wire::frame;
+use wire::number;
+
+// Control code 1 says that a response was delivered: message available goes off.
+fn note_delivered(w: &mut [u64; 235], i: usize, code: u8)
+    requires { ⌜ i < 16 ⌝ }
+    ensures { λ _. ⌜ ((s : List ℕ) → view (memory (now (w .exit)) s) ≡ onExchange (view (memory (now (w .entry)) s)) i (noteRmt code)) ⌝ }
+{
+    if code != 1 {
+        return;
+    }
+    tables::set_exchange(w, i, 2, 0);
+}
+
+// The instrument's status byte, with value 16 replaced by message available of slot i.
+fn status_of(w: &[u64; 235], i: usize) -> u8
+    requires { ⌜ i < 16 ⌝ }
+    ensures { λ r. ⌜ r ≡ statusByte (restOf (now (w .entry)) .status) ((exchangeAt (restOf (now (w .entry))) i) .messageAvailable) ⌝ }
+{
+    let all = tables::single(w, 1) % 256;
+    let low = all % 16 + all / 32 * 32;
+    if tables::exchange(w, i, 2) == 1 {
+        return (low + 16) as u8;
+    }
+    low as u8
+}
+
+// AsyncStatusQuery.
+fn query_status(w: &mut [u64; 235], out: &mut [u8], c: u64, i: usize, code: u8, len: u64) -> Delivery
+    requires { ⌜ (i < 16) × (c < 32) × (len ≤ 1024) × (2048 ≤ length (now out)) ⌝ }
+    ensures { λ r. ⌜ ((s p : List ℕ) (param : ℕ) → DidKind k-statusQuery i c code param len p r (memory (now (w .entry)) s) (memory (now (w .exit)) s) (now (out .entry)) (now (out .exit))) ⌝ }
+{
+    let n = tables::entry(w, i, 0);
+    note_delivered(w, i, code);
+    let b = status_of(w, i);
+    frame::put_frame(out, 0, c as u8, 22, b, 0);
+    Delivery {
+        refusal: 0,
+        outcome: 6,
+        session: n,
+        taken: 16 + len,
+        output: 17,
+    }
+}
+
+// AsyncLockInfo.
+fn tell_locks(w: &[u64; 235], out: &mut [u8], c: u64, i: usize, len: u64) -> Delivery
+    requires { ⌜ (i < 16) × (c < 32) × (len ≤ 1024) × (2048 ≤ length (now out)) ⌝ }
+    ensures { λ r. ⌜ ((s p : List ℕ) (code param : ℕ) → DidKind k-lockInfo i c code param len p r (memory (now (w .entry)) s) (memory (now (w .entry)) s) (now (out .entry)) (now (out .exit))) ⌝ }
+{
+    let n = tables::entry(w, i, 0);
+    let x = info::exclusive_code(w);
+    let y = info::holder_count(w);
+    frame::put_frame(out, 0, c as u8, 25, x, y);
+    Delivery {
+        refusal: 0,
+        outcome: 6,
+        session: n,
+        taken: 16 + len,
+        output: 17,
+    }
+}
+
+// The three flags: remote enable, lockout, remote.
+fn set_flags(w: &mut [u64; 235], enable: u64, lockout: u64, remote: u64)
+    ensures { λ _. ⌜ ((s : List ℕ) → view (memory (now (w .exit)) s) ≡ onRest (view (memory (now (w .entry)) s)) (flagging enable lockout remote)) ⌝ }
+{
+    tables::set_single(w, 3, enable);
+    tables::set_single(w, 4, lockout);
+    tables::set_single(w, 5, remote);
+}
+
+// Codes 1, 3, 4 and 5 set flags, 6 clears remote, any other clears all three.
+fn set_control(w: &mut [u64; 235], code: u8)
+    ensures { λ _. ⌜ ((s : List ℕ) → view (memory (now (w .exit)) s) ≡ onRest (view (memory (now (w .entry)) s)) (controlling code)) ⌝ }
+{
+    if code == 1 {
+        tables::set_single(w, 3, 1);
+        return;
+    }
+    if code == 3 {
+        tables::set_single(w, 3, 1);
+        tables::set_single(w, 5, 1);
+        return;
+    }
+    if code == 4 {
+        tables::set_single(w, 3, 1);
+        tables::set_single(w, 4, 1);
+        return;
+    }
+    if code == 5 {
+        set_flags(w, 1, 1, 1);
+        return;
+    }
+    if code == 6 {
+        tables::set_single(w, 5, 0);
+        return;
+    }
+    set_flags(w, 0, 0, 0);
+}
+
+// AsyncRemoteLocalControl.
+fn control(w: &mut [u64; 235], out: &mut [u8], c: u64, i: usize, code: u8, len: u64) -> Delivery
+    requires { ⌜ (i < 16) × (c < 32) × (len ≤ 1024) × (2048 ≤ length (now out)) ⌝ }
+    ensures { λ r. ⌜ ((s p : List ℕ) (param : ℕ) → DidKind k-remoteLocal i c code param len p r (memory (now (w .entry)) s) (memory (now (w .exit)) s) (now (out .entry)) (now (out .exit))) ⌝ }
+{
+    let n = tables::entry(w, i, 0);
+    set_control(w, code);
+    frame::put_frame(out, 0, c as u8, 11, 0, 0);
+    Delivery {
+        refusal: 0,
+        outcome: 6,
+        session: n,
+        taken: 16 + len,
+        output: 17,
+    }
+}
+
+// AsyncMaximumMessageSize: the client's size is noted, and the server's is 1,024.
+fn note_size(
+    w: &mut [u64; 235],
+    out: &mut [u8],
+    c: u64,
+    i: usize,
+    len: u64,
+    payload: &[u8],
+) -> Delivery
+    requires { ⌜ (i < 16) × (c < 32) × (len ≤ 1024) × (length (now payload) ≡ 8) × (2048 ≤ length (now out)) ⌝ }
+    ensures { λ r. ⌜ ((s : List ℕ) (code param : ℕ) → DidKind k-maximumSize i c code param len (now (payload .entry)) r (memory (now (w .entry)) s) (memory (now (w .exit)) s) (now (out .entry)) (now (out .exit))) ⌝ }
+{
+    let n = tables::entry(w, i, 0);
+    let size = number::number8(payload, 0);
+    tables::set_exchange(w, i, 3, size);
+    let bytes = [0, 0, 0, 0, 0, 0, 4, 0];
+    frame::put_message(out, 0, c as u8, 16, 0, 0, &bytes);
+    Delivery {
+        refusal: 0,
+        outcome: 6,
+        session: n,
+        taken: 16 + len,
+        output: 25,
+    }
+}
+
+// In device clear, with nothing asked and no message available.
+fn enter_clear(w: &mut [u64; 235], i: usize)
+    requires { ⌜ i < 16 ⌝ }
+    ensures { λ _. ⌜ ((s : List ℕ) → view (memory (now (w .exit)) s) ≡ onExchange (view (memory (now (w .entry)) s)) i enterClear) ⌝ }
+{
+    tables::set_exchange(w, i, 0, 1);
+    tables::set_exchange(w, i, 1, 0);
+    tables::set_exchange(w, i, 2, 0);
+}
+
+// AsyncDeviceClear: a waiting request is answered first.
+fn clear(w: &mut [u64; 235], out: &mut [u8], c: u64, i: usize, len: u64) -> Delivery
+    requires { ⌜ (i < 16) × (c < 32) × (len ≤ 1024) × (2048 ≤ length (now out)) ⌝ }
+    ensures { λ r. ⌜ ((s p : List ℕ) (code param : ℕ) → DidKind k-deviceClear i c code param len p r (memory (now (w .entry)) s) (memory (now (w .exit)) s) (now (out .entry)) (now (out .exit))) ⌝ }
+{
+    let n = tables::entry(w, i, 0);
+    let at = waiting::clear_request(w, out, 0, i);
+    enter_clear(w, i);
+    frame::put_frame(out, at, c as u8, 23, 0, 0);
+    Delivery {
+        refusal: 0,
+        outcome: 6,
+        session: n,
+        taken: 16 + len,
+        output: (at + 17) as u64,
+    }
+}
+
+// AsyncLock: code 0 releases, and then those that wait are looked at; any other code requests.
+fn lock(
+    w: &mut [u64; 235],
+    strings: &mut [u8; 1088],
+    out: &mut [u8],
+    i: usize,
+    code: u8,
+    param: u32,
+    len: u64,
+    payload: &[u8],
+) -> Delivery
+    requires { ⌜ (i < 16) × (len ≤ 1024) × (2048 ≤ length (now out)) ⌝ }
+    ensures { λ r. ⌜ ((c : ℕ) → DidKind k-lock i c code param len (now (payload .entry)) r (memory (now (w .entry)) (now (strings .entry))) (memory (now (w .exit)) (now (strings .exit))) (now (out .entry)) (now (out .exit))) ⌝ }
+{
+    let n = tables::entry(w, i, 0);
+    if code == 0 {
+        let at = release::release_lock(w, out, 0, i);
+        let end = grant_pass::grant_waiting(w, strings, out, at);
+        return Delivery {
+            refusal: 0,
+            outcome: 6,
+            session: n,
+            taken: 16 + len,
+            output: end as u64,
+        };
+    }
+    let end = request::request_lock(w, strings, out, 0, i, param, payload);
+    Delivery {
+        refusal: 0,
+        outcome: 6,
+        session: n,
+        taken: 16 + len,
+        output: end as u64,
+    }
+}
+
+// What a message of the asynchronous lane does, by its type.
+pub fn act_asynchronous(
+    w: &mut [u64; 235],
+    strings: &mut [u8; 1088],
+    out: &mut [u8],
+    c: u64,
+    i: usize,
+    kind: u8,
+    code: u8,
+    param: u32,
+    len: u64,
+    payload: &[u8],
+) -> Delivery
+    requires { ⌜ (i < 16) × (c < 32) × (len ≤ 1024) × (length (now payload) ≡ len) × (2048 ≤ length (now out)) × (kind ≡ 15 → len ≡ 8) ⌝ }
+    ensures { λ r. ⌜ Did (finish (view (memory (now (w .entry)) (now (strings .entry)))) (acts r-asynchronous (view (memory (now (w .entry)) (now (strings .entry)))) i c (heading kind code param len) (now (payload .entry)))) r (memory (now (w .entry)) (now (strings .entry))) (memory (now (w .exit)) (now (strings .exit))) (now (out .entry)) (now (out .exit)) ⌝ }
+{
+    if kind == 4 {
+        return lock(w, strings, out, i, code, param, len, payload);
+    }
+    if kind == 10 {
+        return control(w, out, c, i, code, len);
+    }
+    if kind == 15 {
+        return note_size(w, out, c, i, len, payload);
+    }
+    if kind == 19 {
+        return clear(w, out, c, i, len);
+    }
+    if kind == 21 {
+        return query_status(w, out, c, i, code, len);
+    }
+    tell_locks(w, out, c, i, len)
+}
