@@ -76,7 +76,7 @@ address-some [] b n e = absurd (n refl)
 address-some (x ∷ xs) b n e = e
 
 -- searching the table of sessions for a number: all slots are taken where number 0 is not found
-all-live : (es : List Entry) → all live es ≡ eqb (slotOfNumber es 0) (length es)
+pub all-live : (es : List Entry) → all live es ≡ eqb (slotOfNumber es 0) (length es)
 all-live [] = refl
 all-live (e ∷ es) = by (eqb (e .number) 0) refl (all-live es)
   where
