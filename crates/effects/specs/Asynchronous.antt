@@ -42,8 +42,7 @@ pub did-message : (k : AsynchronousKind) (i c t code param len : ℕ) (p : List 
     → asynchronousKind t ≡ k → DidKind k i c code param len p r m m′ out out′
     → Did (finish (view m) (acts r-asynchronous (view m) i c (heading t code param len) p)) r m m′ out out′
 unfolding acts
-did-message k i c t code param len p r m m′ out out′ e x =
-    rw e (x t)
+did-message k i c t code param len p r m m′ out out′ e x = rw e (x t)
 
 -- the last kind: lock info
 pub kind-last : (t : ℕ) → (t ≡ 4 → ⊥) → (t ≡ 10 → ⊥) → (t ≡ 15 → ⊥) → (t ≡ 19 → ⊥) → (t ≡ 21 → ⊥) → asynchronousKind t ≡ k-lockInfo

@@ -14,7 +14,6 @@ use Rattle.wire.specs.Splice.{splice}
 use Rattle.model.specs.State.{Exchange, Rest, Server, at, exchangeAt, freshExchange, withExchange}
 use Rattle.model.specs.Sizes.{sessionLimit}
 use Rattle.model.specs.Exchange.{noteRmt, availableAt, statusByte}
-use Rattle.model.specs.Locks.{LockEvent.nothing}
 use Rattle.model.specs.Acts.{AsynchronousKind.k-statusQuery, asynchronousRest, asynchronousSaid, asynchronousEvent}
 use Rattle.state.specs.Grid.{upd}
 use Rattle.state.specs.Change.{onRest, onExchange, exchangeWith, entryWith, singleWith}

@@ -49,7 +49,14 @@ fn status_of(w: &[u64; 235], i: usize) -> u8
 }
 
 // AsyncStatusQuery.
-fn query_status(w: &mut [u64; 235], out: &mut [u8], c: u64, i: usize, code: u8, len: u64) -> Delivery
+fn query_status(
+    w: &mut [u64; 235],
+    out: &mut [u8],
+    c: u64,
+    i: usize,
+    code: u8,
+    len: u64,
+) -> Delivery
     requires { ⌜ (i < 16) × (c < 32) × (len ≤ 1024) × (2048 ≤ length (now out)) ⌝ }
     ensures { λ r. ⌜ ((s p : List ℕ) (param : ℕ) → DidKind k-statusQuery i c code param len p r (memory (now (w .entry)) s) (memory (now (w .exit)) s) (now (out .entry)) (now (out .exit))) ⌝ }
 {
