@@ -17,7 +17,14 @@ use Rattle.model.specs.Checks.{Verdict.v-acts, Rule, first, either, openingRule
 use Rattle.model.proofs.Fits.{Passes, opening-passed, async-passed}
 use Rattle.checks.specs.Opening.{all-live}
 use Rattle.state.specs.Search.{roleNumber, past-none}
-use Rattle.state.specs.View.{memory, view, locksOf}
+use Rattle.state.specs.View.{Memory, memory, view, locksOf}
+use Rattle.wire.specs.Frame.{bytesOf}
+use Rattle.model.specs.Acts.{acts}
+use Rattle.model.specs.Step.{finish}
+use Rattle.model.specs.Interface.{Reply.took, Outcome.acted}
+use Rattle.effects.specs.declared.Delivery.{Delivery}
+use Rattle.effects.specs.Did.{Did, did-plainly, numbersOf}
+use Rattle.effects.specs.Replies.{nothing-said}
 use Rattle.effects.specs.Closing.{sessions-held}
 
 -- a role from its number
@@ -120,3 +127,14 @@ pub size-eight : (h : Header) (p : List ℕ) → first (asynchronousRules h p) �
 size-eight h p e k =
     let q = async-passed h p e in
     eqb-true (h .len) 8 (not-off (eqb (h .len) 8) (and-off (eqb (h .kind) AsyncMaximumMessageSize) (not (eqb (h .len) 8)) (eq-eqb (h .kind) AsyncMaximumMessageSize k) (q .1 .1 .1 .1 .1 .1 .1 .1 .1 .0)))
+
+-- acting by one role is acting by the same role
+pub acts-as : (d : Server) (i c : ℕ) (h : Header) (p : List ℕ) (r : Delivery) (m m′ : Memory) (out out′ : List ℕ) (ro ro′ : Role) → ro ≡ ro′
+    → Did (finish d (acts ro′ d i c h p)) r m m′ out out′ → Did (finish d (acts ro d i c h p)) r m m′ out out′
+acts-as d i c h p r m m′ out out′ ro ro′ e q = subst (λ (x : Role). Did (finish d (acts x d i c h p)) r m m′ out out′) (sym e) q
+
+-- the connection of a half-open session never gets here; the definition says this
+pub half-acts : (m : Memory) (i c : ℕ) (h : Header) (p out : List ℕ) (r : Delivery) → r ≡ record { refusal = 0; outcome = 6; session = 0; taken = 16 + h .len; output = 0 }
+    → Did (finish (view m) (acts r-halfOpen (view m) i c h p)) r m m out out
+unfolding acts bytesOf
+half-acts m i c h p out r e = did-plainly (view m) (took acted (16 + h .len) 0) (view m .rest) [] r m m out out (ap numbersOf e) refl (nothing-said out) refl

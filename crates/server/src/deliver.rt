@@ -2,7 +2,8 @@
 ghost use Prim.Native.Nat.{ℕ, _+_, _<_, _≤_};
 ghost use Rattle.checks.specs.Numbers.{message, verdictOf};
 ghost use Rattle.effects.specs.Did.{Did};
-ghost use Rattle.model.specs.Checks.{judged};
+ghost use Rattle.model.specs.Acts.{acts};
+ghost use Rattle.model.specs.Checks.{Verdict.v-acts, judged};
 ghost use Rattle.model.specs.Place.{Role, slotIn};
 ghost use Rattle.model.specs.Scan.{Scan.whole};
 ghost use Rattle.model.specs.Step.{effect, finish};
@@ -13,7 +14,10 @@ ghost use mathlib.Core.List.{List};
 ghost use mathlib.Core.Logic.{_⊎_};
 ghost use mathlib.Core.Path.{_≡_};
 use effects::Delivery;
+use effects::asynchronous;
+use effects::opening;
 use effects::replies;
+use effects::synchronous;
 
 fn quiet(outcome: u64, taken: u64) -> Delivery
     ensures { λ r. ⌜ r ≡ record { refusal = 0; outcome = outcome; session = 0; taken = taken; output = 0 } ⌝ }
@@ -56,4 +60,35 @@ fn apply_other(
         return quiet(2, 0);
     }
     quiet(0, 0)
+}
+
+// A message that passed all checks acts, by the role of its connection.
+fn act(
+    w: &mut [u64; 235],
+    strings: &mut [u8; 1088],
+    out: &mut [u8],
+    c: u64,
+    i: usize,
+    role: u8,
+    kind: u8,
+    code: u8,
+    param: u32,
+    len: u64,
+    payload: &[u8],
+) -> Delivery
+    requires { ⌜ (c < 32) × (len ≤ 1024) × (length (now payload) ≡ len) × (2048 ≤ length (now out)) × ((role ≡ 0 → ⊥) → i < 16) × ((s : List ℕ) (ro : Role) → roleNumber ro ≡ role → judged ro (view (memory (now w) s)) i (message kind code param len) (now payload) ≡ v-acts) ⌝ }
+    ensures { λ r. ⌜ ((ro : Role) → roleNumber ro ≡ role → Did (finish (view (memory (now (w .entry)) (now (strings .entry)))) (acts ro (view (memory (now (w .entry)) (now (strings .entry)))) i c (message kind code param len) (now (payload .entry)))) r (memory (now (w .entry)) (now (strings .entry))) (memory (now (w .exit)) (now (strings .exit))) (now (out .entry)) (now (out .exit))) ⌝ }
+{
+    if role == 2 {
+        return synchronous::act_synchronous(w, out, c, i, kind, code, param, len);
+    }
+    if role == 3 {
+        return asynchronous::act_asynchronous(
+            w, strings, out, c, i, kind, code, param, len, payload,
+        );
+    }
+    if role == 0 {
+        return opening::act_opening(w, out, c, kind, param, len);
+    }
+    quiet(6, 16 + len)
 }
