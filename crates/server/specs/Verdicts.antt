@@ -6,7 +6,8 @@ use Prim.Native.Nat.{ℕ, zero, suc, _+_, _-_, _≤_, _<_}
 use native.Mathlib.Omega.{arith}
 use lib.Dec.{eqb, ltb}
 use lib.ListN.{length}
-use borrow.Author.Tests.{eq-eqb, ne-eqb, lt-ltb, le-ltb}
+use borrow.Author.Tests.{eq-eqb, ne-eqb, lt-ltb, le-ltb, ltb-false, eqb-true}
+use mathlib.Core.Logic.{_⊎_, inl, inr}
 use Rattle.wire.specs.declared.Header.{Header}
 use Rattle.model.specs.State.{Server}
 use Rattle.model.specs.Interface.{Reply.took, Outcome.more-needed, Outcome.held, Outcome.ignored}
@@ -73,3 +74,39 @@ left-zero (suc (suc zero)) h a b c d = absurd (b refl)
 left-zero (suc (suc (suc zero))) h a b c d = absurd (c refl)
 left-zero (suc (suc (suc (suc zero)))) h a b c d = absurd (d refl)
 left-zero (suc (suc (suc (suc (suc v))))) h a b c d = absurd (omega arith)
+
+-- does the number say that the message acts?
+abbrev pub actsNumber : ℕ → Bool
+actsNumber v = cond (ltb v 16) (cond (eqb v 0) false (cond (eqb v 2) false (cond (eqb v 3) false (cond (eqb v 4) false true)))) false
+
+acts-split : (v : ℕ) (a b c d e : Bool) → ltb v 16 ≡ a → eqb v 0 ≡ b → eqb v 2 ≡ c → eqb v 3 ≡ d → eqb v 4 ≡ e → cond a (cond b false (cond c false (cond d false (cond e false true)))) false ≡ true → verdictOf v ≡ v-acts
+acts-split v false b c d e p q r s t x = absurd (true≢false (sym x))
+acts-split v true true c d e p q r s t x = absurd (true≢false (sym x))
+acts-split v true false true d e p q r s t x = absurd (true≢false (sym x))
+acts-split v true false false true e p q r s t x = absurd (true≢false (sym x))
+acts-split v true false false false true p q r s t x = absurd (true≢false (sym x))
+acts-split v true false false false false p q r s t x = rw (p, q, r, s, t)
+
+pub acts-true : (v : ℕ) → actsNumber v ≡ true → verdictOf v ≡ v-acts
+acts-true v x = acts-split v (ltb v 16) (eqb v 0) (eqb v 2) (eqb v 3) (eqb v 4) refl refl refl refl refl x
+
+others-split : (v : ℕ) (a b c d e : Bool) → ltb v 16 ≡ a → eqb v 0 ≡ b → eqb v 2 ≡ c → eqb v 3 ≡ d → eqb v 4 ≡ e → cond a (cond b false (cond c false (cond d false (cond e false true)))) false ≡ false → ((v < 5) ⊎ (16 ≤ v)) × (v ≡ 1 → ⊥)
+others-split v false b c d e p q r s t x = let l : 16 ≤ v = ltb-false v 16 p in (inr l, λ y. omega arith)
+others-split v true true c d e p q r s t x = let l : v ≡ 0 = eqb-true v 0 q in (inl (omega arith), λ y. omega arith)
+others-split v true false true d e p q r s t x = let l : v ≡ 2 = eqb-true v 2 r in (inl (omega arith), λ y. omega arith)
+others-split v true false false true e p q r s t x = let l : v ≡ 3 = eqb-true v 3 s in (inl (omega arith), λ y. omega arith)
+others-split v true false false false true p q r s t x = let l : v ≡ 4 = eqb-true v 4 t in (inl (omega arith), λ y. omega arith)
+others-split v true false false false false p q r s t x = absurd (true≢false x)
+
+pub acts-false : (v : ℕ) → actsNumber v ≡ false → ((v < 5) ⊎ (16 ≤ v)) × (v ≡ 1 → ⊥)
+acts-false v x = others-split v (ltb v 16) (eqb v 0) (eqb v 2) (eqb v 3) (eqb v 4) refl refl refl refl refl x
+
+-- what was done by the number was done by the verdict
+pub by-number : (d : Server) (c i : ℕ) (s : Scan) (ro : Role) (r : Delivery) (m m′ : Memory) (out out′ : List ℕ) (x y : Verdict) → x ≡ y
+    → Did (finish d (effect y s ro d i c)) r m m′ out out′ → Did (finish d (effect x s ro d i c)) r m m′ out out′
+by-number d c i s ro r m m′ out out′ x y e q = subst (λ (z : Verdict). Did (finish d (effect z s ro d i c)) r m m′ out out′) (sym e) q
+
+pub acts-whole : (d : Server) (c i : ℕ) (h : Header) (p : List ℕ) (ro : Role) (r : Delivery) (m m′ : Memory) (out out′ : List ℕ) (x : Verdict) → x ≡ v-acts
+    → Did (finish d (acts ro d i c h p)) r m m′ out out′ → Did (finish d (effect x (whole h p) ro d i c)) r m m′ out out′
+unfolding effect
+acts-whole d c i h p ro r m m′ out out′ x e q = by-number d c i (whole h p) ro r m m′ out out′ x v-acts e q

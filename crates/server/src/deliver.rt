@@ -14,6 +14,7 @@ ghost use mathlib.Core.List.{List};
 ghost use mathlib.Core.Logic.{_⊎_};
 ghost use mathlib.Core.Path.{_≡_};
 use effects::Delivery;
+ghost use Rattle.server.specs.Verdicts.{actsNumber};
 use effects::asynchronous;
 use effects::opening;
 use effects::replies;
@@ -91,4 +92,51 @@ fn act(
         return opening::act_opening(w, out, c, kind, param, len);
     }
     quiet(6, 16 + len)
+}
+
+fn acts_on(v: u8) -> bool
+    ensures { λ r. ⌜ actsNumber v ≡ r ⌝ }
+{
+    if v >= 16 {
+        return false;
+    }
+    if v == 0 {
+        return false;
+    }
+    if v == 2 {
+        return false;
+    }
+    if v == 3 {
+        return false;
+    }
+    if v == 4 {
+        return false;
+    }
+    true
+}
+
+// A whole message: the verdict, and what it does.
+fn deliver_whole(
+    w: &mut [u64; 235],
+    strings: &mut [u8; 1088],
+    out: &mut [u8],
+    c: u64,
+    i: usize,
+    role: u8,
+    kind: u8,
+    code: u8,
+    param: u32,
+    len: u64,
+    payload: &[u8],
+) -> Delivery
+    requires { ⌜ (c < 32) × (len ≤ 1024) × (length (now payload) ≡ len) × (2048 ≤ length (now out)) × ((s : List ℕ) → slotIn (locksOf (now w) s .entries) c ≡ i) × ((role ≡ 0 → ⊥) → i < 16) ⌝ }
+    ensures { λ r. ⌜ ((ro : Role) → roleNumber ro ≡ role → Did (finish (view (memory (now (w .entry)) (now (strings .entry)))) (effect (judged ro (view (memory (now (w .entry)) (now (strings .entry)))) i (message kind code param len) (now (payload .entry))) (whole (message kind code param len) (now (payload .entry))) ro (view (memory (now (w .entry)) (now (strings .entry)))) i c)) r (memory (now (w .entry)) (now (strings .entry))) (memory (now (w .exit)) (now (strings .exit))) (now (out .entry)) (now (out .exit))) ⌝ }
+{
+    let v = checks::whole::whole_verdict(w, role, i, kind, code, param, len, payload);
+    if acts_on(v) {
+        return act(
+            w, strings, out, c, i, role, kind, code, param, len, payload,
+        );
+    }
+    apply_other(w, strings, out, c, i, v, len)
 }
