@@ -56,7 +56,7 @@ role-async r-asynchronous e = refl
 pub role-slot : (w s : List ℕ) (c i n : ℕ) → slotIn (locksOf w s .entries) c ≡ i → roleNumber (roleOf (locksOf w s .entries) c) ≡ n → (n ≡ 0 → ⊥) → i < sessionLimit
 unfolding placeOf
 role-slot w s c i n e r o = by (ltb i sessionLimit) refl
-    where
+  where
     by : (b : Bool) → ltb i sessionLimit ≡ b → i < sessionLimit
     by true q = ltb-true i sessionLimit q
     by false q = absurd (o (sym r ∙ ap (λ (j : ℕ). roleNumber (roleIn c (at (locksOf w s .entries) j))) e ∙ past-none w s c i (ltb-false i sessionLimit q)))
@@ -76,7 +76,7 @@ and-on false y e = e
 position-small : {A : Type 0} (p : A → Bool) (es : List A) → position p es ≤ length es
 position-small p [] = omega arith
 position-small p (e ∷ es) = by (p e) (position-small p es)
-    where
+  where
     by : (b : Bool) → position p es ≤ length es → mathlib.Core.Bool.cond b 0 (suc (position p es)) ≤ suc (length es)
     by true h = omega arith
     by false h = omega arith
@@ -92,10 +92,10 @@ module _ (w s : List ℕ) (h : Header) (p : List ℕ) (passed : first (openingRu
       let l : slotOfNumber es 0 ≤ length es = position-small (λ (e : Entry). eqb (e .number) 0) es in
       let t : length es ≡ sessionLimit = sessions-held w s in
       lower (slotOfNumber es 0) (length es) l n t
-      where
+    where
       lower : (a b : ℕ) → a ≤ b → (a ≡ b → ⊥) → b ≡ sessionLimit → a < sessionLimit
       lower a b l n t = by (ltb a b) refl
-          where
+        where
           by : (x : Bool) → ltb a b ≡ x → a < sessionLimit
           by true q = let k : a < b = ltb-true a b q in omega arith
           by false q = let k : b ≤ a = ltb-false a b q in absurd (n (let z : a ≡ b = omega arith in z))
@@ -111,13 +111,14 @@ module _ (w s : List ℕ) (h : Header) (p : List ℕ) (passed : first (openingRu
       let f : halfOpen (at es i) ≡ true = not-off (halfOpen (at es i)) (and-off (eqb (h .kind) AsyncInitialize) (not (halfOpen (at es i))) t (q .1 .1 .1 .1 .0)) in
       let v : live (at es i) ≡ true = and-on (live (at es i)) (eqb ((at es i) .asynchronous) 255) f in
       inside es i (sessions-held w s) v
-      where
+    where
       or-right : (x y : Bool) → x ≡ false → (x || y) ≡ true → y ≡ true
       or-right true y e f = absurd (true≢false e)
       or-right false y e f = f
+
       inside : (es : List Entry) (i : ℕ) → length es ≡ sessionLimit → live (at es i) ≡ true → i < sessionLimit
       inside es i t v = by (ltb i sessionLimit) refl
-          where
+        where
           by : (x : Bool) → ltb i sessionLimit ≡ x → i < sessionLimit
           by true q = ltb-true i sessionLimit q
           by false q = let k : length es ≤ i = rw t (ltb-false i sessionLimit q) in absurd (true≢false (sym v ∙ ap live (List·getD-eq-default es blank k)))

@@ -1,19 +1,24 @@
 // A delivery, stage by stage as the model has it: scan, verdict, effect.
-ghost use Prim.Native.Nat.{ℕ, _+_, _<_, _≤_};
+ghost use Prim.Native.Nat.{ℕ, _+_, _<_, _≤_, min};
 ghost use Rattle.checks.specs.Numbers.{message, verdictOf};
 ghost use Rattle.effects.specs.Did.{Did};
 ghost use Rattle.model.specs.Acts.{acts};
 ghost use Rattle.model.specs.Checks.{Verdict.v-acts, judged};
 ghost use Rattle.model.specs.Place.{Role, slotIn};
-ghost use Rattle.model.specs.Scan.{Scan.whole};
-ghost use Rattle.model.specs.Step.{effect, finish};
+ghost use Rattle.model.specs.Scan.{Scan.long, Scan.part, Scan.whole, freshScan, scan};
+ghost use Rattle.model.specs.State.{connectionAt};
+ghost use Rattle.server.specs.Scanning.{DidOn};
+ghost use Rattle.model.specs.Step.{effect, finish, received};
 ghost use Rattle.state.specs.Search.{roleNumber};
-ghost use Rattle.state.specs.View.{locksOf, memory, view};
+ghost use Rattle.state.specs.View.{locksOf, memory, restOf, view};
 ghost use lib.ListN.{length};
 ghost use mathlib.Core.List.{List};
 ghost use mathlib.Core.Logic.{_⊎_};
 ghost use mathlib.Core.Path.{_≡_};
 use effects::Delivery;
+use state::search;
+use state::tables;
+use wire::reading;
 ghost use Rattle.server.specs.Verdicts.{actsNumber};
 use effects::asynchronous;
 use effects::opening;
@@ -85,7 +90,16 @@ fn act(
     }
     if role == 3 {
         return asynchronous::act_asynchronous(
-            w, strings, out, c, i, kind, code, param, len, payload,
+            w,
+            strings,
+            out,
+            c,
+            i,
+            kind,
+            code,
+            param,
+            len,
+            payload,
         );
     }
     if role == 0 {
@@ -134,9 +148,138 @@ fn deliver_whole(
 {
     let v = checks::whole::whole_verdict(w, role, i, kind, code, param, len, payload);
     if acts_on(v) {
-        return act(
-            w, strings, out, c, i, role, kind, code, param, len, payload,
-        );
+        return act(w, strings, out, c, i, role, kind, code, param, len, payload);
     }
     apply_other(w, strings, out, c, i, v, len)
+}
+
+// A header with a length above 1,024 (checks 3 and 4).
+fn deliver_long(
+    w: &mut [u64; 235],
+    strings: &mut [u8; 1088],
+    out: &mut [u8],
+    c: u64,
+    i: usize,
+    role: u8,
+    len: u64,
+) -> Delivery
+    requires { ⌜ (c < 32) × (2048 ≤ length (now out)) × ((s : List ℕ) → slotIn (locksOf (now w) s .entries) c ≡ i) ⌝ }
+    ensures { λ r. ⌜ ((ro : Role) (kind code param : ℕ) → roleNumber ro ≡ role → DidOn (view (memory (now (w .entry)) (now (strings .entry)))) c i r (memory (now (w .entry)) (now (strings .entry))) (memory (now (w .exit)) (now (strings .exit))) (now (out .entry)) (now (out .exit)) ro (long (message kind code param len))) ⌝ }
+{
+    if role == 0 {
+        return replies::send_fatal(w, strings, out, c, i, 3);
+    }
+    if role == 2 {
+        return replies::send_error(w, out, c, 4, 16, len);
+    }
+    if role == 3 {
+        return replies::send_error(w, out, c, 4, 16, len);
+    }
+    replies::send_fatal(w, strings, out, c, i, 2)
+}
+
+// A payload that is not all here (checks 3 and 5).
+fn deliver_part(
+    w: &mut [u64; 235],
+    strings: &mut [u8; 1088],
+    out: &mut [u8],
+    c: u64,
+    i: usize,
+    role: u8,
+    kind: u8,
+) -> Delivery
+    requires { ⌜ (c < 32) × (2048 ≤ length (now out)) × ((s : List ℕ) → slotIn (locksOf (now w) s .entries) c ≡ i) ⌝ }
+    ensures { λ r. ⌜ ((ro : Role) (code param len : ℕ) → roleNumber ro ≡ role → DidOn (view (memory (now (w .entry)) (now (strings .entry)))) c i r (memory (now (w .entry)) (now (strings .entry))) (memory (now (w .exit)) (now (strings .exit))) (now (out .entry)) (now (out .exit)) ro (part (message kind code param len))) ⌝ }
+{
+    if role == 2 {
+        return quiet(0, 0);
+    }
+    if role == 3 {
+        return quiet(0, 0);
+    }
+    if role != 0 {
+        return replies::send_fatal(w, strings, out, c, i, 2);
+    }
+    if kind == 0 {
+        return quiet(0, 0);
+    }
+    if kind == 17 {
+        return quiet(0, 0);
+    }
+    replies::send_fatal(w, strings, out, c, i, 3)
+}
+
+// At least sixteen bytes, with nothing to skip.
+fn deliver_message(
+    w: &mut [u64; 235],
+    strings: &mut [u8; 1088],
+    out: &mut [u8],
+    c: u64,
+    i: usize,
+    role: u8,
+    bytes: &[u8],
+) -> Delivery
+    requires { ⌜ (c < 32) × (16 ≤ length (now bytes)) × (2048 ≤ length (now out)) × ((s : List ℕ) → slotIn (locksOf (now w) s .entries) c ≡ i) × ((role ≡ 0 → ⊥) → i < 16) ⌝ }
+    ensures { λ r. ⌜ ((ro : Role) → roleNumber ro ≡ role → DidOn (view (memory (now (w .entry)) (now (strings .entry)))) c i r (memory (now (w .entry)) (now (strings .entry))) (memory (now (w .exit)) (now (strings .exit))) (now (out .entry)) (now (out .exit)) ro (freshScan (now (bytes .entry)))) ⌝ }
+{
+    if !reading::has_prologue(bytes) {
+        return replies::send_fatal(w, strings, out, c, i, 1);
+    }
+    let h = reading::header_at(bytes);
+    let len = h.len;
+    if len > 1024 {
+        return deliver_long(w, strings, out, c, i, role, len);
+    }
+    let end = 16 + len as usize;
+    if bytes.len() < end {
+        return deliver_part(w, strings, out, c, i, role, h.kind);
+    }
+    deliver_whole(
+        w,
+        strings,
+        out,
+        c,
+        i,
+        role,
+        h.kind,
+        h.code,
+        h.param,
+        len,
+        &bytes[16..end],
+    )
+}
+
+fn least(a: u64, b: usize) -> u64
+    ensures { λ r. ⌜ r ≡ min a b ⌝ }
+{
+    if a < b as u64 {
+        return a;
+    }
+    b as u64
+}
+
+// The unread bytes of an open connection.
+pub fn deliver_open(
+    w: &mut [u64; 235],
+    strings: &mut [u8; 1088],
+    out: &mut [u8],
+    c: u64,
+    bytes: &[u8],
+) -> Delivery
+    requires { ⌜ (c < 32) × (2048 ≤ length (now out)) ⌝ }
+    ensures { λ r. ⌜ Did (finish (view (memory (now (w .entry)) (now (strings .entry)))) (received (view (memory (now (w .entry)) (now (strings .entry)))) c (scan ((connectionAt (restOf (now (w .entry))) c) .remainder) (now (bytes .entry))))) r (memory (now (w .entry)) (now (strings .entry))) (memory (now (w .exit)) (now (strings .exit))) (now (out .entry)) (now (out .exit)) ⌝ }
+{
+    if bytes.len() == 0 {
+        return quiet(0, 0);
+    }
+    let left = tables::connection(w, c as usize, 1);
+    if left > 0 {
+        return replies::skip(w, c, left, least(left, bytes.len()));
+    }
+    if bytes.len() < 16 {
+        return quiet(0, 0);
+    }
+    let place = search::place_of(w, c);
+    let i = place.slot;
+    deliver_message(w, strings, out, c, i, place.role, bytes)
 }

@@ -11,7 +11,7 @@ use Rattle.server.proofs.deliver.act.Statement.{statement}
 use Rattle.server.proofs.deliver.act.Tie as tie
 
 act-synchronous-requires : tie.Need-act-synchronous-requires
-act-synchronous-requires c κs =     let a = c .before .before .before .before .before .args in
+act-synchronous-requires c κs = let a = c .before .before .before .before .before .args in
     let q = c .before .before .before .before .before .pre in
     let s = a .strings .now in
     let h = message (a .kind) (a .code) (a .param) (a .len) in
@@ -19,7 +19,7 @@ act-synchronous-requires c κs =     let a = c .before .before .before .before .
     (search needs, q .4 (λ z. omega arith), search needs, search needs)
 
 returns : tie.Need-returns
-returns c =     let a = c .before .before .before .before .before .before .before .before .args in
+returns c = let a = c .before .before .before .before .before .before .before .before .args in
     let q = c .before .before .before .before .before .before .before .before .pre in
     let s = a .strings .now in
     let h = message (a .kind) (a .code) (a .param) (a .len) in
@@ -27,7 +27,7 @@ returns c =     let a = c .before .before .before .before .before .before .befor
     λ ro e. acts-as (view (memory (a .w .now) s)) (a .i) (a .c) h p _ _ _ _ _ ro r-synchronous (role-sync ro (e ∙ c .before .before .before .before .before .if1 .taken)) (c .before .before .act-synchronous .ensures s p)
 
 act-asynchronous-requires : tie.Need-act-asynchronous-requires
-act-asynchronous-requires c κs =     let a = c .before .before .before .before .before .before .before .args in
+act-asynchronous-requires c κs = let a = c .before .before .before .before .before .before .before .args in
     let q = c .before .before .before .before .before .before .before .pre in
     let s = a .strings .now in
     let h = message (a .kind) (a .code) (a .param) (a .len) in
@@ -35,7 +35,7 @@ act-asynchronous-requires c κs =     let a = c .before .before .before .before 
     (q .4 (λ z. omega arith), search needs, search needs, q .2, search needs, λ k. size-eight h p (q .5 s r-asynchronous (sym (c .before .before .before .if2 .taken))) k)
 
 returns-2 : tie.Need-returns-2
-returns-2 c =     let a = c .before .before .before .before .before .before .before .before .before .before .args in
+returns-2 c = let a = c .before .before .before .before .before .before .before .before .before .before .args in
     let q = c .before .before .before .before .before .before .before .before .before .before .pre in
     let s = a .strings .now in
     let h = message (a .kind) (a .code) (a .param) (a .len) in
@@ -43,7 +43,7 @@ returns-2 c =     let a = c .before .before .before .before .before .before .bef
     λ ro e. acts-as (view (memory (a .w .now) s)) (a .i) (a .c) h p _ _ _ _ _ ro r-asynchronous (role-async ro (e ∙ c .before .before .before .before .before .before .if2 .taken)) (c .before .before .act-asynchronous .ensures)
 
 act-opening-requires : tie.Need-act-opening-requires
-act-opening-requires c κs =     let a = c .before .before .before .before .before .before .before .args in
+act-opening-requires c κs = let a = c .before .before .before .before .before .before .before .args in
     let q = c .before .before .before .before .before .before .before .pre in
     let s = a .strings .now in
     let h = message (a .kind) (a .code) (a .param) (a .len) in
@@ -51,7 +51,7 @@ act-opening-requires c κs =     let a = c .before .before .before .before .befo
     (search needs, search needs, search needs, λ t k. slot-free (a .w .now) t h p (q .5 t r-none (sym (c .before .before .if3 .taken))) k, λ t k. slot-named (a .w .now) t h p (q .5 t r-none (sym (c .before .before .if3 .taken))) k)
 
 returns-3 : tie.Need-returns-3
-returns-3 c =     let a = c .before .before .before .before .before .before .before .before .before .before .args in
+returns-3 c = let a = c .before .before .before .before .before .before .before .before .before .before .args in
     let q = c .before .before .before .before .before .before .before .before .before .before .pre in
     let s = a .strings .now in
     let h = message (a .kind) (a .code) (a .param) (a .len) in
@@ -59,7 +59,7 @@ returns-3 c =     let a = c .before .before .before .before .before .before .bef
     λ ro e. acts-as (view (memory (a .w .now) s)) (a .i) (a .c) h p _ _ _ _ _ ro r-none (role-none ro (e ∙ c .before .before .before .before .before .if3 .taken)) (c .before .before .act-opening .ensures s p (a .i) (a .code))
 
 returns-4 : tie.Need-returns-4
-returns-4 c =     let a = c .before .before .before .before .before .before .args in
+returns-4 c = let a = c .before .before .before .before .before .before .args in
     let q = c .before .before .before .before .before .before .pre in
     let s = a .strings .now in
     let h = message (a .kind) (a .code) (a .param) (a .len) in

@@ -11,7 +11,7 @@ use Rattle.server.proofs.deliver.deliver_whole.Statement.{statement}
 use Rattle.server.proofs.deliver.deliver_whole.Tie as tie
 
 whole-verdict-requires : tie.Need-whole-verdict-requires
-whole-verdict-requires c κs =     let a = c .before .before .before .args in
+whole-verdict-requires c κs = let a = c .before .before .before .args in
     let q = c .before .before .before .pre in
     let s = a .strings .now in
     let h = message (a .kind) (a .code) (a .param) (a .len) in
@@ -19,7 +19,7 @@ whole-verdict-requires c κs =     let a = c .before .before .before .args in
     λ e. q .5 (λ z. omega arith)
 
 act-requires : tie.Need-act-requires
-act-requires c κs =     let a = c .before .before .before .before .before .before .before .before .before .args in
+act-requires c κs = let a = c .before .before .before .before .before .before .before .before .before .args in
     let q = c .before .before .before .before .before .before .before .before .before .pre in
     let s = a .strings .now in
     let h = message (a .kind) (a .code) (a .param) (a .len) in
@@ -27,7 +27,7 @@ act-requires c κs =     let a = c .before .before .before .before .before .befo
     (search needs, search needs, q .2, search needs, q .5, λ t ro e. c .before .before .before .before .before .whole-verdict .ensures t ro e ∙ acts-true (c .before .before .before .before .before .whole-verdict .result) (c .before .before .before .before .acts-on .ensures ∙ c .before .before .before .if1 .taken))
 
 returns : tie.Need-returns
-returns c =     let a = c .before .before .before .before .before .before .before .before .before .before .before .before .args in
+returns c = let a = c .before .before .before .before .before .before .before .before .before .before .before .before .args in
     let q = c .before .before .before .before .before .before .before .before .before .before .before .before .pre in
     let s = a .strings .now in
     let h = message (a .kind) (a .code) (a .param) (a .len) in
@@ -35,7 +35,7 @@ returns c =     let a = c .before .before .before .before .before .before .befor
     λ ro e. acts-whole (view (memory (a .w .now) s)) (a .c) (a .i) h p ro _ _ _ _ _ (judged ro (view (memory (a .w .now) s)) (a .i) h p) (c .before .before .before .before .before .before .before .before .whole-verdict .ensures s ro e ∙ acts-true (c .before .before .before .before .before .before .before .before .whole-verdict .result) (c .before .before .before .before .before .before .before .acts-on .ensures ∙ c .before .before .before .before .before .before .if1 .taken)) (c .before .before .act .ensures ro e)
 
 apply-other-requires : tie.Need-apply-other-requires
-apply-other-requires c κs =     let a = c .before .before .before .before .before .before .before .before .before .args in
+apply-other-requires c κs = let a = c .before .before .before .before .before .before .before .before .before .args in
     let q = c .before .before .before .before .before .before .before .before .before .pre in
     let s = a .strings .now in
     let h = message (a .kind) (a .code) (a .param) (a .len) in
@@ -43,7 +43,7 @@ apply-other-requires c κs =     let a = c .before .before .before .before .befo
     let f = acts-false (c .before .before .before .before .before .whole-verdict .result) (c .before .before .before .before .acts-on .ensures ∙ c .before .before .before .if1 .left) in (search needs, search needs, search needs, q .4, f .0, f .1)
 
 returns-2 : tie.Need-returns-2
-returns-2 c =     let a = c .before .before .before .before .before .before .before .before .before .before .before .before .args in
+returns-2 c = let a = c .before .before .before .before .before .before .before .before .before .before .before .before .args in
     let q = c .before .before .before .before .before .before .before .before .before .before .before .before .pre in
     let s = a .strings .now in
     let h = message (a .kind) (a .code) (a .param) (a .len) in

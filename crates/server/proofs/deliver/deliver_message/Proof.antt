@@ -1,0 +1,91 @@
+-- `deliver::deliver_message` meets its contract: the prologue, the length, whether the payload is here.
+use mathlib.Core.Path.{_≡_, sym, ap, _∙_}
+use mathlib.Core.Bool.{true, false}
+use Prim.Native.Nat.{ℕ, _+_, _-_}
+use native.Mathlib.Omega.{arith}
+use lib.ListN.{length, take, drop, length-take, length-drop}
+use Rattle.wire.specs.declared.Header.{Header}
+use Rattle.wire.specs.Message.{header, prologue, payloadOf}
+use Rattle.model.specs.Scan.{Scan.wrong, Scan.long, Scan.part, Scan.whole, freshScan}
+use Rattle.state.specs.View.{memory, view}
+use Rattle.server.specs.Scanning.{on-scan, scan-wrong, scan-long, scan-part, scan-whole, wrong-done, whole-done}
+use borrow.Author.Needs.{needs}
+use borrow.Author.Tests.{not-true, not-false}
+use Rattle.server.proofs.deliver.deliver_message.Statement.{statement}
+use Rattle.server.proofs.deliver.deliver_message.Tie as tie
+
+returns : tie.Need-returns
+returns c = let a = c .before .before .before .before .before .before .before .before .before .before .args in
+    let s = a .strings .now in
+    let bs = a .bytes .now in
+    λ ro e. on-scan (view (memory (a .w .now) s)) (a .c) (a .i) _ _ _ _ _ ro (freshScan bs) wrong (scan-wrong bs (c .before .before .before .before .before .before .before .before .before .before .pre .1) (sym (c .before .before .before .before .before .before .before .has-prologue .ensures) ∙ not-true (c .before .before .before .before .before .before .before .has-prologue .result) (c .before .before .before .before .before .before .if1 .taken))) (wrong-done (view (memory (a .w .now) s)) (a .c) (a .i) _ _ _ _ _ ro (c .before .before .send-fatal .ensures))
+
+returns-2 : tie.Need-returns-2
+returns-2 c = let a = c .before .before .before .before .before .before .before .before .before .before .before .before .args in
+    let q = c .before .before .before .before .before .before .before .before .before .before .before .before .pre in
+    let s = a .strings .now in
+    let bs = a .bytes .now in
+    let h = c .before .before .before .before .before .before .before .header-at .result in
+    let eh : h ≡ header bs = c .before .before .before .before .before .before .before .header-at .ensures in
+    let el : header bs .len ≡ h .len = ap (λ (x : Header). x .len) (sym eh) in
+    let p : prologue bs ≡ true = sym (c .before .before .before .before .before .before .before .before .before .has-prologue .ensures) ∙ not-false (c .before .before .before .before .before .before .before .before .before .has-prologue .result) (c .before .before .before .before .before .before .before .before .if1 .left) in
+    λ ro e. on-scan (view (memory (a .w .now) s)) (a .c) (a .i) _ _ _ _ _ ro (freshScan bs) (long h) (scan-long bs (q .1) p (omega arith) ∙ ap long (sym eh)) (c .before .before .deliver-long .ensures ro (h .kind) (h .code) (h .param) e)
+
+returns-3 : tie.Need-returns-3
+returns-3 c = let a = c .before .before .before .before .before .before .before .before .before .before .before .before .before .args in
+    let q = c .before .before .before .before .before .before .before .before .before .before .before .before .before .pre in
+    let s = a .strings .now in
+    let bs = a .bytes .now in
+    let h = c .before .before .before .before .before .before .before .before .header-at .result in
+    let eh : h ≡ header bs = c .before .before .before .before .before .before .before .before .header-at .ensures in
+    let el : header bs .len ≡ h .len = ap (λ (x : Header). x .len) (sym eh) in
+    let p : prologue bs ≡ true = sym (c .before .before .before .before .before .before .before .before .before .before .has-prologue .ensures) ∙ not-false (c .before .before .before .before .before .before .before .before .before .before .has-prologue .result) (c .before .before .before .before .before .before .before .before .before .if1 .left) in
+    λ ro e. on-scan (view (memory (a .w .now) s)) (a .c) (a .i) _ _ _ _ _ ro (freshScan bs) (part h) (scan-part bs (q .1) p (omega arith) (omega arith) ∙ ap part (sym eh)) (c .before .before .deliver-part .ensures ro (h .code) (h .param) (h .len) e)
+
+deliver-whole-requires : tie.Need-deliver-whole-requires
+deliver-whole-requires c κs = let a = c .before .before .before .before .before .before .before .before .before .before .before .args in
+    let q = c .before .before .before .before .before .before .before .before .before .before .before .pre in
+    let s = a .strings .now in
+    let bs = a .bytes .now in
+    let h = c .before .before .before .before .before .before .header-at .result in
+    let eh : h ≡ header bs = c .before .before .before .before .before .before .header-at .ensures in
+    let el : header bs .len ≡ h .len = ap (λ (x : Header). x .len) (sym eh) in
+    let p : prologue bs ≡ true = sym (c .before .before .before .before .before .before .before .before .has-prologue .ensures) ∙ not-false (c .before .before .before .before .before .before .before .before .has-prologue .result) (c .before .before .before .before .before .before .before .if1 .left) in
+    (search needs, search needs, simp (length-take, length-drop) (omega arith), search needs, q .3, q .4)
+
+returns-4 : tie.Need-returns-4
+returns-4 c = let a = c .before .before .before .before .before .before .before .before .before .before .before .before .before .before .args in
+    let q = c .before .before .before .before .before .before .before .before .before .before .before .before .before .before .pre in
+    let s = a .strings .now in
+    let bs = a .bytes .now in
+    let h = c .before .before .before .before .before .before .before .before .before .header-at .result in
+    let eh : h ≡ header bs = c .before .before .before .before .before .before .before .before .before .header-at .ensures in
+    let el : header bs .len ≡ h .len = ap (λ (x : Header). x .len) (sym eh) in
+    let p : prologue bs ≡ true = sym (c .before .before .before .before .before .before .before .before .before .before .before .has-prologue .ensures) ∙ not-false (c .before .before .before .before .before .before .before .before .before .before .before .has-prologue .result) (c .before .before .before .before .before .before .before .before .before .before .if1 .left) in
+    let z : 16 + h .len - 16 ≡ h .len = omega arith in
+    λ ro e. on-scan (view (memory (a .w .now) s)) (a .c) (a .i) _ _ _ _ _ ro (freshScan bs) (whole h (take (16 + h .len - 16) (drop 16 bs)))
+    (scan-whole bs (q .1) p (omega arith) (omega arith) ∙ ap (λ (x : Header). whole x (payloadOf x bs)) (sym eh) ∙ ap (λ (n : ℕ). whole h (take n (drop 16 bs))) (sym z))
+    (whole-done (view (memory (a .w .now) s)) (a .c) (a .i) _ _ _ _ _ ro h (take (16 + h .len - 16) (drop 16 bs)) (c .before .before .deliver-whole .ensures ro e))
+
+pub deliver-message-spec : {M : Type 1} → statement M
+deliver-message-spec =
+    tie.close
+    (tie.spec
+    (λ c κs. search needs)
+    (λ c κs. search needs)
+    (λ c. search needs)
+    returns
+    (λ c κs. search needs)
+    (λ c κs. search needs)
+    (λ c. search needs)
+    returns-2
+    (λ c. search needs)
+    (λ c κs. search needs)
+    (λ c. search needs)
+    returns-3
+    (λ c. search needs)
+    (λ c. search needs)
+    (λ c. search needs)
+    deliver-whole-requires
+    (λ c. search needs)
+    returns-4)
