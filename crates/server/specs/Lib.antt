@@ -1,3 +1,4 @@
 pub mod Verdicts
 pub mod Acting
 pub mod Scanning
+pub mod Calls
