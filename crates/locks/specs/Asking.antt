@@ -3,19 +3,18 @@ use mathlib.Core.Path.{_≡_, refl, sym, ap, ap₂, _∙_}
 use mathlib.Core.Bool.{Bool, true, false, not, _&&_, _||_, true≢false}
 use mathlib.Core.List.{List, [], _∷_, _++_}
 use Prim.Native.Nat.{ℕ, _+_, _<_, _≤_}
-use native.Mathlib.Numerals.{add-one}
 use native.Mathlib.Omega.{arith}
 use lib.Dec.{eqb, leb, ltb}
 use lib.ListN.{length, getD, drop, drop-of-length-le}
-use borrow.Author.Tests.{lt-ltb, le-ltb, eq-eqb, ne-eqb, le-leb, lt-leb, ltb-false, leb-false}
+use borrow.Author.Tests.{lt-ltb, le-ltb, eq-eqb, ne-eqb, ltb-false, leb-false}
 use Rattle.model.specs.Sizes.{sessionLimit, stringLimit}
 use Rattle.model.specs.Lists.{all}
 use Rattle.model.specs.State.{Entry, Waiting, Locks, Server, at, blank}
-use Rattle.model.specs.Locks.{Answer, LockResult, LockEvent.request, noShared, mayGrant, give, holds, tell, withEntries, withWaiting, unanswered, elsewhere, noPlace, Ruling, Ruling.invalid, ruling, respond, change}
+use Rattle.model.specs.Locks.{LockResult, LockEvent.request, noShared, mayGrant, give, holds, tell, withEntries, withWaiting, unanswered, elsewhere, noPlace, Ruling, Ruling.invalid, ruling, respond, change}
 use Rattle.state.specs.Grid.{upd, upd-set}
 use Rattle.state.specs.Queue.{noRequest}
-use Rattle.state.specs.View.{Memory, memory, requestAt, view}
-use Rattle.locks.specs.Outcome.{Met, Spot, spot, ends, ends-nil, met, met-is, told}
+use Rattle.state.specs.View.{Memory, view}
+use Rattle.locks.specs.Outcome.{Met, ends, ends-nil, met, met-is, told}
 use Rattle.locks.specs.Waiting.{next}
 
 -- answered 3: that kind is held, a request waits, or the string is too long

@@ -1,15 +1,13 @@
 -- The granting rule by the tests of the code, and a grant as one change of the table. Assumes nothing.
-use mathlib.Core.Path.{_≡_, refl, sym, ap, _∙_}
+use mathlib.Core.Path.{_≡_, refl, sym, _∙_}
 use mathlib.Core.Bool.{Bool, true, false, not, _&&_, _||_, true≢false}
 use mathlib.Core.List.{List, [], _∷_}
-use Prim.Native.Nat.{ℕ, suc, _<_, _≤_, _^_, _%_}
-use native.Mathlib.Nat.{not-suc-le-zero}
+use Prim.Native.Nat.{ℕ, _^_, _%_}
 use native.Mathlib.Omega.{arith}
-use lib.Dec.{eqb}
 use lib.ListN.{length}
 use borrow.Author.Tests.{eqb-true, eqb-false}
 use Rattle.model.specs.Sizes.{sessionLimit}
-use Rattle.model.specs.Lists.{isNil, same, all, allBut}
+use Rattle.model.specs.Lists.{same, all, allBut}
 use Rattle.model.specs.State.{Entry, at, blank}
 use Rattle.model.specs.Locks.{noExclusive, noShared, fits, mayGrant, give, grant}
 use Rattle.state.specs.Grid.{upd, upd-set}

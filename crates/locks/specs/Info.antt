@@ -1,18 +1,17 @@
 -- What AsyncLockInfo tells, by the tests of the code and slot after slot. Assumes nothing.
-use mathlib.Core.Path.{_≡_, refl, sym, ap, _∙_}
-use mathlib.Core.Bool.{Bool, true, false, not, _&&_, cond}
-use mathlib.Core.List.{List, [], _∷_}
+use mathlib.Core.Path.{_≡_, ap, _∙_}
+use mathlib.Core.Bool.{Bool, true, false, not, cond}
+use mathlib.Core.List.{List, _∷_}
 use Prim.Native.Nat.{ℕ, suc, _+_, _≤_, _<_}
 use native.Mathlib.Numerals.{add-one}
-use native.Mathlib.Omega.{arith}
 use lib.ListN.{length, drop, drop-of-length-le}
 use lib.Seq.{drop-cons}
 use Rattle.model.specs.Sizes.{sessionLimit}
 use Rattle.model.specs.Lists.{tally}
 use Rattle.model.specs.State.{Entry, at, blank}
-use Rattle.model.specs.Locks.{noExclusive, noShared}
+use Rattle.model.specs.Locks.{noShared}
 use Rattle.model.specs.Acts.{holder}
-use Rattle.state.specs.Table.{tab, length-tab}
+use Rattle.state.specs.Table.{length-tab}
 use Rattle.state.specs.View.{keyOf, entryAt, entriesOf, locksOf}
 
 pub holder-exclusive : (e : Entry) → e .exclusive ≡ true → holder e ≡ true

@@ -1,17 +1,15 @@
 -- The grant pass, walked in the lent memory: those that go on waiting stand at the front of the queue, those still to be looked at from
 -- place j on, and the pass over these ends where the whole pass does. Assumes nothing.
-use mathlib.Core.Path.{_≡_, refl, sym, ap, ap₂, _∙_}
+use mathlib.Core.Path.{_≡_, sym, ap, ap₂, _∙_}
 use mathlib.Core.Bool.{Bool, true, false}
-use mathlib.Core.List.{List, [], _∷_, _++_, append-nil}
+use mathlib.Core.List.{List, _∷_, _++_, append-nil}
 use Prim.Native.Nat.{ℕ, _+_, _≤_, _<_}
 use lib.ListN.{length, getD, set, take, drop, drop-of-length-le}
 use Rattle.wire.specs.Frame.{frameBytes}
 use Rattle.wire.specs.Splice.{splice}
-use Rattle.model.specs.State.{Entry, Waiting, Locks, Server}
-use Rattle.model.specs.Locks.{LockResult, Passed, tell, mayGrant, give, grant, after, put, passOver, grantPass}
-use Rattle.model.specs.Step.{lockFrame}
+use Rattle.model.specs.State.{Entry, Waiting, Server}
+use Rattle.model.specs.Locks.{Passed, tell, mayGrant, give, grant, after, put, passOver, grantPass}
 use Rattle.state.specs.Change.{onEntry}
-use Rattle.state.specs.Grid.{upd}
 use Rattle.state.specs.Queue.{noRequest, onWaiting, count-is}
 use Rattle.state.specs.Requests.{countOf, stringAt}
 use Rattle.state.specs.View.{Memory, memory, locksOf, view}

@@ -1,13 +1,9 @@
 -- A release, an opening, a second connection and a closing, as changes of one slot. Assumes nothing.
-use mathlib.Core.Path.{_≡_, refl, sym, ap, _∙_}
-use mathlib.Core.Bool.{Bool, true, false, not}
-use mathlib.Core.List.{List, [], _∷_}
-use Prim.Native.Nat.{ℕ, _+_, _≤_}
-use lib.ListN.{length}
-use Rattle.wire.specs.Frame.{frameBytes}
-use Rattle.wire.specs.Splice.{splice}
-use Rattle.model.specs.State.{Entry, Locks, at, blank}
-use Rattle.model.specs.Locks.{LockResult, LockEvent.release, LockEvent.enter, LockEvent.join, LockEvent.close, Answer, tell, noShared, withoutExclusive, withoutShared, withEntries, opened, joined, change}
+use mathlib.Core.Path.{_≡_}
+use mathlib.Core.Bool.{true, false}
+use Prim.Native.Nat.{ℕ}
+use Rattle.model.specs.State.{Locks, at, blank}
+use Rattle.model.specs.Locks.{LockEvent.release, tell, noShared, withoutExclusive, withoutShared, withEntries, change}
 use Rattle.state.specs.Grid.{upd, upd-set}
 use Rattle.locks.specs.Outcome.{told}
 

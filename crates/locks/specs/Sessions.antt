@@ -1,12 +1,12 @@
 -- Opening a session, its second connection and its closing, as changes of one slot. Assumes nothing.
 use mathlib.Core.Path.{_≡_, refl, sym, ap, _∙_}
-use mathlib.Core.Bool.{Bool, true, false}
-use mathlib.Core.List.{List, [], _∷_}
-use Prim.Native.Nat.{ℕ, _%_, _<_}
+use mathlib.Core.Bool.{false}
+use mathlib.Core.List.{[]}
+use Prim.Native.Nat.{ℕ, _<_}
 use native.Mathlib.Nat.{mod-eq-of-lt}
 use Rattle.model.specs.Lists.{keep}
-use Rattle.model.specs.State.{Entry, Waiting, Locks, Server, at, blank}
-use Rattle.model.specs.Locks.{LockResult, LockEvent.enter, LockEvent.join, LockEvent.close, elsewhere, withoutExclusive, withoutShared, opened, joined, change}
+use Rattle.model.specs.State.{Entry, Server, blank}
+use Rattle.model.specs.Locks.{LockEvent.enter, LockEvent.join, LockEvent.close, elsewhere, withoutExclusive, withoutShared, opened, joined, change}
 use Rattle.state.specs.Grid.{upd, upd-upd, upd-set}
 use Rattle.state.specs.Change.{onEntry, entryWith}
 use Rattle.state.specs.Queue.{onWaiting}

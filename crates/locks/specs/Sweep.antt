@@ -1,18 +1,18 @@
 -- A sweep of the queue as the model's events: a device clear, a clock reading, a closing. Assumes nothing.
-use mathlib.Core.Path.{_≡_, refl, sym, ap, subst, _∙_}
-use mathlib.Core.Bool.{Bool, true, false, cond, true≢false}
+use mathlib.Core.Path.{_≡_, refl, sym, ap, _∙_}
+use mathlib.Core.Bool.{Bool, true, false, cond}
 use mathlib.Core.List.{List, [], _∷_}
 use Prim.Native.Nat.{ℕ, _<_}
 use native.Mathlib.Omega.{arith}
 use Rattle.model.specs.Sizes.{sessionLimit}
 use Rattle.model.specs.Lists.{keep}
 use Rattle.model.specs.State.{Entry, Waiting, Locks, Server}
-use Rattle.model.specs.Locks.{Answer, LockResult, LockEvent.clear, LockEvent.reading, tell, elsewhere, refuse, withWaiting, change}
+use Rattle.model.specs.Locks.{LockEvent.clear, LockEvent.reading, tell, elsewhere, refuse, withWaiting, change}
 use Rattle.state.specs.Change.{withClock}
 use Rattle.state.specs.Queue.{onWaiting}
 use Rattle.state.specs.View.{Memory, view}
-use Rattle.locks.specs.Outcome.{Met, Spot, spot, ends, met, met-is, no-answers}
-use Rattle.locks.specs.Waiting.{stays, stays-else, stays-past, swept}
+use Rattle.locks.specs.Outcome.{Met, spot, ends, met, met-is, no-answers}
+use Rattle.locks.specs.Waiting.{stays, stays-else, swept}
 
 -- where nobody is answered, all stay
 refuse-none : (es : List Entry) (p : Waiting → Bool) (ws : List Waiting) → refuse es p ws ≡ [] → keep p ws ≡ ws

@@ -2,8 +2,8 @@
 -- place j on, and the two give the whole. Assumes nothing.
 use mathlib.Core.Path.{_≡_, refl, sym, ap, ap₂, _∙_}
 use mathlib.Core.Bool.{Bool, true, false, not, cond}
-use mathlib.Core.List.{List, [], _∷_, _++_, append-assoc, append-nil}
-use Prim.Native.Nat.{ℕ, zero, suc, _+_, _≤_, _<_}
+use mathlib.Core.List.{List, [], _∷_, _++_, append-nil}
+use Prim.Native.Nat.{ℕ, _+_, _≤_, _<_}
 use native.Mathlib.Numerals.{add-one}
 use native.Mathlib.Omega.{arith}
 use lib.Dec.{eqb, leb, ltb}
@@ -15,13 +15,11 @@ use Rattle.wire.specs.Splice.{splice}
 use Rattle.model.specs.Sizes.{sessionLimit}
 use Rattle.model.specs.Lists.{keep}
 use Rattle.model.specs.State.{Entry, Waiting, Locks, Server}
-use Rattle.model.specs.Locks.{Answer, LockResult, LockEvent.clear, LockEvent.reading, tell, elsewhere, unexpired, refuse, withWaiting, change}
-use Rattle.model.specs.Step.{lockFrame}
-use Rattle.state.specs.Change.{withClock}
+use Rattle.model.specs.Locks.{Answer, LockResult, tell, elsewhere, unexpired, refuse, withWaiting}
 use Rattle.state.specs.Queue.{noRequest, onWaiting, count-is}
 use Rattle.state.specs.Requests.{countOf}
-use Rattle.state.specs.View.{Memory, memory, requestAt, locksOf, view}
-use Rattle.locks.specs.Outcome.{Met, Spot, spot, ends, ends-cons, answerFrame, met}
+use Rattle.state.specs.View.{memory, requestAt, locksOf, view}
+use Rattle.locks.specs.Outcome.{ends, ends-cons, answerFrame}
 
 -- what stays in a sweep: with a slot i, the requests of other slots; with none, those whose deadline is past t
 unfoldable pub stays : ℕ → ℕ → Waiting → Bool

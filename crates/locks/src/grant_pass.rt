@@ -1,5 +1,5 @@
 // The grant pass: after a lock was freed, those that wait are looked at once.
-ghost use Prim.Native.Nat.{ℕ, _+_, _<_, _≤_};
+ghost use Prim.Native.Nat.{_+_, _<_, _≤_};
 ghost use Rattle.locks.specs.Outcome.{Met};
 ghost use Rattle.model.specs.Locks.{grantPass};
 ghost use Rattle.state.specs.View.{locksOf, memory};

@@ -1,5 +1,5 @@
 // The granting rule, and a grant.
-ghost use Prim.Native.Nat.{ℕ, _+_, _<_, _≤_};
+ghost use Prim.Native.Nat.{_+_, _<_, _≤_};
 ghost use Rattle.locks.specs.Pass.{Granted};
 ghost use Rattle.model.specs.Locks.{give, mayGrant};
 ghost use Rattle.state.specs.Change.{onEntry};
@@ -7,7 +7,6 @@ ghost use Rattle.state.specs.Requests.{stringAt};
 ghost use Rattle.state.specs.View.{locksOf, memory, view};
 ghost use lib.ListN.{length};
 ghost use mathlib.Core.Bool.{true};
-ghost use mathlib.Core.List.{List};
 ghost use mathlib.Core.Path.{_≡_};
 use crate::answers::put_answer;
 use state::holders;

@@ -1,10 +1,7 @@
 -- `access::has_access` meets its contract: the tests of the code, in the order of the definition.
 use borrow.Author.Tests.{not-false, not-true}
 use mathlib.Core.Path.{_∙_}
-use mathlib.Core.List.{List}
-use Prim.Native.Nat.{ℕ}
 use Rattle.locks.specs.Access.{access-holder, access-locked, access-rest, access-sharer}
-use Rattle.model.specs.State.{Entry}
 use Rattle.state.specs.View.{locksOf}
 use borrow.Author.Needs.{needs}
 use Rattle.locks.proofs.access.has_access.Statement.{statement}

@@ -1,7 +1,6 @@
 -- `answers::put_answer` meets its contract: the connection is what the row of the slot says.
 use mathlib.Core.Path.{refl, ap, _∙_}
-use mathlib.Core.List.{List, []}
-use Prim.Native.Nat.{ℕ}
+use mathlib.Core.List.{[]}
 use Rattle.wire.specs.Frame.{frameBytes, frameOf}
 use Rattle.wire.specs.Splice.{splice}
 use Rattle.model.specs.State.{Entry}

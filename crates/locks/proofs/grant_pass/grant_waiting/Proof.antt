@@ -4,10 +4,10 @@ use Rattle.locks.specs.Waiting.{count-moved, slot-is}
 use Rattle.state.specs.Queue.{count-is}
 use mathlib.Core.Path.{_≡_, refl, sym, ap, _∙_}
 use mathlib.Core.Logic.{⊎-elim}
-use mathlib.Core.List.{List, []}
-use Prim.Native.Nat.{ℕ, _+_, _-_, _*_, _≤_, _<_}
+use mathlib.Core.List.{[]}
+use Prim.Native.Nat.{_+_, _-_, _*_, _≤_, _<_}
 use native.Mathlib.Omega.{arith}
-use lib.ListN.{length, drop}
+use lib.ListN.{length}
 use Rattle.locks.specs.Pass.{passed}
 use Rattle.state.specs.Requests.{countOf}
 use Rattle.state.specs.View.{locksOf, memory, requestAt, view}

@@ -1,7 +1,6 @@
 -- `info::exclusive_code` meets its contract.
 use mathlib.Core.Path.{ap, _∙_}
 use mathlib.Core.Bool.{Bool, cond}
-use Prim.Native.Nat.{ℕ}
 use borrow.Author.Needs.{needs}
 use Rattle.locks.proofs.info.exclusive_code.Statement.{statement}
 use Rattle.locks.proofs.info.exclusive_code.Tie as tie

@@ -1,11 +1,8 @@
 -- `release::release_lock` meets its contract: each way of the release answers once.
-use mathlib.Core.Path.{_≡_, refl, sym, ap, _∙_}
-use mathlib.Core.Bool.{not}
-use mathlib.Core.List.{List}
-use Prim.Native.Nat.{ℕ}
+use mathlib.Core.Path.{refl, _∙_}
 use Rattle.locks.specs.Outcome.{met-one}
 use Rattle.locks.specs.Release.{release-exclusive, release-nothing, release-shared}
-use Rattle.state.specs.View.{locksOf, memory, view}
+use Rattle.state.specs.View.{locksOf}
 use borrow.Author.Needs.{needs}
 use Rattle.locks.proofs.release.release_lock.Statement.{statement}
 use Rattle.locks.proofs.release.release_lock.Tie as tie

@@ -6,7 +6,7 @@ use Rattle.model.specs.State.{Server}
 use Rattle.locks.specs.Asking.{able-idle, able-short, laid, request-invalid}
 use Rattle.locks.specs.Outcome.{met-one}
 use Rattle.state.specs.Requests.{idle-of}
-use Rattle.state.specs.View.{locksOf, memory, view}
+use Rattle.state.specs.View.{locksOf, memory}
 use borrow.Author.Needs.{needs}
 use Rattle.locks.proofs.request.request_lock.Statement.{statement}
 use Rattle.locks.proofs.request.request_lock.Tie as tie

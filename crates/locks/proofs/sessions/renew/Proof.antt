@@ -1,6 +1,5 @@
 -- `sessions::renew` meets its contract: five stores make the slot new.
 use Rattle.locks.specs.Sessions.{renewed}
-use Rattle.state.specs.View.{memory, view}
 use borrow.Author.Needs.{needs}
 use Rattle.locks.proofs.sessions.renew.Statement.{statement}
 use Rattle.locks.proofs.sessions.renew.Tie as tie

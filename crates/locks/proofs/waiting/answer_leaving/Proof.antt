@@ -7,7 +7,7 @@ use Rattle.locks.specs.Outcome.{ends, ends-nil}
 use Rattle.locks.specs.Waiting.{answer-leave, refuse-end, refuse-stay, slot-is, stays}
 use Rattle.state.specs.Queue.{count-is}
 use Rattle.state.specs.View.{locksOf, requestAt}
-use mathlib.Core.Path.{_≡_, refl, sym, ap, _∙_}
+use mathlib.Core.Path.{_≡_, refl, ap, _∙_}
 use mathlib.Core.List.{List}
 use Prim.Native.Nat.{ℕ, _+_, _-_, _*_, _≤_}
 use native.Mathlib.Omega.{arith}

@@ -1,7 +1,7 @@
 -- `waiting::clear_request` meets its contract.
 use Rattle.locks.specs.Outcome.{met-is}
 use Rattle.locks.specs.Sweep.{cleared}
-use Rattle.state.specs.View.{locksOf, memory}
+use Rattle.state.specs.View.{locksOf}
 use borrow.Author.Needs.{needs}
 use Rattle.locks.proofs.waiting.clear_request.Statement.{statement}
 use Rattle.locks.proofs.waiting.clear_request.Tie as tie

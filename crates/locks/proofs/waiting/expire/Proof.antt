@@ -1,6 +1,5 @@
 -- `waiting::expire` meets its contract.
 use Rattle.locks.specs.Sweep.{expired}
-use Rattle.state.specs.View.{locksOf, memory}
 use borrow.Author.Needs.{needs}
 use Rattle.locks.proofs.waiting.expire.Statement.{statement}
 use Rattle.locks.proofs.waiting.expire.Tie as tie

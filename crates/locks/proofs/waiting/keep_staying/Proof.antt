@@ -1,15 +1,15 @@
 -- `waiting::keep_staying` meets its contract. The invariant: those kept so far and those that stay from place j on are all that stay.
 use mathlib.Core.Logic.{⊎-elim}
 use mathlib.Core.List.{List, []}
-use Prim.Native.Nat.{ℕ, _+_, _-_, _*_, _≤_, _<_}
+use Prim.Native.Nat.{ℕ, _-_, _≤_, _<_}
 use Rattle.locks.specs.Waiting.{count-moved, halfway, halfway-end, halfway-leave, halfway-stay, stays}
 use Rattle.state.specs.Queue.{count-is, onWaiting}
 use Rattle.state.specs.View.{locksOf, memory, requestAt, view}
-use mathlib.Core.Path.{_≡_, refl, sym, ap, _∙_}
+use mathlib.Core.Path.{_≡_, refl, sym, _∙_}
 use mathlib.Core.List.{List}
-use Prim.Native.Nat.{ℕ, _+_, _-_, _*_, _≤_}
+use Prim.Native.Nat.{ℕ, _-_, _≤_}
 use native.Mathlib.Omega.{arith}
-use lib.ListN.{length, drop}
+use lib.ListN.{length}
 use Rattle.model.specs.Lists.{keep}
 use Rattle.locks.specs.Waiting.{halfway, stays}
 use Rattle.state.specs.Queue.{onWaiting}

@@ -1,8 +1,4 @@
 -- `waiting::may_stay` meets its contract.
-use mathlib.Core.Path.{ap, _∙_}
-use mathlib.Core.Bool.{Bool, not}
-use Prim.Native.Nat.{ℕ}
-use lib.Dec.{eqb, leb, ltb}
 use Rattle.locks.specs.Waiting.{else-stays, past-stays}
 use borrow.Author.Needs.{needs}
 use Rattle.locks.proofs.waiting.may_stay.Statement.{statement}

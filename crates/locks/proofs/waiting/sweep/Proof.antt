@@ -1,6 +1,6 @@
 -- `waiting::sweep` meets its contract: where nobody was answered, all stay.
 use Rattle.locks.specs.Sweep.{swept-none, swept-some}
-use Rattle.state.specs.View.{locksOf, memory}
+use Rattle.state.specs.View.{memory}
 use borrow.Author.Needs.{needs}
 use Rattle.locks.proofs.waiting.sweep.Statement.{statement}
 use Rattle.locks.proofs.waiting.sweep.Tie as tie
