@@ -2,3 +2,4 @@ pub mod Verdicts
 pub mod Acting
 pub mod Scanning
 pub mod Calls
+pub mod Events

@@ -1,14 +1,30 @@
 // The server: the six events in code, and the C interface.
-ghost use Rattle.model.specs.Interface.{Event.delivery};
+ghost use Rattle.model.specs.Interface.{Event, Event.clock, Event.cut, Event.delivery, Event.opening};
+ghost use Rattle.model.specs.State.{fresh};
 ghost use Rattle.server.specs.Calls.{Delivered};
-ghost use Rattle.state.specs.View.{memory};
+ghost use Rattle.server.specs.Events.{Called};
+ghost use Rattle.state.specs.Fresh.{freshStrings, freshWords};
+ghost use Rattle.state.specs.View.{memory, view};
 ghost use lib.ListN.{length};
+ghost use mathlib.Core.List.{[]};
 ghost use mathlib.Core.Path.{_≡_};
 
 mod deliver;
 
 use effects::Delivery;
+use effects::closing;
+use effects::events;
+use locks::waiting;
+use state::fresh as start;
+use state::search;
 use state::tables;
+
+// What the other calls answer the host: the refusal (0: none), and how many bytes of the output hold frames.
+#[repr(C)]
+pub struct Done {
+    pub refusal: u64,
+    pub output: u64,
+}
 
 fn refuse(n: u64) -> Delivery
     ensures { λ r. ⌜ r ≡ record { refusal = n; outcome = 0; session = 0; taken = 0; output = 0 } ⌝ }
@@ -43,4 +59,108 @@ pub extern "C" fn hislip_deliver(
         return refuse(1);
     }
     deliver::deliver_open(words, strings, out, connection as u64, bytes)
+}
+
+fn told(refusal: u64, output: u64) -> Done
+    ensures { λ r. ⌜ r ≡ record { refusal = refusal; output = output } ⌝ }
+{
+    Done { refusal, output }
+}
+
+// A connection opens.
+#[no_mangle]
+pub extern "C" fn hislip_open(
+    words: &mut [u64; 235],
+    strings: &mut [u8; 1088],
+    connection: u32,
+) -> Done
+    ensures { λ r. ⌜ Called (opening connection) r (memory (now (words .entry)) (now (strings .entry))) (memory (now (words .exit)) (now (strings .exit))) [] [] ⌝ }
+{
+    if connection >= 32 {
+        return told(1, 0);
+    }
+    if tables::connection(words, connection as usize, 0) == 1 {
+        return told(2, 0);
+    }
+    events::open_connection(words, connection as u64);
+    told(0, 0)
+}
+
+// A connection is cut.
+#[no_mangle]
+pub extern "C" fn hislip_cut(
+    words: &mut [u64; 235],
+    strings: &mut [u8; 1088],
+    connection: u32,
+    out: &mut [u8],
+) -> Done
+    ensures { λ r. ⌜ Called (cut connection (length (now (out .entry)))) r (memory (now (words .entry)) (now (strings .entry))) (memory (now (words .exit)) (now (strings .exit))) (now (out .entry)) (now (out .exit)) ⌝ }
+{
+    if out.len() < 2048 {
+        return told(7, 0);
+    }
+    if connection >= 32 {
+        return told(1, 0);
+    }
+    if tables::connection(words, connection as usize, 0) != 1 {
+        return told(1, 0);
+    }
+    let place = search::place_of(words, connection as u64);
+    let i = place.slot;
+    let end = closing::close_place(words, strings, out, 0, connection as u64, i);
+    told(0, end as u64)
+}
+
+// The clock reads so many milliseconds.
+#[no_mangle]
+pub extern "C" fn hislip_clock(
+    words: &mut [u64; 235],
+    strings: &mut [u8; 1088],
+    milliseconds: u64,
+    out: &mut [u8],
+) -> Done
+    ensures { λ r. ⌜ Called (clock milliseconds (length (now (out .entry)))) r (memory (now (words .entry)) (now (strings .entry))) (memory (now (words .exit)) (now (strings .exit))) (now (out .entry)) (now (out .exit)) ⌝ }
+{
+    if out.len() < 2048 {
+        return told(7, 0);
+    }
+    if milliseconds > 4611686018427387904 {
+        return told(4, 0);
+    }
+    if milliseconds < tables::clock(words) {
+        return told(3, 0);
+    }
+    let end = waiting::expire(words, out, 0, milliseconds);
+    told(0, end as u64)
+}
+
+// The instrument's status byte changes.
+#[no_mangle]
+pub extern "C" fn hislip_status(words: &mut [u64; 235], strings: &mut [u8; 1088], status: u8)
+    ensures { λ _. ⌜ ((r : Done) → r ≡ record { refusal = 0; output = 0 } → Called (Event.status status) r (memory (now (words .entry)) (now (strings .entry))) (memory (now (words .exit)) (now (strings .exit))) [] []) ⌝ }
+{
+    events::set_status(words, status);
+}
+
+// A fresh server in the lent memory.
+#[no_mangle]
+pub extern "C" fn hislip_new(words: &mut [u64; 235], strings: &mut [u8; 1088], vendor: u16)
+    ensures { λ _. ⌜ (now (words .exit) ≡ freshWords vendor) × (now (strings .exit) ≡ freshStrings) × (view (memory (now (words .exit)) (now (strings .exit))) ≡ fresh vendor) ⌝ }
+{
+    start::start(words, strings, vendor);
+}
+
+// How many words and bytes to lend.
+#[no_mangle]
+pub extern "C" fn hislip_words() -> u64
+    ensures { λ r. ⌜ r ≡ 235 ⌝ }
+{
+    235
+}
+
+#[no_mangle]
+pub extern "C" fn hislip_string_bytes() -> u64
+    ensures { λ r. ⌜ r ≡ 1088 ⌝ }
+{
+    1088
 }

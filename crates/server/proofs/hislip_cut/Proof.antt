@@ -1,0 +1,66 @@
+-- `hislip_cut` meets its contract: the refusals in their order, then the closing.
+use mathlib.Core.Path.{_≡_, sym, ap, _∙_}
+use mathlib.Core.List.{[]}
+use native.Mathlib.Omega.{arith}
+use lib.ListN.{length}
+use borrow.Author.Tests.{eq-eqb, ne-eqb}
+use Rattle.model.specs.State.{Connection}
+use Rattle.state.specs.View.{memory, view}
+use Rattle.model.specs.Interface.{Event.cut}
+use Rattle.server.specs.Events.{refused-call, cut-call, cut-short-room, cut-no-number, cut-not-open, cut-taken}
+use borrow.Author.Needs.{needs}
+use Rattle.server.proofs.hislip_cut.Statement.{statement}
+use Rattle.server.proofs.hislip_cut.Tie as tie
+
+returns : tie.Need-returns
+returns c = let a = c .before .before .before .args in
+    let s = a .strings .now in
+    let m = memory (a .words .now) s in
+    let d = view m in
+    let out = a .out .now in
+    let room = length out in
+    refused-call (cut (a .connection) room) 6 _ m out (cut-short-room d (a .connection) room (c .before .if1 .taken)) (c .told .ensures)
+
+returns-2 : tie.Need-returns-2
+returns-2 c = let a = c .before .before .before .before .args in
+    let s = a .strings .now in
+    let m = memory (a .words .now) s in
+    let d = view m in
+    let out = a .out .now in
+    let room = length out in
+    refused-call (cut (a .connection) room) 0 _ m out (cut-no-number d (a .connection) room (c .before .before .if1 .left) (c .before .if2 .taken)) (c .told2 .ensures)
+
+returns-3 : tie.Need-returns-3
+returns-3 c = let a = c .before .before .before .before .before .before .before .args in
+    let s = a .strings .now in
+    let m = memory (a .words .now) s in
+    let d = view m in
+    let out = a .out .now in
+    let room = length out in
+    refused-call (cut (a .connection) room) 0 _ m out (cut-not-open d (a .connection) room (c .before .before .before .before .before .if1 .left) (omega arith) (sym (ap (λ (x : Connection). x .isOpen) (c .before .before .connection .ensures)) ∙ ne-eqb (c .before .before .connection .result) 1 (c .before .if3 .taken))) (c .told3 .ensures)
+
+returns-4 : tie.Need-returns-4
+returns-4 c = let a = c .before .before .before .before .before .before .before .before .before .before .before .before .before .before .before .args in
+    let s = a .strings .now in
+    let m = memory (a .words .now) s in
+    let d = view m in
+    let out = a .out .now in
+    let room = length out in
+    cut-call (a .connection) (c .before .before .before .before .before .before .before .place-of .result .slot) room _ m _ out _ (c .before .before .before .close-place .result) (cut-taken d (a .connection) room (c .before .before .before .before .before .before .before .before .before .before .before .before .before .if1 .left) (omega arith) (sym (ap (λ (x : Connection). x .isOpen) (c .before .before .before .before .before .before .before .before .before .before .connection .ensures)) ∙ eq-eqb (c .before .before .before .before .before .before .before .before .before .before .connection .result) 1 (c .before .before .before .before .before .before .before .before .before .if3 .left))) (c .before .before .before .before .before .before .before .place-of .ensures .1 s) (c .before .before .before .close-place .ensures) (c .told4 .ensures)
+
+pub hislip-cut-spec : {M : Type 1} → statement M
+hislip-cut-spec =
+    tie.close
+    (tie.spec
+    (λ c κs. search needs)
+    returns
+    (λ c κs. search needs)
+    returns-2
+    (λ c κs. search needs)
+    (λ c κs. search needs)
+    returns-3
+    (λ c κs. search needs)
+    (λ c κs. search needs)
+    (λ c κs. search needs)
+    (λ c. search needs)
+    returns-4)
