@@ -3,3 +3,4 @@ pub mod Acting
 pub mod Scanning
 pub mod Calls
 pub mod Events
+pub mod Answers

@@ -1,11 +1,13 @@
 // The server: the six events in code, and the C interface.
-ghost use Rattle.model.specs.Interface.{Event, Event.clock, Event.cut, Event.delivery, Event.opening};
+ghost use Rattle.model.specs.Interface.{Event, Event.answer, Event.clock, Event.cut, Event.delivery, Event.opening};
 ghost use Rattle.model.specs.State.{fresh};
 ghost use Rattle.server.specs.Calls.{Delivered};
 ghost use Rattle.server.specs.Events.{Called};
 ghost use Rattle.state.specs.Fresh.{freshStrings, freshWords};
 ghost use Rattle.state.specs.View.{memory, view};
 ghost use lib.ListN.{length};
+ghost use lib.Dec.{eqb};
+ghost use mathlib.Core.Bool.{not};
 ghost use mathlib.Core.List.{[]};
 ghost use mathlib.Core.Path.{_≡_};
 
@@ -163,4 +165,49 @@ pub extern "C" fn hislip_string_bytes() -> u64
     ensures { λ r. ⌜ r ≡ 1088 ⌝ }
 {
     1088
+}
+
+fn is_end(end: u8) -> bool
+    ensures { λ r. ⌜ not (eqb end 0) ≡ r ⌝ }
+{
+    if end == 0 {
+        return false;
+    }
+    true
+}
+
+// The instrument answers a session, with END unless `end` is 0.
+#[no_mangle]
+pub extern "C" fn hislip_answer(
+    words: &mut [u64; 235],
+    strings: &mut [u8; 1088],
+    session: u32,
+    payload: &[u8],
+    end: u8,
+    out: &mut [u8],
+) -> Done
+    ensures { λ r. ⌜ Called (answer session (now (payload .entry)) (not (eqb end 0)) (length (now (out .entry)))) r (memory (now (words .entry)) (now (strings .entry))) (memory (now (words .exit)) (now (strings .exit))) (now (out .entry)) (now (out .exit)) ⌝ }
+{
+    if out.len() < 2048 {
+        return told(7, 0);
+    }
+    let i = search::slot_of_number(words, session as u64);
+    if i >= 16 {
+        return told(8, 0);
+    }
+    if tables::entry(words, i, 0) == 0 {
+        return told(8, 0);
+    }
+    if tables::exchange(words, i, 1) == 0 {
+        return told(5, 0);
+    }
+    if payload.len() > 1024 {
+        return told(6, 0);
+    }
+    if tables::exchange(words, i, 3) < payload.len() as u64 {
+        return told(6, 0);
+    }
+    let with_end = is_end(end);
+    let n = events::send_answer(words, out, i, with_end, payload);
+    told(0, n as u64)
 }

@@ -1,0 +1,165 @@
+-- `hislip_answer` meets its contract: the refusals in their order, then the answer's frame.
+use Rattle.server.specs.Answers.{answer-short-room, answer-nobody, answer-unasked, answer-long, answer-over, answer-taken, not-there, not-live, is-live, unasked, asked, size-read, answer-call, same-end}
+use mathlib.Core.Path.{_≡_, refl, sym, ap, _∙_}
+use mathlib.Core.Bool.{Bool, true, not}
+use lib.Dec.{eqb}
+use native.Mathlib.Omega.{arith}
+use lib.ListN.{length}
+use Rattle.model.specs.State.{at, live, slotOfNumber, exchangeAt}
+use Rattle.model.specs.Exchange.{mayAnswer}
+use Rattle.model.specs.Interface.{Event.answer}
+use Rattle.state.specs.View.{memory, view, locksOf, restOf}
+use Rattle.state.specs.Search.{number-read}
+use Rattle.server.specs.Events.{refused-call}
+use borrow.Author.Needs.{needs}
+use Rattle.server.proofs.hislip_answer.Statement.{statement}
+use Rattle.server.proofs.hislip_answer.Tie as tie
+
+returns : tie.Need-returns
+returns c = let a = c .before .before .before .before .args in
+    let w = a .words .now in
+    let s = a .strings .now in
+    let m = memory w s in
+    let d = view m in
+    let p = a .payload .now in
+    let out = a .out .now in
+    let room = length out in
+    let end = not (eqb (a .end) 0) in
+    refused-call (answer (a .session) p end room) 6 _ m out (answer-short-room d (a .session) (slotOfNumber (d .locks .entries) (a .session)) p end room refl (c .before .if1 .taken)) (c .told .ensures)
+
+returns-2 : tie.Need-returns-2
+returns-2 c = let a = c .before .before .before .before .before .before .before .args in
+    let w = a .words .now in
+    let s = a .strings .now in
+    let m = memory w s in
+    let d = view m in
+    let p = a .payload .now in
+    let out = a .out .now in
+    let room = length out in
+    let end = not (eqb (a .end) 0) in
+    let i = c .before .before .slot-of-number .result in
+    let e = at (locksOf w s .entries) i in
+    let x = exchangeAt (restOf w) i in
+    let found = c .before .before .slot-of-number .ensures .1 s in
+    let r1 = c .before .before .before .before .if1 .left in
+    refused-call (answer (a .session) p end room) 7 _ m out (answer-nobody d (a .session) i p end room found r1 (not-there w s i (c .before .if2 .taken))) (c .told2 .ensures)
+
+returns-3 : tie.Need-returns-3
+returns-3 c = let a = c .before .before .before .before .before .before .before .before .before .before .args in
+    let w = a .words .now in
+    let s = a .strings .now in
+    let m = memory w s in
+    let d = view m in
+    let p = a .payload .now in
+    let out = a .out .now in
+    let room = length out in
+    let end = not (eqb (a .end) 0) in
+    let i = c .before .before .before .before .before .slot-of-number .result in
+    let e = at (locksOf w s .entries) i in
+    let x = exchangeAt (restOf w) i in
+    let found = c .before .before .before .before .before .slot-of-number .ensures .1 s in
+    let r1 = c .before .before .before .before .before .before .before .if1 .left in
+    refused-call (answer (a .session) p end room) 7 _ m out (answer-nobody d (a .session) i p end room found r1 (not-live e (c .before .before .entry .result) (number-read e (c .before .before .entry .result) (c .before .before .entry .ensures s)) (c .before .if3 .taken))) (c .told3 .ensures)
+
+returns-4 : tie.Need-returns-4
+returns-4 c = let a = c .before .before .before .before .before .before .before .before .before .before .before .before .before .args in
+    let w = a .words .now in
+    let s = a .strings .now in
+    let m = memory w s in
+    let d = view m in
+    let p = a .payload .now in
+    let out = a .out .now in
+    let room = length out in
+    let end = not (eqb (a .end) 0) in
+    let i = c .before .before .before .before .before .before .before .before .slot-of-number .result in
+    let e = at (locksOf w s .entries) i in
+    let x = exchangeAt (restOf w) i in
+    let found = c .before .before .before .before .before .before .before .before .slot-of-number .ensures .1 s in
+    let r1 = c .before .before .before .before .before .before .before .before .before .before .if1 .left in
+    let l : live e ≡ true = is-live e (c .before .before .before .before .before .entry .result) (number-read e (c .before .before .before .before .before .entry .result) (c .before .before .before .before .before .entry .ensures s)) (c .before .before .before .before .if3 .left) in
+    refused-call (answer (a .session) p end room) 4 _ m out (answer-unasked d (a .session) i p end room found r1 l (unasked x (c .before .before .exchange .result) (c .before .before .exchange .ensures) (c .before .if4 .taken))) (c .told4 .ensures)
+
+returns-5 : tie.Need-returns-5
+returns-5 c = let a = c .before .before .before .before .before .before .before .before .before .before .before .before .before .before .args in
+    let w = a .words .now in
+    let s = a .strings .now in
+    let m = memory w s in
+    let d = view m in
+    let p = a .payload .now in
+    let out = a .out .now in
+    let room = length out in
+    let end = not (eqb (a .end) 0) in
+    let i = c .before .before .before .before .before .before .before .before .before .slot-of-number .result in
+    let e = at (locksOf w s .entries) i in
+    let x = exchangeAt (restOf w) i in
+    let found = c .before .before .before .before .before .before .before .before .before .slot-of-number .ensures .1 s in
+    let r1 = c .before .before .before .before .before .before .before .before .before .before .before .if1 .left in
+    let l : live e ≡ true = is-live e (c .before .before .before .before .before .before .entry .result) (number-read e (c .before .before .before .before .before .before .entry .result) (c .before .before .before .before .before .before .entry .ensures s)) (c .before .before .before .before .before .if3 .left) in
+    let k : mayAnswer x ≡ true = asked x (c .before .before .before .exchange .result) (c .before .before .before .exchange .ensures) (c .before .before .if4 .left) in
+    refused-call (answer (a .session) p end room) 5 _ m out (answer-long d (a .session) i p end room found r1 l k (c .before .if5 .taken)) (c .told5 .ensures)
+
+returns-6 : tie.Need-returns-6
+returns-6 c = let a = c .before .before .before .before .before .before .before .before .before .before .before .before .before .before .before .before .before .args in
+    let w = a .words .now in
+    let s = a .strings .now in
+    let m = memory w s in
+    let d = view m in
+    let p = a .payload .now in
+    let out = a .out .now in
+    let room = length out in
+    let end = not (eqb (a .end) 0) in
+    let i = c .before .before .before .before .before .before .before .before .before .before .before .before .slot-of-number .result in
+    let e = at (locksOf w s .entries) i in
+    let x = exchangeAt (restOf w) i in
+    let found = c .before .before .before .before .before .before .before .before .before .before .before .before .slot-of-number .ensures .1 s in
+    let r1 = c .before .before .before .before .before .before .before .before .before .before .before .before .before .before .if1 .left in
+    let l : live e ≡ true = is-live e (c .before .before .before .before .before .before .before .before .before .entry .result) (number-read e (c .before .before .before .before .before .before .before .before .before .entry .result) (c .before .before .before .before .before .before .before .before .before .entry .ensures s)) (c .before .before .before .before .before .before .before .before .if3 .left) in
+    let k : mayAnswer x ≡ true = asked x (c .before .before .before .before .before .before .exchange .result) (c .before .before .before .before .before .before .exchange .ensures) (c .before .before .before .before .before .if4 .left) in
+    let z : c .before .before .exchange2 .result ≡ x .clientSize = size-read x (c .before .before .exchange2 .result) (c .before .before .exchange2 .ensures) in
+    refused-call (answer (a .session) p end room) 5 _ m out (answer-over d (a .session) i p end room found r1 l k (c .before .before .before .before .if5 .left) (omega arith)) (c .told6 .ensures)
+
+returns-7 : tie.Need-returns-7
+returns-7 c = let a = c .before .before .before .before .before .before .before .before .before .before .before .before .before .before .before .before .before .before .before .before .before .before .before .args in
+    let w = a .words .now in
+    let s = a .strings .now in
+    let m = memory w s in
+    let d = view m in
+    let p = a .payload .now in
+    let out = a .out .now in
+    let room = length out in
+    let end = not (eqb (a .end) 0) in
+    let i = c .before .before .before .before .before .before .before .before .before .before .before .before .before .before .before .before .before .before .slot-of-number .result in
+    let e = at (locksOf w s .entries) i in
+    let x = exchangeAt (restOf w) i in
+    let found = c .before .before .before .before .before .before .before .before .before .before .before .before .before .before .before .before .before .before .slot-of-number .ensures .1 s in
+    let r1 = c .before .before .before .before .before .before .before .before .before .before .before .before .before .before .before .before .before .before .before .before .if1 .left in
+    let l : live e ≡ true = is-live e (c .before .before .before .before .before .before .before .before .before .before .before .before .before .before .before .entry .result) (number-read e (c .before .before .before .before .before .before .before .before .before .before .before .before .before .before .before .entry .result) (c .before .before .before .before .before .before .before .before .before .before .before .before .before .before .before .entry .ensures s)) (c .before .before .before .before .before .before .before .before .before .before .before .before .before .before .if3 .left) in
+    let k : mayAnswer x ≡ true = asked x (c .before .before .before .before .before .before .before .before .before .before .before .before .exchange .result) (c .before .before .before .before .before .before .before .before .before .before .before .before .exchange .ensures) (c .before .before .before .before .before .before .before .before .before .before .before .if4 .left) in
+    let z : c .before .before .before .before .before .before .before .before .exchange2 .result ≡ x .clientSize = size-read x (c .before .before .before .before .before .before .before .before .exchange2 .result) (c .before .before .before .before .before .before .before .before .exchange2 .ensures) in
+    answer-call (a .session) i p end room _ m _ out _ (c .before .before .before .send-answer .result) found (answer-taken d (a .session) i p end room found r1 l k (c .before .before .before .before .before .before .before .before .before .before .if5 .left) (omega arith)) (same-end d _ i end (c .before .before .before .before .before .before .is-end .result) p out _ (c .before .before .before .send-answer .result) (c .before .before .before .before .before .before .is-end .ensures) (c .before .before .before .send-answer .ensures s)) (c .told7 .ensures)
+
+pub hislip-answer-spec : {M : Type 1} → statement M
+hislip-answer-spec =
+    tie.close
+    (tie.spec
+    (λ c κs. search needs)
+    returns
+    (λ c κs. search needs)
+    (λ c κs. search needs)
+    returns-2
+    (λ c κs. search needs)
+    (λ c κs. search needs)
+    returns-3
+    (λ c κs. search needs)
+    (λ c κs. search needs)
+    returns-4
+    (λ c κs. search needs)
+    returns-5
+    (λ c κs. search needs)
+    (λ c κs. search needs)
+    returns-6
+    (λ c κs. search needs)
+    (λ c κs. search needs)
+    (λ c κs. search needs)
+    (λ c. search needs)
+    returns-7)
