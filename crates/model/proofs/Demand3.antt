@@ -37,13 +37,14 @@ omitted (e ∷ es) d = (λ o. step-omitted d e o, omitted es ((step d e) .server
 
 module _ {M : Type 0} (view : M → Server) where
   -- what the host sees of one call is what the definition says
-  one : (e : Event) (m m′ : M) (out out′ : List ℕ) (reply : Reply) (output : ℕ) → Post view e m m′ out out′ reply output
+  pub one : (e : Event) (m m′ : M) (out out′ : List ℕ) (reply : Reply) (output : ℕ) → Post view e m m′ out out′ reply output
       → _≡_ {A = Seen} (record { event = e; reply = reply; output = take output out′ }) (record { event = e; reply = (step (view m) e) .reply; output = bytesOf ((step (view m) e) .frames) })
   one e m m′ out out′ reply output p =
       let o : take output out′ ≡ bytesOf ((step (view m) e) .frames) = ap (take output) (p .buffer) ∙ front out (bytesOf ((step (view m) e) .frames)) output (p .output-length) in
       λ k. record { event = e; reply = p .replies k; output = o k }
 
-  made : {m m′ : M} {ss : List Seen} → Calls view m ss m′ → (ss ≡ map seen (log (view m) (seenEvents ss))) × (view m′ ≡ final (view m) (seenEvents ss))
+  -- a list of calls is the one of the definitions, from any memory
+  pub made : {m m′ : M} {ss : List Seen} → Calls view m ss m′ → (ss ≡ map seen (log (view m) (seenEvents ss))) × (view m′ ≡ final (view m) (seenEvents ss))
   unfolding log final
   made none = (refl, refl)
   made {m = m} (call {m′ = m′} {ss = ss} e out out′ reply output p c) =

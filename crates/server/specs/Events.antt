@@ -11,7 +11,7 @@ use borrow.Author.Tests.{lt-ltb, le-ltb, le-leb, lt-leb}
 use Rattle.wire.specs.Frame.{Frame, bytesOf, written}
 use Rattle.wire.specs.Splice.{splice, splice-nil}
 use Rattle.model.specs.Sizes.{connectionLimit, outputMinimum, payloadLimit, clockLimit}
-use Rattle.model.specs.State.{Server, Rest, at, live, slotOfNumber, exchangeAt, connectionAt, openConnection, withConnection, withStatus, withExchange}
+use Rattle.model.specs.State.{Server, Rest, fresh, at, live, slotOfNumber, exchangeAt, connectionAt, openConnection, withConnection, withStatus, withExchange}
 use Rattle.model.specs.Interface.{Event, Event.opening, Event.cut, Event.clock, Event.answer, Event.status, Reply, Reply.refused, Reply.done, DoneAnswer, doneAnswer}
 use Rattle.model.specs.Canonical.{omits}
 use Rattle.model.specs.Exchange.{mayAnswer}
@@ -22,6 +22,7 @@ use Rattle.model.specs.Step.{Result, finish, plan, answered, step, closing, loc
 use Rattle.model.specs.Post.{Post}
 use Rattle.state.specs.View.{Memory, memory, view}
 use Rattle.state.specs.Change.{onRest}
+use Rattle.state.specs.Fresh.{freshWords, freshStrings}
 use Rattle.locks.specs.Outcome.{Met}
 use Rattle.effects.specs.Closing.{Closes, closedServer}
 use Rattle.effects.specs.Events.{Answers, answerFrame, opening-finishes, status-finishes, answer-finishes}
@@ -33,6 +34,12 @@ doneNumbers r = record { refusal = r .refusal; output = r .output }
 pub record Called (e : Event) (r : Done) (m m′ : Memory) (out out′ : List ℕ) : Type 0 where
   pub numbers : doneNumbers r ≡ doneAnswer ((step (view m) e) .reply) (length (bytesOf ((step (view m) e) .frames)))
   pub post : Post view e m m′ out out′ ((step (view m) e) .reply) (length (bytesOf ((step (view m) e) .frames)))
+
+-- what hislip_new leaves: every word and byte is written, whatever was there, and the memory shows the fresh server
+pub record Fresh (v : ℕ) (m : Memory) : Type 0 where
+  pub words : m .words ≡ freshWords v
+  pub strings : m .strings ≡ freshStrings
+  pub shows : view m ≡ fresh v
 
 -- a refused call
 pub refused-call : (e : Event) (n : ℕ) (r : Done) (m : Memory) (out : List ℕ) → refusal (view m) e ≡ suc n → r ≡ record { refusal = suc n; output = 0 } → Called e r m m out out
@@ -127,9 +134,11 @@ pub clock-finishes : (d : Server) (t room : ℕ) → finish d (plan d (clock t r
 unfolding finish plan
 clock-finishes d t room = ap (λ (fs : List Frame). record { server = record { locks = (change (d .locks) (reading t)) .locks; rest = d .rest }; reply = done; frames = fs }) (append-nil (map lockFrame ((change (d .locks) (reading t)) .answers)))
 
-pub status-taken : (d : Server) (b : ℕ) → refusal d (status b) ≡ 0
-unfolding refusal causes
-status-taken d b = refl
+-- a status change is never turned away, and sends nothing
+pub status-call : (b : ℕ) (m m′ : Memory) → view m′ ≡ onRest (view m) (λ (x : Rest). withStatus x b) → Post view (status b) m m′ [] [] done 0
+unfolding refusal causes step answered finish plan change bytesOf
+status-call b m m′ v =
+    record { new-server = v; replies = refl; buffer = sym (splice-nil [] 0); output-length = refl; same-memory = λ z. absurd (true≢false (sym z)); same-buffer = λ z. absurd (true≢false (sym z)) }
 
 -- nothing is sent
 pub empty-buffer : (out : List ℕ) → out ≡ written out []

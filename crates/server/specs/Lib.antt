@@ -4,3 +4,4 @@ pub mod Scanning
 pub mod Calls
 pub mod Events
 pub mod Answers
+pub mod Program

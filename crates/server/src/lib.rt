@@ -1,9 +1,9 @@
 // The server: the six events in code, and the C interface.
 ghost use Rattle.model.specs.Interface.{Event, Event.answer, Event.clock, Event.cut, Event.delivery, Event.opening};
-ghost use Rattle.model.specs.State.{fresh};
+ghost use Rattle.model.specs.Interface.Reply.{done};
+ghost use Rattle.model.specs.Post.{Post};
 ghost use Rattle.server.specs.Calls.{Delivered};
-ghost use Rattle.server.specs.Events.{Called};
-ghost use Rattle.state.specs.Fresh.{freshStrings, freshWords};
+ghost use Rattle.server.specs.Events.{Called, Fresh};
 ghost use Rattle.state.specs.View.{memory, view};
 ghost use lib.ListN.{length};
 ghost use lib.Dec.{eqb};
@@ -139,7 +139,7 @@ pub extern "C" fn hislip_clock(
 // The instrument's status byte changes.
 #[no_mangle]
 pub extern "C" fn hislip_status(words: &mut [u64; 235], strings: &mut [u8; 1088], status: u8)
-    ensures { λ _. ⌜ ((r : Done) → r ≡ record { refusal = 0; output = 0 } → Called (Event.status status) r (memory (now (words .entry)) (now (strings .entry))) (memory (now (words .exit)) (now (strings .exit))) [] []) ⌝ }
+    ensures { λ _. ⌜ Post view (Event.status status) (memory (now (words .entry)) (now (strings .entry))) (memory (now (words .exit)) (now (strings .exit))) [] [] done 0 ⌝ }
 {
     events::set_status(words, status);
 }
@@ -147,7 +147,7 @@ pub extern "C" fn hislip_status(words: &mut [u64; 235], strings: &mut [u8; 1088]
 // A fresh server in the lent memory.
 #[no_mangle]
 pub extern "C" fn hislip_new(words: &mut [u64; 235], strings: &mut [u8; 1088], vendor: u16)
-    ensures { λ _. ⌜ (now (words .exit) ≡ freshWords vendor) × (now (strings .exit) ≡ freshStrings) × (view (memory (now (words .exit)) (now (strings .exit))) ≡ fresh vendor) ⌝ }
+    ensures { λ _. ⌜ Fresh vendor (memory (now (words .exit)) (now (strings .exit))) ⌝ }
 {
     start::start(words, strings, vendor);
 }

@@ -1,0 +1,207 @@
+-- Demand 3 about the program, proved: the returned structs tell the model's replies, so a run of the C interface is a list of calls
+-- that each meet `Post`. The statement is specs/Program.antt.
+use mathlib.Core.Path.{_≡_, refl, sym, ap, subst, _∙_}
+use mathlib.Core.Bool.{Bool, true, false, not}
+use mathlib.Core.List.{List, [], _∷_, map, append-nil}
+use Prim.Native.Nat.{ℕ, zero, suc}
+use lib.Dec.{eqb}
+use lib.ListN.{length, take}
+use lib.Seq.{take-nil}
+use Rattle.wire.specs.declared.Header.{Header}
+use Rattle.wire.specs.Frame.{Frame, bytesOf, frameBytes, frameOf}
+use Rattle.model.specs.State.{Server, Asked, Asked.none, at, fresh, slotOfNumber}
+use Rattle.model.specs.Interface.{Event, Event.opening, Event.delivery, Event.cut, Event.clock, Event.answer, Event.status, Outcome, Outcome.more-needed, Outcome.skipped, Outcome.held, Outcome.ignored, Outcome.error-sent, Outcome.closed, Outcome.acted, Reply, Reply.refused, Reply.done, Reply.took, outcomeNumber, DeliveryAnswer, deliveryAnswer, DoneAnswer, doneAnswer}
+use Rattle.model.specs.Scan.{Scan, Scan.empty, Scan.few, Scan.wrong, Scan.skipping, Scan.long, Scan.part, Scan.whole}
+use Rattle.model.specs.Place.{Role, Role.r-none, Role.r-halfOpen, Role.r-synchronous, Role.r-asynchronous}
+use Rattle.model.specs.Checks.{Verdict, Verdict.v-more, Verdict.v-skipped, Verdict.v-held, Verdict.v-ignored, Verdict.v-closed, Verdict.v-acts, Verdict.v-error, Verdict.v-fatal}
+use Rattle.model.specs.Acts.{acts, opens}
+use Rattle.model.specs.Refusals.{refusal}
+use Rattle.model.specs.Step.{Line, answerType, answered, effect, final, finish, log, plan, received, step}
+use Rattle.model.specs.Post.{Post}
+use Rattle.model.specs.Demand3.{Seen, seen, seenEvents, Calls, Calls.none as no-call, Calls.call}
+use Rattle.model.specs.Tie.{track, askedBy}
+use Rattle.model.proofs.Demand3.{demand3, made, one}
+use Rattle.model.proofs.Tied.{tie}
+use Rattle.state.specs.View.{Memory, view}
+use Rattle.effects.specs.declared.Delivery.{Delivery}
+use Rattle.effects.specs.Did.{numbersOf}
+use Rattle.server.specs.declared.Done.{Done}
+use Rattle.server.specs.Calls.{Delivered}
+use Rattle.server.specs.Events.{Called, Fresh, doneNumbers}
+use Rattle.server.specs.Program.{outcomeOf, refusedOr, deliveryReply, doneReply, Run, Run.stop, Run.hislip-open, Run.hislip-deliver, Run.hislip-cut, Run.hislip-clock, Run.hislip-answer, Run.hislip-status, askedIn, Tied, Program}
+
+-- a delivery that is not refused is answered with an outcome
+abbrev Took : Reply → Type 0
+Took (refused n) = ⊥
+Took done = ⊥
+Took (took o k n) = Unit {0}
+
+opens-took : (b : Bool) (d : Server) (c : ℕ) (h : Header) → Took ((opens b d c h) .reply)
+opens-took true d c h = tt
+opens-took false d c h = tt
+
+acts-took : (r : Role) (d : Server) (i c : ℕ) (h : Header) (p : List ℕ) → Took ((acts r d i c h p) .reply)
+unfolding acts
+acts-took r-none d i c h p = opens-took (eqb (h .kind) 0) d c h
+acts-took r-halfOpen d i c h p = tt
+acts-took r-synchronous d i c h p = tt
+acts-took r-asynchronous d i c h p = tt
+
+effect-took : (v : Verdict) (s : Scan) (r : Role) (d : Server) (i c : ℕ) → Took ((effect v s r d i c) .reply)
+unfolding effect
+effect-took v-more s r d i c = tt
+effect-took v-skipped s r d i c = tt
+effect-took v-held s r d i c = tt
+effect-took v-ignored s r d i c = tt
+effect-took v-closed s r d i c = tt
+effect-took (v-error n) s r d i c = tt
+effect-took (v-fatal n) s r d i c = tt
+effect-took v-acts empty r d i c = tt
+effect-took v-acts few r d i c = tt
+effect-took v-acts wrong r d i c = tt
+effect-took v-acts (skipping k) r d i c = tt
+effect-took v-acts (long h) r d i c = tt
+effect-took v-acts (part h) r d i c = tt
+effect-took v-acts (whole h p) r d i c = acts-took r d i c h p
+
+-- the struct tells the reply y and how many bytes of the buffer hold frames
+abbrev Tells : Delivery → Reply → ℕ → Type 0
+Tells r y n = (deliveryReply r ≡ y) × (r .output ≡ n)
+
+outcome-of : (o : Outcome) → outcomeOf (outcomeNumber o) ≡ o
+outcome-of more-needed = refl
+outcome-of skipped = refl
+outcome-of held = refl
+outcome-of ignored = refl
+outcome-of error-sent = refl
+outcome-of closed = refl
+outcome-of acted = refl
+
+abbrev tells : DeliveryAnswer → Reply
+tells a = refusedOr (a .refusal) (took (outcomeOf (a .outcome)) (a .taken) (a .session))
+
+-- an accepted delivery's numbers, a refused one's
+told-took : (y : Reply) → Took y → (n : ℕ) (r : Delivery) → numbersOf r ≡ deliveryAnswer y n → Tells r y n
+told-took (refused z) t n r e = absurd t
+told-took done t n r e = absurd t
+told-took (took o k s) t n r e = (ap tells e ∙ ap (λ (x : Outcome). took x k s) (outcome-of o), ap (λ (a : DeliveryAnswer). a .output) e)
+
+told-delivery : (d : Server) (c : ℕ) (bs : List ℕ) (room : ℕ) (r : Delivery) → numbersOf r ≡ deliveryAnswer ((step d (delivery c bs room)) .reply) (length (bytesOf ((step d (delivery c bs room)) .frames)))
+    → Tells r ((step d (delivery c bs room)) .reply) (length (bytesOf ((step d (delivery c bs room)) .frames)))
+unfolding step answered plan received finish bytesOf
+told-delivery d c bs room r e = go (refusal d (delivery c bs room)) e
+  where
+    go : (z : ℕ) → numbersOf r ≡ deliveryAnswer ((answered z d (delivery c bs room)) .reply) (length (bytesOf ((answered z d (delivery c bs room)) .frames)))
+        → Tells r ((answered z d (delivery c bs room)) .reply) (length (bytesOf ((answered z d (delivery c bs room)) .frames)))
+    go zero e = told-took _ (effect-took _ _ _ d _ c) _ r e
+    go (suc z) e = (ap tells e, ap (λ (a : DeliveryAnswer). a .output) e)
+
+-- the same of the other calls: done, or refused
+told-call : (d : Server) (e : Event) → (plan d e) .reply ≡ done → (r : Done) → doneNumbers r ≡ doneAnswer ((step d e) .reply) (length (bytesOf ((step d e) .frames)))
+    → (doneReply r ≡ (step d e) .reply) × (r .output ≡ length (bytesOf ((step d e) .frames)))
+unfolding step answered finish bytesOf
+told-call d e f r q = go (refusal d e) q
+  where
+    reply-of : DoneAnswer → Reply
+    reply-of a = refusedOr (a .refusal) done
+
+    taken : (y : Reply) → y ≡ done → (n : ℕ) → doneNumbers r ≡ doneAnswer y n → (doneReply r ≡ y) × (r .output ≡ n)
+    taken y g n q =
+        let p : doneNumbers r ≡ doneAnswer done n = q ∙ ap (λ (x : Reply). doneAnswer x n) g in
+        (ap reply-of p ∙ sym g, ap (λ (a : DoneAnswer). a .output) p)
+
+    go : (z : ℕ) → doneNumbers r ≡ doneAnswer ((answered z d e) .reply) (length (bytesOf ((answered z d e) .frames)))
+        → (doneReply r ≡ (answered z d e) .reply) × (r .output ≡ length (bytesOf ((answered z d e) .frames)))
+    go zero q = taken _ f _ q
+    go (suc z) q = (ap reply-of q, ap (λ (a : DoneAnswer). a .output) q)
+
+-- so each call meets `Post` with what the struct tells
+module _ (e : Event) (m m′ : Memory) (out out′ : List ℕ) where
+  retold : (y : Reply) (n : ℕ) → y ≡ (step (view m) e) .reply → n ≡ length (bytesOf ((step (view m) e) .frames))
+      → Post view e m m′ out out′ ((step (view m) e) .reply) (length (bytesOf ((step (view m) e) .frames))) → Post view e m m′ out out′ y n
+  retold y n f g p =
+      record {
+        new-server = p .new-server;
+        replies = f;
+        buffer = p .buffer;
+        output-length = g;
+        same-memory = λ z. p .same-memory (rw f at z);
+        same-buffer = λ z. p .same-buffer (rw f at z);
+      }
+
+  call-post : (plan (view m) e) .reply ≡ done → (r : Done) → Called e r m m′ out out′ → Post view e m m′ out out′ (doneReply r) (r .output)
+  call-post f r p = let t = told-call (view m) e f r (p .numbers) in retold (doneReply r) (r .output) (t .0) (t .1) (p .post)
+
+delivery-post : (c : ℕ) (bs : List ℕ) (room : ℕ) (m m′ : Memory) (out out′ : List ℕ) (r : Delivery) → Delivered (delivery c bs room) r m m′ out out′
+    → Post view (delivery c bs room) m m′ out out′ (deliveryReply r) (r .output)
+delivery-post c bs room m m′ out out′ r p =
+    let t = told-delivery (view m) c bs room r (p .numbers) in
+    retold (delivery c bs room) m m′ out out′ (deliveryReply r) (r .output) (t .0) (t .1) (p .post)
+
+-- a run is a list of calls
+calls : {m m′ : Memory} {ss : List Seen} → Run m ss m′ → Calls view m ss m′
+unfolding plan
+calls stop = no-call
+calls {m = m} (hislip-open {m′ = m′} {m″ = m″} {ss = ss} c r p g) =
+    subst (λ (o : List ℕ). Calls view m (record { event = opening c; reply = doneReply r; output = o } ∷ ss) m″) (take-nil (r .output))
+    (call (opening c) [] [] (doneReply r) (r .output) (call-post (opening c) m m′ [] [] refl r p) (calls g))
+calls {m = m} (hislip-deliver {m′ = m′} c bs out out′ r p g) =
+    call (delivery c bs (length out)) out out′ (deliveryReply r) (r .output) (delivery-post c bs (length out) m m′ out out′ r p) (calls g)
+calls {m = m} (hislip-cut {m′ = m′} c out out′ r p g) =
+    call (cut c (length out)) out out′ (doneReply r) (r .output) (call-post (cut c (length out)) m m′ out out′ refl r p) (calls g)
+calls {m = m} (hislip-clock {m′ = m′} t out out′ r p g) =
+    call (clock t (length out)) out out′ (doneReply r) (r .output) (call-post (clock t (length out)) m m′ out out′ refl r p) (calls g)
+calls {m = m} (hislip-answer {m′ = m′} n q end out out′ r p g) =
+    call (answer n q (not (eqb end 0)) (length out)) out out′ (doneReply r) (r .output) (call-post (answer n q (not (eqb end 0)) (length out)) m m′ out out′ refl r p) (calls g)
+calls (hislip-status b p g) = call (status b) [] [] done 0 p (calls g)
+
+-- what was asked, by what the host saw and by the log
+asked-seen : (ls : List Line) (n : ℕ) (p : Asked) → askedIn (map seen ls) n p ≡ askedBy ls n p
+unfolding askedBy
+asked-seen [] n p = refl
+asked-seen (l ∷ ls) n p = asked-seen ls n (track (l .event) (l .reply) n p)
+
+-- a call that returned no refusal was not refused
+not-refused : (d : Server) (e : Event) (r : Done) → doneNumbers r ≡ doneAnswer ((step d e) .reply) (length (bytesOf ((step d e) .frames))) → r .refusal ≡ 0 → refusal d e ≡ 0
+unfolding step answered
+not-refused d e r q z = go (refusal d e) q
+  where
+    go : (k : ℕ) → doneNumbers r ≡ doneAnswer ((answered k d e) .reply) (length (bytesOf ((answered k d e) .frames))) → k ≡ 0
+    go zero q = refl
+    go (suc k) q = sym (ap (λ (a : DoneAnswer). a .refusal) q) ∙ z
+
+one-frame : (f : Frame) → bytesOf (f ∷ []) ≡ frameBytes f
+unfolding bytesOf
+one-frame f = append-nil (frameBytes f)
+
+tied : (v : ℕ) (m m′ m″ : Memory) (ss : List Seen) → Fresh v m → Run m ss m′
+    → (n : ℕ) (payload : List ℕ) (end : ℕ) (out out′ : List ℕ) (r : Done) → Called (answer n payload (not (eqb end 0)) (length out)) r m′ m″ out out′ → r .refusal ≡ 0
+    → Tied ss m′ n payload (not (eqb end 0)) (take (r .output) out′)
+unfolding plan
+tied v m m′ m″ ss f g n payload end out out′ r p z =
+    let es : List Event = seenEvents ss in
+    let e : Event = answer n payload (not (eqb end 0)) (length out) in
+    let h = made view (calls g) in
+    let d : view m′ ≡ final (fresh v) es = h .1 ∙ ap (λ (x : Server). final x es) (f .shows) in
+    let s : ss ≡ map seen (log (fresh v) es) = h .0 ∙ ap (λ (x : Server). map seen (log x es)) (f .shows) in
+    let t = tie v es n payload (not (eqb end 0)) (length out) (sym (ap (λ (x : Server). refusal x e) d) ∙ not-refused (view m′) e r (p .numbers) z) in
+    let i : ℕ = t .number in
+    let o = one view e m′ m″ out out′ (doneReply r) (r .output) (call-post e m′ m″ out out′ refl r p) in
+    record {
+      number = i;
+      asked = ap (λ (x : List Seen). askedIn x n Asked.none) s ∙ asked-seen (log (fresh v) es) n Asked.none ∙ t .asked;
+      sent =
+          ap (λ (x : Seen). x .output) o
+          ∙ ap (λ (x : Server). bytesOf ((step x e) .frames)) d
+          ∙ ap bytesOf (t .sent)
+          ∙ one-frame _
+          ∙ ap (λ (x : Server). frameBytes (frameOf ((at (x .locks .entries) (slotOfNumber (x .locks .entries) n)) .synchronous) (answerType (not (eqb end 0))) 0 i payload)) (sym d);
+    }
+
+pub program : Program
+program =
+    record {
+      by-definition = λ m m′ ss g. let h = made view (calls g) in record { seen-is = h .0; server-is = h .1 };
+      demand3 = λ v m m′ ss f g. demand3 view v m (f .shows) (calls g);
+      tie = tied;
+    }

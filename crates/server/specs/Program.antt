@@ -1,0 +1,82 @@
+-- Demand 3 about the program: a run of the C interface, call by call, each as its function's `ensures` says, from memory that
+-- `hislip_new` wrote. What the host saw is read off the structs that the calls returned and the buffers that they wrote. Assumes
+-- nothing.
+use mathlib.Core.Path.{_≡_}
+use mathlib.Core.Bool.{Bool, not, cond}
+use mathlib.Core.List.{List, [], _∷_, map}
+use Prim.Native.Nat.{ℕ, zero, suc}
+use lib.Dec.{eqb}
+use lib.ListN.{length, take}
+use Rattle.wire.specs.Frame.{frameOf, frameBytes}
+use Rattle.model.specs.Interface.{Event.opening, Event.delivery, Event.cut, Event.clock, Event.answer, Event.status, Outcome, Outcome.more-needed, Outcome.skipped, Outcome.held, Outcome.ignored, Outcome.error-sent, Outcome.closed, Outcome.acted, Reply, Reply.refused, Reply.done, Reply.took}
+use Rattle.model.specs.State.{Asked, Asked.none, Asked.some, at, slotOfNumber}
+use Rattle.model.specs.Step.{final, log, answerType}
+use Rattle.model.specs.Post.{Post}
+use Rattle.model.specs.Tie.{track}
+use Rattle.model.specs.Demand3.{Seen, seen, seenEvents, Demand3}
+use Rattle.state.specs.View.{Memory, view}
+use Rattle.effects.specs.declared.Delivery.{Delivery}
+use Rattle.server.specs.declared.Done.{Done}
+use Rattle.server.specs.Calls.{Delivered}
+use Rattle.server.specs.Events.{Called, Fresh}
+
+-- the reply that a returned struct tells: a refusal, else the outcome by its number, the bytes taken and the session
+abbrev pub outcomeOf : ℕ → Outcome
+outcomeOf n =
+    cond (eqb n 0) more-needed
+    (cond (eqb n 1) skipped
+    (cond (eqb n 2) held
+    (cond (eqb n 3) ignored
+    (cond (eqb n 4) error-sent
+    (cond (eqb n 5) closed acted)))))
+
+abbrev pub refusedOr : ℕ → Reply → Reply
+refusedOr zero y = y
+refusedOr (suc n) y = refused (suc n)
+
+abbrev pub deliveryReply : Delivery → Reply
+deliveryReply r = refusedOr (r .refusal) (took (outcomeOf (r .outcome)) (r .taken) (r .session))
+
+abbrev pub doneReply : Done → Reply
+doneReply r = refusedOr (r .refusal) done
+
+-- from one memory to another; nobody else writes it, and each call lends whatever buffer
+pub data Run : Memory → List Seen → Memory → Type 0 where
+  stop : {m : Memory} → Run m [] m
+  hislip-open : {m m′ m″ : Memory} {ss : List Seen} (c : ℕ) (r : Done) → Called (opening c) r m m′ [] [] → Run m′ ss m″
+      → Run m (record { event = opening c; reply = doneReply r; output = [] } ∷ ss) m″
+  hislip-deliver : {m m′ m″ : Memory} {ss : List Seen} (c : ℕ) (bytes out out′ : List ℕ) (r : Delivery) → Delivered (delivery c bytes (length out)) r m m′ out out′ → Run m′ ss m″
+      → Run m (record { event = delivery c bytes (length out); reply = deliveryReply r; output = take (r .output) out′ } ∷ ss) m″
+  hislip-cut : {m m′ m″ : Memory} {ss : List Seen} (c : ℕ) (out out′ : List ℕ) (r : Done) → Called (cut c (length out)) r m m′ out out′ → Run m′ ss m″
+      → Run m (record { event = cut c (length out); reply = doneReply r; output = take (r .output) out′ } ∷ ss) m″
+  hislip-clock : {m m′ m″ : Memory} {ss : List Seen} (t : ℕ) (out out′ : List ℕ) (r : Done) → Called (clock t (length out)) r m m′ out out′ → Run m′ ss m″
+      → Run m (record { event = clock t (length out); reply = doneReply r; output = take (r .output) out′ } ∷ ss) m″
+  hislip-answer : {m m′ m″ : Memory} {ss : List Seen} (n : ℕ) (payload : List ℕ) (end : ℕ) (out out′ : List ℕ) (r : Done) → Called (answer n payload (not (eqb end 0)) (length out)) r m m′ out out′ → Run m′ ss m″
+      → Run m (record { event = answer n payload (not (eqb end 0)) (length out); reply = doneReply r; output = take (r .output) out′ } ∷ ss) m″
+  hislip-status : {m m′ m″ : Memory} {ss : List Seen} (b : ℕ) → Post view (status b) m m′ [] [] done 0 → Run m′ ss m″
+      → Run m (record { event = status b; reply = done; output = [] } ∷ ss) m″
+
+-- from any memory, whatever bits it holds: a run is the one of the definitions, so what is proved of `log` and `final` is proved of the
+-- program
+pub record ByDefinition (m m′ : Memory) (ss : List Seen) : Type 0 where
+  pub seen-is : ss ≡ map seen (log (view m) (seenEvents ss))
+  pub server-is : view m′ ≡ final (view m) (seenEvents ss)
+
+-- what session n has asked, read off what the host saw (the rule is the tie's)
+abbrev pub askedIn : List Seen → ℕ → Asked → Asked
+askedIn [] n p = p
+askedIn (s ∷ ss) n p = askedIn ss n (track (s .event) (s .reply) n p)
+
+-- F about the program: an answer of the instrument that is not refused writes one frame, to the session's synchronous connection, and
+-- its MessageID is that of the last DataEND or Trigger of the session that acted, with no device clear and no END answer since
+pub record Tied (ss : List Seen) (m : Memory) (n : ℕ) (payload : List ℕ) (end : Bool) (output : List ℕ) : Type 0 where
+  pub number : ℕ
+  pub asked : askedIn ss n Asked.none ≡ some number
+  pub sent : output ≡ frameBytes (frameOf ((at (view m .locks .entries) (slotOfNumber (view m .locks .entries) n)) .synchronous) (answerType end) 0 number payload)
+
+pub record Program : Type 0 where
+  pub by-definition : (m m′ : Memory) (ss : List Seen) → Run m ss m′ → ByDefinition m m′ ss
+  pub demand3 : (v : ℕ) (m m′ : Memory) (ss : List Seen) → Fresh v m → Run m ss m′ → Demand3 view v ss m′
+  pub tie : (v : ℕ) (m m′ m″ : Memory) (ss : List Seen) → Fresh v m → Run m ss m′
+      → (n : ℕ) (payload : List ℕ) (end : ℕ) (out out′ : List ℕ) (r : Done) → Called (answer n payload (not (eqb end 0)) (length out)) r m′ m″ out out′ → r .refusal ≡ 0
+      → Tied ss m′ n payload (not (eqb end 0)) (take (r .output) out′)
