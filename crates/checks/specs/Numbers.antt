@@ -9,7 +9,7 @@ use Rattle.model.specs.Checks.{Verdict, Verdict.v-more, Verdict.v-held, Verdict
 abbrev pub verdictOf : ℕ → Verdict
 verdictOf n =
     cond (ltb n 16)
-    (cond (eqb n 0) v-more (cond (eqb n 2) v-held (cond (eqb n 3) v-ignored (cond (eqb n 4) v-closed v-acts))))
+    (cond (eqb n 2) v-held (cond (eqb n 3) v-ignored (cond (eqb n 4) v-closed (cond (eqb n 5) v-acts v-more))))
     (cond (ltb n 32) (v-error (n - 16)) (v-fatal (n - 32)))
 
 abbrev pub message : ℕ → ℕ → ℕ → ℕ → Header

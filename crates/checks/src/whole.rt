@@ -17,7 +17,7 @@ use crate::verdict::MORE;
 
 // Checks 3 and 4: the length is above 1,024.
 pub fn long_verdict(role: u8) -> u8
-    ensures { λ r. ⌜ ((ro : Role) → roleNumber ro ≡ role → tooLong ro ≡ verdictOf r) ⌝ }
+    ensures { λ r. ⌜ (r ≡ 5 → ⊥) × ((ro : Role) → roleNumber ro ≡ role → tooLong ro ≡ verdictOf r) ⌝ }
 {
     match role {
         0 => FATAL_3,
@@ -28,7 +28,7 @@ pub fn long_verdict(role: u8) -> u8
 
 // Checks 3 and 5: the payload is not all here.
 pub fn partial_verdict(role: u8, kind: u8) -> u8
-    ensures { λ r. ⌜ ((ro : Role) (code param len : ℕ) → roleNumber ro ≡ role → partly ro (message kind code param len) ≡ verdictOf r) ⌝ }
+    ensures { λ r. ⌜ (r ≡ 5 → ⊥) × ((ro : Role) (code param len : ℕ) → roleNumber ro ≡ role → partly ro (message kind code param len) ≡ verdictOf r) ⌝ }
 {
     if role == 1 {
         return FATAL_2;

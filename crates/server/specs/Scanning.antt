@@ -5,24 +5,24 @@ use mathlib.Core.List.{List, [], _∷_}
 use Prim.Native.Nat.{ℕ, zero, suc, _+_, _-_, _≤_, _<_, min}
 use native.Mathlib.Nat.{not-suc-le-zero}
 use native.Mathlib.Omega.{arith}
-use lib.Dec.{eqb, ltb}
+use lib.Dec.{ltb}
 use lib.ListN.{length}
-use borrow.Author.Tests.{eq-eqb, ne-eqb, lt-ltb, le-ltb}
+use borrow.Author.Tests.{lt-ltb, le-ltb}
 use Rattle.wire.specs.declared.Header.{Header}
 use Rattle.wire.specs.Message.{header, prologue, payloadOf}
 use Rattle.model.specs.Sizes.{payloadLimit}
 use Rattle.model.specs.State.{Server, connectionAt}
 use Rattle.model.specs.Interface.{Reply.took, Outcome.more-needed}
 use Rattle.model.specs.Scan.{Scan, Scan.empty, Scan.few, Scan.wrong, Scan.skipping, Scan.long, Scan.part, Scan.whole, sorted, freshScan, scan}
-use Rattle.model.specs.Place.{Role, Role.r-none, Role.r-halfOpen, Role.r-synchronous, Role.r-asynchronous, roleOf, slotOf}
-use Rattle.model.specs.Checks.{verdict, judged}
+use Rattle.model.specs.Place.{Role, roleOf, slotOf}
+use Rattle.model.specs.Checks.{verdict, judged, partly, tooLong}
 use Rattle.model.specs.Step.{finish, effect, idle, channels, received}
 use Rattle.state.specs.View.{Memory, view}
-use Rattle.state.specs.Search.{roleNumber}
+use Rattle.checks.specs.Numbers.{verdictOf}
 use Rattle.effects.specs.declared.Delivery.{Delivery}
 use Rattle.effects.specs.Did.{Did}
-use Rattle.effects.specs.Replies.{errorPlan, skipPlan, closePlan, fatals}
-use Rattle.server.specs.Acting.{role-none, role-half, role-sync, role-async}
+use Rattle.effects.specs.Replies.{skipPlan, closePlan, fatals}
+use Rattle.server.specs.Verdicts.{by-verdict}
 
 module _ (bs : List ℕ) (enough : 16 ≤ length bs) where
   sorted-as : (p l q : Bool) → prologue bs ≡ p → ltb payloadLimit (header bs .len) ≡ l → ltb (length bs) (16 + header bs .len) ≡ q → freshScan bs ≡ sorted false p l q bs (header bs)
@@ -74,9 +74,6 @@ module _ (d : Server) (c i : ℕ) (r : Delivery) (m m′ : Memory) (out out′ :
   pub on-scan : (ro : Role) (s s′ : Scan) → s ≡ s′ → DidOn ro s′ → DidOn ro s
   on-scan ro s s′ e q = subst (λ (x : Scan). DidOn ro x) (sym e) q
 
-  on-role : (ro ro′ : Role) (s : Scan) → ro ≡ ro′ → DidOn ro′ s → DidOn ro s
-  on-role ro ro′ s e q = subst (λ (x : Role). DidOn x s) (sym e) q
-
   pub wrong-done : (ro : Role) → Did (finish d (closePlan d c i (fatals 1 (channels d c)))) r m m′ out out′ → DidOn ro wrong
   unfolding verdict effect
   wrong-done ro q = q
@@ -97,47 +94,14 @@ module _ (d : Server) (c i : ℕ) (r : Delivery) (m m′ : Memory) (out out′ :
   unfolding verdict
   whole-done ro h p q = q
 
-  -- too long: FatalError 3 without a role, FatalError 2 of a half-open session, else Error 4 and the payload is left to skip
-  pub long-none : (ro : Role) (h : Header) → roleNumber ro ≡ 0 → Did (finish d (closePlan d c i (fatals 3 (channels d c)))) r m m′ out out′ → DidOn ro (long h)
-  unfolding verdict effect
-  long-none ro h e q = on-role ro r-none (long h) (role-none ro e) q
+  -- a header alone: the verdict that was found by number
+  pub long-done : (ro : Role) (h : Header) (v : ℕ) → tooLong ro ≡ verdictOf v → Did (finish d (effect (verdictOf v) (long h) ro d i c)) r m m′ out out′ → DidOn ro (long h)
+  unfolding verdict
+  long-done ro h v e q = by-verdict d c i (long h) ro r m m′ out out′ (tooLong ro) (verdictOf v) e q
 
-  pub long-half : (ro : Role) (h : Header) → (roleNumber ro ≡ 0 → ⊥) → (roleNumber ro ≡ 2 → ⊥) → (roleNumber ro ≡ 3 → ⊥) → Did (finish d (closePlan d c i (fatals 2 (channels d c)))) r m m′ out out′ → DidOn ro (long h)
-  unfolding verdict effect
-  long-half ro h a b e q = on-role ro r-halfOpen (long h) (role-half ro a b e) q
-
-  pub long-sync : (ro : Role) (h : Header) → roleNumber ro ≡ 2 → Did (finish d (errorPlan d c 4 16 (h .len))) r m m′ out out′ → DidOn ro (long h)
-  unfolding verdict effect
-  long-sync ro h e q = on-role ro r-synchronous (long h) (role-sync ro e) q
-
-  pub long-async : (ro : Role) (h : Header) → roleNumber ro ≡ 3 → Did (finish d (errorPlan d c 4 16 (h .len))) r m m′ out out′ → DidOn ro (long h)
-  unfolding verdict effect
-  long-async ro h e q = on-role ro r-asynchronous (long h) (role-async ro e) q
-
-  -- a part: FatalError 3 without a role unless it may open a session, FatalError 2 of a half-open session, else more is needed
-  pub part-wrong : (ro : Role) (h : Header) → roleNumber ro ≡ 0 → (h .kind ≡ 0 → ⊥) → (h .kind ≡ 17 → ⊥) → Did (finish d (closePlan d c i (fatals 3 (channels d c)))) r m m′ out out′ → DidOn ro (part h)
-  unfolding verdict effect
-  part-wrong ro h e a b q = on-role ro r-none (part h) (role-none ro e) (rw (ne-eqb (h .kind) 0 a, ne-eqb (h .kind) 17 b) q)
-
-  pub part-none-0 : (ro : Role) (h : Header) → roleNumber ro ≡ 0 → h .kind ≡ 0 → Did (finish d (idle d (took more-needed 0 0))) r m m′ out out′ → DidOn ro (part h)
-  unfolding verdict effect
-  part-none-0 ro h e a q = on-role ro r-none (part h) (role-none ro e) (rw (eq-eqb (h .kind) 0 a) q)
-
-  pub part-none-17 : (ro : Role) (h : Header) → roleNumber ro ≡ 0 → (h .kind ≡ 0 → ⊥) → h .kind ≡ 17 → Did (finish d (idle d (took more-needed 0 0))) r m m′ out out′ → DidOn ro (part h)
-  unfolding verdict effect
-  part-none-17 ro h e a b q = on-role ro r-none (part h) (role-none ro e) (rw (ne-eqb (h .kind) 0 a, eq-eqb (h .kind) 17 b) q)
-
-  pub part-half : (ro : Role) (h : Header) → (roleNumber ro ≡ 0 → ⊥) → (roleNumber ro ≡ 2 → ⊥) → (roleNumber ro ≡ 3 → ⊥) → Did (finish d (closePlan d c i (fatals 2 (channels d c)))) r m m′ out out′ → DidOn ro (part h)
-  unfolding verdict effect
-  part-half ro h a b e q = on-role ro r-halfOpen (part h) (role-half ro a b e) q
-
-  pub part-sync : (ro : Role) (h : Header) → roleNumber ro ≡ 2 → Did (finish d (idle d (took more-needed 0 0))) r m m′ out out′ → DidOn ro (part h)
-  unfolding verdict effect
-  part-sync ro h e q = on-role ro r-synchronous (part h) (role-sync ro e) q
-
-  pub part-async : (ro : Role) (h : Header) → roleNumber ro ≡ 3 → Did (finish d (idle d (took more-needed 0 0))) r m m′ out out′ → DidOn ro (part h)
-  unfolding verdict effect
-  part-async ro h e q = on-role ro r-asynchronous (part h) (role-async ro e) q
+  pub part-done : (ro : Role) (h : Header) (v : ℕ) → partly ro h ≡ verdictOf v → Did (finish d (effect (verdictOf v) (part h) ro d i c)) r m m′ out out′ → DidOn ro (part h)
+  unfolding verdict
+  part-done ro h v e q = by-verdict d c i (part h) ro r m m′ out out′ (partly ro h) (verdictOf v) e q
 
 -- the place of the connection is the one that was found
 pub received-as : (d : Server) (c i : ℕ) (r : Delivery) (m m′ : Memory) (out out′ : List ℕ) (s : Scan) → slotOf d c ≡ i → DidOn d c i r m m′ out out′ (roleOf (d .locks .entries) c) s

@@ -5,7 +5,7 @@ ghost use Rattle.effects.specs.Did.{Did};
 ghost use Rattle.model.specs.Acts.{acts};
 ghost use Rattle.model.specs.Checks.{Verdict.v-acts, judged};
 ghost use Rattle.model.specs.Place.{Role, slotIn};
-ghost use Rattle.model.specs.Scan.{Scan.long, Scan.part, Scan.whole, freshScan, scan};
+ghost use Rattle.model.specs.Scan.{Scan, Scan.whole, freshScan, leftover, scan, size};
 ghost use Rattle.model.specs.State.{connectionAt};
 ghost use Rattle.server.specs.Scanning.{DidOn};
 ghost use Rattle.model.specs.Step.{effect, finish, received};
@@ -13,17 +13,20 @@ ghost use Rattle.state.specs.Search.{roleNumber};
 ghost use Rattle.state.specs.View.{locksOf, memory, restOf, view};
 ghost use lib.ListN.{length};
 ghost use mathlib.Core.List.{List};
-ghost use mathlib.Core.Logic.{_⊎_};
 ghost use mathlib.Core.Path.{_≡_};
+use checks::verdict::ACTS;
+use checks::verdict::CLOSED;
+use checks::verdict::HELD;
+use checks::verdict::IGNORED;
+use checks::whole;
 use effects::Delivery;
-use state::search;
-use state::tables;
-use wire::reading;
-ghost use Rattle.server.specs.Verdicts.{actsNumber};
 use effects::asynchronous;
 use effects::opening;
 use effects::replies;
 use effects::synchronous;
+use state::search;
+use state::tables;
+use wire::reading;
 
 fn quiet(outcome: u64, taken: u64) -> Delivery
     ensures { λ r. ⌜ r ≡ record { refusal = 0; outcome = outcome; session = 0; taken = taken; output = 0 } ⌝ }
@@ -37,32 +40,33 @@ fn quiet(outcome: u64, taken: u64) -> Delivery
     }
 }
 
-// What a verdict other than "acts" does with a whole message.
-fn apply_other(
+// What a verdict other than "acts" does: so many bytes are taken, and so many are left to skip.
+fn apply(
     w: &mut [u64; 235],
     strings: &mut [u8; 1088],
     out: &mut [u8],
     c: u64,
     i: usize,
     v: u8,
-    len: u64,
+    taken: u64,
+    left: u64,
 ) -> Delivery
-    requires { ⌜ (c < 32) × (len ≤ 1024) × (2048 ≤ length (now out)) × ((s : List ℕ) → slotIn (locksOf (now w) s .entries) c ≡ i) × ((v < 5) ⊎ (16 ≤ v)) × (v ≡ 1 → ⊥) ⌝ }
-    ensures { λ r. ⌜ ((ro : Role) (kind code param : ℕ) (p : List ℕ) → Did (finish (view (memory (now (w .entry)) (now (strings .entry)))) (effect (verdictOf v) (whole (message kind code param len) p) ro (view (memory (now (w .entry)) (now (strings .entry)))) i c)) r (memory (now (w .entry)) (now (strings .entry))) (memory (now (w .exit)) (now (strings .exit))) (now (out .entry)) (now (out .exit))) ⌝ }
+    requires { ⌜ (c < 32) × (2048 ≤ length (now out)) × ((s : List ℕ) → slotIn (locksOf (now w) s .entries) c ≡ i) × (v ≡ 5 → ⊥) ⌝ }
+    ensures { λ r. ⌜ ((ro : Role) (x : Scan) → size x ≡ taken → leftover x ≡ left → Did (finish (view (memory (now (w .entry)) (now (strings .entry)))) (effect (verdictOf v) x ro (view (memory (now (w .entry)) (now (strings .entry)))) i c)) r (memory (now (w .entry)) (now (strings .entry))) (memory (now (w .exit)) (now (strings .exit))) (now (out .entry)) (now (out .exit))) ⌝ }
 {
     if v >= 32 {
         return replies::send_fatal(w, strings, out, c, i, v - 32);
     }
     if v >= 16 {
-        return replies::send_error(w, out, c, v - 16, 16 + len, 0);
+        return replies::send_error(w, out, c, v - 16, taken, left);
     }
-    if v == 4 {
+    if v == CLOSED {
         return replies::close_silently(w, strings, out, c, i);
     }
-    if v == 3 {
-        return quiet(3, 16 + len);
+    if v == IGNORED {
+        return quiet(3, taken);
     }
-    if v == 2 {
+    if v == HELD {
         return quiet(2, 0);
     }
     quiet(0, 0)
@@ -108,27 +112,6 @@ fn act(
     quiet(6, 16 + len)
 }
 
-fn acts_on(v: u8) -> bool
-    ensures { λ r. ⌜ actsNumber v ≡ r ⌝ }
-{
-    if v >= 16 {
-        return false;
-    }
-    if v == 0 {
-        return false;
-    }
-    if v == 2 {
-        return false;
-    }
-    if v == 3 {
-        return false;
-    }
-    if v == 4 {
-        return false;
-    }
-    true
-}
-
 // A whole message: the verdict, and what it does.
 fn deliver_whole(
     w: &mut [u64; 235],
@@ -146,67 +129,11 @@ fn deliver_whole(
     requires { ⌜ (c < 32) × (len ≤ 1024) × (length (now payload) ≡ len) × (2048 ≤ length (now out)) × ((s : List ℕ) → slotIn (locksOf (now w) s .entries) c ≡ i) × ((role ≡ 0 → ⊥) → i < 16) ⌝ }
     ensures { λ r. ⌜ ((ro : Role) → roleNumber ro ≡ role → Did (finish (view (memory (now (w .entry)) (now (strings .entry)))) (effect (judged ro (view (memory (now (w .entry)) (now (strings .entry)))) i (message kind code param len) (now (payload .entry))) (whole (message kind code param len) (now (payload .entry))) ro (view (memory (now (w .entry)) (now (strings .entry)))) i c)) r (memory (now (w .entry)) (now (strings .entry))) (memory (now (w .exit)) (now (strings .exit))) (now (out .entry)) (now (out .exit))) ⌝ }
 {
-    let v = checks::whole::whole_verdict(w, role, i, kind, code, param, len, payload);
-    if acts_on(v) {
+    let v = whole::whole_verdict(w, role, i, kind, code, param, len, payload);
+    if v == ACTS {
         return act(w, strings, out, c, i, role, kind, code, param, len, payload);
     }
-    apply_other(w, strings, out, c, i, v, len)
-}
-
-// A header with a length above 1,024 (checks 3 and 4).
-fn deliver_long(
-    w: &mut [u64; 235],
-    strings: &mut [u8; 1088],
-    out: &mut [u8],
-    c: u64,
-    i: usize,
-    role: u8,
-    len: u64,
-) -> Delivery
-    requires { ⌜ (c < 32) × (2048 ≤ length (now out)) × ((s : List ℕ) → slotIn (locksOf (now w) s .entries) c ≡ i) ⌝ }
-    ensures { λ r. ⌜ ((ro : Role) (kind code param : ℕ) → roleNumber ro ≡ role → DidOn (view (memory (now (w .entry)) (now (strings .entry)))) c i r (memory (now (w .entry)) (now (strings .entry))) (memory (now (w .exit)) (now (strings .exit))) (now (out .entry)) (now (out .exit)) ro (long (message kind code param len))) ⌝ }
-{
-    if role == 0 {
-        return replies::send_fatal(w, strings, out, c, i, 3);
-    }
-    if role == 2 {
-        return replies::send_error(w, out, c, 4, 16, len);
-    }
-    if role == 3 {
-        return replies::send_error(w, out, c, 4, 16, len);
-    }
-    replies::send_fatal(w, strings, out, c, i, 2)
-}
-
-// A payload that is not all here (checks 3 and 5).
-fn deliver_part(
-    w: &mut [u64; 235],
-    strings: &mut [u8; 1088],
-    out: &mut [u8],
-    c: u64,
-    i: usize,
-    role: u8,
-    kind: u8,
-) -> Delivery
-    requires { ⌜ (c < 32) × (2048 ≤ length (now out)) × ((s : List ℕ) → slotIn (locksOf (now w) s .entries) c ≡ i) ⌝ }
-    ensures { λ r. ⌜ ((ro : Role) (code param len : ℕ) → roleNumber ro ≡ role → DidOn (view (memory (now (w .entry)) (now (strings .entry)))) c i r (memory (now (w .entry)) (now (strings .entry))) (memory (now (w .exit)) (now (strings .exit))) (now (out .entry)) (now (out .exit)) ro (part (message kind code param len))) ⌝ }
-{
-    if role == 2 {
-        return quiet(0, 0);
-    }
-    if role == 3 {
-        return quiet(0, 0);
-    }
-    if role != 0 {
-        return replies::send_fatal(w, strings, out, c, i, 2);
-    }
-    if kind == 0 {
-        return quiet(0, 0);
-    }
-    if kind == 17 {
-        return quiet(0, 0);
-    }
-    replies::send_fatal(w, strings, out, c, i, 3)
+    apply(w, strings, out, c, i, v, 16 + len, 0)
 }
 
 // At least sixteen bytes, with nothing to skip.
@@ -228,11 +155,13 @@ fn deliver_message(
     let h = reading::header_at(bytes);
     let len = h.len;
     if len > 1024 {
-        return deliver_long(w, strings, out, c, i, role, len);
+        let v = whole::long_verdict(role);
+        return apply(w, strings, out, c, i, v, 16, len);
     }
     let end = 16 + len as usize;
     if bytes.len() < end {
-        return deliver_part(w, strings, out, c, i, role, h.kind);
+        let v = whole::partial_verdict(role, h.kind);
+        return apply(w, strings, out, c, i, v, 0, 0);
     }
     deliver_whole(
         w,

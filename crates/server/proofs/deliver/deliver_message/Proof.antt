@@ -1,5 +1,5 @@
 -- `deliver::deliver_message` meets its contract: the prologue, the length, whether the payload is here.
-use mathlib.Core.Path.{_≡_, sym, ap, _∙_}
+use mathlib.Core.Path.{_≡_, refl, sym, ap, _∙_}
 use mathlib.Core.Bool.{true, false}
 use Prim.Native.Nat.{ℕ, _+_, _-_}
 use native.Mathlib.Omega.{arith}
@@ -8,7 +8,7 @@ use Rattle.wire.specs.declared.Header.{Header}
 use Rattle.wire.specs.Message.{header, prologue, payloadOf}
 use Rattle.model.specs.Scan.{Scan.wrong, Scan.long, Scan.part, Scan.whole, freshScan}
 use Rattle.state.specs.View.{memory, view}
-use Rattle.server.specs.Scanning.{on-scan, scan-wrong, scan-long, scan-part, scan-whole, wrong-done, whole-done}
+use Rattle.server.specs.Scanning.{on-scan, scan-wrong, scan-long, scan-part, scan-whole, wrong-done, whole-done, long-done, part-done}
 use borrow.Author.Needs.{needs}
 use borrow.Author.Tests.{not-true, not-false}
 use Rattle.server.proofs.deliver.deliver_message.Statement.{statement}
@@ -21,26 +21,32 @@ returns c = let a = c .before .before .before .before .before .before .before .b
     λ ro e. on-scan (view (memory (a .w .now) s)) (a .c) (a .i) _ _ _ _ _ ro (freshScan bs) wrong (scan-wrong bs (c .before .before .before .before .before .before .before .before .before .before .pre .1) (sym (c .before .before .before .before .before .before .before .has-prologue .ensures) ∙ not-true (c .before .before .before .before .before .before .before .has-prologue .result) (c .before .before .before .before .before .before .if1 .taken))) (wrong-done (view (memory (a .w .now) s)) (a .c) (a .i) _ _ _ _ _ ro (c .before .before .send-fatal .ensures))
 
 returns-2 : tie.Need-returns-2
-returns-2 c = let a = c .before .before .before .before .before .before .before .before .before .before .before .before .args in
-    let q = c .before .before .before .before .before .before .before .before .before .before .before .before .pre in
-    let s = a .strings .now in
-    let bs = a .bytes .now in
-    let h = c .before .before .before .before .before .before .before .header-at .result in
-    let eh : h ≡ header bs = c .before .before .before .before .before .before .before .header-at .ensures in
-    let el : header bs .len ≡ h .len = ap (λ (x : Header). x .len) (sym eh) in
-    let p : prologue bs ≡ true = sym (c .before .before .before .before .before .before .before .before .before .has-prologue .ensures) ∙ not-false (c .before .before .before .before .before .before .before .before .before .has-prologue .result) (c .before .before .before .before .before .before .before .before .if1 .left) in
-    λ ro e. on-scan (view (memory (a .w .now) s)) (a .c) (a .i) _ _ _ _ _ ro (freshScan bs) (long h) (scan-long bs (q .1) p (omega arith) ∙ ap long (sym eh)) (c .before .before .deliver-long .ensures ro (h .kind) (h .code) (h .param) e)
-
-returns-3 : tie.Need-returns-3
-returns-3 c = let a = c .before .before .before .before .before .before .before .before .before .before .before .before .before .args in
-    let q = c .before .before .before .before .before .before .before .before .before .before .before .before .before .pre in
-    let s = a .strings .now in
+returns-2 c =
+    let p = c .before .before .before .before .before .before .before .before .before .before .before .before .before in
+    let a = p .args in
+    let d = view (memory (a .w .now) (a .strings .now)) in
     let bs = a .bytes .now in
     let h = c .before .before .before .before .before .before .before .before .header-at .result in
     let eh : h ≡ header bs = c .before .before .before .before .before .before .before .before .header-at .ensures in
     let el : header bs .len ≡ h .len = ap (λ (x : Header). x .len) (sym eh) in
-    let p : prologue bs ≡ true = sym (c .before .before .before .before .before .before .before .before .before .before .has-prologue .ensures) ∙ not-false (c .before .before .before .before .before .before .before .before .before .before .has-prologue .result) (c .before .before .before .before .before .before .before .before .before .if1 .left) in
-    λ ro e. on-scan (view (memory (a .w .now) s)) (a .c) (a .i) _ _ _ _ _ ro (freshScan bs) (part h) (scan-part bs (q .1) p (omega arith) (omega arith) ∙ ap part (sym eh)) (c .before .before .deliver-part .ensures ro (h .code) (h .param) (h .len) e)
+    let t : prologue bs ≡ true = sym (c .before .before .before .before .before .before .before .before .before .before .has-prologue .ensures) ∙ not-false (c .before .before .before .before .before .before .before .before .before .before .has-prologue .result) (c .before .before .before .before .before .before .before .before .before .if1 .left) in
+    let v = c .before .before .before .before .before .before .long-verdict in
+    λ ro e. on-scan d (a .c) (a .i) _ _ _ _ _ ro (freshScan bs) (long h) (scan-long bs (p .pre .1) t (omega arith) ∙ ap long (sym eh))
+    (long-done d (a .c) (a .i) _ _ _ _ _ ro h (v .result) (v .ensures .1 ro e) (c .before .before .apply .ensures ro (long h) refl refl))
+
+returns-3 : tie.Need-returns-3
+returns-3 c =
+    let p = c .before .before .before .before .before .before .before .before .before .before .before .before .before .before in
+    let a = p .args in
+    let d = view (memory (a .w .now) (a .strings .now)) in
+    let bs = a .bytes .now in
+    let h = c .before .before .before .before .before .before .before .before .before .header-at .result in
+    let eh : h ≡ header bs = c .before .before .before .before .before .before .before .before .before .header-at .ensures in
+    let el : header bs .len ≡ h .len = ap (λ (x : Header). x .len) (sym eh) in
+    let t : prologue bs ≡ true = sym (c .before .before .before .before .before .before .before .before .before .before .before .has-prologue .ensures) ∙ not-false (c .before .before .before .before .before .before .before .before .before .before .before .has-prologue .result) (c .before .before .before .before .before .before .before .before .before .before .if1 .left) in
+    let v = c .before .before .before .before .before .before .partial-verdict in
+    λ ro e. on-scan d (a .c) (a .i) _ _ _ _ _ ro (freshScan bs) (part h) (scan-part bs (p .pre .1) t (omega arith) (omega arith) ∙ ap part (sym eh))
+    (part-done d (a .c) (a .i) _ _ _ _ _ ro h (v .result) (v .ensures .1 ro (h .code) (h .param) (h .len) e) (c .before .before .apply2 .ensures ro (part h) refl refl))
 
 deliver-whole-requires : tie.Need-deliver-whole-requires
 deliver-whole-requires c κs = let a = c .before .before .before .before .before .before .before .before .before .before .before .args in
@@ -77,9 +83,11 @@ deliver-message-spec =
     returns
     (λ c κs. search needs)
     (λ c κs. search needs)
+    (λ c κs. search needs)
     (λ c. search needs)
     returns-2
     (λ c. search needs)
+    (λ c κs. search needs)
     (λ c κs. search needs)
     (λ c. search needs)
     returns-3

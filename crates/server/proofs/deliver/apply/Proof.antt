@@ -1,0 +1,66 @@
+-- `deliver::apply` meets its contract: what each verdict does is what the function called for it does.
+use mathlib.Core.Path.{_≡_, refl, ap}
+use mathlib.Core.List.{[]}
+use native.Mathlib.Omega.{arith}
+use Rattle.wire.specs.Frame.{bytesOf}
+use Rattle.model.specs.Interface.{Reply.took, Outcome.more-needed, Outcome.held, Outcome.ignored}
+use Rattle.effects.specs.Did.{numbersOf, did-nothing, did-plainly}
+use Rattle.effects.specs.Replies.{nothing-said}
+use Rattle.state.specs.View.{memory, restOf, view}
+use Rattle.server.specs.Verdicts.{fatal-done, error-done, closed-done, ignored-done, held-done, more-done}
+use borrow.Author.Needs.{needs}
+use Rattle.server.proofs.deliver.apply.Statement.{statement}
+use Rattle.server.proofs.deliver.apply.Tie as tie
+
+returns : tie.Need-returns
+returns c =
+    let a = c .before .before .before .before .before .before .before .before .args in
+    λ ro x e f. fatal-done (view (memory (a .w .now) (a .strings .now))) (a .c) (a .i) x ro _ _ _ _ _ (a .v) (c .before .before .before .before .before .before .if1 .taken) (c .before .before .send-fatal .ensures)
+
+returns-2 : tie.Need-returns-2
+returns-2 c =
+    let a = c .before .before .before .before .before .before .before .before .args in
+    λ ro x e f. error-done (view (memory (a .w .now) (a .strings .now))) (a .c) (a .i) x ro _ _ _ _ _ (a .v) (c .before .before .before .before .before .if2 .taken) (omega arith) (a .taken) (a .left) e f (c .before .before .send-error .ensures (a .strings .now))
+
+returns-3 : tie.Need-returns-3
+returns-3 c =
+    let a = c .before .before .before .before .before .before .before .before .before .before .args in
+    λ ro x e f. closed-done (view (memory (a .w .now) (a .strings .now))) (a .c) (a .i) x ro _ _ _ _ _ (a .v) (c .before .before .before .before .before .before .if3 .taken) (c .before .before .close-silently .ensures)
+
+returns-4 : tie.Need-returns-4
+unfolding bytesOf
+returns-4 c =
+    let a = c .before .before .before .before .before .before .args in
+    let d = view (memory (a .w .now) (a .strings .now)) in
+    λ ro x e f. ignored-done d (a .c) (a .i) x ro _ _ _ _ _ (a .v) (c .before .if4 .taken) (a .taken) e (did-plainly d (took ignored (a .taken) 0) (restOf (a .w .now)) [] _ _ _ _ _ (ap numbersOf (c .quiet .ensures)) refl (nothing-said (a .out .now)) refl)
+
+returns-5 : tie.Need-returns-5
+returns-5 c =
+    let a = c .before .before .before .before .before .before .before .args in
+    λ ro x e f. held-done (view (memory (a .w .now) (a .strings .now))) (a .c) (a .i) x ro _ _ _ _ _ (a .v) (c .before .if5 .taken) (did-nothing (took held 0 0) _ _ _ (ap numbersOf (c .quiet2 .ensures)))
+
+returns-6 : tie.Need-returns-6
+returns-6 c =
+    let p = c .before .before .before .before .before .before .before in
+    let a = p .args in
+    λ ro x e f. more-done (view (memory (a .w .now) (a .strings .now))) (a .c) (a .i) x ro _ _ _ _ _ (a .v) (omega arith) (c .before .if5 .left) (c .before .before .if4 .left) (c .before .before .before .if3 .left) (p .pre .3) (did-nothing (took more-needed 0 0) _ _ _ (ap numbersOf (c .quiet3 .ensures)))
+
+pub apply-spec : {M : Type 1} → statement M
+apply-spec =
+    tie.close
+    (tie.spec
+    (λ c κs. search needs)
+    (λ c. search needs)
+    returns
+    (λ c κs. search needs)
+    (λ c. search needs)
+    returns-2
+    (λ c κs. search needs)
+    (λ c. search needs)
+    returns-3
+    (λ c κs. search needs)
+    returns-4
+    (λ c κs. search needs)
+    returns-5
+    (λ c κs. search needs)
+    returns-6)
