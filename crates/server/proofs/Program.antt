@@ -198,10 +198,20 @@ tied v m m′ m″ ss f g n payload end out out′ r p z =
           ∙ ap (λ (x : Server). frameBytes (frameOf ((at (x .locks .entries) (slotOfNumber (x .locks .entries) n)) .synchronous) (answerType (not (eqb end 0))) 0 i payload)) (sym d);
     }
 
+decided : (m m′ n n′ : Memory) (ss rs : List Seen) → view m ≡ view n → Run m ss m′ → Run n rs n′ → seenEvents ss ≡ seenEvents rs → (ss ≡ rs) × (view m′ ≡ view n′)
+decided m m′ n n′ ss rs v f g e =
+    let h = made view (calls f) in
+    let k = made view (calls g) in
+    let both : (d : Server) (es : List Event) → view m ≡ d → seenEvents ss ≡ es → (ss ≡ map seen (log d es)) × (view m′ ≡ final d es) =
+    λ d es p q. rw (← p, ← q) (h .0, h .1) in
+    let t = both (view n) (seenEvents rs) v e in
+    (t .0 ∙ sym (k .0), t .1 ∙ sym (k .1))
+
 pub program : Program
 program =
     record {
       by-definition = λ m m′ ss g. let h = made view (calls g) in record { seen-is = h .0; server-is = h .1 };
+      view-decides = decided;
       demand3 = λ v m m′ ss f g. demand3 view v m (f .shows) (calls g);
       tie = tied;
     }

@@ -76,6 +76,9 @@ pub record Tied (ss : List Seen) (m : Memory) (n : ℕ) (payload : List ℕ) (en
 
 pub record Program : Type 0 where
   pub by-definition : (m m′ : Memory) (ss : List Seen) → Run m ss m′ → ByDefinition m m′ ss
+  -- the view shows everything that a later call can depend on: from two memories with one view the same events show the host the same
+  pub view-decides : (m m′ n n′ : Memory) (ss rs : List Seen) → view m ≡ view n → Run m ss m′ → Run n rs n′ → seenEvents ss ≡ seenEvents rs
+      → (ss ≡ rs) × (view m′ ≡ view n′)
   pub demand3 : (v : ℕ) (m m′ : Memory) (ss : List Seen) → Fresh v m → Run m ss m′ → Demand3 view v ss m′
   pub tie : (v : ℕ) (m m′ m″ : Memory) (ss : List Seen) → Fresh v m → Run m ss m′
       → (n : ℕ) (payload : List ℕ) (end : ℕ) (out out′ : List ℕ) (r : Done) → Called (answer n payload (not (eqb end 0)) (length out)) r m′ m″ out out′ → r .refusal ≡ 0
