@@ -14,6 +14,7 @@ use crate::verdict::ERROR_3;
 use crate::verdict::FATAL_3;
 use crate::verdict::IGNORED;
 use wire::class;
+use wire::types;
 
 // Check 10: 0 or 1 for lock (4) and status query (21), 0 to 6 for remote/local (10), any code for the others.
 fn code_wrong(kind: u8, code: u8) -> bool
@@ -52,10 +53,10 @@ pub fn asynchronous_verdict(kind: u8, code: u8, len: u64) -> u8
     ensures { λ r. ⌜ ((p : List ℕ) (param : ℕ) → first (asynchronousRules (message kind code param len) p) ≡ verdictOf r) ⌝ }
 {
     // check 6
-    if kind == 2 {
+    if kind == types::FATAL_ERROR {
         return CLOSED;
     }
-    if kind == 3 {
+    if kind == types::ERROR {
         return IGNORED;
     }
     // check 8
@@ -66,7 +67,7 @@ pub fn asynchronous_verdict(kind: u8, code: u8, len: u64) -> u8
     if class == 2 {
         return ERROR_1;
     }
-    if kind == 17 {
+    if kind == types::ASYNC_INITIALIZE {
         return FATAL_3;
     }
     // check 10

@@ -13,6 +13,7 @@ use crate::verdict::FATAL_3;
 use crate::verdict::FATAL_4;
 use state::search;
 use state::tables;
+use wire::types;
 
 // The seven bytes "hislip0".
 fn is_hislip0(p: &[u8]) -> bool
@@ -70,7 +71,7 @@ fn is_half_open(w: &[u64; 235], number: u64) -> bool
     if slot >= 16 {
         return false;
     }
-    tables::entry(w, slot, 2) % 256 == 255
+    tables::entry(w, slot, tables::ASYNCHRONOUS) % 256 == 255
 }
 
 // Initialize: the sub-address first, then room for one more session.
@@ -91,10 +92,10 @@ pub fn opening_verdict(w: &[u64; 235], kind: u8, param: u32, len: u64, payload: 
     ensures { λ r. ⌜ ((s : List ℕ) (code : ℕ) → first (openingRules (view (memory (now (w .entry)) s)) (message kind code param len) (now (payload .entry))) ≡ verdictOf r) ⌝ }
 {
     // check 3: types 0 and 17 pass
-    if kind == 0 {
+    if kind == types::INITIALIZE {
         return initialize_verdict(w, payload);
     }
-    if kind != 17 {
+    if kind != types::ASYNC_INITIALIZE {
         return FATAL_3;
     }
     // check 10

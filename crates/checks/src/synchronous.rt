@@ -20,12 +20,13 @@ use crate::verdict::IGNORED;
 use locks::access;
 use state::tables;
 use wire::class;
+use wire::types;
 
 fn in_clear(w: &[u64; 235], i: usize) -> bool
     requires { ⌜ i < 16 ⌝ }
     ensures { λ r. ⌜ (exchangeAt (restOf (now (w .entry))) i) .inClear ≡ r ⌝ }
 {
-    tables::exchange(w, i, 0) == 1
+    tables::exchange(w, i, tables::IN_CLEAR) == 1
 }
 
 // Check 10 of DeviceClearComplete: no payload, and only in a clear.
@@ -52,7 +53,7 @@ fn command_verdict(w: &[u64; 235], i: usize, kind: u8, code: u8, len: u64) -> u8
     if code > 1 {
         return ERROR_2;
     }
-    if kind != 12 {
+    if kind != types::TRIGGER {
         return ACTS;
     }
     if len > 0 {
@@ -67,15 +68,15 @@ pub fn synchronous_verdict(w: &[u64; 235], i: usize, kind: u8, code: u8, len: u6
     ensures { λ r. ⌜ ((s p : List ℕ) (param : ℕ) → first (synchronousRules (view (memory (now (w .entry)) s)) i (message kind code param len) p) ≡ verdictOf r) ⌝ }
 {
     // check 6
-    if kind == 2 {
+    if kind == types::FATAL_ERROR {
         return CLOSED;
     }
-    if kind == 3 {
+    if kind == types::ERROR {
         return IGNORED;
     }
     // check 7: type 8 passes, and is left with check 10
     let clearing = in_clear(w, i);
-    if kind == 8 {
+    if kind == types::DEVICE_CLEAR_COMPLETE {
         return complete_verdict(clearing, len);
     }
     if clearing {
@@ -89,7 +90,7 @@ pub fn synchronous_verdict(w: &[u64; 235], i: usize, kind: u8, code: u8, len: u6
     if class == 2 {
         return ERROR_1;
     }
-    if kind == 0 {
+    if kind == types::INITIALIZE {
         return FATAL_3;
     }
     // checks 9 and 10: 6, 7 and 12 are left

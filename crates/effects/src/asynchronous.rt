@@ -15,6 +15,7 @@ ghost use lib.ListN.{length};
 ghost use mathlib.Core.List.{List};
 ghost use mathlib.Core.Path.{_≡_};
 use crate::Delivery;
+use crate::outcome;
 use locks::grant_pass;
 use locks::info;
 use locks::release;
@@ -23,6 +24,7 @@ use locks::waiting;
 use state::tables;
 use wire::frame;
 use wire::number;
+use wire::types;
 
 // Control code 1 says that a response was delivered: message available goes off.
 fn note_delivered(w: &mut [u64; 235], i: usize, code: u8)
@@ -32,7 +34,7 @@ fn note_delivered(w: &mut [u64; 235], i: usize, code: u8)
     if code != 1 {
         return;
     }
-    tables::set_exchange(w, i, 2, 0);
+    tables::set_exchange(w, i, tables::AVAILABLE, 0);
 }
 
 // The instrument's status byte, with value 16 replaced by message available of slot i.
@@ -40,9 +42,9 @@ fn status_of(w: &[u64; 235], i: usize) -> u8
     requires { ⌜ i < 16 ⌝ }
     ensures { λ r. ⌜ r ≡ statusByte (restOf (now (w .entry)) .status) ((exchangeAt (restOf (now (w .entry))) i) .messageAvailable) ⌝ }
 {
-    let all = tables::single(w, 1) % 256;
+    let all = tables::single(w, tables::STATUS) % 256;
     let low = all % 16 + all / 32 * 32;
-    if tables::exchange(w, i, 2) == 1 {
+    if tables::exchange(w, i, tables::AVAILABLE) == 1 {
         return (low + 16) as u8;
     }
     low as u8
@@ -60,13 +62,13 @@ fn query_status(
     requires { ⌜ (i < 16) × (c < 32) × (len ≤ 1024) × (2048 ≤ length (now out)) ⌝ }
     ensures { λ r. ⌜ ((s p : List ℕ) (param : ℕ) → DidKind k-statusQuery i c code param len p r (memory (now (w .entry)) s) (memory (now (w .exit)) s) (now (out .entry)) (now (out .exit))) ⌝ }
 {
-    let n = tables::entry(w, i, 0);
+    let n = tables::entry(w, i, tables::NUMBER);
     note_delivered(w, i, code);
     let b = status_of(w, i);
-    frame::put_frame(out, 0, c as u8, 22, b, 0);
+    frame::put_frame(out, 0, c as u8, types::ASYNC_STATUS_RESPONSE, b, 0);
     Delivery {
         refusal: 0,
-        outcome: 6,
+        outcome: outcome::ACTED,
         session: n,
         taken: 16 + len,
         output: 17,
@@ -78,13 +80,13 @@ fn tell_locks(w: &[u64; 235], out: &mut [u8], c: u64, i: usize, len: u64) -> Del
     requires { ⌜ (i < 16) × (c < 32) × (len ≤ 1024) × (2048 ≤ length (now out)) ⌝ }
     ensures { λ r. ⌜ ((s p : List ℕ) (code param : ℕ) → DidKind k-lockInfo i c code param len p r (memory (now (w .entry)) s) (memory (now (w .entry)) s) (now (out .entry)) (now (out .exit))) ⌝ }
 {
-    let n = tables::entry(w, i, 0);
+    let n = tables::entry(w, i, tables::NUMBER);
     let x = info::exclusive_code(w);
     let y = info::holder_count(w);
-    frame::put_frame(out, 0, c as u8, 25, x, y);
+    frame::put_frame(out, 0, c as u8, types::ASYNC_LOCK_INFO_RESPONSE, x, y);
     Delivery {
         refusal: 0,
-        outcome: 6,
+        outcome: outcome::ACTED,
         session: n,
         taken: 16 + len,
         output: 17,
@@ -95,9 +97,9 @@ fn tell_locks(w: &[u64; 235], out: &mut [u8], c: u64, i: usize, len: u64) -> Del
 fn set_flags(w: &mut [u64; 235], enable: u64, lockout: u64, remote: u64)
     ensures { λ _. ⌜ ((s : List ℕ) → view (memory (now (w .exit)) s) ≡ onRest (view (memory (now (w .entry)) s)) (flagging enable lockout remote)) ⌝ }
 {
-    tables::set_single(w, 3, enable);
-    tables::set_single(w, 4, lockout);
-    tables::set_single(w, 5, remote);
+    tables::set_single(w, tables::ENABLE, enable);
+    tables::set_single(w, tables::LOCKOUT, lockout);
+    tables::set_single(w, tables::REMOTE, remote);
 }
 
 // Codes 1, 3, 4 and 5 set flags, 6 clears remote, any other clears all three.
@@ -105,17 +107,17 @@ fn set_control(w: &mut [u64; 235], code: u8)
     ensures { λ _. ⌜ ((s : List ℕ) → view (memory (now (w .exit)) s) ≡ onRest (view (memory (now (w .entry)) s)) (controlling code)) ⌝ }
 {
     if code == 1 {
-        tables::set_single(w, 3, 1);
+        tables::set_single(w, tables::ENABLE, 1);
         return;
     }
     if code == 3 {
-        tables::set_single(w, 3, 1);
-        tables::set_single(w, 5, 1);
+        tables::set_single(w, tables::ENABLE, 1);
+        tables::set_single(w, tables::REMOTE, 1);
         return;
     }
     if code == 4 {
-        tables::set_single(w, 3, 1);
-        tables::set_single(w, 4, 1);
+        tables::set_single(w, tables::ENABLE, 1);
+        tables::set_single(w, tables::LOCKOUT, 1);
         return;
     }
     if code == 5 {
@@ -123,7 +125,7 @@ fn set_control(w: &mut [u64; 235], code: u8)
         return;
     }
     if code == 6 {
-        tables::set_single(w, 5, 0);
+        tables::set_single(w, tables::REMOTE, 0);
         return;
     }
     set_flags(w, 0, 0, 0);
@@ -134,12 +136,12 @@ fn control(w: &mut [u64; 235], out: &mut [u8], c: u64, i: usize, code: u8, len: 
     requires { ⌜ (i < 16) × (c < 32) × (len ≤ 1024) × (2048 ≤ length (now out)) ⌝ }
     ensures { λ r. ⌜ ((s p : List ℕ) (param : ℕ) → DidKind k-remoteLocal i c code param len p r (memory (now (w .entry)) s) (memory (now (w .exit)) s) (now (out .entry)) (now (out .exit))) ⌝ }
 {
-    let n = tables::entry(w, i, 0);
+    let n = tables::entry(w, i, tables::NUMBER);
     set_control(w, code);
-    frame::put_frame(out, 0, c as u8, 11, 0, 0);
+    frame::put_frame(out, 0, c as u8, types::ASYNC_REMOTE_LOCAL_RESPONSE, 0, 0);
     Delivery {
         refusal: 0,
-        outcome: 6,
+        outcome: outcome::ACTED,
         session: n,
         taken: 16 + len,
         output: 17,
@@ -158,14 +160,22 @@ fn note_size(
     requires { ⌜ (i < 16) × (c < 32) × (len ≤ 1024) × (length (now payload) ≡ 8) × (2048 ≤ length (now out)) ⌝ }
     ensures { λ r. ⌜ ((s : List ℕ) (code param : ℕ) → DidKind k-maximumSize i c code param len (now (payload .entry)) r (memory (now (w .entry)) s) (memory (now (w .exit)) s) (now (out .entry)) (now (out .exit))) ⌝ }
 {
-    let n = tables::entry(w, i, 0);
+    let n = tables::entry(w, i, tables::NUMBER);
     let size = number::number8(payload, 0);
-    tables::set_exchange(w, i, 3, size);
+    tables::set_exchange(w, i, tables::CLIENT_SIZE, size);
     let bytes = [0, 0, 0, 0, 0, 0, 4, 0];
-    frame::put_message(out, 0, c as u8, 16, 0, 0, &bytes);
+    frame::put_message(
+        out,
+        0,
+        c as u8,
+        types::ASYNC_MAXIMUM_MESSAGE_SIZE_RESPONSE,
+        0,
+        0,
+        &bytes,
+    );
     Delivery {
         refusal: 0,
-        outcome: 6,
+        outcome: outcome::ACTED,
         session: n,
         taken: 16 + len,
         output: 25,
@@ -177,9 +187,9 @@ fn enter_clear(w: &mut [u64; 235], i: usize)
     requires { ⌜ i < 16 ⌝ }
     ensures { λ _. ⌜ ((s : List ℕ) → view (memory (now (w .exit)) s) ≡ onExchange (view (memory (now (w .entry)) s)) i enterClear) ⌝ }
 {
-    tables::set_exchange(w, i, 0, 1);
-    tables::set_exchange(w, i, 1, 0);
-    tables::set_exchange(w, i, 2, 0);
+    tables::set_exchange(w, i, tables::IN_CLEAR, 1);
+    tables::set_exchange(w, i, tables::ASKED, 0);
+    tables::set_exchange(w, i, tables::AVAILABLE, 0);
 }
 
 // AsyncDeviceClear: a waiting request is answered first.
@@ -187,13 +197,20 @@ fn clear(w: &mut [u64; 235], out: &mut [u8], c: u64, i: usize, len: u64) -> Deli
     requires { ⌜ (i < 16) × (c < 32) × (len ≤ 1024) × (2048 ≤ length (now out)) ⌝ }
     ensures { λ r. ⌜ ((s p : List ℕ) (code param : ℕ) → DidKind k-deviceClear i c code param len p r (memory (now (w .entry)) s) (memory (now (w .exit)) s) (now (out .entry)) (now (out .exit))) ⌝ }
 {
-    let n = tables::entry(w, i, 0);
+    let n = tables::entry(w, i, tables::NUMBER);
     let at = waiting::clear_request(w, out, 0, i);
     enter_clear(w, i);
-    frame::put_frame(out, at, c as u8, 23, 0, 0);
+    frame::put_frame(
+        out,
+        at,
+        c as u8,
+        types::ASYNC_DEVICE_CLEAR_ACKNOWLEDGE,
+        0,
+        0,
+    );
     Delivery {
         refusal: 0,
-        outcome: 6,
+        outcome: outcome::ACTED,
         session: n,
         taken: 16 + len,
         output: (at + 17) as u64,
@@ -214,13 +231,13 @@ fn lock(
     requires { ⌜ (i < 16) × (len ≤ 1024) × (2048 ≤ length (now out)) ⌝ }
     ensures { λ r. ⌜ ((c : ℕ) → DidKind k-lock i c code param len (now (payload .entry)) r (memory (now (w .entry)) (now (strings .entry))) (memory (now (w .exit)) (now (strings .exit))) (now (out .entry)) (now (out .exit))) ⌝ }
 {
-    let n = tables::entry(w, i, 0);
+    let n = tables::entry(w, i, tables::NUMBER);
     if code == 0 {
         let at = release::release_lock(w, out, 0, i);
         let end = grant_pass::grant_waiting(w, strings, out, at);
         return Delivery {
             refusal: 0,
-            outcome: 6,
+            outcome: outcome::ACTED,
             session: n,
             taken: 16 + len,
             output: end as u64,
@@ -229,7 +246,7 @@ fn lock(
     let end = request::request_lock(w, strings, out, 0, i, param, payload);
     Delivery {
         refusal: 0,
-        outcome: 6,
+        outcome: outcome::ACTED,
         session: n,
         taken: 16 + len,
         output: end as u64,
@@ -252,19 +269,19 @@ pub fn act_asynchronous(
     requires { ⌜ (i < 16) × (c < 32) × (len ≤ 1024) × (length (now payload) ≡ len) × (2048 ≤ length (now out)) × (kind ≡ 15 → len ≡ 8) ⌝ }
     ensures { λ r. ⌜ Did (finish (view (memory (now (w .entry)) (now (strings .entry)))) (acts r-asynchronous (view (memory (now (w .entry)) (now (strings .entry)))) i c (heading kind code param len) (now (payload .entry)))) r (memory (now (w .entry)) (now (strings .entry))) (memory (now (w .exit)) (now (strings .exit))) (now (out .entry)) (now (out .exit)) ⌝ }
 {
-    if kind == 4 {
+    if kind == types::ASYNC_LOCK {
         return lock(w, strings, out, i, code, param, len, payload);
     }
-    if kind == 10 {
+    if kind == types::ASYNC_REMOTE_LOCAL_CONTROL {
         return control(w, out, c, i, code, len);
     }
-    if kind == 15 {
+    if kind == types::ASYNC_MAXIMUM_MESSAGE_SIZE {
         return note_size(w, out, c, i, len, payload);
     }
-    if kind == 19 {
+    if kind == types::ASYNC_DEVICE_CLEAR {
         return clear(w, out, c, i, len);
     }
-    if kind == 21 {
+    if kind == types::ASYNC_STATUS_QUERY {
         return query_status(w, out, c, i, code, len);
     }
     tell_locks(w, out, c, i, len)

@@ -23,8 +23,8 @@ fn shut_connection(w: &mut [u64; 235], x: u64)
     if x >= 32 {
         return;
     }
-    tables::set_connection(w, x as usize, 0, 0);
-    tables::set_connection(w, x as usize, 1, 0);
+    tables::set_connection(w, x as usize, tables::IS_OPEN, 0);
+    tables::set_connection(w, x as usize, tables::REMAINDER, 0);
 }
 
 // Slot i's exchange is as of a session that opens.
@@ -32,10 +32,10 @@ pub fn renew_exchange(w: &mut [u64; 235], i: usize)
     requires { ⌜ i < 16 ⌝ }
     ensures { λ _. ⌜ ((s : List ℕ) → view (memory (now (w .exit)) s) ≡ onRest (view (memory (now (w .entry)) s)) (λ r. withExchange r i freshExchange)) ⌝ }
 {
-    tables::set_exchange(w, i, 0, 0);
-    tables::set_exchange(w, i, 1, 0);
-    tables::set_exchange(w, i, 2, 0);
-    tables::set_exchange(w, i, 3, 1024);
+    tables::set_exchange(w, i, tables::IN_CLEAR, 0);
+    tables::set_exchange(w, i, tables::ASKED, 0);
+    tables::set_exchange(w, i, tables::AVAILABLE, 0);
+    tables::set_exchange(w, i, tables::CLIENT_SIZE, 1024);
 }
 
 // The connections of slot i's session are closed.
@@ -43,8 +43,8 @@ fn shut_channels(w: &mut [u64; 235], i: usize)
     requires { ⌜ i < 16 ⌝ }
     ensures { λ _. ⌜ ((s : List ℕ) → view (memory (now (w .exit)) s) ≡ onRest (view (memory (now (w .entry)) s)) (λ r. withConnections r (shutAll (r .connections) ((at (locksOf (now (w .entry)) s .entries) i) .synchronous ∷ cond (eqb ((at (locksOf (now (w .entry)) s .entries) i) .asynchronous) noConnection) [] ((at (locksOf (now (w .entry)) s .entries) i) .asynchronous ∷ []))))) ⌝ }
 {
-    let x = tables::entry(w, i, 1) % 256;
-    let y = tables::entry(w, i, 2) % 256;
+    let x = tables::entry(w, i, tables::SYNCHRONOUS) % 256;
+    let y = tables::entry(w, i, tables::ASYNCHRONOUS) % 256;
     shut_connection(w, x);
     if y == 255 {
         return;

@@ -17,15 +17,15 @@ pub fn open_connection(w: &mut [u64; 235], c: u64)
     requires { ⌜ c < 32 ⌝ }
     ensures { λ _. ⌜ ((s : List ℕ) → view (memory (now (w .exit)) s) ≡ onRest (view (memory (now (w .entry)) s)) (λ r. withConnection r c (openConnection 0))) ⌝ }
 {
-    tables::set_connection(w, c as usize, 0, 1);
-    tables::set_connection(w, c as usize, 1, 0);
+    tables::set_connection(w, c as usize, tables::IS_OPEN, 1);
+    tables::set_connection(w, c as usize, tables::REMAINDER, 0);
 }
 
 // The instrument's status byte changes.
 pub fn set_status(w: &mut [u64; 235], b: u8)
     ensures { λ _. ⌜ ((s : List ℕ) → view (memory (now (w .exit)) s) ≡ onRest (view (memory (now (w .entry)) s)) (λ r. withStatus r b)) ⌝ }
 {
-    tables::set_single(w, 1, b as u64);
+    tables::set_single(w, tables::STATUS, b as u64);
 }
 
 // The number that an answer of slot i carries: that of the message asked, 0 if nothing is asked.
@@ -33,7 +33,7 @@ fn number_asked(w: &[u64; 235], i: usize) -> u32
     requires { ⌜ i < 16 ⌝ }
     ensures { λ r. ⌜ answerNumber (exchangeAt (restOf (now (w .entry))) i) ≡ r ⌝ }
 {
-    let v = tables::exchange(w, i, 1);
+    let v = tables::exchange(w, i, tables::ASKED);
     if v == 0 {
         return 0;
     }
@@ -45,11 +45,11 @@ fn note_answer(w: &mut [u64; 235], i: usize, end: bool)
     requires { ⌜ i < 16 ⌝ }
     ensures { λ _. ⌜ ((s : List ℕ) → view (memory (now (w .exit)) s) ≡ onRest (view (memory (now (w .entry)) s)) (λ r. withExchange r i (answeredWith end (exchangeAt r i)))) ⌝ }
 {
-    tables::set_exchange(w, i, 2, 1);
+    tables::set_exchange(w, i, tables::AVAILABLE, 1);
     if !end {
         return;
     }
-    tables::set_exchange(w, i, 1, 0);
+    tables::set_exchange(w, i, tables::ASKED, 0);
 }
 
 // Data, or DataEND with END.
@@ -67,7 +67,7 @@ pub fn send_answer(w: &mut [u64; 235], out: &mut [u8], i: usize, end: bool, payl
     requires { ⌜ (i < 16) × (length (now payload) ≤ 1024) × (2048 ≤ length (now out)) ⌝ }
     ensures { λ r. ⌜ ((s : List ℕ) → Answers (view (memory (now (w .entry)) s)) i end (now (payload .entry)) (view (memory (now (w .exit)) s)) (now (out .entry)) (now (out .exit)) r) ⌝ }
 {
-    let c = (tables::entry(w, i, 1) % 256) as u8;
+    let c = (tables::entry(w, i, tables::SYNCHRONOUS) % 256) as u8;
     let n = number_asked(w, i);
     note_answer(w, i, end);
     frame::put_message(out, 0, c, answer_kind(end), 0, n, payload);

@@ -3,12 +3,13 @@ pub mod asynchronous;
 pub mod closing;
 pub mod events;
 pub mod opening;
+pub mod outcome;
 pub mod replies;
 pub mod session_id;
 pub mod synchronous;
 
-// What a delivery answers the host: the refusal (0: none); the outcome (0 more needed, 1 skipped, 2 held, 3 ignored, 4 Error sent, 5
-// closed, 6 acted on); the session's number; the bytes taken; how many bytes of the output hold frames.
+// What a delivery answers the host: the refusal (0: none); the outcome; the session's number; the bytes taken; how many bytes of the output
+// hold frames.
 #[repr(C)]
 pub struct Delivery {
     pub refusal: u64,

@@ -14,11 +14,13 @@ ghost use mathlib.Core.List.{List};
 ghost use mathlib.Core.Path.{_≡_};
 use crate::Delivery;
 use crate::closing::renew_exchange;
+use crate::outcome;
 use crate::session_id;
 use locks::sessions;
 use state::search;
 use state::tables;
 use wire::frame;
+use wire::types;
 
 // Session n opens in slot i over connection c.
 fn enter_session(w: &mut [u64; 235], i: usize, n: u64, c: u64)
@@ -27,7 +29,7 @@ fn enter_session(w: &mut [u64; 235], i: usize, n: u64, c: u64)
 {
     sessions::enter_slot(w, i, n, c);
     renew_exchange(w, i);
-    tables::set_single(w, 2, n);
+    tables::set_single(w, tables::LAST, n);
 }
 
 // The version that is agreed on: the smaller of the client's and 1.0.
@@ -50,10 +52,17 @@ pub fn initialize(w: &mut [u64; 235], out: &mut [u8], c: u64, param: u32, len: u
     let n = session_id::next_session_id(w);
     let v = version(param);
     enter_session(w, i, n, c);
-    frame::put_frame(out, 0, c as u8, 1, 0, v * 65536 + n as u32);
+    frame::put_frame(
+        out,
+        0,
+        c as u8,
+        types::INITIALIZE_RESPONSE,
+        0,
+        v * 65536 + n as u32,
+    );
     Delivery {
         refusal: 0,
-        outcome: 6,
+        outcome: outcome::ACTED,
         session: n,
         taken: 16 + len,
         output: 17,
@@ -72,12 +81,12 @@ pub fn async_initialize(
     ensures { λ r. ⌜ ((s : List ℕ) → Did (finish (view (memory (now (w .entry)) s)) (opens false (view (memory (now (w .entry)) s)) c (record { kind = 17; code = 0; param = param; len = len }))) r (memory (now (w .entry)) s) (memory (now (w .exit)) s) (now (out .entry)) (now (out .exit))) ⌝ }
 {
     let i = search::slot_of_number(w, param as u64);
-    let vendor = (tables::single(w, 0) % 65536) as u32;
+    let vendor = (tables::single(w, tables::VENDOR) % 65536) as u32;
     sessions::join_slot(w, i, c);
-    frame::put_frame(out, 0, c as u8, 18, 0, vendor);
+    frame::put_frame(out, 0, c as u8, types::ASYNC_INITIALIZE_RESPONSE, 0, vendor);
     Delivery {
         refusal: 0,
-        outcome: 6,
+        outcome: outcome::ACTED,
         session: param as u64,
         taken: 16 + len,
         output: 17,
@@ -96,7 +105,7 @@ pub fn act_opening(
     requires { ⌜ (c < 32) × (len ≤ 1024) × (2048 ≤ length (now out)) × ((s : List ℕ) → kind ≡ 0 → slotOfNumber (locksOf (now w) s .entries) 0 < 16) × ((s : List ℕ) → (kind ≡ 0 → ⊥) → slotOfNumber (locksOf (now w) s .entries) param < 16) ⌝ }
     ensures { λ r. ⌜ ((s p : List ℕ) (i code : ℕ) → Did (finish (view (memory (now (w .entry)) s)) (acts r-none (view (memory (now (w .entry)) s)) i c (record { kind = kind; code = code; param = param; len = len }) p)) r (memory (now (w .entry)) s) (memory (now (w .exit)) s) (now (out .entry)) (now (out .exit))) ⌝ }
 {
-    if kind == 0 {
+    if kind == types::INITIALIZE {
         return initialize(w, out, c, param, len);
     }
     async_initialize(w, out, c, param, len)

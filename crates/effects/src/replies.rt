@@ -14,16 +14,18 @@ ghost use mathlib.Core.List.{List, []};
 ghost use mathlib.Core.Path.{_≡_};
 use crate::Delivery;
 use crate::closing;
+use crate::outcome;
 use state::tables;
 use wire::frame;
+use wire::types;
 
 // Connection c is open, with so many bytes to skip.
 pub fn keep_open(w: &mut [u64; 235], c: u64, left: u64)
     requires { ⌜ c < 32 ⌝ }
     ensures { λ _. ⌜ ((s : List ℕ) → view (memory (now (w .exit)) s) ≡ onRest (view (memory (now (w .entry)) s)) (λ r. withConnection r c (openConnection left))) ⌝ }
 {
-    tables::set_connection(w, c as usize, 0, 1);
-    tables::set_connection(w, c as usize, 1, left);
+    tables::set_connection(w, c as usize, tables::IS_OPEN, 1);
+    tables::set_connection(w, c as usize, tables::REMAINDER, left);
 }
 
 // An Error goes back to the connection; so many bytes are taken, and so many are left to skip.
@@ -39,10 +41,10 @@ pub fn send_error(
     ensures { λ r. ⌜ ((s : List ℕ) → Did (finish (view (memory (now (w .entry)) s)) (errorPlan (view (memory (now (w .entry)) s)) c code taken left)) r (memory (now (w .entry)) s) (memory (now (w .exit)) s) (now (out .entry)) (now (out .exit))) ⌝ }
 {
     keep_open(w, c, left);
-    frame::put_frame(out, 0, c as u8, 3, code, 0);
+    frame::put_frame(out, 0, c as u8, types::ERROR, code, 0);
     Delivery {
         refusal: 0,
-        outcome: 4,
+        outcome: outcome::ERROR_SENT,
         session: 0,
         taken,
         output: 17,
@@ -57,7 +59,7 @@ pub fn skip(w: &mut [u64; 235], c: u64, r: u64, taken: u64) -> Delivery
     keep_open(w, c, r - taken);
     Delivery {
         refusal: 0,
-        outcome: 1,
+        outcome: outcome::SKIPPED,
         session: 0,
         taken,
         output: 0,
@@ -70,16 +72,16 @@ fn put_fatal(w: &[u64; 235], out: &mut [u8], c: u64, i: usize, code: u8) -> usiz
     ensures { λ r. ⌜ (r ≤ 34) × ((s : List ℕ) → now (out .exit) ≡ splice (now (out .entry)) 0 (bytesOf (fatals code (channels (view (memory (now (w .entry)) s)) c)))) × ((s : List ℕ) → r ≡ length (bytesOf (fatals code (channels (view (memory (now (w .entry)) s)) c)))) ⌝ }
 {
     if i >= 16 {
-        frame::put_frame(out, 0, c as u8, 2, code, 0);
+        frame::put_frame(out, 0, c as u8, types::FATAL_ERROR, code, 0);
         return 17;
     }
-    let x = (tables::entry(w, i, 1) % 256) as u8;
-    let y = tables::entry(w, i, 2) % 256;
-    frame::put_frame(out, 0, x, 2, code, 0);
+    let x = (tables::entry(w, i, tables::SYNCHRONOUS) % 256) as u8;
+    let y = tables::entry(w, i, tables::ASYNCHRONOUS) % 256;
+    frame::put_frame(out, 0, x, types::FATAL_ERROR, code, 0);
     if y == 255 {
         return 17;
     }
-    frame::put_frame(out, 17, y as u8, 2, code, 0);
+    frame::put_frame(out, 17, y as u8, types::FATAL_ERROR, code, 0);
     34
 }
 
@@ -89,7 +91,7 @@ fn number_of(w: &[u64; 235], i: usize) -> u64
     if i >= 16 {
         return 0;
     }
-    tables::entry(w, i, 0)
+    tables::entry(w, i, tables::NUMBER)
 }
 
 // A FatalError, and the session, or the connection, closes.
@@ -109,7 +111,7 @@ pub fn send_fatal(
     let end = closing::close_place(w, strings, out, at, c, i);
     Delivery {
         refusal: 0,
-        outcome: 5,
+        outcome: outcome::CLOSED,
         session,
         taken: 0,
         output: end as u64,
@@ -131,7 +133,7 @@ pub fn close_silently(
     let end = closing::close_place(w, strings, out, 0, c, i);
     Delivery {
         refusal: 0,
-        outcome: 5,
+        outcome: outcome::CLOSED,
         session,
         taken: 0,
         output: end as u64,

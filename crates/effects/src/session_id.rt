@@ -12,7 +12,7 @@ use state::tables;
 pub fn next_session_id(w: &[u64; 235]) -> u64
     ensures { λ r. ⌜ (1 ≤ r) × (r ≤ 65535) × ((s : List ℕ) → issued sessionLimit 0 (locksOf (now (w .entry)) s .entries) (restOf (now (w .entry)) .lastIssued) ≡ r) ⌝ }
 {
-    let last = tables::single(w, 2) % 65536;
+    let last = tables::single(w, tables::LAST) % 65536;
     let mut k: u64 = 0;
     while k < 16 {
         let n = (last + k) % 65535 + 1;

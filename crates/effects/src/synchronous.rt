@@ -12,8 +12,10 @@ ghost use lib.ListN.{length};
 ghost use mathlib.Core.List.{List};
 ghost use mathlib.Core.Path.{_≡_};
 use crate::Delivery;
+use crate::outcome;
 use state::tables;
 use wire::frame;
+use wire::types;
 
 // RMT-delivered (code 1) turns message available off.
 pub fn note_rmt(w: &mut [u64; 235], i: usize, code: u8)
@@ -23,7 +25,7 @@ pub fn note_rmt(w: &mut [u64; 235], i: usize, code: u8)
     if code != 1 {
         return;
     }
-    tables::set_exchange(w, i, 2, 0);
+    tables::set_exchange(w, i, tables::AVAILABLE, 0);
 }
 
 // What is asked is this message.
@@ -31,7 +33,7 @@ fn note_asked(w: &mut [u64; 235], i: usize, code: u8, param: u32)
     requires { ⌜ i < 16 ⌝ }
     ensures { λ _. ⌜ ((s : List ℕ) → view (memory (now (w .exit)) s) ≡ onRest (view (memory (now (w .entry)) s)) (withSlot i (ask code param))) ⌝ }
 {
-    tables::set_exchange(w, i, 1, param as u64 + 1);
+    tables::set_exchange(w, i, tables::ASKED, param as u64 + 1);
     note_rmt(w, i, code);
 }
 
@@ -39,7 +41,7 @@ fn leave_clear(w: &mut [u64; 235], i: usize)
     requires { ⌜ i < 16 ⌝ }
     ensures { λ _. ⌜ ((s : List ℕ) → view (memory (now (w .exit)) s) ≡ onRest (view (memory (now (w .entry)) s)) (withSlot i leaveClear)) ⌝ }
 {
-    tables::set_exchange(w, i, 0, 0);
+    tables::set_exchange(w, i, tables::IN_CLEAR, 0);
 }
 
 fn acted(session: u64, len: u64, output: u64) -> Delivery
@@ -48,7 +50,7 @@ fn acted(session: u64, len: u64, output: u64) -> Delivery
 {
     Delivery {
         refusal: 0,
-        outcome: 6,
+        outcome: outcome::ACTED,
         session,
         taken: 16 + len,
         output,
@@ -69,20 +71,20 @@ pub fn act_synchronous(
     requires { ⌜ (c < 32) × (i < 16) × (len ≤ 1024) × (2048 ≤ length (now out)) ⌝ }
     ensures { λ r. ⌜ ((s p : List ℕ) → Did (finish (view (memory (now (w .entry)) s)) (acts r-synchronous (view (memory (now (w .entry)) s)) i c (record { kind = kind; code = code; param = param; len = len }) p)) r (memory (now (w .entry)) s) (memory (now (w .exit)) s) (now (out .entry)) (now (out .exit))) ⌝ }
 {
-    let session = tables::entry(w, i, 0);
-    if kind == 6 {
+    let session = tables::entry(w, i, tables::NUMBER);
+    if kind == types::DATA {
         note_rmt(w, i, code);
         return acted(session, len, 0);
     }
-    if kind == 7 {
+    if kind == types::DATA_END {
         note_asked(w, i, code, param);
         return acted(session, len, 0);
     }
-    if kind == 12 {
+    if kind == types::TRIGGER {
         note_asked(w, i, code, param);
         return acted(session, len, 0);
     }
     leave_clear(w, i);
-    frame::put_frame(out, 0, c as u8, 9, 0, 0);
+    frame::put_frame(out, 0, c as u8, types::DEVICE_CLEAR_ACKNOWLEDGE, 0, 0);
     acted(session, len, 17)
 }

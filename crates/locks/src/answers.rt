@@ -9,13 +9,14 @@ ghost use mathlib.Core.List.{List};
 ghost use mathlib.Core.Path.{_≡_};
 use state::tables;
 use wire::frame;
+use wire::types;
 
 // An answer (type 5) to the asynchronous connection of slot i.
 pub fn put_answer(w: &[u64; 235], out: &mut [u8], at: usize, i: usize, code: u8) -> usize
     requires { ⌜ (i < 16) × (at + 17 ≤ length (now out)) ⌝ }
     ensures { λ r. ⌜ (r ≡ at + 17) × ((s : List ℕ) → now (out .exit) ≡ splice (now (out .entry)) at (frameBytes (answerFrame (locksOf (now (w .entry)) s .entries) i code))) ⌝ }
 {
-    let c = (tables::entry(w, i, 2) % 256) as u8;
-    frame::put_frame(out, at, c, 5, code, 0);
+    let c = (tables::entry(w, i, tables::ASYNCHRONOUS) % 256) as u8;
+    frame::put_frame(out, at, c, types::ASYNC_LOCK_RESPONSE, code, 0);
     at + 17
 }

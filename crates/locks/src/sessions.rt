@@ -19,9 +19,9 @@ fn renew(w: &mut [u64; 235], i: usize, n: u64, a: u64, b: u64)
     requires { ⌜ (i < 16) × (a < 256) × (b < 256) ⌝ }
     ensures { λ _. ⌜ ((s : List ℕ) → view (memory (now (w .exit)) s) ≡ onEntry (view (memory (now (w .entry)) s)) i (λ e. slotOf n a b)) ⌝ }
 {
-    tables::set_entry(w, i, 0, n);
-    tables::set_entry(w, i, 1, a);
-    tables::set_entry(w, i, 2, b);
+    tables::set_entry(w, i, tables::NUMBER, n);
+    tables::set_entry(w, i, tables::SYNCHRONOUS, a);
+    tables::set_entry(w, i, tables::ASYNCHRONOUS, b);
     holders::drop_exclusive(w, i);
     holders::drop_shared(w, i);
 }
@@ -39,7 +39,7 @@ pub fn join_slot(w: &mut [u64; 235], i: usize, c: u64)
     requires { ⌜ (i < 16) × (c < 256) ⌝ }
     ensures { λ _. ⌜ ((s : List ℕ) → Quiet (change (locksOf (now (w .entry)) s) (join i c)) (memory (now (w .entry)) s) (memory (now (w .exit)) s)) ⌝ }
 {
-    tables::set_entry(w, i, 2, c);
+    tables::set_entry(w, i, tables::ASYNCHRONOUS, c);
 }
 
 // The session of slot i closes: its locks and its waiting request go, and nobody is told.

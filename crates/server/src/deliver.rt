@@ -22,6 +22,7 @@ use checks::whole;
 use effects::Delivery;
 use effects::asynchronous;
 use effects::opening;
+use effects::outcome;
 use effects::replies;
 use effects::synchronous;
 use state::search;
@@ -64,12 +65,12 @@ fn apply(
         return replies::close_silently(w, strings, out, c, i);
     }
     if v == IGNORED {
-        return quiet(3, taken);
+        return quiet(outcome::IGNORED, taken);
     }
     if v == HELD {
-        return quiet(2, 0);
+        return quiet(outcome::HELD, 0);
     }
-    quiet(0, 0)
+    quiet(outcome::MORE_NEEDED, 0)
 }
 
 // A message that passed all checks acts, by the role of its connection.
@@ -109,7 +110,7 @@ fn act(
     if role == 0 {
         return opening::act_opening(w, out, c, kind, param, len);
     }
-    quiet(6, 16 + len)
+    quiet(outcome::ACTED, 16 + len)
 }
 
 // A whole message: the verdict, and what it does.
@@ -199,14 +200,14 @@ pub fn deliver_open(
     ensures { λ r. ⌜ Did (finish (view (memory (now (w .entry)) (now (strings .entry)))) (received (view (memory (now (w .entry)) (now (strings .entry)))) c (scan ((connectionAt (restOf (now (w .entry))) c) .remainder) (now (bytes .entry))))) r (memory (now (w .entry)) (now (strings .entry))) (memory (now (w .exit)) (now (strings .exit))) (now (out .entry)) (now (out .exit)) ⌝ }
 {
     if bytes.len() == 0 {
-        return quiet(0, 0);
+        return quiet(outcome::MORE_NEEDED, 0);
     }
-    let left = tables::connection(w, c as usize, 1);
+    let left = tables::connection(w, c as usize, tables::REMAINDER);
     if left > 0 {
         return replies::skip(w, c, left, least(left, bytes.len()));
     }
     if bytes.len() < 16 {
-        return quiet(0, 0);
+        return quiet(outcome::MORE_NEEDED, 0);
     }
     let place = search::place_of(w, c);
     let i = place.slot;

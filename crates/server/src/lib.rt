@@ -57,7 +57,7 @@ pub extern "C" fn hislip_deliver(
     if connection >= 32 {
         return refuse(1);
     }
-    if tables::connection(words, connection as usize, 0) != 1 {
+    if tables::connection(words, connection as usize, tables::IS_OPEN) != 1 {
         return refuse(1);
     }
     deliver::deliver_open(words, strings, out, connection as u64, bytes)
@@ -81,7 +81,7 @@ pub extern "C" fn hislip_open(
     if connection >= 32 {
         return told(1, 0);
     }
-    if tables::connection(words, connection as usize, 0) == 1 {
+    if tables::connection(words, connection as usize, tables::IS_OPEN) == 1 {
         return told(2, 0);
     }
     events::open_connection(words, connection as u64);
@@ -104,7 +104,7 @@ pub extern "C" fn hislip_cut(
     if connection >= 32 {
         return told(1, 0);
     }
-    if tables::connection(words, connection as usize, 0) != 1 {
+    if tables::connection(words, connection as usize, tables::IS_OPEN) != 1 {
         return told(1, 0);
     }
     let place = search::place_of(words, connection as u64);
@@ -195,16 +195,16 @@ pub extern "C" fn hislip_answer(
     if i >= 16 {
         return told(8, 0);
     }
-    if tables::entry(words, i, 0) == 0 {
+    if tables::entry(words, i, tables::NUMBER) == 0 {
         return told(8, 0);
     }
-    if tables::exchange(words, i, 1) == 0 {
+    if tables::exchange(words, i, tables::ASKED) == 0 {
         return told(5, 0);
     }
     if payload.len() > 1024 {
         return told(6, 0);
     }
-    if tables::exchange(words, i, 3) < payload.len() as u64 {
+    if tables::exchange(words, i, tables::CLIENT_SIZE) < payload.len() as u64 {
         return told(6, 0);
     }
     let with_end = is_end(end);

@@ -4,7 +4,7 @@ ghost use Rattle.state.specs.Fresh.{freshStrings, freshWords};
 ghost use Rattle.state.specs.View.{memory, view};
 ghost use lib.ListN.{length, replicate};
 ghost use mathlib.Core.Path.{_≡_};
-use crate::layout::VENDOR;
+use crate::tables::VENDOR;
 
 const FRESH: [u64; 235] = [
     0,

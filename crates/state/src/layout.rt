@@ -1,16 +1,4 @@
 // Where each part of the server stands in the lent words and bytes; docs/MEMORY.md draws it.
-// the vendor number
-pub const VENDOR: usize = 0;
-// the instrument's status byte
-pub const STATUS: usize = 1;
-// the SessionID issued last
-pub const LAST: usize = 2;
-// the three remote/local flags
-pub const ENABLE: usize = 3;
-
-pub const LOCKOUT: usize = 4;
-
-pub const REMOTE: usize = 5;
 // a row for each slot: in device clear, what is asked (plus 1), message available, the client's size
 pub const EXCHANGES: usize = 6;
 // words a row

@@ -2,7 +2,7 @@
 // knows where anything stands.
 pub mod fresh;
 pub mod holders;
-pub mod layout;
+mod layout;
 pub mod requests;
 pub mod search;
 pub mod tables;

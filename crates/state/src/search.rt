@@ -21,13 +21,13 @@ fn has_connection(w: &[u64; 235], i: usize, c: u64) -> bool
     requires { ⌜ i < 16 ⌝ }
     ensures { λ r. ⌜ ((s : List ℕ) → onConnection c (at (locksOf (now (w .entry)) s .entries) i) ≡ r) ⌝ }
 {
-    if tables::entry(w, i, 0) == 0 {
+    if tables::entry(w, i, tables::NUMBER) == 0 {
         return false;
     }
-    if tables::entry(w, i, 1) % 256 == c {
+    if tables::entry(w, i, tables::SYNCHRONOUS) % 256 == c {
         return true;
     }
-    tables::entry(w, i, 2) % 256 == c
+    tables::entry(w, i, tables::ASYNCHRONOUS) % 256 == c
 }
 
 fn slot_of_connection(w: &[u64; 235], c: u64) -> usize
@@ -47,13 +47,13 @@ fn role_in(w: &[u64; 235], i: usize, c: u64) -> u8
     requires { ⌜ i < 16 ⌝ }
     ensures { λ r. ⌜ ((s : List ℕ) → roleNumber (Rattle.model.specs.Place.roleIn c (at (locksOf (now (w .entry)) s .entries) i)) ≡ r) ⌝ }
 {
-    if tables::entry(w, i, 0) == 0 {
+    if tables::entry(w, i, tables::NUMBER) == 0 {
         return 0;
     }
-    if tables::entry(w, i, 2) % 256 == 255 {
+    if tables::entry(w, i, tables::ASYNCHRONOUS) % 256 == 255 {
         return 1;
     }
-    if tables::entry(w, i, 1) % 256 == c {
+    if tables::entry(w, i, tables::SYNCHRONOUS) % 256 == c {
         return 2;
     }
     3
@@ -79,7 +79,7 @@ pub fn slot_of_number(w: &[u64; 235], n: u64) -> usize
 {
     let mut i = 0;
     while i < 16 {
-        if tables::entry(w, i, 0) == n {
+        if tables::entry(w, i, tables::NUMBER) == n {
             return i;
         }
         i += 1;

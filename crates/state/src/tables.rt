@@ -15,7 +15,41 @@ use crate::layout::ENTRY;
 use crate::layout::EXCHANGE;
 use crate::layout::EXCHANGES;
 
-// What a session has asked and been sent: fields 0 in device clear, 1 what is asked (plus 1), 2 message available, 3 the client's size.
+// The fields of an exchange: in device clear, what is asked (plus 1), message available, the client's size.
+pub const IN_CLEAR: usize = 0;
+
+pub const ASKED: usize = 1;
+
+pub const AVAILABLE: usize = 2;
+
+pub const CLIENT_SIZE: usize = 3;
+
+// The fields of a connection: open, remainder to skip.
+pub const IS_OPEN: usize = 0;
+
+pub const REMAINDER: usize = 1;
+
+// The fields of a slot of the table of sessions: its SessionID, its connections.
+pub const NUMBER: usize = 0;
+
+pub const SYNCHRONOUS: usize = 1;
+
+pub const ASYNCHRONOUS: usize = 2;
+
+// The single values: the vendor number, the instrument's status byte, the SessionID issued last, the three remote/local flags.
+pub const VENDOR: usize = 0;
+
+pub const STATUS: usize = 1;
+
+pub const LAST: usize = 2;
+
+pub const ENABLE: usize = 3;
+
+pub const LOCKOUT: usize = 4;
+
+pub const REMOTE: usize = 5;
+
+// What a session has asked and been sent.
 pub fn exchange(w: &[u64; 235], i: usize, f: usize) -> u64
     requires { ⌜ (i < 16) × (f < 4) ⌝ }
     ensures { λ r. ⌜ exchangeWith f r (exchangeAt (restOf (now (w .entry))) i) ≡ exchangeAt (restOf (now (w .entry))) i ⌝ }
@@ -37,7 +71,7 @@ pub fn set_exchange(w: &mut [u64; 235], i: usize, f: usize, v: u64)
     set_exchange_in(w, i, f, v);
 }
 
-// A connection: fields 0 open, 1 remainder to skip.
+// A connection.
 pub fn connection(w: &[u64; 235], i: usize, f: usize) -> u64
     requires { ⌜ (i < 32) × (f < 2) ⌝ }
     ensures { λ r. ⌜ connectionWith f r (connectionAt (restOf (now (w .entry))) i) ≡ connectionAt (restOf (now (w .entry))) i ⌝ }
@@ -59,7 +93,7 @@ pub fn set_connection(w: &mut [u64; 235], i: usize, f: usize, v: u64)
     set_connection_in(w, i, f, v);
 }
 
-// A slot of the table of sessions: fields 0 the SessionID, 1 the synchronous, 2 the asynchronous connection.
+// A slot of the table of sessions.
 pub fn entry(w: &[u64; 235], i: usize, f: usize) -> u64
     requires { ⌜ (i < 16) × (f < 3) ⌝ }
     ensures { λ r. ⌜ ((s : List ℕ) → entryWith f r (at (locksOf (now (w .entry)) s .entries) i) ≡ at (locksOf (now (w .entry)) s .entries) i) ⌝ }
@@ -81,7 +115,7 @@ pub fn set_entry(w: &mut [u64; 235], i: usize, f: usize, v: u64)
     set_entry_in(w, i, f, v);
 }
 
-// The single values: 0 the vendor number, 1 the status byte, 2 the SessionID issued last, 3 to 5 the remote/local flags.
+// A single value; its place is its word.
 pub fn single(w: &[u64; 235], f: usize) -> u64
     requires { ⌜ f < 6 ⌝ }
     ensures { λ r. ⌜ singleWith f r (restOf (now (w .entry))) ≡ restOf (now (w .entry)) ⌝ }
