@@ -1,11 +1,10 @@
 -- Remote/local control, the maximum message size, and lock info. Assumes nothing.
 use mathlib.Core.Path.{_≡_, refl, sym, ap, ap₂, _∙_}
-use mathlib.Core.Bool.{false, cond}
+use mathlib.Core.Bool.{Bool, true, false, cond}
 use mathlib.Core.List.{List, [], _∷_}
 use Prim.Native.Nat.{ℕ}
 use lib.ListN.{length, take}
 use lib.Seq.{take-length}
-use borrow.Author.Tests.{ne-eqb}
 use Rattle.wire.specs.Field.{number, numberAt, field}
 use Rattle.wire.specs.Frame.{Frame, frameOf, frameBytes}
 use Rattle.wire.specs.Splice.{splice}
@@ -18,52 +17,33 @@ use Rattle.state.specs.Change.{onRest, onExchange, exchangeWith, entryWith, sin
 use Rattle.state.specs.View.{flag, memory, view, restOf, locksOf}
 use Rattle.effects.specs.Asynchronous.{DidKind, delivered, did-one, exchange-changed}
 
--- stores of single values, one after the other
-twice : (d d₁ d₂ : Server) (f a g b : ℕ) → d₁ ≡ onRest d (singleWith f a) → d₂ ≡ onRest d₁ (singleWith g b) → d₂ ≡ onRest d (λ (r : Rest). singleWith g b (singleWith f a r))
-twice d d₁ d₂ f a g b e₁ e₂ = e₂ ∙ ap (λ (x : Server). onRest x (singleWith g b)) e₁
-
 -- all three flags
-abbrev pub flagging : ℕ → ℕ → ℕ → Rest → Rest
-flagging e l m r = withRemoteLocal r (flags (flag e) (flag l) (flag m))
-
-pub flagged : (d d₁ d₂ d₃ : Server) (e l m : ℕ) → d₁ ≡ onRest d (singleWith 3 e) → d₂ ≡ onRest d₁ (singleWith 4 l) → d₃ ≡ onRest d₂ (singleWith 5 m) → d₃ ≡ onRest d (flagging e l m)
-flagged d d₁ d₂ d₃ e l m v₁ v₂ v₃ = v₃ ∙ ap (λ (x : Server). onRest x (singleWith 5 m)) (twice d d₁ d₂ 3 e 4 l v₁ v₂)
+abbrev pub flagging : RemoteLocal → Rest → Rest
+flagging x r = withRemoteLocal r x
 
 -- the flags as the code says
 abbrev pub controlling : ℕ → Rest → Rest
 controlling code r = withRemoteLocal r (controlled code (r .remoteLocal))
 
-module _ (d : Server) (code : ℕ) where
-  by-code : (k : ℕ) (d′ : Server) → code ≡ k → d′ ≡ onRest d (controlling k) → d′ ≡ onRest d (controlling code)
-  by-code k d′ e v = v ∙ ap (λ (x : ℕ). onRest d (controlling x)) (sym e)
+-- the three words, read
+pub flags-read : (r : Rest) (e l m : ℕ) → singleWith 3 e r ≡ r → singleWith 4 l r ≡ r → singleWith 5 m r ≡ r → flags (flag e) (flag l) (flag m) ≡ r .remoteLocal
+flags-read r e l m p q o = λ k. record { enable = p k .remoteLocal .enable; lockout = q k .remoteLocal .lockout; remote = o k .remoteLocal .remote }
 
-  pub enabled : (d₁ : Server) → code ≡ 1 → d₁ ≡ onRest d (singleWith 3 1) → d₁ ≡ onRest d (controlling code)
-  unfolding controlled
-  enabled d₁ e v = by-code 1 d₁ e v
+flag-word : (b : Bool) (v : ℕ) → v ≡ cond b 1 0 → flag v ≡ b
+flag-word true v e = ap flag e
+flag-word false v e = ap flag e
 
-  pub enabled-remote : (d₁ d₂ : Server) → code ≡ 3 → d₁ ≡ onRest d (singleWith 3 1) → d₂ ≡ onRest d₁ (singleWith 5 1) → d₂ ≡ onRest d (controlling code)
-  unfolding controlled
-  enabled-remote d₁ d₂ e v₁ v₂ = by-code 3 d₂ e (twice d d₁ d₂ 3 1 5 1 v₁ v₂)
+module _ (d : Server) where
+  -- the three words, stored one after the other
+  pub flagged : (d₁ d₂ d₃ : Server) (x : RemoteLocal) (e l m : ℕ) → e ≡ cond (x .enable) 1 0 → l ≡ cond (x .lockout) 1 0 → m ≡ cond (x .remote) 1 0
+      → d₁ ≡ onRest d (singleWith 3 e) → d₂ ≡ onRest d₁ (singleWith 4 l) → d₃ ≡ onRest d₂ (singleWith 5 m) → d₃ ≡ onRest d (flagging x)
+  flagged d₁ d₂ d₃ x e l m p q o v₁ v₂ v₃ =
+      v₃ ∙ ap (λ (y : Server). onRest y (singleWith 5 m)) (v₂ ∙ ap (λ (y : Server). onRest y (singleWith 4 l)) v₁)
+      ∙ (λ k. onRest d (flagging (record { enable = flag-word (x .enable) e p k; lockout = flag-word (x .lockout) l q k; remote = flag-word (x .remote) m o k })))
 
-  pub enabled-lockout : (d₁ d₂ : Server) → code ≡ 4 → d₁ ≡ onRest d (singleWith 3 1) → d₂ ≡ onRest d₁ (singleWith 4 1) → d₂ ≡ onRest d (controlling code)
-  unfolding controlled
-  enabled-lockout d₁ d₂ e v₁ v₂ = by-code 4 d₂ e (twice d d₁ d₂ 3 1 4 1 v₁ v₂)
-
-  pub enabled-all : (d₁ : Server) → code ≡ 5 → d₁ ≡ onRest d (flagging 1 1 1) → d₁ ≡ onRest d (controlling code)
-  unfolding controlled
-  enabled-all d₁ e v = by-code 5 d₁ e v
-
-  pub gone-local : (d₁ : Server) → code ≡ 6 → d₁ ≡ onRest d (singleWith 5 0) → d₁ ≡ onRest d (controlling code)
-  unfolding controlled
-  gone-local d₁ e v = by-code 6 d₁ e v
-
-  pub all-off : (d₁ : Server) → (code ≡ 1 → ⊥) → (code ≡ 3 → ⊥) → (code ≡ 4 → ⊥) → (code ≡ 5 → ⊥) → (code ≡ 6 → ⊥)
-      → d₁ ≡ onRest d (flagging 0 0 0) → d₁ ≡ onRest d (controlling code)
-  unfolding controlled
-  all-off d₁ n₁ n₃ n₄ n₅ n₆ v =
-      let x : RemoteLocal = d .rest .remoteLocal in
-      let e : controlled code x ≡ flags false false false = rw (ne-eqb code 1 n₁, ne-eqb code 3 n₃, ne-eqb code 4 n₄, ne-eqb code 5 n₅, ne-eqb code 6 n₆) in
-      v ∙ ap (λ (y : RemoteLocal). onRest d (λ (r : Rest). withRemoteLocal r y)) (sym e)
+  -- read, made anew by the code, stored
+  pub controls : (d′ : Server) (code : ℕ) (x y : RemoteLocal) → x ≡ d .rest .remoteLocal → y ≡ controlled code x → d′ ≡ onRest d (flagging y) → d′ ≡ onRest d (controlling code)
+  controls d′ code x y e f v = v ∙ ap (λ (z : RemoteLocal). onRest d (flagging z)) (f ∙ ap (controlled code) e)
 
 module _ (w s w′ out out′ : List ℕ) (i c n : ℕ) (e : entryWith 0 n (at (locksOf w s .entries) i) ≡ at (locksOf w s .entries) i) where
   pub control-told : (code param len : ℕ) (p : List ℕ) → view (memory w′ s) ≡ onRest (view (memory w s)) (controlling code)

@@ -9,9 +9,11 @@ ghost use Rattle.model.specs.Exchange.{enterClear, noteRmt, statusByte};
 ghost use Rattle.model.specs.Place.Role.{r-asynchronous};
 ghost use Rattle.model.specs.State.{exchangeAt};
 ghost use Rattle.model.specs.Step.{finish};
+ghost use Rattle.remote.specs.Shown.{shown};
 ghost use Rattle.state.specs.Change.{onExchange, onRest};
 ghost use Rattle.state.specs.View.{memory, restOf, view};
 ghost use lib.ListN.{length};
+ghost use mathlib.Core.Bool.{cond};
 ghost use mathlib.Core.List.{List};
 ghost use mathlib.Core.Path.{_≡_};
 use crate::Delivery;
@@ -21,6 +23,7 @@ use locks::info;
 use locks::release;
 use locks::request;
 use locks::waiting;
+use remote::RemoteLocal;
 use state::tables;
 use wire::frame;
 use wire::number;
@@ -93,42 +96,42 @@ fn tell_locks(w: &[u64; 235], out: &mut [u8], c: u64, i: usize, len: u64) -> Del
     }
 }
 
-// The three flags: remote enable, lockout, remote.
-fn set_flags(w: &mut [u64; 235], enable: u64, lockout: u64, remote: u64)
-    ensures { λ _. ⌜ ((s : List ℕ) → view (memory (now (w .exit)) s) ≡ onRest (view (memory (now (w .entry)) s)) (flagging enable lockout remote)) ⌝ }
+// The three flags, read: on where the word is 1.
+fn flags_of(w: &[u64; 235]) -> RemoteLocal
+    ensures { λ r. ⌜ shown r ≡ restOf (now (w .entry)) .remoteLocal ⌝ }
 {
-    tables::set_single(w, tables::ENABLE, enable);
-    tables::set_single(w, tables::LOCKOUT, lockout);
-    tables::set_single(w, tables::REMOTE, remote);
+    RemoteLocal {
+        enable: tables::single(w, tables::ENABLE) == 1,
+        lockout: tables::single(w, tables::LOCKOUT) == 1,
+        remote: tables::single(w, tables::REMOTE) == 1,
+    }
 }
 
-// Codes 1, 3, 4 and 5 set flags, 6 clears remote, any other clears all three.
+// The word of a flag.
+fn word_of(on: bool) -> u64
+    ensures { λ r. ⌜ r ≡ cond on 1 0 ⌝ }
+{
+    if on {
+        return 1;
+    }
+    0
+}
+
+// The three flags, stored.
+fn set_flags(w: &mut [u64; 235], f: RemoteLocal)
+    ensures { λ _. ⌜ ((s : List ℕ) → view (memory (now (w .exit)) s) ≡ onRest (view (memory (now (w .entry)) s)) (flagging (shown f))) ⌝ }
+{
+    tables::set_single(w, tables::ENABLE, word_of(f.enable));
+    tables::set_single(w, tables::LOCKOUT, word_of(f.lockout));
+    tables::set_single(w, tables::REMOTE, word_of(f.remote));
+}
+
+// What the code makes of the three flags: read, by value, stored.
 fn set_control(w: &mut [u64; 235], code: u8)
     ensures { λ _. ⌜ ((s : List ℕ) → view (memory (now (w .exit)) s) ≡ onRest (view (memory (now (w .entry)) s)) (controlling code)) ⌝ }
 {
-    if code == 1 {
-        tables::set_single(w, tables::ENABLE, 1);
-        return;
-    }
-    if code == 3 {
-        tables::set_single(w, tables::ENABLE, 1);
-        tables::set_single(w, tables::REMOTE, 1);
-        return;
-    }
-    if code == 4 {
-        tables::set_single(w, tables::ENABLE, 1);
-        tables::set_single(w, tables::LOCKOUT, 1);
-        return;
-    }
-    if code == 5 {
-        set_flags(w, 1, 1, 1);
-        return;
-    }
-    if code == 6 {
-        tables::set_single(w, tables::REMOTE, 0);
-        return;
-    }
-    set_flags(w, 0, 0, 0);
+    let f = flags_of(w);
+    set_flags(w, f.controlled(code));
 }
 
 // AsyncRemoteLocalControl.
