@@ -6,16 +6,15 @@ use Prim.Native.Nat.{ℕ, _+_}
 use lib.ListN.{length}
 use borrow.Author.Tests.{ne-eqb}
 use Rattle.wire.specs.declared.Header.{Header}
-use Rattle.wire.specs.Frame.{Frame, frameBytes, bytesOf, written, length-frame}
+use Rattle.wire.specs.Frame.{Frame, frameBytes, bytesOf, bytes-one, written, length-frame}
 use Rattle.wire.specs.Splice.{splice}
-use Rattle.model.specs.State.{Entry, Locks, Exchange, Rest, Server, at, exchangeAt, freshExchange, withExchange}
+use Rattle.model.specs.State.{Entry, Rest, Server, at}
 use Rattle.model.specs.Interface.{Reply.took, Outcome.acted}
 use Rattle.model.specs.Place.{Role.r-asynchronous}
 use Rattle.model.specs.Locks.{LockEvent, LockEvent.nothing, change}
 use Rattle.model.specs.Acts.{Plan, AsynchronousKind, AsynchronousKind.k-lockInfo, asynchronousKind, asynchronousRest, asynchronousSaid, asynchronousEvent, acts}
 use Rattle.model.specs.Step.{finish}
-use Rattle.state.specs.Grid.{upd-set}
-use Rattle.state.specs.Change.{onExchange, entryWith}
+use Rattle.state.specs.Change.{entryWith}
 use Rattle.state.specs.View.{Memory, view}
 use Rattle.effects.specs.declared.Delivery.{Delivery}
 use Rattle.effects.specs.Did.{Did}
@@ -72,19 +71,8 @@ did-with d i n len size q fs v m m′ out out′ xs e f y b z =
       same-buffer = λ y. absurd (true≢false (sym y));
     }
 
--- one frame
-pub one-frame : (f : Frame) → bytesOf (f ∷ []) ≡ frameBytes f
-unfolding bytesOf
-one-frame f = append-nil (frameBytes f)
-
 pub one-length : (f : Frame) (n : ℕ) → length (f .message .payload) ≡ n → 17 + n ≡ length (bytesOf (f ∷ []))
-one-length f n e = ap (λ (x : ℕ). 17 + x) (sym e) ∙ sym (length-frame f) ∙ ap length (sym (one-frame f))
-
--- the exchange of slot i changed: as the model writes it, and as it is read again
-pub exchange-changed : (r : Rest) (i : ℕ) (g : Exchange → Exchange) (l : Locks) → onExchange (record { locks = l; rest = r }) i g ≡ record { locks = l; rest = withExchange r i (g (exchangeAt r i)) }
-exchange-changed r i g l =
-    ap (λ (x : List Exchange). record { locks = l; rest = record { exchanges = x; connections = r .connections; lastIssued = r .lastIssued; vendor = r .vendor; status = r .status; remoteLocal = r .remoteLocal } })
-    (sym (upd-set (r .exchanges) i freshExchange g))
+one-length f n e = ap (λ (x : ℕ). 17 + x) (sym e) ∙ sym (length-frame f) ∙ ap length (sym (bytes-one f))
 
 -- a plan that says one frame and is no lock event
 pub did-one : (d : Server) (i n len z : ℕ) (q : Rest) (f g : Frame) (m m′ : Memory) (out out′ : List ℕ)
@@ -93,4 +81,4 @@ pub did-one : (d : Server) (i n len z : ℕ) (q : Rest) (f g : Frame) (m m′ : 
     → Did (finish d (planWith d i len q (f ∷ []) nothing)) (delivered n len (17 + z)) m m′ out out′
 unfolding finish change
 did-one d i n len z q f g m m′ out out′ e p l v o =
-    did-with d i n len (17 + z) q (f ∷ []) nothing m m′ out out′ (g ∷ []) e (ap (λ (x : Frame). x ∷ []) p) v (o ∙ ap (splice out 0) (sym (one-frame g))) (one-length g z l)
+    did-with d i n len (17 + z) q (f ∷ []) nothing m m′ out out′ (g ∷ []) e (ap (λ (x : Frame). x ∷ []) p) v (o ∙ ap (splice out 0) (sym (bytes-one g))) (one-length g z l)

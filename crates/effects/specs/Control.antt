@@ -15,7 +15,8 @@ use Rattle.model.specs.Lists.{all, tally}
 use Rattle.model.specs.Acts.{holder, AsynchronousKind.k-remoteLocal, AsynchronousKind.k-maximumSize, AsynchronousKind.k-lockInfo, asynchronousRest, asynchronousSaid, asynchronousEvent}
 use Rattle.state.specs.Change.{onRest, onExchange, exchangeWith, entryWith, singleWith}
 use Rattle.state.specs.View.{flag, memory, view, restOf, locksOf}
-use Rattle.effects.specs.Asynchronous.{DidKind, delivered, did-one, exchange-changed}
+use Rattle.effects.specs.Asynchronous.{DidKind, delivered, did-one}
+use Rattle.effects.specs.Synchronous.{slot-changed}
 
 -- all three flags
 abbrev pub flagging : RemoteLocal → Rest → Rest
@@ -63,7 +64,7 @@ module _ (w s w′ out out′ : List ℕ) (i c n : ℕ) (e : entryWith 0 n (at (
       let f : Frame = frameOf c 16 0 0 (0 ∷ 0 ∷ 0 ∷ 0 ∷ 0 ∷ 0 ∷ 4 ∷ 0 ∷ []) in
       let z : size ≡ number p = q ∙ ap (λ (x : ℕ). number (take x p)) (sym l) ∙ ap number (take-length p) in
       did-one d i n len 8 (withExchange (d .rest) i (withClientSize (number p) (exchangeAt (d .rest) i))) f f (memory w s) (memory w′ s) out out′ e refl refl
-      (v ∙ ap (λ (x : ℕ). onExchange d i (exchangeWith 3 x)) z ∙ exchange-changed (d .rest) i (withClientSize (number p)) (d .locks)) o
+      (v ∙ ap (λ (x : ℕ). onExchange d i (exchangeWith 3 x)) z ∙ slot-changed d i (withClientSize (number p))) o
 
   pub info-told : (code param len x y : ℕ) (p : List ℕ) → cond (all noExclusive (locksOf w s .entries)) 0 1 ≡ x → tally holder (locksOf w s .entries) ≡ y
       → out′ ≡ splice out 0 (frameBytes (frameOf c 25 x y []))

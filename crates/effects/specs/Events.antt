@@ -7,7 +7,7 @@ use Prim.Native.Nat.{ℕ, _+_, _-_, _%_, _<_}
 use native.Mathlib.Nat.{mod-eq-of-lt}
 use lib.ListN.{length}
 use borrow.Author.Tests.{eq-eqb, ne-eqb}
-use Rattle.wire.specs.Frame.{Frame, frameOf, frameBytes, bytesOf, written, length-frame}
+use Rattle.wire.specs.Frame.{Frame, frameOf, frameBytes, bytesOf, written, length-frame, bytes-one}
 use Rattle.wire.specs.Splice.{splice}
 use Rattle.model.specs.State.{Exchange, Connection, Rest, Server, at, slotOfNumber, exchangeAt, freshExchange, closedConnection, openConnection, withConnection, withConnections, withExchange, withStatus}
 use Rattle.model.specs.Exchange.{numberAsked, answerNumber, answeredWith}
@@ -17,7 +17,6 @@ use Rattle.model.specs.Step.{finish, plan, answerType}
 use Rattle.state.specs.Grid.{upd-upd, upd-set}
 use Rattle.state.specs.Change.{onRest, onConnection as onRow, connectionWith, onExchange, exchangeWith, singleWith}
 use Rattle.state.specs.View.{askedOf}
-use Rattle.effects.specs.Opening.{one-frame}
 
 -- two stores open a connection
 pub opened-stored : (x : ℕ) (d d₁ d₂ : Server) → d₁ ≡ onRow d x (connectionWith 0 1) → d₂ ≡ onRow d₁ x (connectionWith 1 0)
@@ -82,8 +81,8 @@ answers d i end p d′ out out′ r c t n v ec et en b q =
     let z : f ≡ answerFrame d i end p = (λ k. frameOf (sym ec k) (sym et k) 0 (sym en k) p) in
     record {
       server = v;
-      buffer = b ∙ ap (splice out 0) (sym (one-frame f)) ∙ ap (λ (x : Frame). written out (x ∷ [])) z;
-      place = q ∙ sym (length-frame f) ∙ ap length (sym (one-frame f)) ∙ ap (λ (x : Frame). length (bytesOf (x ∷ []))) z;
+      buffer = b ∙ ap (splice out 0) (sym (bytes-one f)) ∙ ap (λ (x : Frame). written out (x ∷ [])) z;
+      place = q ∙ sym (length-frame f) ∙ ap length (sym (bytes-one f)) ∙ ap (λ (x : Frame). length (bytesOf (x ∷ []))) z;
     }
 
 -- the model's results of the three events; the answer is that of the slot of session n

@@ -7,7 +7,7 @@ use native.Mathlib.Omega.{arith}
 use native.Mathlib.Nat.{min-le-right}
 use lib.ListN.{length, length-append}
 use borrow.Author.Tests.{eq-eqb, ne-eqb}
-use Rattle.wire.specs.Frame.{Frame, frameOf, frameBytes, bytesOf, written, length-frame}
+use Rattle.wire.specs.Frame.{Frame, frameOf, frameBytes, bytesOf, written, length-frame, bytes-one}
 use Rattle.wire.specs.Splice.{splice, splice-splice}
 use Rattle.model.specs.State.{Entry, Waiting, Locks, Rest, Server, at, exchangeAt, withExchange}
 use Rattle.model.specs.Exchange.{enterClear}
@@ -18,7 +18,8 @@ use Rattle.state.specs.Grid.{upd-upd}
 use Rattle.state.specs.Change.{onExchange, exchangeWith, entryWith}
 use Rattle.state.specs.View.{Memory, memory, view, restOf, locksOf}
 use Rattle.effects.specs.Did.{Did}
-use Rattle.effects.specs.Asynchronous.{DidKind, delivered, planWith, did-with, one-frame, one-length, exchange-changed}
+use Rattle.effects.specs.Asynchronous.{DidKind, delivered, planWith, did-with, one-length}
+use Rattle.effects.specs.Synchronous.{slot-changed}
 use Rattle.locks.specs.Outcome.{Met}
 use Rattle.state.specs.Queue.{count-is}
 use Rattle.state.specs.Requests.{countOf}
@@ -88,9 +89,9 @@ module _ (w s w₁ out out₁ out′ : List ℕ) (i c n a : ℕ) (e : entryWith 
       let f : Frame = frameOf c 23 0 0 [] in
       let xs : List Frame = map lockFrame ((change (locksOf w s) (clear i)) .answers) in
       let u : view (memory w′ s) ≡ record { locks = (change (locksOf w s) (clear i)) .locks; rest = q } =
-      v ∙ exchange-changed (restOf w₁) i enterClear (locksOf w₁ s) ∙ (λ j. record { locks = x .locks j; rest = ap (λ (r : Rest). withExchange r i (enterClear (exchangeAt r i))) (x .rest) j }) in
+      v ∙ slot-changed (view (memory w₁ s)) i enterClear ∙ (λ j. record { locks = x .locks j; rest = ap (λ (r : Rest). withExchange r i (enterClear (exchangeAt r i))) (x .rest) j }) in
       did-with d i n len (a + 17) q (f ∷ []) (clear i) (memory w s) (memory w′ s) out out′ (xs ++ (f ∷ [])) e refl u
-      (behind xs (f ∷ []) a (x .place) out out₁ out′ fits (x .buffer) (o ∙ ap (splice out₁ a) (sym (one-frame f))))
+      (behind xs (f ∷ []) a (x .place) out out₁ out′ fits (x .buffer) (o ∙ ap (splice out₁ a) (sym (bytes-one f))))
       (behind-length xs (f ∷ []) a (x .place) (a + 17) (ap (λ (y : ℕ). a + y) (one-length f 0 refl)))
 
   pub release-told : (w′ s′ : List ℕ) (code param len r : ℕ) (p : List ℕ) → code ≡ 0 → Met (change (locksOf w s) (release i)) (memory w s) (memory w₁ s) out out₁ 0 a

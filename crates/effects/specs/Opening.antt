@@ -8,7 +8,7 @@ use native.Mathlib.Nat.{mod-eq-of-lt}
 use lib.Dec.{eqb}
 use lib.ListN.{length, set}
 use Rattle.wire.specs.declared.Header.{Header}
-use Rattle.wire.specs.Frame.{Frame, frameOf, frameBytes, bytesOf, written, length-frame}
+use Rattle.wire.specs.Frame.{Frame, frameOf, frameBytes, bytesOf, written, length-frame, bytes-one}
 use Rattle.wire.specs.Splice.{splice}
 use Rattle.model.specs.Sizes.{sessionLimit, protocolVersion}
 use Rattle.model.specs.MessageTypes.{InitializeResponse, AsyncInitializeResponse}
@@ -58,11 +58,6 @@ did-quietly d y q fs e r m m′ out out′ a f n v b o =
       same-buffer = λ z. absurd (true≢false (sym z ∙ o));
     }
 
--- one frame
-pub one-frame : (f : Frame) → bytesOf (f ∷ []) ≡ frameBytes f
-unfolding bytesOf
-one-frame f = append-nil (frameBytes f)
-
 -- a message that acts, of session n, with k bytes taken and one frame without payload sent
 pub did-with-frame : (d : Server) (k n : ℕ) (q : Rest) (c t code p : ℕ) (e : LockEvent) (r : Delivery) (m m′ : Memory) (out out′ : List ℕ)
     → (change (d .locks) e) .answers ≡ [] → frees e ≡ false
@@ -72,9 +67,9 @@ pub did-with-frame : (d : Server) (k n : ℕ) (q : Rest) (c t code p : ℕ) (e :
     → Did (finish d (planned (took acted k n) q (frameOf c t code p [] ∷ []) e)) r m m′ out out′
 did-with-frame d k n q c t code p e r m m′ out out′ a f g v b =
     let x : Frame = frameOf c t code p [] in
-    let l : length (bytesOf (x ∷ [])) ≡ 17 = ap length (one-frame x) ∙ length-frame x in
+    let l : length (bytesOf (x ∷ [])) ≡ 17 = ap length (bytes-one x) ∙ length-frame x in
     did-quietly d (took acted k n) q (x ∷ []) e r m m′ out out′ a f
-    (g ∙ ap (deliveryAnswer (took acted k n)) (sym l)) v (b ∙ ap (splice out 0) (sym (one-frame x))) refl
+    (g ∙ ap (deliveryAnswer (took acted k n)) (sym l)) v (b ∙ ap (splice out 0) (sym (bytes-one x))) refl
 
 -- a session's slot, exchange and number are stored
 pub session-entered : (d d₁ d₂ d₃ : Server) (l : Locks) (i n : ℕ) → n < 65536 → d₁ .locks ≡ l → d₁ .rest ≡ d .rest

@@ -7,7 +7,7 @@ use native.Mathlib.Nat.{add-zero, zero-add}
 use native.Mathlib.Omega.{arith}
 use lib.Dec.{eqb}
 use lib.ListN.{length, set, length-append, List·getD-eq-default}
-use Rattle.wire.specs.Frame.{Frame, frameOf, frameBytes, bytesOf, written, length-frame}
+use Rattle.wire.specs.Frame.{Frame, frameOf, frameBytes, bytesOf, bytes-one, written, length-frame}
 use Rattle.wire.specs.Splice.{splice, splice-nil, splice-then, splice-splice}
 use Rattle.model.specs.Sizes.{sessionLimit}
 use Rattle.model.specs.MessageTypes.{FatalError, Error}
@@ -54,10 +54,6 @@ pub bytes-append : (xs ys : List Frame) → bytesOf (xs ++ ys) ≡ bytesOf xs ++
 unfolding bytesOf
 bytes-append [] ys = refl
 bytes-append (x ∷ xs) ys = ap (λ (l : List ℕ). frameBytes x ++ l) (bytes-append xs ys) ∙ sym (append-assoc (frameBytes x) (bytesOf xs) (bytesOf ys))
-
-pub bytes-one : (f : Frame) → bytesOf (f ∷ []) ≡ frameBytes f
-unfolding bytesOf
-bytes-one f = append-nil (frameBytes f)
 
 -- a frame without payload is 17 bytes
 pub length-one : (c t n p : ℕ) → length (bytesOf (say c t n p)) ≡ 17

@@ -1,8 +1,8 @@
 -- The status query: message available, and the byte that is answered. Assumes nothing.
 use mathlib.Core.Path.{_≡_, refl, sym, ap, ap₂, _∙_}
-use mathlib.Core.Bool.{Bool, not, _&&_, cond}
+use mathlib.Core.Bool.{Bool, cond}
 use mathlib.Core.List.{List, [], _∷_}
-use Prim.Native.Nat.{ℕ, zero, suc, _+_, _*_, _-_, _/_, _%_, _<_}
+use Prim.Native.Nat.{ℕ, _+_, _*_, _-_, _/_, _%_, _<_}
 use native.Mathlib.Omega.{arith}
 use lib.Dec.{eqb}
 use lib.ListN.{length}
@@ -15,31 +15,11 @@ use Rattle.model.specs.State.{Exchange, Rest, Server, at, exchangeAt, freshExch
 use Rattle.model.specs.Sizes.{sessionLimit}
 use Rattle.model.specs.Exchange.{noteRmt, availableAt, statusByte}
 use Rattle.model.specs.Acts.{AsynchronousKind.k-statusQuery, asynchronousRest, asynchronousSaid, asynchronousEvent}
-use Rattle.state.specs.Grid.{upd}
-use Rattle.state.specs.Change.{onRest, onExchange, exchangeWith, entryWith, singleWith}
+use Rattle.state.specs.Change.{onRest, exchangeWith, entryWith, singleWith}
 use Rattle.state.specs.View.{memory, view, restOf, locksOf}
 use Rattle.effects.specs.Closing.{exchanges-held}
-use Rattle.effects.specs.Asynchronous.{heading, DidKind, delivered, did-one, exchange-changed}
-
--- status query: message available goes off where the code is 1
-upd-same : {A : Type 0} (l : List A) (i : ℕ) → upd l i (λ (x : A). x) ≡ l
-unfolding upd
-upd-same [] i = refl
-upd-same (x ∷ xs) zero = refl
-upd-same {A} (x ∷ xs) (suc i) = ap (λ (l : List A). x ∷ l) (upd-same xs i)
-
-abbrev noted : Bool → Exchange → Exchange
-noted b x = record { inClear = x .inClear; asked = x .asked; messageAvailable = not b && (x .messageAvailable); clientSize = x .clientSize }
-
-module _ (d : Server) (i code : ℕ) where
-  pub noted-delivered : (d′ : Server) → code ≡ 1 → d′ ≡ onExchange d i (exchangeWith 2 0) → d′ ≡ onExchange d i (noteRmt code)
-  noted-delivered d′ e v = v ∙ ap (λ (b : Bool). onExchange d i (noted b)) (sym (eq-eqb code 1 e))
-
-  pub noted-other : (code ≡ 1 → ⊥) → d ≡ onExchange d i (noteRmt code)
-  noted-other e =
-      ap (λ (x : List Exchange). onRest d (λ (r : Rest). record { exchanges = x; connections = r .connections; lastIssued = r .lastIssued; vendor = r .vendor; status = r .status; remoteLocal = r .remoteLocal }))
-      (sym (upd-same (d .rest .exchanges) i))
-      ∙ ap (λ (b : Bool). onExchange d i (noted b)) (sym (ne-eqb code 1 e))
+use Rattle.effects.specs.Asynchronous.{heading, DidKind, delivered, did-one}
+use Rattle.effects.specs.Synchronous.{withSlot}
 
 -- the byte: the status byte with value 16 replaced by message available
 abbrev pub lowStatus : ℕ → ℕ
@@ -60,7 +40,7 @@ module _ (r : Rest) (i v a : ℕ) (s : singleWith 1 v r ≡ r) (x : exchangeWith
   byte-quiet e = let z : lowStatus v ≡ lowStatus v + 0 = omega arith in z ∙ byte-of 0 (ap (λ (b : Bool). cond b 16 0) (ne-eqb a 1 e))
 
 module _ (w s w′ out out′ : List ℕ) (i c n : ℕ) (few : i < sessionLimit) (e : entryWith 0 n (at (locksOf w s .entries) i) ≡ at (locksOf w s .entries) i) where
-  pub status-told : (code param len b : ℕ) (p : List ℕ) → view (memory w′ s) ≡ onExchange (view (memory w s)) i (noteRmt code)
+  pub status-told : (code param len b : ℕ) (p : List ℕ) → view (memory w′ s) ≡ onRest (view (memory w s)) (withSlot i (noteRmt code))
       → b ≡ statusByte (restOf w′ .status) ((exchangeAt (restOf w′) i) .messageAvailable)
       → out′ ≡ splice out 0 (frameBytes (frameOf c 22 b 0 []))
       → DidKind k-statusQuery i c code param len p (delivered n len 17) (memory w s) (memory w′ s) out out′
@@ -69,9 +49,8 @@ module _ (w s w′ out out′ : List ℕ) (i c n : ℕ) (few : i < sessionLimit)
       let d : Server = view (memory w s) in
       let h : Header = heading t code param len in
       let l : i < length (d .rest .exchanges) = rw (exchanges-held w) few in
-      let u : view (memory w′ s) ≡ record { locks = d .locks; rest = withExchange (d .rest) i (noteRmt code (exchangeAt (d .rest) i)) } = v ∙ exchange-changed (d .rest) i (noteRmt code) (d .locks) in
       let g : b ≡ statusByte (d .rest .status) (availableAt h (exchangeAt (d .rest) i)) =
-      q ∙ ap (λ (y : Server). statusByte (y .rest .status) ((exchangeAt (y .rest) i) .messageAvailable)) u
+      q ∙ ap (λ (y : Server). statusByte (y .rest .status) ((exchangeAt (y .rest) i) .messageAvailable)) v
       ∙ ap (λ (y : Exchange). statusByte (d .rest .status) (y .messageAvailable)) (getD-set-same (d .rest .exchanges) i (noteRmt code (exchangeAt (d .rest) i)) freshExchange l) in
       did-one d i n len 0 (withExchange (d .rest) i (noteRmt code (exchangeAt (d .rest) i))) (frameOf c 22 (statusByte (d .rest .status) (availableAt h (exchangeAt (d .rest) i))) 0 []) (frameOf c 22 b 0 [])
-      (memory w s) (memory w′ s) out out′ e (ap (λ (y : ℕ). frameOf c 22 y 0 []) (sym g)) refl u o
+      (memory w s) (memory w′ s) out out′ e (ap (λ (y : ℕ). frameOf c 22 y 0 []) (sym g)) refl v o

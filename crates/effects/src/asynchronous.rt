@@ -5,7 +5,7 @@ ghost use Rattle.effects.specs.Control.{controlling, flagging};
 ghost use Rattle.effects.specs.Did.{Did};
 ghost use Rattle.model.specs.Acts.AsynchronousKind.{k-deviceClear, k-lock, k-lockInfo, k-maximumSize, k-remoteLocal, k-statusQuery};
 ghost use Rattle.model.specs.Acts.{acts};
-ghost use Rattle.model.specs.Exchange.{enterClear, noteRmt, statusByte};
+ghost use Rattle.model.specs.Exchange.{enterClear, statusByte};
 ghost use Rattle.model.specs.Place.Role.{r-asynchronous};
 ghost use Rattle.model.specs.State.{exchangeAt};
 ghost use Rattle.model.specs.Step.{finish};
@@ -18,6 +18,7 @@ ghost use mathlib.Core.List.{List};
 ghost use mathlib.Core.Path.{_≡_};
 use crate::Delivery;
 use crate::outcome;
+use crate::synchronous::note_rmt;
 use locks::grant_pass;
 use locks::info;
 use locks::release;
@@ -28,17 +29,6 @@ use state::tables;
 use wire::frame;
 use wire::number;
 use wire::types;
-
-// Control code 1 says that a response was delivered: message available goes off.
-fn note_delivered(w: &mut [u64; 235], i: usize, code: u8)
-    requires { ⌜ i < 16 ⌝ }
-    ensures { λ _. ⌜ ((s : List ℕ) → view (memory (now (w .exit)) s) ≡ onExchange (view (memory (now (w .entry)) s)) i (noteRmt code)) ⌝ }
-{
-    if code != 1 {
-        return;
-    }
-    tables::set_exchange(w, i, tables::AVAILABLE, 0);
-}
 
 // The instrument's status byte, with value 16 replaced by message available of slot i.
 fn status_of(w: &[u64; 235], i: usize) -> u8
@@ -66,7 +56,7 @@ fn query_status(
     ensures { λ r. ⌜ ((s p : List ℕ) (param : ℕ) → DidKind k-statusQuery i c code param len p r (memory (now (w .entry)) s) (memory (now (w .exit)) s) (now (out .entry)) (now (out .exit))) ⌝ }
 {
     let n = tables::entry(w, i, tables::NUMBER);
-    note_delivered(w, i, code);
+    note_rmt(w, i, code);
     let b = status_of(w, i);
     frame::put_frame(out, 0, c as u8, types::ASYNC_STATUS_RESPONSE, b, 0);
     Delivery {

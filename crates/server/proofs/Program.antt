@@ -2,13 +2,13 @@
 -- that each meet `Post`. The statement is specs/Program.antt.
 use mathlib.Core.Path.{_≡_, refl, sym, ap, subst, _∙_}
 use mathlib.Core.Bool.{Bool, true, false, not}
-use mathlib.Core.List.{List, [], _∷_, map, append-nil}
+use mathlib.Core.List.{List, [], _∷_, map}
 use Prim.Native.Nat.{ℕ, zero, suc}
 use lib.Dec.{eqb}
 use lib.ListN.{length, take}
 use lib.Seq.{take-nil}
 use Rattle.wire.specs.declared.Header.{Header}
-use Rattle.wire.specs.Frame.{Frame, bytesOf, frameBytes, frameOf}
+use Rattle.wire.specs.Frame.{bytesOf, bytes-one, frameBytes, frameOf}
 use Rattle.model.specs.State.{Server, Asked, Asked.none, at, fresh, slotOfNumber}
 use Rattle.model.specs.Interface.{Event, Event.opening, Event.delivery, Event.cut, Event.clock, Event.answer, Event.status, Outcome, Outcome.more-needed, Outcome.skipped, Outcome.held, Outcome.ignored, Outcome.error-sent, Outcome.closed, Outcome.acted, Reply, Reply.refused, Reply.done, Reply.took, outcomeNumber, DeliveryAnswer, deliveryAnswer, DoneAnswer, doneAnswer}
 use Rattle.model.specs.Scan.{Scan, Scan.empty, Scan.few, Scan.wrong, Scan.skipping, Scan.long, Scan.part, Scan.whole}
@@ -170,10 +170,6 @@ not-refused d e r q z = go (refusal d e) q
     go zero q = refl
     go (suc k) q = sym (ap (λ (a : DoneAnswer). a .refusal) q) ∙ z
 
-one-frame : (f : Frame) → bytesOf (f ∷ []) ≡ frameBytes f
-unfolding bytesOf
-one-frame f = append-nil (frameBytes f)
-
 tied : (v : ℕ) (m m′ m″ : Memory) (ss : List Seen) → Fresh v m → Run m ss m′
     → (n : ℕ) (payload : List ℕ) (end : ℕ) (out out′ : List ℕ) (r : Done) → Called (answer n payload (not (eqb end 0)) (length out)) r m′ m″ out out′ → r .refusal ≡ 0
     → Tied ss m′ n payload (not (eqb end 0)) (take (r .output) out′)
@@ -194,7 +190,7 @@ tied v m m′ m″ ss f g n payload end out out′ r p z =
           ap (λ (x : Seen). x .output) o
           ∙ ap (λ (x : Server). bytesOf ((step x e) .frames)) d
           ∙ ap bytesOf (t .sent)
-          ∙ one-frame _
+          ∙ bytes-one _
           ∙ ap (λ (x : Server). frameBytes (frameOf ((at (x .locks .entries) (slotOfNumber (x .locks .entries) n)) .synchronous) (answerType (not (eqb end 0))) 0 i payload)) (sym d);
     }
 
