@@ -13,12 +13,11 @@ pub fn shrink(
     fails: impl Fn(&[Event]) -> Option<Difference>,
 ) -> (Vec<Event>, Difference) {
     let found = fails(list).expect("the list fails");
-    let mut list = list[..=found.place.min(list.len() - 1)].to_vec();
-    let until = Instant::now() + time;
-    if fails(&list).is_none() {
-        // What failed needs the end of the list.
-        return (list, found);
+    let mut list = list.to_vec();
+    if fails(&list[..=found.place]).is_some() {
+        list.truncate(found.place + 1);
     }
+    let until = Instant::now() + time;
     let mut part = list.len().div_ceil(2);
     while part > 0 && Instant::now() < until {
         let before = list.len();

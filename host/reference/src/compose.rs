@@ -7,7 +7,8 @@ use crate::event::Event;
 pub const ROOM: usize = 2048;
 
 pub fn header(kind: u8, code: u8, parameter: u32, length: u64) -> Vec<u8> {
-    let mut bytes = vec![b'H', b'S', kind, code];
+    let mut bytes = Vec::with_capacity(16);
+    bytes.extend([b'H', b'S', kind, code]);
     bytes.extend(parameter.to_be_bytes());
     bytes.extend(length.to_be_bytes());
     bytes
