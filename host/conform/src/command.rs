@@ -34,6 +34,7 @@ conform soak --events N           random lists until so many events were run
 conform soak .. --from SEED       beginning with this seed
 conform seed N                    the random list of a seed
 conform examples | systematic | cables | sizes | wrap
+                                  one suite, not thinned
 conform selftest                  every wrong server must be found
 
 Exit status: 0 no difference, 1 a difference, 2 the command is not understood.";
@@ -42,6 +43,8 @@ Exit status: 0 no difference, 1 a difference, 2 the command is not understood.";
 const QUICK_EVENTS: usize = 1_000_000;
 /// Of the systematic cases with an effect, one in so many is looked at more closely.
 const QUICK_THIN: u64 = 16;
+/// The first seed of a soak, if none is told: behind those of the quick setting.
+const SOAK_FROM: u64 = 1_000_000;
 
 /// Runs a command. `program` is what it was started as, for the command that repeats a difference.
 pub fn execute(program: &str, arguments: &[&str]) -> u8 {
@@ -127,28 +130,28 @@ struct Soak {
 
 impl Soak {
     fn read(mut arguments: &[&str]) -> Result<Soak, String> {
-        let mut soak = Soak {
-            minutes: None,
-            events: None,
-            from: 1_000_000,
-        };
+        let (mut minutes, mut events, mut from) = (None, None, None);
         while let [name, rest @ ..] = arguments {
+            let place = match *name {
+                "--minutes" => &mut minutes,
+                "--events" => &mut events,
+                "--from" => &mut from,
+                _ => return Err(format!("soak: no option `{name}`")),
+            };
             let [value, rest @ ..] = rest else {
                 return Err(format!("soak: `{name}` without a number"));
             };
-            let value = number(value)?;
-            match *name {
-                "--minutes" => soak.minutes = Some(value),
-                "--events" => soak.events = Some(value),
-                "--from" => soak.from = value,
-                _ => return Err(format!("soak: no option `{name}`")),
-            }
+            *place = Some(number(value)?);
             arguments = rest;
         }
-        match (soak.minutes, soak.events) {
+        match (minutes, events) {
             (None, None) => Err("soak: how long? --minutes N or --events N".into()),
             (Some(0), _) | (_, Some(0)) => Err("soak: 0 is no soak".into()),
-            _ => Ok(soak),
+            _ => Ok(Soak {
+                minutes,
+                events,
+                from: from.unwrap_or(SOAK_FROM),
+            }),
         }
     }
 

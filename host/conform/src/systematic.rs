@@ -3,6 +3,7 @@
 use std::slice;
 
 use reference::history::omitted;
+use reference::wire::{class, Channel, Class};
 use reference::Event;
 
 use crate::bout::{Bout, Difference, Failed, Pair, VENDOR};
@@ -11,6 +12,7 @@ use crate::messages::{
 };
 use crate::numbers::mix;
 
+/// A code of every class; all codes where they can matter and nothing is thinned.
 const CODES: [u8; 10] = [0, 1, 2, 3, 4, 5, 6, 7, 128, 255];
 const LENGTHS: [u64; 12] = [
     0,
@@ -173,7 +175,8 @@ fn probes(state: &State) -> Vec<Event> {
 }
 
 /// Runs all cases of the states, each with demand 3; of the cases with an effect, one in `thin` is
-/// followed by probes. Returns the events run.
+/// followed by probes. With `thin` 1, every code of the types that are acted on. Returns the events
+/// run.
 pub fn check(pair: Pair, thin: u64) -> Result<usize, Failed> {
     let mut count = 0;
     for state in states() {
@@ -182,11 +185,20 @@ pub fn check(pair: Pair, thin: u64) -> Result<usize, Failed> {
     Ok(count)
 }
 
+fn codes(kind: u8, thin: u64) -> Vec<u8> {
+    let channels = [Channel::Synchronous, Channel::Asynchronous];
+    let acted_on = channels.map(|channel| class(channel, kind) == Class::ActedOn);
+    match thin == 1 && acted_on.contains(&true) {
+        true => (0..=255).collect(),
+        false => CODES.to_vec(),
+    }
+}
+
 /// Every message of the list, in a fixed order.
-fn cases(state: &State) -> impl Iterator<Item = Event> + '_ {
+fn cases(state: &State, thin: u64) -> impl Iterator<Item = Event> + '_ {
     let shown = [Shown::Nothing, Shown::Part, Shown::All];
     (0..=255).flat_map(move |kind| {
-        CODES.into_iter().flat_map(move |code| {
+        codes(kind, thin).into_iter().flat_map(move |code| {
             LENGTHS.into_iter().flat_map(move |length| {
                 let one = move |shown| case(state, kind, code, length, shown);
                 shown.into_iter().map(one)
@@ -206,7 +218,7 @@ fn check_state(pair: Pair, state: &State, thin: u64) -> Result<usize, Failed> {
     let mut bout = Bout::new(pair, VENDOR);
     let all_probes = probes(state);
     let mut count = state.setup.len();
-    for (number, event) in (0..).zip(cases(state)) {
+    for (number, event) in (0..).zip(cases(state, thin)) {
         let chosen = mix(number).is_multiple_of(thin);
         let probes = if chosen { &all_probes[..] } else { &[] };
         bout.restart_from(&ready);
