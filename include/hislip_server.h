@@ -11,17 +11,24 @@
  * the server.
  *
  * WHAT THE HOST OWES. The library checks every number and every byte; it relies on pointers alone:
- *  - `words` points to hislip_words() uint64_t, aligned as uint64_t; `strings` to
- *    hislip_string_bytes() bytes; `bytes`, `payload` and `out` to `len` and `out_len` bytes. No
- *    pointer is null, also where a length is 0 (any valid pointer will do then). Byte memory needs
- *    no alignment.
+ *  - `words` points to hislip_words() uint64_t, aligned as uint64_t, and `strings` to
+ *    hislip_string_bytes() bytes. In hislip_deliver `bytes` points to `len` bytes, in hislip_answer
+ *    `payload` to `len` bytes, and in these two, hislip_cut and hislip_clock `out` to `out_len` bytes.
+ *    Byte memory needs no alignment.
+ *  - NO POINTER IS NULL, NOT EVEN BESIDE A LENGTH OF 0. The proved code takes references, and a
+ *    reference is never null: of a null one the proofs say nothing. Beside 0 any other pointer will
+ *    do, for instance "". GCC and Clang warn of a null constant.
  *  - words, strings, bytes or payload, and out do not overlap one another.
  *  - Two threads do not use one server at once. Different servers are independent.
  *  - hislip_new has written the memory before the other calls see it.
  *
  * OUTPUT. A row of frames: one byte of connection number, then a whole message (16 bytes of header
- * and its payload), to be sent on that connection in this order. `output` counts its bytes. Bytes of
- * `out` after them keep their values. A buffer of HISLIP_OUTPUT bytes always suffices.
+ * and its payload), to be sent on that connection in this order. `output` counts its bytes. A buffer
+ * of HISLIP_OUTPUT bytes always suffices.
+ *
+ * WHAT IS WRITTEN. `words`, `strings` and the first `output` bytes of `out`; the bytes of `out` after
+ * them keep their values, and `bytes` and `payload` are only read. A refused call and a delivery
+ * answered more needed or held write nothing at all.
  *
  * REFUSALS. A refused call has a number and one cause. It changes nothing: neither the server nor
  * any lent byte, and every other field of the answer is 0. If several causes hold, the first in the
@@ -59,6 +66,13 @@
 
 #ifdef __cplusplus
 extern "C" {
+#endif
+
+/* No pointer is null: see WHAT THE HOST OWES. */
+#if defined(__GNUC__)
+#define HISLIP_NOT_NULL __attribute__((nonnull))
+#else
+#define HISLIP_NOT_NULL
 #endif
 
 /* Sizes. */
@@ -113,25 +127,30 @@ uint64_t hislip_string_bytes(void);
 /* Makes a fresh server: clock 0, status byte 0, nothing open. `vendor` is the two-letter vendor
  * number, first letter in the upper byte ("AA" is 0x4141). Writes every lent word and byte; what they
  * held before does not matter. Never refused. */
+HISLIP_NOT_NULL
 void hislip_new(uint64_t *words, uint8_t *strings, uint16_t vendor);
 
 /* A connection opens. Refusals: 1 (above 31), 2 (already open). Sends nothing. */
+HISLIP_NOT_NULL
 hislip_done hislip_open(uint64_t *words, uint8_t *strings, uint32_t connection);
 
 /* Unread bytes of a connection: all of them, from the first one not yet taken. At most one message is
  * taken; deliver again while bytes are taken and some are left. Refusals, in this order: 7 (`out_len`
  * under 2,048), 1 (above 31, or not open). Outcomes: all seven. `len` may be 0 (more needed). */
+HISLIP_NOT_NULL
 hislip_delivery hislip_deliver(uint64_t *words, uint8_t *strings, uint32_t connection,
                                const uint8_t *bytes, size_t len, uint8_t *out, size_t out_len);
 
 /* A connection is cut. Its session, if it has one, closes with both connections, its locks and its
  * waiting request; the output holds the lock answers of others who are now granted. The number may be
  * opened again at once. Refusals, in this order: 7, 1 (above 31, or not open). */
+HISLIP_NOT_NULL
 hislip_done hislip_cut(uint64_t *words, uint8_t *strings, uint32_t connection,
                        uint8_t *out, size_t out_len);
 
 /* The clock reads so many milliseconds, counted from any start. Lock requests whose time is over are
  * answered. Refusals, in this order: 7, 4 (above 2^62), 3 (below the last reading; equal is fine). */
+HISLIP_NOT_NULL
 hislip_done hislip_clock(uint64_t *words, uint8_t *strings, uint64_t milliseconds,
                          uint8_t *out, size_t out_len);
 
@@ -139,12 +158,14 @@ hislip_done hislip_clock(uint64_t *words, uint8_t *strings, uint64_t millisecond
  * of the question. `len` may be 0. Refusals, in this order: 7, 8 (no live session of that number),
  * 5 (it has asked nothing: no DataEND or Trigger since the last answer with END, or a device clear
  * came after it), 6 (`len` above 1,024 or above the size the client announced). */
+HISLIP_NOT_NULL
 hislip_done hislip_answer(uint64_t *words, uint8_t *strings, uint32_t session,
                           const uint8_t *payload, size_t len, uint8_t end,
                           uint8_t *out, size_t out_len);
 
 /* The instrument's status byte changes. Never refused; sends nothing. In status responses the value
  * 16 is replaced by the session's own message available. */
+HISLIP_NOT_NULL
 void hislip_status(uint64_t *words, uint8_t *strings, uint8_t status);
 
 /* The payload length of a message, from its 16 header bytes: a help for going through frames. */

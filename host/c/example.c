@@ -1,8 +1,9 @@
-/* An example of use: the header's example, then more of the bench, each answer checked.
- * Exit status 0 if all answers are the expected ones, 1 if not. */
+/* An example of use: the header's example, then two programs that share the instrument, each answer
+ * checked. */
 #include <stdio.h>
 #include <string.h>
 
+#include "check.h"
 #include "hislip_server.h"
 
 static uint64_t words[8192]; static uint8_t strings[32768], out[HISLIP_OUTPUT];
@@ -37,14 +38,6 @@ static hislip_delivery send(uint32_t connection, uint8_t type, uint8_t code, uin
     message[15] = (uint8_t)length;
     memcpy(message + 16, payload, length);
     return hislip_deliver(words, strings, connection, message, 16 + length, out, sizeof out);
-}
-
-static int failures;
-
-static void expect(const char *what, int holds)
-{
-    printf("%-52s %s\n", what, holds ? "ok" : "WRONG");
-    failures += !holds;
 }
 
 /* The output is one frame with these fields and no payload. */
@@ -115,6 +108,5 @@ int main(void)
     open_both();
     lock_and_hold();
     ask_and_answer();
-    printf("%s\n", failures ? "FAILED" : "all as expected");
-    return failures != 0;
+    return verdict();
 }

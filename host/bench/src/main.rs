@@ -7,7 +7,7 @@ mod workload;
 
 use std::process::ExitCode;
 
-use timing::{compare, measure, Times};
+use timing::{compare, measure, Outcomes, Times};
 use workload::Workload;
 
 struct Options {
@@ -37,22 +37,21 @@ fn main() -> ExitCode {
         eprintln!("usage: bench [--repetitions N] [--write FILE]");
         return ExitCode::from(2);
     };
-    match page(options.repetitions) {
-        Err(difference) => {
-            eprintln!("bench: {difference}");
+    match run(options) {
+        Ok(()) => ExitCode::SUCCESS,
+        Err(what) => {
+            eprintln!("bench: {what}");
             ExitCode::FAILURE
         }
-        Ok(page) => {
-            print!("{page}");
-            let written = options.write.map(|file| std::fs::write(file, page));
-            match written {
-                Some(Err(error)) => {
-                    eprintln!("bench: {error}");
-                    ExitCode::FAILURE
-                }
-                _ => ExitCode::SUCCESS,
-            }
-        }
+    }
+}
+
+fn run(options: Options) -> Result<(), String> {
+    let page = page(options.repetitions)?;
+    print!("{page}");
+    match options.write {
+        Some(file) => std::fs::write(&file, page).map_err(|error| format!("{file}: {error}")),
+        None => Ok(()),
     }
 }
 
@@ -101,22 +100,11 @@ fn row(workload: &Workload, times: &Times) -> String {
     )
 }
 
-fn describe(outcomes: &[usize; 8]) -> String {
-    const NAMES: [&str; 8] = [
-        "more needed or an answer sent",
-        "skipped",
-        "held",
-        "ignored",
-        "Error sent",
-        "closed",
-        "acted on",
-        "refused",
-    ];
-    let some = NAMES.iter().zip(outcomes).filter(|(_, count)| **count > 0);
-    let parts: Vec<String> = some
-        .map(|(name, count)| format!("{count} {name}"))
-        .collect();
-    parts.join(", ")
+fn describe(outcomes: &Outcomes) -> String {
+    let counted = outcomes
+        .iter()
+        .map(|(name, count)| format!("{count} {name}"));
+    counted.collect::<Vec<_>>().join(", ")
 }
 
 fn sorted(times: &[f64]) -> Vec<f64> {

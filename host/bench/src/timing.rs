@@ -1,12 +1,15 @@
 //! Running a workload: once to compare every answer and byte, then timed, sides taking turns.
 
+use std::collections::BTreeMap;
 use std::hint::black_box;
 use std::time::Instant;
 
 use hislip::sys::hislip_delivery;
+use reference::compose::message;
+use reference::Reply;
 
 use crate::contender::{Contender, Library, Reference};
-use crate::workload::{message, Step, Workload};
+use crate::workload::{Step, Workload};
 
 const OUTPUT: usize = 2048;
 
@@ -54,20 +57,30 @@ fn one<C: Contender>(
     }
 }
 
-/// Every answer and every byte of the buffer, side by side. Returns how often each outcome came, so
+/// How often the events of a workload came to what, in words.
+pub type Outcomes = BTreeMap<&'static str, usize>;
+
+fn outcome(step: Step, told: hislip_delivery) -> &'static str {
+    match step {
+        _ if told.refusal != 0 => "refused",
+        Step::Answer(..) => "answer sent",
+        Step::Deliver(..) => Reply::OUTCOMES[told.outcome as usize],
+    }
+}
+
+/// Every answer and every byte of the buffer, side by side. Returns what the events came to, so
 /// that a workload which does something else than its name says is noticed.
-pub fn compare(workload: &Workload) -> Result<[usize; 8], String> {
+pub fn compare(workload: &Workload) -> Result<Outcomes, String> {
     let (mut left_out, mut right_out) = (vec![0x5a; OUTPUT], vec![0x5a; OUTPUT]);
     let mut left: Library = ready(workload, &mut left_out);
     let mut right: Reference = ready(workload, &mut right_out);
-    let mut outcomes = [0; 8];
+    let mut outcomes = Outcomes::new();
     for (place, step) in workload.steps.iter().enumerate() {
         let told = one(&mut left, workload, *step, &mut left_out);
         if told != one(&mut right, workload, *step, &mut right_out) || left_out != right_out {
             return Err(format!("{}: event {place} differs", workload.name));
         }
-        let refused = told.refusal != 0;
-        outcomes[if refused { 7 } else { told.outcome as usize }] += 1;
+        *outcomes.entry(outcome(*step, told)).or_default() += 1;
     }
     Ok(outcomes)
 }

@@ -1,5 +1,7 @@
 //! What is run: prepared events over prepared sessions, the same for both sides.
 
+use reference::compose::message;
+
 /// One event of a timed loop.
 #[derive(Clone, Copy)]
 pub enum Step {
@@ -19,14 +21,6 @@ pub struct Workload {
     pub bytes: Vec<Vec<u8>>,
     /// The output buffer is cleared before each event.
     pub clear: bool,
-}
-
-pub fn message(kind: u8, code: u8, parameter: u32, payload: &[u8]) -> Vec<u8> {
-    let mut bytes = vec![b'H', b'S', kind, code];
-    bytes.extend(parameter.to_be_bytes());
-    bytes.extend((payload.len() as u64).to_be_bytes());
-    bytes.extend(payload);
-    bytes
 }
 
 /// Messages by place in `Workload::bytes`.

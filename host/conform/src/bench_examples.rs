@@ -3,16 +3,21 @@
 use reference::event::Frame;
 use reference::{Event, Reply};
 
-use crate::bout::{run, Bout, Difference, Failed, Pair};
+use crate::bout::{Bout, Difference, Failed, Pair, VENDOR};
 use crate::messages::{answer, clock, deliver, header, lock, message, release, session};
 
-/// Events, and for the last one the outcome and whole output.
-#[derive(Clone)]
+/// One event with its outcome and whole output.
 struct Example {
     name: &'static str,
-    events: Vec<Event>,
+    event: Event,
     outcome: u64,
     output: Vec<u8>,
+}
+
+/// Examples one after another, from a fresh server that has gone through some events.
+struct Conversation {
+    before: Vec<Event>,
+    examples: Vec<Example>,
 }
 
 fn frame(to: u8, kind: u8, code: u8, parameter: u32) -> Vec<u8> {
@@ -21,169 +26,164 @@ fn frame(to: u8, kind: u8, code: u8, parameter: u32) -> Vec<u8> {
     bytes
 }
 
-fn example(name: &'static str, events: Vec<Event>, outcome: u64, output: Vec<u8>) -> Example {
+fn example(name: &'static str, event: Event, outcome: u64, output: Vec<u8>) -> Example {
     Example {
         name,
-        events,
+        event,
         outcome,
         output,
     }
 }
 
-/// Three sessions on connections 0 to 5.
+/// Programs A, B and C: sessions 1 to 3 on connections 0 to 5.
 fn three() -> Vec<Event> {
     [session(0, 1, 1), session(2, 3, 2), session(4, 5, 3)].concat()
 }
 
-fn after(first: Vec<Event>, then: impl IntoIterator<Item = Event>) -> Vec<Event> {
-    first.into_iter().chain(then).collect()
-}
-
-fn opening() -> Vec<Example> {
-    let initialize = b"\x48\x53\x00\x00\x01\x00\x41\x41\0\0\0\0\0\0\0\0".to_vec();
-    let join = b"\x48\x53\x11\x00\x00\x00\x00\x01\0\0\0\0\0\0\0\0".to_vec();
-    let first = vec![Event::Open { connection: 0 }, deliver(0, initialize)];
+fn opening() -> Conversation {
+    let open = |connection| Event::Open { connection };
+    let initialize = *b"\x48\x53\x00\x00\x01\x00\x41\x41\0\0\0\0\0\0\0\0";
     let opened = b"\x00\x48\x53\x01\x00\x01\x00\x00\x01\0\0\0\0\0\0\0\0".to_vec();
-    let second = [Event::Open { connection: 1 }, deliver(1, join)];
+    let join = *b"\x48\x53\x11\x00\x00\x00\x00\x01\0\0\0\0\0\0\0\0";
     let joined = b"\x01\x48\x53\x12\x00\x00\x00\x41\x41\0\0\0\0\0\0\0\0".to_vec();
-    vec![
-        example("Initialize", first.clone(), Reply::ACTED_ON, opened),
-        example(
-            "AsyncInitialize",
-            after(first, second),
-            Reply::ACTED_ON,
-            joined,
-        ),
-    ]
+    let acted = Reply::ACTED_ON;
+    Conversation {
+        before: vec![open(0), open(1)],
+        examples: vec![
+            example("Initialize", deliver(0, initialize), acted, opened),
+            example("AsyncInitialize", deliver(1, join), acted, joined),
+        ],
+    }
 }
 
-fn reading() -> Vec<Example> {
-    let on_first = |bytes: Vec<u8>| after(three(), [deliver(0, bytes)]);
+fn reading() -> Conversation {
+    let fifteen = deliver(0, &header(7, 0, 0, 0)[..15]);
+    let long = |length| deliver(0, message(7, 0, 0xffff_ff00, &vec![b'x'; length]));
+    let of_type = |kind| deliver(0, header(kind, 0, 0, 0));
     let mut wrong = header(7, 0, 0, 0);
     wrong[1] = b'T';
-    let fatal = [frame(0, 2, 1, 0), frame(1, 2, 1, 0)].concat();
-    let longest = message(7, 0, 0xffff_ff00, &[b'x'; 1024]);
-    let longer = message(7, 0, 0xffff_ff00, &[b'x'; 1025]);
-    let fifteen = header(7, 0, 0, 0)[..15].to_vec();
-    vec![
-        example("15 bytes", on_first(fifteen), Reply::MORE_NEEDED, vec![]),
-        example("HT", on_first(wrong), Reply::CLOSED, fatal),
-        example("1,024", on_first(longest), Reply::ACTED_ON, vec![]),
-        example(
-            "1,025",
-            on_first(longer),
-            Reply::ERROR_SENT,
-            frame(0, 3, 4, 0),
-        ),
-        example(
-            "type 39",
-            on_first(header(39, 0, 0, 0)),
-            Reply::ERROR_SENT,
-            frame(0, 3, 1, 0),
-        ),
-        example(
-            "type 128",
-            on_first(header(128, 0, 0, 0)),
-            Reply::ERROR_SENT,
-            frame(0, 3, 3, 0),
-        ),
-    ]
+    let (acted, error) = (Reply::ACTED_ON, Reply::ERROR_SENT);
+    let fatal = [frame(2, 2, 1, 0), frame(3, 2, 1, 0)].concat();
+    Conversation {
+        before: three(),
+        examples: vec![
+            example("15 bytes", fifteen, Reply::MORE_NEEDED, vec![]),
+            example("length 1,024", long(1024), acted, vec![]),
+            example("type 39", of_type(39), error, frame(0, 3, 1, 0)),
+            example("type 128", of_type(128), error, frame(0, 3, 3, 0)),
+            example("length 1,025", long(1025), error, frame(0, 3, 4, 0)),
+            example("HT", deliver(2, wrong), Reply::CLOSED, fatal),
+        ],
+    }
 }
 
-fn locking() -> Vec<Example> {
-    let acted = Reply::ACTED_ON;
-    let data = |on| deliver(on, message(6, 0, 0xffff_ff00, b"x"));
-    let exclusive = after(three(), [lock(1, b"", 0), lock(3, b"", 0)]);
-    let held = after(exclusive.clone(), [data(2)]);
-    let shared = after(three(), [lock(1, b"cal", 0), lock(3, b"cal", 0)]);
-    let other = after(shared.clone(), [lock(5, b"Cal", 0)]);
-    let both = after(other.clone(), [lock(1, b"", 0)]);
-    let waits = after(three(), [clock(1000), lock(1, b"", 0), lock(3, b"", 500)]);
-    let releases = |count: usize| after(both.clone(), (0..count).map(|_| release(1)));
-    vec![
-        example("B exclusive", exclusive, acted, frame(3, 5, 0, 0)),
-        example("B held", held, Reply::HELD, vec![]),
-        example("B shared", shared, acted, frame(3, 5, 1, 0)),
-        example("C Cal", other, acted, frame(5, 5, 0, 0)),
-        example(
-            "B then held",
-            after(both.clone(), [data(2)]),
-            Reply::HELD,
-            vec![],
-        ),
-        example("A exclusive too", both.clone(), acted, frame(1, 5, 1, 0)),
-        example("first release", releases(1), acted, frame(1, 5, 1, 0)),
-        example("second release", releases(2), acted, frame(1, 5, 2, 0)),
-        example("third release", releases(3), acted, frame(1, 5, 3, 0)),
-        example("1,499", after(waits.clone(), [clock(1499)]), 0, vec![]),
-        example(
-            "1,500",
-            after(waits, [clock(1499), clock(1500)]),
-            0,
-            frame(3, 5, 0, 0),
-        ),
-    ]
+fn data(connection: u32) -> Event {
+    deliver(connection, message(6, 0, 0xffff_ff00, b"x"))
 }
 
-fn status() -> Vec<Example> {
+/// An answer to a lock message.
+fn told(name: &'static str, event: Event, connection: u8, code: u8) -> Example {
+    example(name, event, Reply::ACTED_ON, frame(connection, 5, code, 0))
+}
+
+fn exclusive() -> Conversation {
+    Conversation {
+        before: three(),
+        examples: vec![
+            told("A exclusive", lock(1, b"", 0), 1, 1),
+            told("B exclusive", lock(3, b"", 0), 3, 0),
+            example("B's Data", data(2), Reply::HELD, vec![]),
+        ],
+    }
+}
+
+fn shared() -> Conversation {
+    Conversation {
+        before: three(),
+        examples: vec![
+            told("A cal", lock(1, b"cal", 0), 1, 1),
+            told("B cal", lock(3, b"cal", 0), 3, 1),
+            told("C Cal", lock(5, b"Cal", 0), 5, 0),
+            told("A exclusive too", lock(1, b"", 0), 1, 1),
+            example("B is then held", data(2), Reply::HELD, vec![]),
+            told("first release", release(1), 1, 1),
+            told("second release", release(1), 1, 2),
+            told("third release", release(1), 1, 3),
+        ],
+    }
+}
+
+fn waiting() -> Conversation {
+    let waits = lock(3, b"", 500);
+    Conversation {
+        before: [three(), vec![clock(1000), lock(1, b"", 0)]].concat(),
+        examples: vec![
+            example("B waits 500", waits, Reply::ACTED_ON, vec![]),
+            example("1,499", clock(1499), 0, vec![]),
+            example("1,500", clock(1500), 0, frame(3, 5, 0, 0)),
+        ],
+    }
+}
+
+fn status() -> Conversation {
     let question = deliver(0, message(7, 0, 0xffff_ff00, b"*IDN?"));
+    let then = vec![Event::Status { status: 0x41 }, question, answer(1, b"x", 1)];
     let query = deliver(1, header(21, 0, 0xffff_ff00, 0));
-    let events = [
-        Event::Status { status: 0x41 },
-        question,
-        answer(1, b"x", 1),
-        query,
-    ];
-    let events = after(three(), events);
-    vec![example(
-        "status 51",
-        events,
-        Reply::ACTED_ON,
-        frame(1, 22, 0x51, 0),
-    )]
+    let response = frame(1, 22, 0x51, 0);
+    Conversation {
+        before: [three(), then].concat(),
+        examples: vec![example("status 51", query, Reply::ACTED_ON, response)],
+    }
 }
 
 /// Runs all; returns the events run.
 pub fn check(pair: Pair) -> Result<usize, Failed> {
+    let all = [
+        opening(),
+        reading(),
+        exclusive(),
+        shared(),
+        waiting(),
+        status(),
+    ];
     let mut count = 0;
-    for example in [opening(), reading(), locking(), status()].concat() {
-        count += example.events.len();
-        let place = example.events.len() - 1;
-        check_one(pair, &example)
-            .and_then(|()| run(pair, VENDOR, &example.events))
-            .map_err(|mut difference| {
-                difference.what = format!("bench example {}: {}", example.name, difference.what);
-                difference.place = difference.place.min(place);
-                Failed {
-                    vendor: VENDOR,
-                    list: example.events.clone(),
-                    difference,
-                    again: "examples".into(),
-                }
-            })?;
+    for conversation in all {
+        count += conversation.check(pair)?;
     }
     Ok(count)
 }
 
-/// "AA".
-pub const VENDOR: u16 = 0x4141;
-
-fn check_one(pair: Pair, example: &Example) -> Result<(), Difference> {
-    let mut bout = Bout::new(pair, VENDOR);
-    let mut last = Reply::default();
-    for (place, event) in example.events.iter().enumerate() {
-        last = bout
-            .event(event)
-            .map_err(|what| Difference { place, what })?;
-    }
-    let place = example.events.len() - 1;
-    for watch in [&bout.left, &bout.right] {
-        let output = watch.log.output(place);
-        if (last.outcome, output) != (example.outcome, &example.output) {
-            let frames: Option<Vec<Frame>> = reference::event::frames(output);
-            let what = format!("outcome {}, frames {frames:02x?}", last.outcome);
-            return Err(Difference { place, what });
+impl Conversation {
+    fn check(&self, pair: Pair) -> Result<usize, Failed> {
+        let events = self.examples.iter().map(|example| example.event.clone());
+        let events: Vec<Event> = events.collect();
+        let failed = |found| Failed::after(&self.before, &events, found, "examples");
+        let mut bout = Bout::new(pair, VENDOR);
+        let before = bout.run(&self.before);
+        before.map_err(|found| Failed::after(&[], &self.before, found, "examples"))?;
+        for (place, example) in self.examples.iter().enumerate() {
+            example.check(&mut bout).map_err(|what| {
+                let what = format!("bench example \"{}\": {what}", example.name);
+                failed(Difference { place, what })
+            })?;
         }
+        let place = events.len() - 1;
+        let ended = bout.end();
+        ended.map_err(|what| failed(Difference { place, what }))?;
+        Ok(self.before.len() + events.len())
     }
-    Ok(())
+}
+
+impl Example {
+    fn check(&self, bout: &mut Bout) -> Result<(), String> {
+        bout.event(&self.event)?;
+        for trial in [&bout.left, &bout.right] {
+            let (reply, output) = trial.watch.log.last();
+            if (reply.outcome, output) != (self.outcome, &self.output) {
+                let frames: Option<Vec<Frame>> = reference::event::frames(output);
+                return Err(format!("outcome {}, frames {frames:02x?}", reply.outcome));
+            }
+        }
+        Ok(())
+    }
 }

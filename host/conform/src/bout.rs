@@ -2,9 +2,9 @@
 
 use reference::{Event, Reply};
 
-use crate::demand3;
+use crate::demand3::Trial;
 use crate::report::describe_reply;
-use crate::watch::{Complaint, Side, Watch};
+use crate::watch::{Complaint, Side};
 
 /// Two servers that must agree.
 #[derive(Clone, Copy)]
@@ -26,27 +26,59 @@ pub struct Difference {
 pub struct Failed {
     pub vendor: u16,
     pub list: Vec<Event>,
+    /// So many events at the beginning prepare what the list is about.
+    pub prepares: usize,
     pub difference: Difference,
     /// The command, after `conform`, that runs it again.
     pub again: String,
 }
 
+impl Failed {
+    /// A list that is not random; the difference's place is counted from the end of `prepares`.
+    pub fn after(prepares: &[Event], list: &[Event], found: Difference, again: &str) -> Failed {
+        Failed {
+            vendor: VENDOR,
+            list: [prepares, list].concat(),
+            prepares: prepares.len(),
+            difference: Difference {
+                place: prepares.len() + found.place,
+                ..found
+            },
+            again: again.into(),
+        }
+    }
+}
+
+/// Vendor number of the lists that are not random: "AA".
+pub const VENDOR: u16 = 0x4141;
+
+/// Two servers under watch, each with demand 3 beside it.
 pub struct Bout {
     pair: Pair,
-    pub left: Watch,
-    pub right: Watch,
+    pub left: Trial,
+    pub right: Trial,
+}
+
+/// A complaint with the server's name before it.
+fn of(side: Side) -> impl Fn(Complaint) -> Complaint {
+    move |what| format!("{}: {what}", side.name)
+}
+
+/// The same for what demand 3 finds.
+fn by_demand3(side: Side) -> impl Fn(Complaint) -> Complaint {
+    move |what| format!("{}, demand 3: {what}", side.name)
 }
 
 impl Bout {
     pub fn new(pair: Pair, vendor: u16) -> Bout {
         Bout {
             pair,
-            left: Watch::new(&pair.left, vendor),
-            right: Watch::new(&pair.right, vendor),
+            left: Trial::new(&pair.left, vendor),
+            right: Trial::new(&pair.right, vendor),
         }
     }
 
-    /// Both go on from where another bout is.
+    /// Both go on from where another bout is, with empty logs.
     pub fn restart_from(&mut self, other: &Bout) {
         self.left.restart_from(&other.left);
         self.right.restart_from(&other.right);
@@ -54,57 +86,58 @@ impl Bout {
 
     /// One event on both. The answer is the left one's, which is the right one's too.
     pub fn event(&mut self, event: &Event) -> Result<Reply, Complaint> {
-        let named = |side: Side| move |what: Complaint| format!("{}: {what}", side.name);
-        let left = self.left.event(event);
-        let left = left.map_err(named(self.pair.left))?;
-        let right = self.right.event(event);
-        let right = right.map_err(named(self.pair.right))?;
-        if left != right {
-            let names = (self.pair.left.name, self.pair.right.name);
-            let (left, right) = (describe_reply(event, &left), describe_reply(event, &right));
-            return Err(format!("{}: {left}; {}: {right}", names.0, names.1));
+        let Pair { left, right } = self.pair;
+        let first = self.left.watch.event(event).map_err(of(left))?;
+        let second = self.right.watch.event(event).map_err(of(right))?;
+        if first != second {
+            let told = |reply: &Reply| describe_reply(event, reply);
+            let (first, second) = (told(&first), told(&second));
+            return Err(format!("{}: {first}; {}: {second}", left.name, right.name));
         }
-        if last_output(&self.left) != last_output(&self.right) {
+        let (_, sent) = self.left.watch.log.last();
+        let (_, sent_too) = self.right.watch.log.last();
+        if sent != sent_too {
             return Err(format!(
-                "{} sends {:02x?}, {} sends {:02x?}",
-                self.pair.left.name,
-                last_output(&self.left),
-                self.pair.right.name,
-                last_output(&self.right)
+                "{} sends {sent:02x?}, {} sends {sent_too:02x?}",
+                left.name, right.name
             ));
         }
-        Ok(left)
+        self.left.demand3(event).map_err(by_demand3(left))?;
+        self.right.demand3(event).map_err(by_demand3(right))?;
+        Ok(first)
     }
 
-    /// Demand 3 on the list that was run, for both.
-    pub fn demand3(&self, vendor: u16, list: &[Event]) -> Result<(), Difference> {
-        let held = demand3::held(&self.left);
-        demand3::check(&self.pair.left, vendor, list, &self.left, held)?;
-        demand3::check(&self.pair.right, vendor, list, &self.right, held)
+    /// What demand 3 owes at the end of a list, for both.
+    pub fn end(&self) -> Result<(), Complaint> {
+        let held = self.left.held();
+        self.left.end(held).map_err(by_demand3(self.pair.left))?;
+        self.right.end(held).map_err(by_demand3(self.pair.right))
+    }
+
+    /// A whole list from where both are.
+    pub fn run(&mut self, list: &[Event]) -> Result<(), Difference> {
+        for (place, event) in list.iter().enumerate() {
+            self.event(event)
+                .map_err(|what| Difference { place, what })?;
+        }
+        let place = list.len().saturating_sub(1);
+        self.end().map_err(|what| Difference { place, what })
     }
 }
 
-fn last_output(watch: &Watch) -> &[u8] {
-    watch.log.output(watch.log.replies.len() - 1)
-}
-
-/// Runs a whole list on both and then demand 3.
-pub fn run(pair: Pair, vendor: u16, list: &[Event]) -> Result<(), Difference> {
-    let mut bout = Bout::new(pair, vendor);
-    for (place, event) in list.iter().enumerate() {
-        bout.event(event)
-            .map_err(|what| Difference { place, what })?;
-    }
-    bout.demand3(vendor, list)
+/// Runs a list that is not random; returns the events run.
+pub fn check_list(pair: Pair, again: &str, list: &[Event]) -> Result<usize, Failed> {
+    let ran = Bout::new(pair, VENDOR).run(list);
+    ran.map_err(|difference| Failed::after(&[], list, difference, again))?;
+    Ok(list.len())
 }
 
 /// Runs a list on one server with the checks that need no second one.
-pub fn run_alone(side: &Side, vendor: u16, list: &[Event]) -> Result<(), Difference> {
-    let mut watch = Watch::new(side, vendor);
-    for (place, event) in list.iter().enumerate() {
-        watch
-            .event(event)
-            .map_err(|what| Difference { place, what })?;
+pub fn run_alone(side: &Side, vendor: u16, list: &[Event]) -> Result<(), Complaint> {
+    let mut trial = Trial::new(side, vendor);
+    for event in list {
+        trial.watch.event(event)?;
+        trial.demand3(event)?;
     }
-    demand3::check(side, vendor, list, &watch, demand3::held(&watch))
+    trial.end(trial.held())
 }

@@ -3,8 +3,7 @@
 
 use reference::{Event, Server, Subject};
 
-use crate::bench_examples::VENDOR;
-use crate::bout::{run, Failed, Pair};
+use crate::bout::{check_list, Failed, Pair, VENDOR};
 use crate::messages::{answer, clock, cut, deliver, header, lock, message, session};
 
 const PIECES: [usize; 6] = [1, 3, 15, 16, 17, 2000];
@@ -125,14 +124,7 @@ pub fn check(pair: Pair) -> Result<usize, Failed> {
     for piece in PIECES {
         // Within the too large payload every 40th byte will do.
         for cut_after in (1..=length()).filter(|n| !(140..1150).contains(n) || n % 40 == 0) {
-            let list = list(piece, cut_after);
-            count += list.len();
-            run(pair, VENDOR, &list).map_err(|difference| Failed {
-                vendor: VENDOR,
-                list,
-                difference,
-                again: "cables".into(),
-            })?;
+            count += check_list(pair, "cables", &list(piece, cut_after))?;
         }
     }
     Ok(count)

@@ -4,17 +4,27 @@ use std::time::{Duration, Instant};
 
 use reference::Subject;
 
-use crate::bout::{run, Failed, Pair};
+use crate::bout::{Failed, Pair};
 use crate::library::Library;
 use crate::reach::Reach;
 use crate::watch::Side;
-use crate::{bench_examples, cables, hostile, report, selftest, shrink, sizes, systematic, wrap};
+use crate::{bench_examples, cables, hostile, report, selftest, sizes, systematic, wrap};
 
 pub const REFERENCE: Side = Side {
     name: "reference",
     new: |vendor| Box::new(<reference::Server as Subject>::new(vendor)),
-    compare_memory: true,
     see_locks: true,
+};
+
+pub const LIBRARY: Side = Side {
+    name: "library",
+    new: |vendor| Box::new(Library::new(vendor)),
+    see_locks: false,
+};
+
+const PAIR: Pair = Pair {
+    left: REFERENCE,
+    right: LIBRARY,
 };
 
 pub const USAGE: &str = "\
@@ -24,51 +34,45 @@ conform soak --events N           random lists until so many events were run
 conform soak .. --from SEED       beginning with this seed
 conform seed N                    the random list of a seed
 conform examples | systematic | cables | sizes | wrap
+                                  one suite, not thinned
 conform selftest                  every wrong server must be found
 
-HISLIP_COMPARE_MEMORY=off leaves out one comparison: that a list and its canonical history leave
-the same lent memory, byte for byte.";
+Exit status: 0 no difference, 1 a difference, 2 the command is not understood.";
 
 /// Events of random lists in the quick setting.
 const QUICK_EVENTS: usize = 1_000_000;
 /// Of the systematic cases with an effect, one in so many is looked at more closely.
 const QUICK_THIN: u64 = 16;
-const SHRINK_TIME: Duration = Duration::from_secs(20);
+/// The first seed of a soak, if none is told: behind those of the quick setting.
+const SOAK_FROM: u64 = 1_000_000;
 
-/// The reference and the proved library.
-fn pair() -> Pair {
-    let off = std::env::var("HISLIP_COMPARE_MEMORY").is_ok_and(|value| value == "off");
-    Pair {
-        left: REFERENCE,
-        right: Side {
-            name: "library",
-            new: |vendor| Box::new(Library::new(vendor)),
-            compare_memory: !off,
-            see_locks: false,
-        },
-    }
-}
-
-/// Exit status: 0 if all agree, 1 if not, 2 if the command is not understood.
-pub fn execute(arguments: &[&str]) -> u8 {
-    let pair = pair();
+/// Runs a command. `program` is what it was started as, for the command that repeats a difference.
+pub fn execute(program: &str, arguments: &[&str]) -> u8 {
     let ran = match arguments {
-        ["quick"] => quick(pair),
+        ["help" | "--help" | "-h"] => {
+            println!("{USAGE}");
+            return 0;
+        }
+        ["quick"] => quick(PAIR),
         ["soak", rest @ ..] => match Soak::read(rest) {
-            Some(soak) => soak.run(pair),
-            None => return usage(),
+            Ok(soak) => soak.run(PAIR),
+            Err(what) => return not_understood(&what),
         },
-        ["seed", seed] => match seed.parse() {
-            Ok(seed) => hostile::check(pair, seed, &mut Reach::default()),
-            Err(_) => return usage(),
+        ["seed", seed] => match number(seed) {
+            Ok(seed) => hostile::check(PAIR, seed, &mut Reach::default()),
+            Err(what) => return not_understood(&what),
         },
-        ["examples"] => bench_examples::check(pair),
-        ["systematic"] => systematic::check(pair, 1),
-        ["cables"] => cables::check(pair),
-        ["sizes"] => sizes::check(pair),
-        ["wrap"] => wrap::check(pair),
+        ["examples"] => bench_examples::check(PAIR),
+        ["systematic"] => systematic::check(PAIR, 1),
+        ["cables"] => cables::check(PAIR),
+        ["sizes"] => sizes::check(PAIR),
+        ["wrap"] => wrap::check(PAIR),
         ["selftest"] => return u8::from(!selftest::check()),
-        _ => return usage(),
+        [] => return not_understood("no command is given"),
+        _ => {
+            let given = arguments.join(" ");
+            return not_understood(&format!("no command `{given}`"));
+        }
     };
     match ran {
         Ok(count) => {
@@ -76,15 +80,20 @@ pub fn execute(arguments: &[&str]) -> u8 {
             0
         }
         Err(failed) => {
-            explain(pair, failed);
+            explain(program, &failed);
             1
         }
     }
 }
 
-fn usage() -> u8 {
-    eprintln!("{USAGE}");
+fn not_understood(what: &str) -> u8 {
+    eprintln!("conform: {what}\n\n{USAGE}");
     2
+}
+
+fn number(text: &str) -> Result<u64, String> {
+    let number = text.parse();
+    number.map_err(|_| format!("`{text}` is no whole number below 2^64"))
 }
 
 fn quick(pair: Pair) -> Result<usize, Failed> {
@@ -115,41 +124,48 @@ fn quick(pair: Pair) -> Result<usize, Failed> {
 
 struct Soak {
     minutes: Option<u64>,
-    events: Option<usize>,
+    events: Option<u64>,
     from: u64,
 }
 
 impl Soak {
-    fn read(mut arguments: &[&str]) -> Option<Soak> {
-        let mut soak = Soak {
-            minutes: None,
-            events: None,
-            from: 1_000_000,
-        };
-        while let [name, value, rest @ ..] = arguments {
-            match *name {
-                "--minutes" => soak.minutes = Some(value.parse().ok()?),
-                "--events" => soak.events = Some(value.parse().ok()?),
-                "--from" => soak.from = value.parse().ok()?,
-                _ => return None,
-            }
+    fn read(mut arguments: &[&str]) -> Result<Soak, String> {
+        let (mut minutes, mut events, mut from) = (None, None, None);
+        while let [name, rest @ ..] = arguments {
+            let place = match *name {
+                "--minutes" => &mut minutes,
+                "--events" => &mut events,
+                "--from" => &mut from,
+                _ => return Err(format!("soak: no option `{name}`")),
+            };
+            let [value, rest @ ..] = rest else {
+                return Err(format!("soak: `{name}` without a number"));
+            };
+            *place = Some(number(value)?);
             arguments = rest;
         }
-        let told = soak.minutes.is_some() || soak.events.is_some();
-        (arguments.is_empty() && told).then_some(soak)
+        match (minutes, events) {
+            (None, None) => Err("soak: how long? --minutes N or --events N".into()),
+            (Some(0), _) | (_, Some(0)) => Err("soak: 0 is no soak".into()),
+            _ => Ok(Soak {
+                minutes,
+                events,
+                from: from.unwrap_or(SOAK_FROM),
+            }),
+        }
     }
 
     fn run(&self, pair: Pair) -> Result<usize, Failed> {
         let start = Instant::now();
         let time = self
             .minutes
-            .map(|minutes| Duration::from_secs(60 * minutes));
+            .map(|minutes| Duration::from_secs(minutes.saturating_mul(60)));
         let mut last = start;
         let mut reach = Reach::default();
         let mut count = 0;
         for seed in self.from.. {
             let over = time.is_some_and(|time| start.elapsed() >= time);
-            if over || self.events.is_some_and(|events| count >= events) {
+            if over || self.events.is_some_and(|events| count as u64 >= events) {
                 break;
             }
             count += hostile::check(pair, seed, &mut reach)?;
@@ -168,21 +184,14 @@ impl Soak {
     }
 }
 
-fn explain(pair: Pair, failed: Failed) {
-    println!("DIFFERENCE in `conform {}`", failed.again);
-    println!(
-        "event {}: {}",
-        failed.difference.place, failed.difference.what
-    );
+fn explain(program: &str, failed: &Failed) {
+    let again = format!("{program} {}", failed.again);
+    println!("DIFFERENCE in `{again}`");
+    let found = &failed.difference;
+    println!("event {}: {}", found.place, found.what);
     println!("looking for a shorter list ...");
-    let fails = |list: &[reference::Event]| run(pair, failed.vendor, list).err();
-    if fails(&failed.list).is_some() {
-        let (list, difference) = shrink::shrink(&failed.list, SHRINK_TIME, fails);
-        report::print(pair, failed.vendor, &list, &difference);
-    } else {
-        report::print(pair, failed.vendor, &failed.list, &failed.difference);
-    }
-    println!("repeat with: conform {}", failed.again);
+    print!("{}", report::shortest(PAIR, failed));
+    println!("repeat with: {again}");
 }
 
 /// A number with commas.

@@ -1,4 +1,4 @@
-//! Demand 3 on a whole list: canonical history, lock model, count.
+//! One server through a list, with demand 3 beside it: canonical history, lock model, count.
 
 use reference::event::{frames, Frame};
 use reference::history::{omitted, trimmed};
@@ -6,9 +6,8 @@ use reference::lock_model::{LockAnswer, LockModel};
 use reference::lock_view::LockView;
 use reference::{Event, Reply, Subject};
 
-use crate::bout::Difference;
 use crate::messages::header;
-use crate::watch::{Complaint, Log, Side, Watch};
+use crate::watch::{Complaint, Side, Watch};
 
 const LOCK_RESPONSE: u8 = 5;
 const LOCK_INFO: u8 = 24;
@@ -17,79 +16,77 @@ const LOCK_INFO_RESPONSE: u8 = 25;
 /// How often the lock model's view is compared with the server's, in events.
 const VIEW_EVERY: usize = 8;
 
-/// Locks held by the server's own word.
-pub fn held(run: &Watch) -> u64 {
-    run.lock_view().map_or(0, |view| view.held())
-}
-
-/// Checks the list that `run` went through; `held` counts the locks held after it.
-pub fn check(
-    side: &Side,
-    vendor: u16,
-    list: &[Event],
-    run: &Watch,
-    held: u64,
-) -> Result<(), Difference> {
-    let mut check = Check {
-        model: LockModel::new(),
-        again: Watch::new(side, vendor),
-        log: &run.log,
-        answers: Vec::new(),
-    };
-    let last = list.len().saturating_sub(1);
-    let named = |place| {
-        move |what: Complaint| Difference {
-            place,
-            what: format!("{}, demand 3: {what}", side.name),
-        }
-    };
-    for (place, event) in list.iter().enumerate() {
-        check.event(place, event).map_err(named(place))?;
-    }
-    check.compare_views().map_err(named(last))?;
-    check.compare_count(held, run).map_err(named(last))?;
-    if side.compare_memory && check.again.memory() != run.memory() {
-        let what = "the canonical history leaves another server than the list".into();
-        return Err(named(last)(what));
-    }
-    Ok(())
-}
-
-struct Check<'a> {
-    model: LockModel,
-    /// A fresh server that gets the canonical history alone.
+pub struct Trial {
+    pub watch: Watch,
+    /// A second server of the kind that gets the canonical history alone.
     again: Watch,
-    log: &'a Log,
+    model: LockModel,
+    /// What the lock model answers to the last event.
     answers: Vec<LockAnswer>,
 }
 
-impl Check<'_> {
-    fn event(&mut self, place: usize, event: &Event) -> Result<(), Complaint> {
-        let reply = self.log.replies[place];
-        let output = self.log.output(place);
+impl Trial {
+    pub fn new(side: &Side, vendor: u16) -> Trial {
+        Trial {
+            watch: Watch::new(side, vendor),
+            again: Watch::new(side, vendor),
+            model: LockModel::new(),
+            answers: Vec::new(),
+        }
+    }
+
+    /// Goes on from where another one is, with an empty log.
+    pub fn restart_from(&mut self, other: &Trial) {
+        self.watch.restart_from(&other.watch);
+        self.again.restart_from(&other.again);
+        self.model.clone_from(&other.model);
+    }
+
+    /// Locks held by the server's own word.
+    pub fn held(&self) -> u64 {
+        self.watch.lock_view().map_or(0, |view| view.held())
+    }
+
+    /// Demand 3 of the event that `watch` has just gone through.
+    pub fn demand3(&mut self, event: &Event) -> Result<(), Complaint> {
+        let (reply, output) = self.watch.log.last();
         let sent = frames(output).ok_or("the output is not a row of whole frames")?;
         self.check_decision(event, &reply, &sent)?;
         self.answers.clear();
         self.model.event(event, &reply, &mut self.answers);
+        self.compare_answers(&sent)?;
+        if !omitted(event, &reply) {
+            self.keep(event)?;
+        }
+        if self.again.memory() != self.watch.memory() {
+            return Err("the canonical history leaves another server than the list".into());
+        }
+        if self.watch.log.replies.len().is_multiple_of(VIEW_EVERY) {
+            self.compare_views()?;
+        }
+        Ok(())
+    }
+
+    /// What is owed at the end of a list; `held` counts the locks held.
+    pub fn end(&self, held: u64) -> Result<(), Complaint> {
+        self.compare_views()?;
+        self.compare_count(held)
+    }
+
+    /// The lock model's answers are the type 5 messages sent, in order.
+    fn compare_answers(&self, sent: &[Frame]) -> Result<(), Complaint> {
         let lock_frames = sent.iter().filter(|frame| frame.kind == LOCK_RESPONSE);
         let told = lock_frames.map(|frame| LockAnswer {
             connection: frame.connection.into(),
             code: frame.code,
         });
-        if !told.clone().eq(self.answers.iter().copied()) {
-            let told: Vec<_> = told.collect();
-            let model = &self.answers;
-            return Err(format!(
-                "lock answers {told:?}, by the lock model {model:?}"
-            ));
+        if told.clone().eq(self.answers.iter().copied()) {
+            return Ok(());
         }
-        if !omitted(event, &reply) {
-            self.again(place, event, &reply)?;
-        }
-        if place.is_multiple_of(VIEW_EVERY) {
-            self.compare_views()?;
-        }
-        Ok(())
+        let (told, model) = (told.collect::<Vec<_>>(), &self.answers);
+        Err(format!(
+            "lock answers {told:?}, by the lock model {model:?}"
+        ))
     }
 
     /// Access and AsyncLockInfo go by the lock model's holders.
@@ -130,16 +127,15 @@ impl Check<'_> {
     }
 
     /// A kept call of the canonical history: same answer, same frames.
-    fn again(&mut self, place: usize, event: &Event, reply: &Reply) -> Result<(), Complaint> {
-        let kept = trimmed(event, reply);
-        let again = self.again.event(&kept)?;
-        if again != *reply {
+    fn keep(&mut self, event: &Event) -> Result<(), Complaint> {
+        let (reply, output) = self.watch.log.last();
+        let again = self.again.event(&trimmed(event, &reply))?;
+        if again != reply {
             return Err(format!(
                 "answer {again:?} in the canonical history, {reply:?} in the list"
             ));
         }
-        let last = self.again.log.replies.len() - 1;
-        if self.again.log.output(last) != self.log.output(place) {
+        if self.again.log.last().1 != output {
             return Err("other frames in the canonical history than in the list".into());
         }
         Ok(())
@@ -156,12 +152,12 @@ impl Check<'_> {
     }
 
     /// Granted = released + dropped + held, and the server gives back just those that are held.
-    fn compare_count(&self, held: u64, run: &Watch) -> Result<(), Complaint> {
+    fn compare_count(&self, held: u64) -> Result<(), Complaint> {
         let count = self.model.count();
         if count.granted != count.released + count.dropped + held {
             return Err(format!("{count:?} do not add up with {held} held"));
         }
-        match given_back(run.subject.fork(), &self.model.view()) {
+        match given_back(self.watch.subject.fork(), &self.model.view()) {
             Some(found) if found != held => {
                 Err(format!("{held} locks held, but {found} can be released"))
             }

@@ -1,7 +1,7 @@
 //! Random lists, seeded. A list has a temper: some are calm with many locks, some throw rubbish,
 //! some run out of sessions; most get deep before they get wild.
 
-use reference::{Event, Reply};
+use reference::{Event, Reply, Subject};
 
 use crate::bout::{Bout, Difference, Failed, Pair};
 use crate::messages::{header, message, ROOM};
@@ -40,51 +40,64 @@ struct Temper {
 
 /// Runs the list of a seed on both; returns the events run and adds to what was reached.
 pub fn check(pair: Pair, seed: u64, reach: &mut Reach) -> Result<usize, Failed> {
-    let mut author = Author::new(seed);
+    let author = Author::new(seed);
     let vendor = author.vendor;
     let mut bout = Bout::new(pair, vendor);
-    let mut list = Vec::with_capacity(author.length);
-    let mut ran = Ok(());
-    for place in 0..author.length {
-        let event = author.event();
-        let reply = bout.event(&event);
-        match reply {
-            Ok(reply) => author.learn(&event, &reply),
-            Err(what) => ran = Err(Difference { place, what }),
-        }
-        list.push(event);
-        if ran.is_err() {
-            break;
-        }
-    }
-    let ran = ran.and_then(|()| bout.demand3(vendor, &list));
+    let (list, ran) = play(&mut bout, author);
     match ran {
         Ok(()) => {
-            reach.list(&list, &bout.left.log);
+            reach.list(&list, &bout.left.watch.log);
             Ok(list.len())
         }
         Err(difference) => Err(Failed {
             vendor,
             list,
+            prepares: 0,
             difference,
             again: format!("seed {seed}"),
         }),
     }
 }
 
+/// Plays an author's list from where a bout is: the list as far as it came, and how it went.
+pub fn play(bout: &mut Bout, mut author: Author) -> (Vec<Event>, Result<(), Difference>) {
+    let mut list = Vec::with_capacity(author.length);
+    for place in 0..author.length {
+        let event = author.event();
+        let ran = bout.event(&event);
+        if let Ok(reply) = &ran {
+            author.learn(&event, reply);
+        }
+        list.push(event);
+        if let Err(what) = ran {
+            return (list, Err(Difference { place, what }));
+        }
+    }
+    let place = list.len() - 1;
+    let ended = bout.end().map_err(|what| Difference { place, what });
+    (list, ended)
+}
+
 /// The list of a seed as this server's answers lead to it.
 pub fn list(side: &Side, seed: u64) -> (u16, Vec<Event>) {
-    let mut author = Author::new(seed);
-    let mut subject = (side.new)(author.vendor);
+    let author = Author::new(seed);
+    let vendor = author.vendor;
+    let mut subject = (side.new)(vendor);
+    let led = lead(subject.as_mut(), author);
+    (vendor, led.into_iter().map(|(event, _)| event).collect())
+}
+
+/// An author's list from where a server is, led by its answers alone.
+pub fn lead(subject: &mut dyn Subject, mut author: Author) -> Vec<(Event, Reply)> {
     let mut out = vec![0; LONGEST];
     let mut list = Vec::with_capacity(author.length);
     for _ in 0..author.length {
         let event = author.event();
         let reply = subject.apply(&event, &mut out[..event.room()]);
         author.learn(&event, &reply);
-        list.push(event);
+        list.push((event, reply));
     }
-    (author.vendor, list)
+    list
 }
 
 pub struct Author {

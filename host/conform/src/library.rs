@@ -19,6 +19,12 @@ impl Library {
         let strings = self.strings[GUARD..].as_mut_ptr();
         (words, strings)
     }
+
+    /// A fresh server, whatever the memory held.
+    fn start(&mut self, vendor: u16) {
+        let (words, strings) = self.lent();
+        unsafe { sys::hislip_new(words, strings, vendor) };
+    }
 }
 
 fn done(done: sys::hislip_done) -> Reply {
@@ -38,8 +44,7 @@ impl Subject for Library {
             words: vec![GUARD_WORD; words as usize + 2 * GUARD],
             strings: vec![GUARD_WORD as u8; strings as usize + 2 * GUARD],
         };
-        let (words, strings) = library.lent();
-        unsafe { sys::hislip_new(words, strings, vendor) };
+        library.start(vendor);
         library
     }
 
@@ -110,6 +115,22 @@ impl Subject for Library {
 mod tests {
     use super::{Library, GUARD};
     use reference::Subject;
+
+    #[test]
+    fn a_fresh_server_does_not_show_what_its_memory_held() {
+        let images = [0, u64::MAX, 0x0123_4567_89ab_cdef].map(|word: u64| {
+            let mut library = Library::new(0x4141);
+            let (words, strings) = (library.words.len(), library.strings.len());
+            library.words[GUARD..words - GUARD].fill(word);
+            library.strings[GUARD..strings - GUARD].fill(word as u8);
+            library.start(0x4141);
+            let mut image = Vec::new();
+            library.memory(&mut image);
+            image
+        });
+        assert_eq!(images[0], images[1]);
+        assert_eq!(images[0], images[2]);
+    }
 
     #[test]
     fn a_store_beside_the_lent_memory_is_seen() {

@@ -1,19 +1,20 @@
 //! Events, answers and differences in words.
 
+use std::fmt::Write;
+use std::time::Duration;
+
 use reference::{Event, Reply};
 
-use crate::bout::{Difference, Pair};
+use crate::bout::{Bout, Difference, Failed, Pair};
+use crate::shrink::shrink;
 use crate::watch::Watch;
 
-const OUTCOMES: [&str; 7] = [
-    "more needed",
-    "skipped",
-    "held",
-    "ignored",
-    "Error sent",
-    "closed",
-    "acted on",
-];
+const SHRINK_TIME: Duration = Duration::from_secs(20);
+/// A list of so many events is shown whole; of a longer one the middle of its preparation is left
+/// out, and more if that is not enough.
+const SHOWN: usize = 80;
+/// So many events before and after what is left out of a preparation.
+const FEW: usize = 5;
 
 pub fn describe_reply(event: &Event, reply: &Reply) -> String {
     if reply.refusal != 0 {
@@ -23,7 +24,7 @@ pub fn describe_reply(event: &Event, reply: &Reply) -> String {
     if !matches!(event, Event::Deliver { .. }) {
         return format!("done, {output} bytes of output");
     }
-    let outcome = OUTCOMES.get(reply.outcome as usize).unwrap_or(&"?");
+    let outcome = Reply::OUTCOMES.get(reply.outcome as usize).unwrap_or(&"?");
     let (session, taken) = (reply.session, reply.taken);
     format!("{outcome}, session {session}, {taken} taken, {output} bytes of output")
 }
@@ -72,16 +73,62 @@ fn hex(bytes: &[u8]) -> String {
     format!("{} bytes [{}{dots}]", bytes.len(), digits.join(" "))
 }
 
-/// Prints a list with the left server's answers up to the difference, then the difference.
-pub fn print(pair: Pair, vendor: u16, list: &[Event], difference: &Difference) {
-    println!("vendor {vendor:04x}");
+/// The shortest list that can be found in the time, with the left server's answers, and where it
+/// goes wrong. What prepares the list is kept.
+pub fn shortest(pair: Pair, failed: &Failed) -> String {
+    let Failed {
+        vendor, ref list, ..
+    } = *failed;
+    let found = &failed.difference;
+    let prepares = if found.place < failed.prepares {
+        0
+    } else {
+        failed.prepares
+    };
+    let (before, rest) = list.split_at(prepares);
+    let mut ready = Bout::new(pair, vendor);
+    let prepared = ready.run(before);
+    let fails = |list: &[Event]| {
+        let mut bout = Bout::new(pair, vendor);
+        bout.restart_from(&ready);
+        bout.run(list).err()
+    };
+    if prepared.is_err() || fails(rest).is_none() {
+        // It was found otherwise than by running the list, so it is told as it was found.
+        return text(pair, vendor, list, prepares, found);
+    }
+    let (rest, mut difference) = shrink(rest, SHRINK_TIME, fails);
+    difference.place += prepares;
+    let list = [before, &rest].concat();
+    text(pair, vendor, &list, prepares, &difference)
+}
+
+fn text(
+    pair: Pair,
+    vendor: u16,
+    list: &[Event],
+    prepares: usize,
+    difference: &Difference,
+) -> String {
+    let mut text = format!("vendor {vendor:04x}\n");
+    let left_out = match list.len() {
+        0..=SHOWN => 0..0,
+        length => FEW..prepares.saturating_sub(FEW).max(length - SHOWN),
+    };
     let mut watch = Watch::new(&pair.left, vendor);
     for (place, event) in list.iter().enumerate() {
         let told = match watch.event(event) {
             Ok(reply) => describe_reply(event, &reply),
             Err(what) => what,
         };
-        println!("  {place}: {} -> {told}", describe_event(event));
+        if place == left_out.start && !left_out.is_empty() {
+            text += &format!("  .. {} events more ..\n", left_out.len());
+        }
+        if !left_out.contains(&place) {
+            let event = describe_event(event);
+            writeln!(text, "  {place}: {event} -> {told}").expect("a string");
+        }
     }
-    println!("difference at {}: {}", difference.place, difference.what);
+    let Difference { place, what } = difference;
+    text + &format!("difference at {place}: {what}\n")
 }

@@ -55,7 +55,6 @@ fn side(fault: &Fault, see_locks: bool) -> Side {
     Side {
         name: fault.name,
         new: fault.new,
-        compare_memory: true,
         see_locks,
     }
 }
@@ -78,10 +77,10 @@ fn compared(fault: &Fault) -> Option<String> {
     };
     suite("bench examples", bench_examples::check)
         .or_else(seeds)
-        .or_else(|| suite("systematic", |pair| systematic::check(pair, 64)))
-        .or_else(|| suite("cables", cables::check))
-        .or_else(|| suite("sizes", sizes::check))
         .or_else(|| suite("wrap", wrap::check))
+        .or_else(|| suite("sizes", sizes::check))
+        .or_else(|| suite("cables", cables::check))
+        .or_else(|| suite("systematic", |pair| systematic::check(pair, 64)))
 }
 
 /// Where demand 3 and the one-sided checks find it, with lists led by its own answers.
@@ -90,7 +89,7 @@ fn alone(fault: &Fault) -> Option<String> {
     (1..=LISTS).find_map(|seed| {
         let ran = complaint(|| {
             let (vendor, list) = hostile::list(&side, seed);
-            run_alone(&side, vendor, &list).map_err(|difference| difference.what)
+            run_alone(&side, vendor, &list)
         });
         ran.map(|what| format!("seed {seed}: {what}"))
     })

@@ -13,20 +13,23 @@ pub fn shrink(
     fails: impl Fn(&[Event]) -> Option<Difference>,
 ) -> (Vec<Event>, Difference) {
     let found = fails(list).expect("the list fails");
-    let mut list = list[..=found.place.min(list.len() - 1)].to_vec();
-    let until = Instant::now() + time;
-    if fails(&list).is_none() {
-        // What failed needs the end of the list.
-        return (list, found);
+    let mut list = list.to_vec();
+    if fails(&list[..=found.place]).is_some() {
+        list.truncate(found.place + 1);
     }
+    let until = Instant::now() + time;
     let mut part = list.len().div_ceil(2);
-    while part > 0 && Instant::now() < until {
-        let before = list.len();
+    while part > 1 && Instant::now() < until {
         leave_out(&mut list, part, until, &fails);
-        if part == 1 && list.len() == before {
+        part /= 2;
+    }
+    loop {
+        let before = list.len();
+        leave_out(&mut list, 1, until, &fails);
+        leave_out_two(&mut list, until, &fails);
+        if list.len() == before || Instant::now() >= until {
             break;
         }
-        part = if part == 1 { 1 } else { part / 2 };
     }
     shorten_bytes(&mut list, until, &fails);
     let difference = fails(&list).unwrap_or(found);
@@ -48,6 +51,36 @@ fn leave_out(
             *list = shorter;
         }
         end = start.min(list.len());
+    }
+}
+
+/// Tries to leave out any two events together, as an opening and its cut. Only where the list is
+/// short: the tries grow with the square of its length.
+fn leave_out_two(
+    list: &mut Vec<Event>,
+    until: Instant,
+    fails: &impl Fn(&[Event]) -> Option<Difference>,
+) {
+    const SHORT: usize = 100;
+    if list.len() > SHORT {
+        return;
+    }
+    for second in (1..list.len()).rev() {
+        if second >= list.len() || Instant::now() >= until {
+            continue;
+        }
+        let without = |first: usize| {
+            let parts = [
+                &list[..first],
+                &list[first + 1..second],
+                &list[second + 1..],
+            ];
+            parts.concat()
+        };
+        let mut shorter = (0..second).rev().map(without);
+        if let Some(shorter) = shorter.find(|list| fails(list).is_some()) {
+            *list = shorter;
+        }
     }
 }
 

@@ -2,8 +2,7 @@
 
 use reference::Event;
 
-use crate::bench_examples::VENDOR;
-use crate::bout::{run, Failed, Pair};
+use crate::bout::{check_list, Failed, Pair};
 use crate::messages::{answer, deliver, lock, message, release, session};
 
 /// What a client may announce as its size.
@@ -44,14 +43,5 @@ pub fn list() -> Vec<Event> {
 
 /// Returns the events run.
 pub fn check(pair: Pair) -> Result<usize, Failed> {
-    let list = list();
-    match run(pair, VENDOR, &list) {
-        Ok(()) => Ok(list.len()),
-        Err(difference) => Err(Failed {
-            vendor: VENDOR,
-            list,
-            difference,
-            again: "sizes".into(),
-        }),
-    }
+    check_list(pair, "sizes", &list())
 }

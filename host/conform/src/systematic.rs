@@ -1,15 +1,18 @@
 //! Every type, code and length class in every state of a connection.
 
+use std::slice;
+
 use reference::history::omitted;
+use reference::wire::{class, Channel, Class};
 use reference::Event;
 
-use crate::bench_examples::VENDOR;
-use crate::bout::{run, Bout, Difference, Failed, Pair};
+use crate::bout::{Bout, Difference, Failed, Pair, VENDOR};
 use crate::messages::{
     answer, clock, cut, deliver, half_open, header, lock, message, release, session,
 };
 use crate::numbers::mix;
 
+/// A code of every class; all codes where they can matter and nothing is thinned.
 const CODES: [u8; 10] = [0, 1, 2, 3, 4, 5, 6, 7, 128, 255];
 const LENGTHS: [u64; 12] = [
     0,
@@ -79,8 +82,8 @@ pub fn states() -> Vec<State> {
 /// Connections that have no session yet, or half of one.
 fn opening() -> Vec<State> {
     let undecided = Event::Open { connection: 31 };
-    let alone = [&half_open(0)[..], std::slice::from_ref(&undecided)].concat();
-    let beside = two(&[&half_open(8)[..], std::slice::from_ref(&undecided)].concat());
+    let alone = [&half_open(0)[..], slice::from_ref(&undecided)].concat();
+    let beside = two(&[&half_open(8)[..], slice::from_ref(&undecided)].concat());
     vec![
         state("no role, nobody there", 31, 1, vec![undecided]),
         state("no role, number 1 half-open", 31, 1, alone),
@@ -107,12 +110,7 @@ fn clearing() -> Vec<State> {
     let clear = deliver(1, header(19, 0, 0, 0));
     let locked = two(&[lock(3, b"", 0), lock(1, b"k", 50), clear.clone()]);
     vec![
-        state(
-            "synchronous in a clear",
-            0,
-            7,
-            two(std::slice::from_ref(&clear)),
-        ),
+        state("synchronous in a clear", 0, 7, two(slice::from_ref(&clear))),
         state("asynchronous in a clear", 1, 7, two(&[clear])),
         state("in a clear without access", 0, 7, locked),
     ]
@@ -176,8 +174,9 @@ fn probes(state: &State) -> Vec<Event> {
     ]
 }
 
-/// Runs all cases of the states; of the cases with an effect, one in `thin` is followed by probes,
-/// and one in 64 `thin` by demand 3. Returns the events run.
+/// Runs all cases of the states, each with demand 3; of the cases with an effect, one in `thin` is
+/// followed by probes. With `thin` 1, every code of the types that are acted on. Returns the events
+/// run.
 pub fn check(pair: Pair, thin: u64) -> Result<usize, Failed> {
     let mut count = 0;
     for state in states() {
@@ -186,11 +185,20 @@ pub fn check(pair: Pair, thin: u64) -> Result<usize, Failed> {
     Ok(count)
 }
 
+fn codes(kind: u8, thin: u64) -> Vec<u8> {
+    let channels = [Channel::Synchronous, Channel::Asynchronous];
+    let acted_on = channels.map(|channel| class(channel, kind) == Class::ActedOn);
+    match thin == 1 && acted_on.contains(&true) {
+        true => (0..=255).collect(),
+        false => CODES.to_vec(),
+    }
+}
+
 /// Every message of the list, in a fixed order.
-fn cases(state: &State) -> impl Iterator<Item = Event> + '_ {
+fn cases(state: &State, thin: u64) -> impl Iterator<Item = Event> + '_ {
     let shown = [Shown::Nothing, Shown::Part, Shown::All];
     (0..=255).flat_map(move |kind| {
-        CODES.into_iter().flat_map(move |code| {
+        codes(kind, thin).into_iter().flat_map(move |code| {
             LENGTHS.into_iter().flat_map(move |length| {
                 let one = move |shown| case(state, kind, code, length, shown);
                 shown.into_iter().map(one)
@@ -200,51 +208,38 @@ fn cases(state: &State) -> impl Iterator<Item = Event> + '_ {
 }
 
 fn check_state(pair: Pair, state: &State, thin: u64) -> Result<usize, Failed> {
-    let failed = |list: &[Event], place: usize, what: String| Failed {
-        vendor: VENDOR,
-        list: list.to_vec(),
-        difference: Difference {
-            place,
-            what: format!("state \"{}\": {what}", state.name),
-        },
-        again: "systematic".into(),
+    let failed = |before: &[Event], list: &[Event], mut found: Difference| {
+        found.what = format!("state \"{}\": {}", state.name, found.what);
+        Failed::after(before, list, found, "systematic")
     };
     let mut ready = Bout::new(pair, VENDOR);
-    for (place, event) in state.setup.iter().enumerate() {
-        let ran = ready.event(event);
-        ran.map_err(|what| failed(&state.setup, place, what))?;
-    }
+    let ran = ready.run(&state.setup);
+    ran.map_err(|found| failed(&[], &state.setup, found))?;
     let mut bout = Bout::new(pair, VENDOR);
     let all_probes = probes(state);
     let mut count = state.setup.len();
-    for (number, event) in (0..).zip(cases(state)) {
+    for (number, event) in (0..).zip(cases(state, thin)) {
         let chosen = mix(number).is_multiple_of(thin);
         let probes = if chosen { &all_probes[..] } else { &[] };
-        let list = || [&state.setup[..], std::slice::from_ref(&event), probes].concat();
-        let ran = check_case(&mut bout, &ready, &event, probes);
-        count += ran.map_err(|(place, what)| failed(&list(), state.setup.len() + place, what))?;
-        if mix(number).is_multiple_of(64 * thin) {
-            let ran = run(pair, VENDOR, &list());
-            ran.map_err(|found| failed(&list(), found.place, found.what))?;
-        }
+        bout.restart_from(&ready);
+        count += check_case(&mut bout, &event, probes).map_err(|found| {
+            let list = [slice::from_ref(&event), probes].concat();
+            failed(&state.setup, &list, found)
+        })?;
     }
     Ok(count)
 }
 
-/// One case from the prepared state; returns the events run, or the place of the difference.
-fn check_case(
-    bout: &mut Bout,
-    ready: &Bout,
-    event: &Event,
-    probes: &[Event],
-) -> Result<usize, (usize, String)> {
-    bout.restart_from(ready);
-    let reply = bout.event(event).map_err(|what| (0, what))?;
+/// One case from the prepared state; returns the events run.
+fn check_case(bout: &mut Bout, event: &Event, probes: &[Event]) -> Result<usize, Difference> {
+    let at = |place| move |what| Difference { place, what };
+    let reply = bout.event(event).map_err(at(0))?;
     if omitted(event, &reply) {
         return Ok(1);
     }
-    for (place, probe) in probes.iter().enumerate() {
-        bout.event(probe).map_err(|what| (place + 1, what))?;
+    for (place, probe) in (1..).zip(probes) {
+        bout.event(probe).map_err(at(place))?;
     }
+    bout.end().map_err(at(probes.len()))?;
     Ok(1 + probes.len())
 }

@@ -28,9 +28,6 @@ pub type New = fn(u16) -> Box<dyn Subject>;
 pub struct Side {
     pub name: &'static str,
     pub new: New,
-    /// Compare the memory that a list and its canonical history leave. Off for a server whose
-    /// memory holds bytes without meaning.
-    pub compare_memory: bool,
     /// Look at the locks it holds, if it can show them. The library cannot.
     pub see_locks: bool,
 }
@@ -54,6 +51,12 @@ impl Log {
         self.replies.clear();
         self.output.clear();
         self.ends.clear();
+    }
+
+    /// The last event's answer and output.
+    pub fn last(&self) -> (Reply, &[u8]) {
+        let last = self.replies.len() - 1;
+        (self.replies[last], self.output(last))
     }
 
     /// The output of one event.

@@ -1,25 +1,32 @@
-//! One long list: more than 65,535 openings, so that SessionIDs go round, with live sessions in
-//! the way.
+//! More than 65,535 openings, so that SessionIDs go round, with live sessions in the way: one long
+//! list, then random ones from just before the end of the numbers.
 
 use reference::Event;
 
-use crate::bench_examples::VENDOR;
-use crate::bout::{run, Failed, Pair};
+use crate::bout::{Bout, Difference, Failed, Pair, VENDOR};
+use crate::hostile::{play, Author};
 use crate::messages::{answer, clock, cut, deliver, half_open, lock, message, release, session};
 
-pub fn list() -> Vec<Event> {
-    let mut list = Vec::new();
-    // Numbers 1 to 3 stay: an established session, a half-open one, and one holding a lock.
-    list.extend(session(20, 21, 1));
+/// Random lists that begin just before the end of the numbers.
+const LISTS: u64 = 60;
+
+/// Numbers are used up to 65,530; of them an established session, a half-open one and another
+/// established one, numbers 1 to 3, are live.
+fn used_up() -> Vec<Event> {
+    let mut list = session(20, 21, 1);
     list.extend(half_open(22));
     list.extend(session(24, 25, 3));
-    list.push(lock(25, b"wrap", 0));
-    for number in 4..=65_530_u32 {
+    for number in 4..=65_530 {
         let connection = number % 3;
         list.extend(half_open(connection));
         list.push(cut(connection));
     }
-    // Around the end more sessions stay, so that the search passes over several; each is used.
+    list
+}
+
+fn around_the_end() -> Vec<Event> {
+    let mut list = vec![lock(25, b"wrap", 0)];
+    // More sessions stay, so that the search passes over several; each is used.
     let numbers = (65_531..=65_535).chain(4..=8);
     for (connection, number) in (0..).zip(numbers) {
         list.extend(session(connection, connection + 10, number));
@@ -41,42 +48,74 @@ pub fn list() -> Vec<Event> {
 
 /// Returns the events run.
 pub fn check(pair: Pair) -> Result<usize, Failed> {
-    let list = list();
-    match run(pair, VENDOR, &list) {
-        Ok(()) => Ok(list.len()),
-        Err(difference) => Err(Failed {
-            vendor: VENDOR,
-            list,
-            difference,
-            again: "wrap".into(),
-        }),
+    const AGAIN: &str = "wrap";
+    let used_up = used_up();
+    let mut ready = Bout::new(pair, VENDOR);
+    let ran = ready.run(&used_up);
+    ran.map_err(|found| Failed::after(&[], &used_up, found, AGAIN))?;
+    let mut count = used_up.len();
+    let mut bout = Bout::new(pair, VENDOR);
+    let mut check = |list: Vec<Event>, ran: Result<(), Difference>| {
+        count += list.len();
+        ran.map_err(|found| Failed::after(&used_up, &list, found, AGAIN))
+    };
+    bout.restart_from(&ready);
+    let list = around_the_end();
+    let ran = bout.run(&list);
+    check(list, ran)?;
+    for seed in 1..=LISTS {
+        bout.restart_from(&ready);
+        let (list, ran) = play(&mut bout, Author::new(seed));
+        check(list, ran)?;
     }
+    Ok(count)
 }
 
 #[cfg(test)]
 mod tests {
-    use super::list;
-    use crate::bench_examples::VENDOR;
+    use super::{around_the_end, used_up, LISTS};
+    use crate::bout::VENDOR;
+    use crate::hostile::{lead, Author};
     use reference::{Event, Reply, Server, Subject};
+
+    fn run(server: &mut dyn Subject, list: Vec<Event>) -> Vec<(Event, Reply)> {
+        let mut out = [0; 2048];
+        let mut apply = |event: Event| {
+            let reply = server.apply(&event, &mut out[..event.room()]);
+            (event, reply)
+        };
+        list.into_iter().map(&mut apply).collect()
+    }
+
+    /// The session numbers issued in a list.
+    fn issued(list: &[(Event, Reply)]) -> Vec<u64> {
+        let opened = |(event, reply): &&(Event, Reply)| {
+            matches!(event, Event::Deliver { bytes, .. } if bytes.get(2) == Some(&0))
+                && reply.outcome == Reply::ACTED_ON
+        };
+        let opened = list.iter().filter(opened);
+        opened.map(|(_, reply)| reply.session).collect()
+    }
+
+    /// The number that follows 65,535.
+    fn after_the_last(numbers: &[u64]) -> Option<u64> {
+        let mut pairs = numbers.windows(2);
+        pairs.find(|two| two[0] == 65_535).map(|two| two[1])
+    }
 
     #[test]
     fn numbers_go_round_and_pass_over_live_ones() {
-        let mut server = Server::new(VENDOR);
-        let mut out = [0; 2048];
-        let mut numbers = Vec::new();
-        for event in list() {
-            let reply = server.apply(&event, &mut out[..event.room()]);
-            assert!(reply.refusal == 0 || matches!(event, Event::Answer { .. }));
-            let initialize = matches!(&event, Event::Deliver { bytes, .. } if bytes[2] == 0);
-            if initialize && reply.outcome == Reply::ACTED_ON {
-                numbers.push(reply.session);
-            }
-        }
-        assert!(numbers.len() > 65_535);
-        assert!(
-            numbers.windows(2).any(|two| two == [65_535, 4]),
-            "1 to 3 are live"
-        );
-        assert!(!numbers.contains(&0));
+        let mut server = <Server as Subject>::new(VENDOR);
+        let numbers = issued(&run(&mut server, used_up()));
+        assert_eq!(numbers, (1..=65_530).collect::<Vec<_>>());
+        let list = run(server.fork().as_mut(), around_the_end());
+        assert_eq!(after_the_last(&issued(&list)), Some(4), "1 to 3 are live");
+        let round = (1..=LISTS).filter(|seed| {
+            let list = lead(server.fork().as_mut(), Author::new(*seed));
+            // The list itself may close numbers 1 to 3.
+            after_the_last(&issued(&list)).is_some_and(|next| (1..=4).contains(&next))
+        });
+        let round = round.count() as u64;
+        assert!(3 * round >= LISTS, "{round} of {LISTS} lists go round");
     }
 }

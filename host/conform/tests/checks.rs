@@ -2,13 +2,14 @@
 
 use std::time::Duration;
 
-use conform::bout::{run, Pair};
-use conform::command::REFERENCE;
+use conform::bout::{Bout, Failed, Pair, VENDOR};
+use conform::command::{LIBRARY, REFERENCE};
+use conform::messages::clock;
 use conform::reach::Reach;
 use conform::watch::Side;
-use conform::{hostile, shrink};
+use conform::{bench_examples, hostile, report, shrink};
 use reference::event::Frame;
-use reference::{Event, Subject};
+use reference::Event;
 
 const TWICE: Pair = Pair {
     left: REFERENCE,
@@ -23,7 +24,6 @@ fn wrong(name: &str) -> Pair {
         right: Side {
             name: fault.name,
             new: fault.new,
-            compare_memory: true,
             see_locks: false,
         },
     }
@@ -66,7 +66,7 @@ fn shrunk(name: &str) -> Vec<Event> {
     let pair = wrong(name);
     let failed = (1..300).find_map(|seed| hostile::check(pair, seed, &mut Reach::default()).err());
     let failed = failed.expect("found");
-    let fails = |list: &[Event]| run(pair, failed.vendor, list).err();
+    let fails = |list: &[Event]| Bout::new(pair, failed.vendor).run(list).err();
     let (list, difference) = shrink::shrink(&failed.list, Duration::from_secs(60), fails);
     assert!(difference.place < list.len());
     assert!(fails(&list).is_some(), "the short list still fails");
@@ -89,19 +89,43 @@ fn a_wrong_refusal_shrinks_to_almost_nothing() {
 
 #[test]
 fn the_library_agrees_on_its_first_lists() {
-    use conform::library::Library;
     let pair = Pair {
         left: REFERENCE,
-        right: Side {
-            name: "library",
-            new: |vendor| Box::new(<Library as Subject>::new(vendor)),
-            compare_memory: false,
-            see_locks: false,
-        },
+        right: LIBRARY,
     };
+    bench_examples::check(pair).expect("no difference");
     for seed in 1..=20 {
         hostile::check(pair, seed, &mut Reach::default()).expect("no difference");
     }
+}
+
+/// Two equal readings after some status changes, which a wrong server answers wrongly.
+fn told_after(changes: usize) -> String {
+    let pair = wrong("clock_equal_refused");
+    let prepares = vec![Event::Status { status: 7 }; changes];
+    let list = [clock(5), Event::Open { connection: 3 }, clock(5)];
+    let mut bout = Bout::new(pair, VENDOR);
+    bout.run(&prepares).expect("no difference yet");
+    let found = bout.run(&list).expect_err("a wrong refusal");
+    report::shortest(pair, &Failed::after(&prepares, &list, found, "here"))
+}
+
+#[test]
+fn a_difference_is_told_with_a_short_list() {
+    let expected = "vendor 4141\n  \
+        0: clock 5 -> done, 0 bytes of output\n  \
+        1: clock 5 -> done, 0 bytes of output\n\
+        difference at 1: reference: done, 0 bytes of output; clock_equal_refused: refusal 3\n";
+    assert_eq!(told_after(0), expected);
+}
+
+#[test]
+fn of_a_long_preparation_the_middle_is_left_out() {
+    let text = told_after(1000);
+    let lines: Vec<&str> = text.lines().collect();
+    assert_eq!(lines.len(), 15, "{text}");
+    assert_eq!(lines[6], "  .. 990 events more ..");
+    assert_eq!(lines[12], "  1000: clock 5 -> done, 0 bytes of output");
 }
 
 #[test]

@@ -12,8 +12,9 @@ use crate::holders::Holders;
 use crate::meter::Meter;
 
 const CONNECTIONS: usize = 32;
-/// Unread bytes beyond which a socket is not read: a program that is held must wait.
-const UNREAD: usize = 16 * 1024;
+/// Unread or unsent bytes beyond which a socket is not read: a program that is held, or that does not
+/// read its answers, must wait.
+const KEPT: usize = 16 * 1024;
 
 struct Connection {
     stream: TcpStream,
@@ -32,6 +33,8 @@ pub struct Host {
     connections: [Option<Connection>; CONNECTIONS],
     /// Data of a message whose end has not come, by session.
     partial: BTreeMap<u16, Vec<u8>>,
+    /// The meter's status byte as the server knows it.
+    status: u8,
     holders: Holders,
     start: Instant,
     say: Box<dyn FnMut(String) + Send>,
@@ -49,10 +52,11 @@ impl Host {
         listener.set_nonblocking(true)?;
         Ok(Host {
             listener,
-            server: Server::new(*b"RK"),
+            server: Server::new(*b"EX"),
             meter: Meter::new(),
             connections: [const { None }; CONNECTIONS],
             partial: BTreeMap::new(),
+            status: 0,
             holders: Holders::default(),
             start: Instant::now(),
             say,
@@ -106,7 +110,7 @@ impl Host {
         let Some(connection) = &mut self.connections[number] else {
             return false;
         };
-        if connection.unread.len() >= UNREAD {
+        if connection.unread.len().max(connection.outgoing.len()) >= KEPT {
             return false;
         }
         let mut bytes = [0; 4096];
@@ -235,7 +239,11 @@ impl Host {
         if let Some(answer) = self.meter.message(&text) {
             self.answer(session, answer);
         }
-        self.server.status(self.meter.status);
+        if self.meter.status != self.status {
+            self.status = self.meter.status;
+            self.server.status(self.status);
+            self.tell(None, &format!("meter's status byte is {:02x}", self.status));
+        }
     }
 
     fn answer(&mut self, session: u16, text: String) {

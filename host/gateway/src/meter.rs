@@ -36,7 +36,7 @@ impl Meter {
         let range = argument.trim().parse::<f64>().ok();
         let range = range.filter(|range| range.is_finite() && *range > 0.0);
         if spells(name, "*IDN?") {
-            return Some("RITASKALNS,SIMULATED METER,0,1.0".into());
+            return Some("EXAMPLE,SIMULATED METER,0,1.0".into());
         } else if spells(name, "MEASure:VOLTage:DC?") {
             return Some(self.reading());
         } else if spells(name, "VOLTage:RANGe?") {

@@ -69,7 +69,7 @@ fn open_and_query() {
     let gateway = Running::start();
     let mut a = gateway.open();
     assert_eq!(a.session, 1);
-    assert_eq!(a.query("*idn?"), "RITASKALNS,SIMULATED METER,0,1.0");
+    assert_eq!(a.query("*idn?"), "EXAMPLE,SIMULATED METER,0,1.0");
     assert_eq!(a.sent, FIRST);
     assert_eq!(
         a.query("MEAS:VOLT:DC?"),
@@ -106,6 +106,7 @@ fn trigger_and_status() {
     assert_eq!(a.status(), 0);
     a.send(7, b"NONSENSE");
     assert!(gateway.printed("NONSENSE"));
+    assert!(gateway.printed("meter's status byte is 04"));
     assert_eq!(a.status(), 4, "the meter did not understand");
     a.send(7, b"*RST");
     a.send(12, b"");
@@ -173,7 +174,7 @@ fn device_clear() {
     a.device_clear();
     assert_eq!(
         a.query("*IDN?"),
-        "RITASKALNS,SIMULATED METER,0,1.0",
+        "EXAMPLE,SIMULATED METER,0,1.0",
         "the part is gone"
     );
     assert_eq!(a.sent, FIRST, "numbers begin again");

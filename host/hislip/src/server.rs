@@ -7,6 +7,9 @@ use crate::sys;
 pub const OUTPUT: usize = 2048;
 
 /// Owns the words, the strings and the output buffer. A clone is a second server in the same state.
+///
+/// Every pointer passed on is a slice's and so never null, also of an empty one, as the C interface
+/// wants it.
 #[derive(Clone, Debug)]
 pub struct Server {
     words: Box<[u64]>,

@@ -28,26 +28,43 @@ fn scratch(name: &str) -> PathBuf {
     Path::new(env!("CARGO_TARGET_TMPDIR")).join(name)
 }
 
-#[test]
-fn the_c_example_runs() {
-    let program = scratch("example");
+/// Compiles a program of host/c against the archive without a warning, and runs it: what it prints.
+fn printed(name: &str) -> String {
+    let program = scratch(name);
     let status = compiler()
-        .arg(root().join("host/c/example.c"))
+        .arg(root().join("host/c").join(name).with_extension("c"))
         .arg(env!("HISLIP_ARCHIVE"))
         .args(["-lm", "-lpthread", "-ldl", "-o"])
         .arg(&program)
         .status()
         .expect("a C compiler");
-    assert!(status.success(), "the example compiles without a warning");
+    assert!(status.success(), "{name} compiles without a warning");
     let run = Command::new(&program).output().expect("it starts");
-    let text = String::from_utf8_lossy(&run.stdout);
+    let text = String::from_utf8_lossy(&run.stdout).into_owned();
     assert!(run.status.success(), "{text}");
+    assert!(text.ends_with("all as expected\n"), "{text}");
+    text
+}
+
+/// How many checks of a program held.
+fn checks(text: &str) -> usize {
+    text.lines().filter(|line| line.ends_with("ok")).count()
+}
+
+#[test]
+fn the_c_example_runs() {
+    let text = printed("example");
     assert!(
         text.contains("to connection 0: 16 bytes, type 1\n"),
         "{text}"
     );
-    assert!(text.lines().filter(|line| line.ends_with("ok")).count() >= 15);
-    assert!(text.ends_with("all as expected\n"), "{text}");
+    assert_eq!(checks(&text), 18, "{text}");
+}
+
+#[test]
+fn every_bench_example_runs_in_c() {
+    let text = printed("bench_examples");
+    assert_eq!(checks(&text), 24, "{text}");
 }
 
 /// The lines of the header's example, without the comment's star and indent.
@@ -69,17 +86,35 @@ fn the_headers_example_is_the_programs() {
     assert!(program.contains(&example), "{example}");
 }
 
-#[test]
-fn the_header_can_be_included_alone_and_twice() {
-    let source = scratch("twice.c");
-    let text = "#include \"hislip_server.h\"\n#include \"hislip_server.h\"\nint twice;\n";
+/// True if a source of this text compiles without a warning.
+fn compiles(name: &str, text: &str) -> bool {
+    let source = scratch(name).with_extension("c");
     fs::write(&source, text).expect("written");
-    let object = scratch("twice.o");
-    let status = compiler()
+    let object = scratch(name).with_extension("o");
+    let output = compiler()
         .arg("-c")
         .arg(&source)
         .arg("-o")
         .arg(&object)
-        .status();
-    assert!(status.expect("a C compiler").success());
+        .output();
+    output.expect("a C compiler").status.success()
+}
+
+#[test]
+fn the_header_can_be_included_alone_and_twice() {
+    let text = "#include \"hislip_server.h\"\n#include \"hislip_server.h\"\nint twice;\n";
+    assert!(compiles("twice", text));
+}
+
+#[test]
+fn a_null_pointer_is_warned_of() {
+    let answer = |payload: &str| {
+        format!(
+            "#include \"hislip_server.h\"\n\
+             hislip_done answer(uint64_t *words, uint8_t *strings, uint8_t *out)\n\
+             {{ return hislip_answer(words, strings, 1, {payload}, 0, 1, out, 2048); }}\n"
+        )
+    };
+    assert!(compiles("empty", &answer("(const uint8_t *)\"\"")));
+    assert!(!compiles("null", &answer("NULL")));
 }

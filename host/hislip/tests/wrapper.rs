@@ -1,14 +1,7 @@
 //! The safe wrapper: typed answers, and nothing that is passed can do harm.
 
 use hislip::{Answer, Event, Frame, Frames, Outcome, Refusal, Server};
-
-fn message(kind: u8, code: u8, parameter: u32, payload: &[u8]) -> Vec<u8> {
-    let mut bytes = vec![b'H', b'S', kind, code];
-    bytes.extend(parameter.to_be_bytes());
-    bytes.extend((payload.len() as u64).to_be_bytes());
-    bytes.extend(payload);
-    bytes
-}
+use reference::compose::message;
 
 /// A server with session 1 on connections 0 and 1.
 fn with_session() -> Server {

@@ -64,6 +64,17 @@ impl Reply {
     pub const CLOSED: u64 = 5;
     pub const ACTED_ON: u64 = 6;
 
+    /// The outcomes in words, by number.
+    pub const OUTCOMES: [&str; 7] = [
+        "more needed",
+        "skipped",
+        "held",
+        "ignored",
+        "Error sent",
+        "closed",
+        "acted on",
+    ];
+
     pub fn refused(refusal: u64) -> Reply {
         Reply {
             refusal,

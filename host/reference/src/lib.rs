@@ -8,6 +8,7 @@
 #![forbid(unsafe_code)]
 
 pub mod acts;
+pub mod compose;
 pub mod delivery;
 pub mod event;
 pub mod history;

@@ -244,25 +244,20 @@ impl LockModel {
 
     /// 01's granting rule, word for word.
     fn grantable(&self, session: u16, string: &[u8]) -> bool {
-        let mut others = self
-            .sessions
-            .iter()
-            .filter(|(number, _)| **number != session);
-        if others.any(|(_, entry)| entry.exclusive) {
+        let others = || {
+            let all = self.sessions.iter();
+            all.filter(|(number, _)| **number != session)
+                .map(|(_, entry)| entry)
+        };
+        if others().any(|entry| entry.exclusive) {
             return false;
         }
         if string.is_empty() {
             let self_shared = self.sessions[&session].shared.is_some();
-            let mut others = self
-                .sessions
-                .iter()
-                .filter(|(number, _)| **number != session);
-            self_shared || others.all(|(_, entry)| entry.shared.is_none())
+            self_shared || others().all(|entry| entry.shared.is_none())
         } else {
-            let mut strings = self
-                .sessions
-                .values()
-                .filter_map(|entry| entry.shared.as_ref());
+            let holders = self.sessions.values();
+            let mut strings = holders.filter_map(|entry| entry.shared.as_ref());
             strings.all(|held| held == string)
         }
     }

@@ -3,6 +3,7 @@
 mod common;
 
 use common::*;
+use reference::compose::header;
 use reference::wire::{class, Channel, Class};
 use reference::{Outcome, Refusal, Server};
 

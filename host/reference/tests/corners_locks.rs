@@ -3,6 +3,7 @@
 mod common;
 
 use common::*;
+use reference::compose::{clock, cut, deliver, header};
 use reference::history::canonical;
 use reference::lock_model::LockModel;
 use reference::{Event, Reply, Server, Subject};
@@ -275,45 +276,30 @@ fn the_lock_model_agrees(list: &[Event], log: &Log, server: &Server) {
     assert_eq!(count.granted, count.released + count.dropped + held);
 }
 
-fn deliver(connection: u32, bytes: &[u8]) -> Event {
-    Event::Deliver {
-        connection,
-        bytes: bytes.to_vec(),
-        room: 2048,
-    }
-}
-
-fn clock(milliseconds: u64) -> Event {
-    Event::Clock {
-        milliseconds,
-        room: 2048,
-    }
-}
-
 #[test]
 fn demand_3_on_a_list_with_pieces_closings_and_remainders() {
     let two = [message(LOCK, 1, 0, b""), message(INFO, 0, 0, b"")].concat();
     let list = [
         Event::Open { connection: 0 },
         deliver(0, &message(0, 0, 0x0100_0000, b"hislip0")[..20]),
-        deliver(0, &message(0, 0, 0x0100_0000, b"hislip0")),
+        deliver(0, message(0, 0, 0x0100_0000, b"hislip0")),
         Event::Open { connection: 0 },
         Event::Open { connection: 1 },
-        deliver(1, &message(17, 0, 1, b"")),
-        deliver(1, &two),
+        deliver(1, message(17, 0, 1, b"")),
+        deliver(1, two),
         Event::Open { connection: 2 },
-        deliver(2, &message(0, 0, 0, b"")),
+        deliver(2, message(0, 0, 0, b"")),
         Event::Open { connection: 3 },
-        deliver(3, &message(17, 0, 2, b"")),
-        deliver(3, &message(LOCK, 1, 50, b"k")),
-        deliver(2, &message(DATA, 0, 0, b"held")),
-        deliver(2, &header(DATA, 0, 0, 5000)),
-        deliver(2, &[0; 40]),
-        deliver(2, &[]),
+        deliver(3, message(17, 0, 2, b"")),
+        deliver(3, message(LOCK, 1, 50, b"k")),
+        deliver(2, message(DATA, 0, 0, b"held")),
+        deliver(2, header(DATA, 0, 0, 5000)),
+        deliver(2, [0; 40]),
+        deliver(2, []),
         clock(49),
         clock(48),
-        deliver(0, &[0; 30]),
-        deliver(3, &message(LOCK, 1, 50, b"")),
+        deliver(0, [0; 30]),
+        deliver(3, message(LOCK, 1, 50, b"")),
         Event::Cut {
             connection: 2,
             room: 0,
@@ -321,10 +307,6 @@ fn demand_3_on_a_list_with_pieces_closings_and_remainders() {
     ];
     both_leave_the_same(&list);
     for cut_after in 0..list.len() {
-        let cut = Event::Cut {
-            connection: 1,
-            room: 2048,
-        };
-        both_leave_the_same(&[&list[..cut_after], &[cut]].concat());
+        both_leave_the_same(&[&list[..cut_after], &[cut(1)]].concat());
     }
 }

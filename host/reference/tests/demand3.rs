@@ -1,33 +1,9 @@
 //! The canonical history and the lock model by themselves: what must not be simplified in them.
 
-mod common;
-
-use common::{header, message};
+use reference::compose::{clock, cut, deliver, header, message};
 use reference::history::{canonical, omitted, trimmed};
 use reference::lock_model::{LockAnswer, LockModel};
 use reference::{Event, Reply};
-
-fn deliver(connection: u32, bytes: &[u8]) -> Event {
-    Event::Deliver {
-        connection,
-        bytes: bytes.to_vec(),
-        room: 2048,
-    }
-}
-
-fn cut(connection: u32) -> Event {
-    Event::Cut {
-        connection,
-        room: 2048,
-    }
-}
-
-fn clock(milliseconds: u64) -> Event {
-    Event::Clock {
-        milliseconds,
-        room: 2048,
-    }
-}
 
 fn delivered(outcome: u64, session: u64, taken: u64) -> Reply {
     Reply {
@@ -40,7 +16,7 @@ fn delivered(outcome: u64, session: u64, taken: u64) -> Reply {
 
 #[test]
 fn a_delivery_that_closed_is_kept_whole_though_it_took_nothing() {
-    let event = deliver(0, &[0; 30]);
+    let event = deliver(0, [0; 30]);
     let reply = delivered(Reply::CLOSED, 1, 0);
     assert!(!omitted(&event, &reply));
     assert_eq!(trimmed(&event, &reply), event);
@@ -51,17 +27,17 @@ fn a_too_large_message_is_kept_as_its_header() {
     let bytes = message(6, 0, 0, &[0; 1100]);
     let reply = delivered(Reply::ERROR_SENT, 0, 16);
     assert_eq!(
-        trimmed(&deliver(0, &bytes), &reply),
+        trimmed(&deliver(0, bytes.clone()), &reply),
         deliver(0, &bytes[..16])
     );
 }
 
 #[test]
 fn what_is_skipped_is_kept_and_bytes_not_taken_are_not() {
-    let event = deliver(0, &[7; 100]);
+    let event = deliver(0, [7; 100]);
     let reply = delivered(Reply::SKIPPED, 0, 60);
     assert!(!omitted(&event, &reply));
-    assert_eq!(trimmed(&event, &reply), deliver(0, &[7; 60]));
+    assert_eq!(trimmed(&event, &reply), deliver(0, [7; 60]));
 }
 
 #[test]
@@ -143,10 +119,10 @@ fn the_lock_model_reads_no_byte_that_was_not_taken() {
     let mut fed = Fed::new(1);
     let two = [message(24, 0, 0, b""), message(4, 1, 0, b"")].concat();
     let reply = delivered(Reply::ACTED_ON, 1, 16);
-    assert_eq!(fed.feed(&deliver(1, &two), &reply), []);
+    assert_eq!(fed.feed(&deliver(1, two), &reply), []);
     assert_eq!(fed.model.info(), (0, 0));
     let with_more = [message(4, 1, 0, b""), message(24, 0, 0, b"")].concat();
-    assert_eq!(fed.feed(&deliver(1, &with_more), &reply), [(1, 1)]);
+    assert_eq!(fed.feed(&deliver(1, with_more), &reply), [(1, 1)]);
     assert_eq!(fed.model.info(), (1, 1), "exclusive: the string is empty");
 }
 
@@ -174,7 +150,7 @@ fn a_closing_goes_by_the_connection_and_answers_nothing_of_its_own() {
         "a connection without a session"
     );
     let closed = delivered(Reply::CLOSED, 2, 0);
-    assert_eq!(fed.feed(&deliver(2, &header(2, 0, 0, 0)), &closed), []);
+    assert_eq!(fed.feed(&deliver(2, header(2, 0, 0, 0)), &closed), []);
     assert_eq!(
         fed.feed(&cut(1), &Reply::default()),
         [(5, 1)],
@@ -215,7 +191,7 @@ fn held_and_ignored_messages_are_nothing_to_the_lock_model() {
     ] {
         let bytes = message(4, 1, 0, b"");
         let reply = delivered(outcome, 0, bytes.len() as u64);
-        assert_eq!(fed.feed(&deliver(3, &bytes), &reply), []);
+        assert_eq!(fed.feed(&deliver(3, bytes), &reply), []);
     }
     assert_eq!(fed.model.view(), before);
 }

@@ -3,6 +3,7 @@
 mod common;
 
 use common::*;
+use reference::compose::header;
 use reference::Outcome;
 
 #[test]

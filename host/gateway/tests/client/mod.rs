@@ -95,7 +95,7 @@ impl Client {
             .write_all(&bytes(17, 0, session.into(), b""))
             .expect("sent");
         let joined = receive(&mut asynchronous);
-        assert_eq!((joined.kind, joined.parameter), (18, 0x524b), "vendor RK");
+        assert_eq!((joined.kind, joined.parameter), (18, 0x4558), "vendor EX");
         Client {
             sync,
             asynchronous,

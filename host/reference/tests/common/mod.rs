@@ -2,6 +2,7 @@
 
 #![allow(dead_code)] // each test file uses its own part
 
+pub use reference::compose::message;
 use reference::event::frames;
 use reference::{Outcome, Refusal, Server};
 
@@ -83,19 +84,6 @@ pub fn fatal_both(client: Client, code: u8) -> Seen {
         sent(client.asynchronous, FATAL, code, 0),
     ];
     seen(Outcome::Closed, client.number, 0, &both)
-}
-
-pub fn header(kind: u8, code: u8, parameter: u32, length: u64) -> Vec<u8> {
-    let mut bytes = vec![b'H', b'S', kind, code];
-    bytes.extend(parameter.to_be_bytes());
-    bytes.extend(length.to_be_bytes());
-    bytes
-}
-
-pub fn message(kind: u8, code: u8, parameter: u32, payload: &[u8]) -> Vec<u8> {
-    let mut bytes = header(kind, code, parameter, payload.len() as u64);
-    bytes.extend(payload);
-    bytes
 }
 
 #[derive(Clone, Copy, Debug, PartialEq, Eq)]
