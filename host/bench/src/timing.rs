@@ -63,7 +63,7 @@ pub type Outcomes = BTreeMap<&'static str, usize>;
 fn outcome(step: Step, told: hislip_delivery) -> &'static str {
     match step {
         _ if told.refusal != 0 => "refused",
-        Step::Answer(..) => "answer sent",
+        Step::Answer(..) => "answers sent",
         Step::Deliver(..) => Reply::OUTCOMES[told.outcome as usize],
     }
 }
