@@ -9,14 +9,17 @@ use reference::compose::message;
 use reference::Reply;
 
 use crate::contender::{Contender, Library, Reference};
+use crate::figures::Figures;
 use crate::workload::{Step, Workload};
 
 const OUTPUT: usize = 2048;
 
-/// Nanoseconds per event of each repetition.
+/// Events between two looks at the clock.
+pub const SLICE: usize = 1_000;
+
 pub struct Times {
-    pub library: Vec<f64>,
-    pub reference: Vec<f64>,
+    pub library: Figures,
+    pub reference: Figures,
 }
 
 /// A server with the workload's sessions open.
@@ -85,39 +88,49 @@ pub fn compare(workload: &Workload) -> Result<Outcomes, String> {
     Ok(outcomes)
 }
 
-fn time<C: Contender>(workload: &Workload) -> f64 {
+/// The nanoseconds of each slice.
+pub fn time<C: Contender>(workload: &Workload) -> Vec<f64> {
     let mut out = vec![0; OUTPUT];
     let mut server: C = ready(workload, &mut out);
     let mut sum = 0;
-    let start = Instant::now();
-    for step in &workload.steps {
-        if workload.clear {
-            black_box(&mut out[..]).fill(0);
+    let mut run = |slice: &[Step]| {
+        let start = Instant::now();
+        for step in slice {
+            if workload.clear {
+                black_box(&mut out[..]).fill(0);
+            }
+            let told = one(&mut server, workload, *step, &mut out);
+            sum += told.taken + told.output;
         }
-        let told = one(&mut server, workload, *step, &mut out);
-        sum += told.taken + told.output;
-    }
-    let nanoseconds = start.elapsed().as_nanos() as f64;
+        start.elapsed().as_nanos() as f64
+    };
+    let times = workload.steps.chunks(SLICE).map(&mut run).collect();
     black_box(sum);
     black_box(&out);
-    nanoseconds / workload.steps.len() as f64
+    times
 }
 
 /// Each repetition runs both sides; who goes first changes every time.
 pub fn measure(workload: &Workload, repetitions: usize) -> Times {
     let mut times = Times {
-        library: Vec::new(),
-        reference: Vec::new(),
+        library: Figures::new(workload.steps.len()),
+        reference: Figures::new(workload.steps.len()),
     };
     time::<Library>(workload);
     time::<Reference>(workload);
     for repetition in 0..repetitions {
         if repetition % 2 == 0 {
-            times.library.push(time::<Library>(workload));
-            times.reference.push(time::<Reference>(workload));
+            times.library.repetitions.push(time::<Library>(workload));
+            times
+                .reference
+                .repetitions
+                .push(time::<Reference>(workload));
         } else {
-            times.reference.push(time::<Reference>(workload));
-            times.library.push(time::<Library>(workload));
+            times
+                .reference
+                .repetitions
+                .push(time::<Reference>(workload));
+            times.library.repetitions.push(time::<Library>(workload));
         }
     }
     times

@@ -31,6 +31,7 @@ mod place {
     pub const EXCLUSIVE: usize = 3;
     pub const SHARED: usize = 4;
     pub const RELEASE: usize = 5;
+    pub const LOCKS: [usize; 3] = [EXCLUSIVE, SHARED, RELEASE];
     /// Three pieces of a DataEND: less than a header, a header, and some payload.
     pub const PIECES: [usize; 3] = [6, 7, 8];
     pub const WAIT: usize = 9;
@@ -108,6 +109,44 @@ fn mix() -> Vec<Step> {
     steps
 }
 
+/// The mix's deliveries of some kinds alone, in their order.
+fn of_the_mix(name: &'static str, places: &[usize]) -> Workload {
+    let wanted = |step: &Step| matches!(step, Step::Deliver(_, place) if places.contains(place));
+    workload(name, 8, mix().into_iter().filter(wanted).collect())
+}
+
+/// The mix with every delivery on the connections of the first session: what is left of its cost
+/// when a session is found at the first look.
+fn of_one_session() -> Vec<Step> {
+    let mut steps = mix();
+    for step in &mut steps {
+        if let Step::Deliver(connection, _) = step {
+            *connection %= 2;
+        }
+    }
+    steps
+}
+
+/// The mix with every round alike and the sessions in turn: what it costs once a processor has
+/// learnt the order.
+fn in_turn() -> Vec<Step> {
+    let round = |round: usize| {
+        let synchronous = 2 * (round % 8) as u32;
+        [
+            Step::Deliver(synchronous, place::DATA),
+            Step::Deliver(synchronous, place::DATA_END),
+            Step::Deliver(synchronous + 1, place::STATUS),
+            Step::Deliver(synchronous, place::PIECES[round % 3]),
+            Step::Deliver(
+                synchronous + 1,
+                [place::EXCLUSIVE, place::SHARED][round / 8 % 2],
+            ),
+            Step::Deliver(synchronous + 1, place::RELEASE),
+        ]
+    };
+    (0..200_000).flat_map(round).collect()
+}
+
 fn repeated(count: usize, steps: &[Step]) -> Vec<Step> {
     steps.iter().copied().cycle().take(count).collect()
 }
@@ -141,6 +180,13 @@ pub fn all() -> Vec<Workload> {
             clear: true,
             ..workload("02's mix, buffer cleared", 8, mix())
         },
+        workload("02's mix, all of one session", 8, of_one_session()),
+        workload("02's mix, every round alike", 8, in_turn()),
+        of_the_mix("of the mix: Data", &[place::DATA]),
+        of_the_mix("of the mix: DataEND", &[place::DATA_END]),
+        of_the_mix("of the mix: status queries", &[place::STATUS]),
+        of_the_mix("of the mix: lock requests and releases", &place::LOCKS),
+        of_the_mix("of the mix: pieces of messages", &place::PIECES),
         workload("status only", 1, repeated(600_000, &status)),
         workload("data only", 1, repeated(600_000, &data)),
         storm(),
