@@ -41,7 +41,8 @@ fn quiet(outcome: u64, taken: u64) -> Delivery
     }
 }
 
-// What a verdict other than "acts" does: so many bytes are taken, and so many are left to skip.
+// What a verdict other than "acts" does: so many bytes are taken, and so many are left to skip. Callers take the answer into a local: it is
+// written to memory by this call, and a delivery that acts keeps its own in registers.
 fn apply(
     w: &mut [u64; 235],
     strings: &mut [u8; 1088],
@@ -134,7 +135,8 @@ fn deliver_whole(
     if v == ACTS {
         return act(w, strings, out, c, i, role, kind, code, param, len, payload);
     }
-    apply(w, strings, out, c, i, v, 16 + len, 0)
+    let told = apply(w, strings, out, c, i, v, 16 + len, 0);
+    told
 }
 
 // At least sixteen bytes, with nothing to skip.
@@ -157,12 +159,14 @@ fn deliver_message(
     let len = h.len;
     if len > 1024 {
         let v = whole::long_verdict(role);
-        return apply(w, strings, out, c, i, v, 16, len);
+        let told = apply(w, strings, out, c, i, v, 16, len);
+        return told;
     }
     let end = 16 + len as usize;
     if bytes.len() < end {
         let v = whole::partial_verdict(role, h.kind);
-        return apply(w, strings, out, c, i, v, 0, 0);
+        let told = apply(w, strings, out, c, i, v, 0, 0);
+        return told;
     }
     deliver_whole(
         w,
