@@ -9,23 +9,14 @@ use lib.ListN.{length}
 use borrow.Author.Tests.{eq-eqb, ne-eqb}
 use Rattle.wire.specs.Frame.{Frame, frameOf, frameBytes, bytesOf, written, length-frame, bytes-one}
 use Rattle.wire.specs.Splice.{splice}
-use Rattle.model.specs.State.{Exchange, Connection, Rest, Server, at, slotOfNumber, exchangeAt, freshExchange, closedConnection, openConnection, withConnection, withConnections, withExchange, withStatus}
+use Rattle.model.specs.State.{Exchange, Rest, Server, at, slotOfNumber, exchangeAt, freshExchange, openConnection, withConnection, withExchange, withStatus}
 use Rattle.model.specs.Exchange.{numberAsked, answerNumber, answeredWith}
 use Rattle.model.specs.Interface.{Event.opening, Event.answer, Event.status, Reply.done}
 use Rattle.model.specs.Locks.{change}
 use Rattle.model.specs.Step.{finish, plan, answerType}
 use Rattle.state.specs.Grid.{upd-upd, upd-set}
-use Rattle.state.specs.Change.{onRest, onConnection as onRow, connectionWith, onExchange, exchangeWith, singleWith}
+use Rattle.state.specs.Change.{onRest, onExchange, exchangeWith, singleWith}
 use Rattle.state.specs.View.{askedOf}
-
--- two stores open a connection
-pub opened-stored : (x : ℕ) (d d₁ d₂ : Server) → d₁ ≡ onRow d x (connectionWith 0 1) → d₂ ≡ onRow d₁ x (connectionWith 1 0)
-    → d₂ ≡ onRest d (λ (r : Rest). withConnection r x (openConnection 0))
-opened-stored x d d₁ d₂ e₁ e₂ =
-    e₂
-    ∙ ap (λ (y : Server). onRow y x (connectionWith 1 0)) e₁
-    ∙ ap (λ (l : List Connection). onRest d (λ (r : Rest). withConnections r l))
-    (upd-upd (d .rest .connections) x (connectionWith 0 1) (connectionWith 1 0) ∙ sym (upd-set (d .rest .connections) x closedConnection (λ (y : Connection). openConnection 0)))
 
 -- one store is the status byte
 pub status-stored : (d d₁ : Server) (b : ℕ) → b < 256 → d₁ ≡ onRest d (singleWith 1 b) → d₁ ≡ onRest d (λ (r : Rest). withStatus r b)

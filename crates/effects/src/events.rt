@@ -9,16 +9,17 @@ ghost use Rattle.state.specs.View.{memory, restOf, view};
 ghost use lib.ListN.{length};
 ghost use mathlib.Core.List.{List};
 ghost use mathlib.Core.Path.{_≡_};
+use crate::replies::keep_open;
 use state::tables;
 use wire::frame;
+use wire::types;
 
 // Connection c opens, with nothing to skip.
 pub fn open_connection(w: &mut [u64; 235], c: u64)
     requires { ⌜ c < 32 ⌝ }
     ensures { λ _. ⌜ ((s : List ℕ) → view (memory (now (w .exit)) s) ≡ onRest (view (memory (now (w .entry)) s)) (λ r. withConnection r c (openConnection 0))) ⌝ }
 {
-    tables::set_connection(w, c as usize, tables::IS_OPEN, 1);
-    tables::set_connection(w, c as usize, tables::REMAINDER, 0);
+    keep_open(w, c, 0);
 }
 
 // The instrument's status byte changes.
@@ -57,9 +58,9 @@ fn answer_kind(end: bool) -> u8
     ensures { λ r. ⌜ answerType end ≡ r ⌝ }
 {
     if end {
-        return 7;
+        return types::DATA_END;
     }
-    6
+    types::DATA
 }
 
 // The instrument's answer to slot i goes to its synchronous connection; how many bytes of the output hold it.

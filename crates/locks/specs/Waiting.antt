@@ -31,10 +31,6 @@ stays-else i t h =
     let f : Bool → Waiting → Bool = (λ b r. cond b (elsewhere i r) (unexpired t r)) in
     ap f (lt-ltb i sessionLimit h)
 
-pub stays-past : (t : ℕ) → stays sessionLimit t ≡ unexpired t
-unfolding stays
-stays-past t = refl
-
 -- by the tests of the code
 pub else-stays : (w s : List ℕ) (x i t : ℕ) → i < sessionLimit → stays i t (requestAt w s x) ≡ not (eqb x i)
 unfolding stays requestAt

@@ -20,15 +20,18 @@ use Rattle.model.specs.Step.{Line, answerType, answered, effect, final, finish,
 use Rattle.model.specs.Post.{Post}
 use Rattle.model.specs.Demand3.{Seen, seen, seenEvents, Calls, Calls.none as no-call, Calls.call}
 use Rattle.model.specs.Tie.{track, askedBy}
+use Rattle.model.specs.IsolationRun as Log
+use Rattle.model.specs.IsolationRun.{Undisturbed}
 use Rattle.model.proofs.Demand3.{demand3, made, one}
 use Rattle.model.proofs.Tied.{tie}
+use Rattle.model.proofs.IsolationRun.{isolation-run}
 use Rattle.state.specs.View.{Memory, view}
 use Rattle.effects.specs.declared.Delivery.{Delivery}
 use Rattle.effects.specs.Did.{numbersOf}
 use Rattle.server.specs.declared.Done.{Done}
 use Rattle.server.specs.Calls.{Delivered}
 use Rattle.server.specs.Events.{Called, Fresh, doneNumbers}
-use Rattle.server.specs.Program.{outcomeOf, refusedOr, deliveryReply, doneReply, Run, Run.stop, Run.hislip-open, Run.hislip-deliver, Run.hislip-cut, Run.hislip-clock, Run.hislip-answer, Run.hislip-status, askedIn, Tied, Program}
+use Rattle.server.specs.Program.{outcomeOf, refusedOr, deliveryReply, doneReply, Run, Run.stop, Run.hislip-open, Run.hislip-deliver, Run.hislip-cut, Run.hislip-clock, Run.hislip-answer, Run.hislip-status, askedIn, Tied, OnlyOf, Program}
 
 -- a delivery that is not refused is answered with an outcome
 abbrev Took : Reply → Type 0
@@ -203,6 +206,23 @@ decided m m′ n n′ ss rs v f g e =
     let t = both (view n) (seenEvents rs) v e in
     (t .0 ∙ sym (k .0), t .1 ∙ sym (k .1))
 
+-- the commands that acted, by what the host saw and by the log
+only-seen : (n : ℕ) (ls : List Line) → Log.OnlyOf n ls → OnlyOf n (map seen ls)
+only-seen n [] o = tt
+only-seen n (l ∷ ls) o = (o .0, only-seen n ls (o .1))
+
+isolated : (v : ℕ) (m m′ m″ : Memory) (ss rs : List Seen) → Fresh v m → Run m ss m′
+    → (j : ℕ) → (at (view m′ .locks .entries) j) .exclusive ≡ true → Run m′ rs m″ → Undisturbed j (view m′) (seenEvents rs)
+    → OnlyOf ((at (view m′ .locks .entries) j) .number) rs
+isolated v m m′ m″ ss rs f g j h g′ u =
+    let es : List Event = seenEvents ss in
+    let fs : List Event = seenEvents rs in
+    let k = made view (calls g) in
+    let d : view m′ ≡ final (fresh v) es = k .1 ∙ ap (λ (x : Server). final x es) (f .shows) in
+    let whole : (x : Server) → x ≡ final (fresh v) es → (at (x .locks .entries) j) .exclusive ≡ true → Undisturbed j x fs → Log.OnlyOf ((at (x .locks .entries) j) .number) (log x fs) =
+    λ x e a b. subst (λ (y : Server). (at (y .locks .entries) j) .exclusive ≡ true → Undisturbed j y fs → Log.OnlyOf ((at (y .locks .entries) j) .number) (log y fs)) (sym e) (λ a b. (isolation-run v es j .from-now fs a b) .only-its-own) a b in
+    subst (OnlyOf ((at (view m′ .locks .entries) j) .number)) (sym (made view (calls g′) .0)) (only-seen _ (log (view m′) fs) (whole (view m′) d h u))
+
 pub program : Program
 program =
     record {
@@ -210,4 +230,5 @@ program =
       view-decides = decided;
       demand3 = λ v m m′ ss f g. demand3 view v m (f .shows) (calls g);
       tie = tied;
+      isolation = isolated;
     }

@@ -2,16 +2,20 @@
 -- `hislip_new` wrote. What the host saw is read off the structs that the calls returned and the buffers that they wrote. Assumes
 -- nothing.
 use mathlib.Core.Path.{_≡_}
-use mathlib.Core.Bool.{Bool, not, cond}
+use mathlib.Core.Bool.{Bool, true, not, cond}
 use mathlib.Core.List.{List, [], _∷_, map}
 use Prim.Native.Nat.{ℕ, zero, suc}
 use lib.Dec.{eqb}
 use lib.ListN.{length, take}
+use Rattle.wire.specs.Class.{one-of}
 use Rattle.wire.specs.Frame.{frameOf, frameBytes}
+use Rattle.wire.specs.Message.{header}
 use Rattle.model.specs.Interface.{Event.opening, Event.delivery, Event.cut, Event.clock, Event.answer, Event.status, Outcome, Outcome.more-needed, Outcome.skipped, Outcome.held, Outcome.ignored, Outcome.error-sent, Outcome.closed, Outcome.acted, Reply, Reply.refused, Reply.done, Reply.took}
 use Rattle.model.specs.State.{Asked, Asked.none, Asked.some, at, slotOfNumber}
 use Rattle.model.specs.Step.{final, log, answerType}
 use Rattle.model.specs.Post.{Post}
+use Rattle.model.specs.MessageTypes.{commands}
+use Rattle.model.specs.IsolationRun.{Undisturbed}
 use Rattle.model.specs.Tie.{track}
 use Rattle.model.specs.Demand3.{Seen, seen, seenEvents, Demand3}
 use Rattle.state.specs.View.{Memory, view}
@@ -74,6 +78,13 @@ pub record Tied (ss : List Seen) (m : Memory) (n : ℕ) (payload : List ℕ) (en
   pub asked : askedIn ss n Asked.none ≡ some number
   pub sent : output ≡ frameBytes (frameOf ((at (view m .locks .entries) (slotOfNumber (view m .locks .entries) n)) .synchronous) (answerType end) 0 number payload)
 
+-- every Data, DataEND and Trigger that acted is session n's
+abbrev pub OnlyOf : ℕ → List Seen → Type 0
+OnlyOf n [] = Unit {0}
+OnlyOf n (s ∷ ss) =
+    ((c : ℕ) (bs : List ℕ) (room k m : ℕ) → s .event ≡ delivery c bs room → s .reply ≡ took acted k m → one-of commands ((header bs) .kind) ≡ true → m ≡ n)
+    × OnlyOf n ss
+
 pub record Program : Type 0 where
   pub by-definition : (m m′ : Memory) (ss : List Seen) → Run m ss m′ → ByDefinition m m′ ss
   -- the view shows everything that a later call can depend on: from two memories with one view the same events show the host the same
@@ -83,3 +94,7 @@ pub record Program : Type 0 where
   pub tie : (v : ℕ) (m m′ m″ : Memory) (ss : List Seen) → Fresh v m → Run m ss m′
       → (n : ℕ) (payload : List ℕ) (end : ℕ) (out out′ : List ℕ) (r : Done) → Called (answer n payload (not (eqb end 0)) (length out)) r m′ m″ out out′ → r .refusal ≡ 0
       → Tied ss m′ n payload (not (eqb end 0)) (take (r .output) out′)
+  -- N about the program: from where a session holds exclusive until its release or its closing, nobody else's command acts
+  pub isolation : (v : ℕ) (m m′ m″ : Memory) (ss rs : List Seen) → Fresh v m → Run m ss m′
+      → (j : ℕ) → (at (view m′ .locks .entries) j) .exclusive ≡ true → Run m′ rs m″ → Undisturbed j (view m′) (seenEvents rs)
+      → OnlyOf ((at (view m′ .locks .entries) j) .number) rs
