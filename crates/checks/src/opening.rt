@@ -12,6 +12,9 @@ use crate::verdict::ACTS;
 use crate::verdict::FATAL_3;
 use crate::verdict::FATAL_4;
 use state::search;
+use state::sizes::NO_CONNECTION;
+use state::sizes::SESSION_LIMIT;
+use state::sizes::Words;
 use state::tables;
 use wire::types;
 
@@ -53,29 +56,29 @@ fn is_sub_address(p: &[u8]) -> bool
     is_hislip0(p)
 }
 
-// All 16 slots are taken: no slot has number 0.
-fn is_full(w: &[u64; 235]) -> bool
+// All slots are taken: no slot has number 0.
+fn is_full(w: &Words) -> bool
     ensures { λ r. ⌜ ((s : List ℕ) → all live (locksOf (now (w .entry)) s .entries) ≡ r) ⌝ }
 {
-    search::slot_of_number(w, 0) == 16
+    search::slot_of_number(w, 0) == SESSION_LIMIT
 }
 
-// A session with this number that has no second channel (255).
-fn is_half_open(w: &[u64; 235], number: u64) -> bool
+// A session with this number that has no second channel.
+fn is_half_open(w: &Words, number: u64) -> bool
     ensures { λ r. ⌜ ((s : List ℕ) → halfOpen (at (locksOf (now (w .entry)) s .entries) (slotOfNumber (locksOf (now (w .entry)) s .entries) number)) ≡ r) ⌝ }
 {
     if number == 0 {
         return false;
     }
     let slot = search::slot_of_number(w, number);
-    if slot >= 16 {
+    if slot >= SESSION_LIMIT {
         return false;
     }
-    tables::entry(w, slot, tables::ASYNCHRONOUS) % 256 == 255
+    tables::entry(w, slot, tables::ASYNCHRONOUS) % 256 == NO_CONNECTION
 }
 
 // Initialize: the sub-address first, then room for one more session.
-fn initialize_verdict(w: &[u64; 235], payload: &[u8]) -> u8
+fn initialize_verdict(w: &Words, payload: &[u8]) -> u8
     ensures { λ r. ⌜ ((s : List ℕ) (code param len : ℕ) → first (openingRules (view (memory (now (w .entry)) s)) (message 0 code param len) (now (payload .entry))) ≡ verdictOf r) ⌝ }
 {
     if !is_sub_address(payload) {
@@ -88,7 +91,7 @@ fn initialize_verdict(w: &[u64; 235], payload: &[u8]) -> u8
 }
 
 // Checks 3 and 10 of a message, and whether a session can be opened or joined.
-pub fn opening_verdict(w: &[u64; 235], kind: u8, param: u32, len: u64, payload: &[u8]) -> u8
+pub fn opening_verdict(w: &Words, kind: u8, param: u32, len: u64, payload: &[u8]) -> u8
     ensures { λ r. ⌜ ((s : List ℕ) (code : ℕ) → first (openingRules (view (memory (now (w .entry)) s)) (message kind code param len) (now (payload .entry))) ≡ verdictOf r) ⌝ }
 {
     // check 3: types 0 and 17 pass

@@ -8,6 +8,7 @@ ghost use Rattle.model.specs.State.{exchangeAt};
 ghost use Rattle.state.specs.View.{locksOf, memory, restOf, view};
 ghost use mathlib.Core.List.{List};
 ghost use mathlib.Core.Path.{_≡_};
+ghost use Rattle.model.specs.Sizes.{sessionLimit};
 use crate::verdict::ACTS;
 use crate::verdict::CLOSED;
 use crate::verdict::ERROR_0;
@@ -18,12 +19,13 @@ use crate::verdict::FATAL_3;
 use crate::verdict::HELD;
 use crate::verdict::IGNORED;
 use locks::access;
+use state::sizes::Words;
 use state::tables;
 use wire::class;
 use wire::types;
 
-fn in_clear(w: &[u64; 235], i: usize) -> bool
-    requires { ⌜ i < 16 ⌝ }
+fn in_clear(w: &Words, i: usize) -> bool
+    requires { ⌜ i < sessionLimit ⌝ }
     ensures { λ r. ⌜ (exchangeAt (restOf (now (w .entry))) i) .inClear ≡ r ⌝ }
 {
     tables::exchange(w, i, tables::IN_CLEAR) == 1
@@ -43,8 +45,8 @@ fn complete_verdict(clearing: bool, len: u64) -> u8
 }
 
 // Checks 9 and 10 of Data, DataEND and Trigger (12).
-fn command_verdict(w: &[u64; 235], i: usize, kind: u8, code: u8, len: u64) -> u8
-    requires { ⌜ i < 16 ⌝ }
+fn command_verdict(w: &Words, i: usize, kind: u8, code: u8, len: u64) -> u8
+    requires { ⌜ i < sessionLimit ⌝ }
     ensures { λ r. ⌜ ((s : List ℕ) → commanded (access (locksOf (now (w .entry)) s .entries) i) kind code len ≡ verdictOf r) ⌝ }
 {
     if !access::has_access(w, i) {
@@ -63,8 +65,8 @@ fn command_verdict(w: &[u64; 235], i: usize, kind: u8, code: u8, len: u64) -> u8
 }
 
 // Checks 6 to 10 of a message for the session in slot `i`.
-pub fn synchronous_verdict(w: &[u64; 235], i: usize, kind: u8, code: u8, len: u64) -> u8
-    requires { ⌜ i < 16 ⌝ }
+pub fn synchronous_verdict(w: &Words, i: usize, kind: u8, code: u8, len: u64) -> u8
+    requires { ⌜ i < sessionLimit ⌝ }
     ensures { λ r. ⌜ ((s p : List ℕ) (param : ℕ) → first (synchronousRules (view (memory (now (w .entry)) s)) i (message kind code param len) p) ≡ verdictOf r) ⌝ }
 {
     // check 6

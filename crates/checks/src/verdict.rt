@@ -19,6 +19,8 @@ pub const ERROR_3: u8 = 19;
 
 pub const ERROR_4: u8 = 20;
 
+pub const FATAL_0: u8 = 32;
+
 pub const FATAL_2: u8 = 34;
 
 pub const FATAL_3: u8 = 35;

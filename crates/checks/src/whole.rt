@@ -1,4 +1,4 @@
-// The verdict by the connection's role: 0 none, 1 of a half-open session, 2 synchronous, 3 asynchronous.
+// The verdict by the connection's role.
 ghost use Prim.Native.Nat.{ℕ, _<_};
 ghost use Rattle.checks.specs.Numbers.{message, verdictOf};
 ghost use Rattle.model.specs.Checks.{judged, partly, tooLong};
@@ -7,6 +7,7 @@ ghost use Rattle.state.specs.Search.{roleNumber};
 ghost use Rattle.state.specs.View.{memory, view};
 ghost use mathlib.Core.List.{List};
 ghost use mathlib.Core.Path.{_≡_};
+ghost use Rattle.model.specs.Sizes.{sessionLimit};
 use crate::asynchronous;
 use crate::opening;
 use crate::synchronous;
@@ -14,14 +15,19 @@ use crate::verdict::ERROR_4;
 use crate::verdict::FATAL_2;
 use crate::verdict::FATAL_3;
 use crate::verdict::MORE;
+use state::search::HALF_OPEN;
+use state::search::NO_ROLE;
+use state::search::ON_SYNCHRONOUS;
+use state::sizes::Words;
+use wire::types;
 
 // Checks 3 and 4: the length is above 1,024.
 pub fn long_verdict(role: u8) -> u8
     ensures { λ r. ⌜ (r ≡ 5 → ⊥) × ((ro : Role) → roleNumber ro ≡ role → tooLong ro ≡ verdictOf r) ⌝ }
 {
     match role {
-        0 => FATAL_3,
-        1 => FATAL_2,
+        NO_ROLE => FATAL_3,
+        HALF_OPEN => FATAL_2,
         _ => ERROR_4,
     }
 }
@@ -30,22 +36,22 @@ pub fn long_verdict(role: u8) -> u8
 pub fn partial_verdict(role: u8, kind: u8) -> u8
     ensures { λ r. ⌜ (r ≡ 5 → ⊥) × ((ro : Role) (code param len : ℕ) → roleNumber ro ≡ role → partly ro (message kind code param len) ≡ verdictOf r) ⌝ }
 {
-    if role == 1 {
+    if role == HALF_OPEN {
         return FATAL_2;
     }
-    if role != 0 {
+    if role != NO_ROLE {
         return MORE;
     }
     match kind {
-        0 => MORE,
-        17 => MORE,
+        types::INITIALIZE => MORE,
+        types::ASYNC_INITIALIZE => MORE,
         _ => FATAL_3,
     }
 }
 
 // Checks 3 and 6 to 10 of a message that is all here, payload and all; `i` is the slot of an established session.
 pub fn whole_verdict(
-    w: &[u64; 235],
+    w: &Words,
     role: u8,
     i: usize,
     kind: u8,
@@ -54,13 +60,13 @@ pub fn whole_verdict(
     len: u64,
     payload: &[u8],
 ) -> u8
-    requires { ⌜ (role ≡ 2 → i < 16) ⌝ }
+    requires { ⌜ (role ≡ 2 → i < sessionLimit) ⌝ }
     ensures { λ r. ⌜ ((s : List ℕ) (ro : Role) → roleNumber ro ≡ role → judged ro (view (memory (now (w .entry)) s)) i (message kind code param len) (now (payload .entry)) ≡ verdictOf r) ⌝ }
 {
     match role {
-        0 => opening::opening_verdict(w, kind, param, len, payload),
-        1 => FATAL_2,
-        2 => synchronous::synchronous_verdict(w, i, kind, code, len),
+        NO_ROLE => opening::opening_verdict(w, kind, param, len, payload),
+        HALF_OPEN => FATAL_2,
+        ON_SYNCHRONOUS => synchronous::synchronous_verdict(w, i, kind, code, len),
         _ => asynchronous::asynchronous_verdict(kind, code, len),
     }
 }

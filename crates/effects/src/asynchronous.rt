@@ -16,6 +16,7 @@ ghost use lib.ListN.{length};
 ghost use mathlib.Core.Bool.{cond};
 ghost use mathlib.Core.List.{List};
 ghost use mathlib.Core.Path.{_≡_};
+ghost use Rattle.model.specs.Sizes.{connectionLimit, outputMinimum, payloadLimit, sessionLimit};
 use crate::Delivery;
 use crate::outcome;
 use crate::synchronous::note_rmt;
@@ -25,14 +26,16 @@ use locks::release;
 use locks::request;
 use locks::waiting;
 use remote::RemoteLocal;
+use state::sizes::Strings;
+use state::sizes::Words;
 use state::tables;
 use wire::frame;
 use wire::number;
 use wire::types;
 
 // The instrument's status byte, with value 16 replaced by message available of slot i.
-fn status_of(w: &[u64; 235], i: usize) -> u8
-    requires { ⌜ i < 16 ⌝ }
+fn status_of(w: &Words, i: usize) -> u8
+    requires { ⌜ i < sessionLimit ⌝ }
     ensures { λ r. ⌜ r ≡ statusByte (restOf (now (w .entry)) .status) ((exchangeAt (restOf (now (w .entry))) i) .messageAvailable) ⌝ }
 {
     let all = tables::single(w, tables::STATUS) % 256;
@@ -44,15 +47,8 @@ fn status_of(w: &[u64; 235], i: usize) -> u8
 }
 
 // AsyncStatusQuery.
-fn query_status(
-    w: &mut [u64; 235],
-    out: &mut [u8],
-    c: u64,
-    i: usize,
-    code: u8,
-    len: u64,
-) -> Delivery
-    requires { ⌜ (i < 16) × (c < 32) × (len ≤ 1024) × (2048 ≤ length (now out)) ⌝ }
+fn query_status(w: &mut Words, out: &mut [u8], c: u64, i: usize, code: u8, len: u64) -> Delivery
+    requires { ⌜ (i < sessionLimit) × (c < connectionLimit) × (len ≤ payloadLimit) × (outputMinimum ≤ length (now out)) ⌝ }
     ensures { λ r. ⌜ ((s p : List ℕ) (param : ℕ) → DidKind k-statusQuery i c code param len p r (memory (now (w .entry)) s) (memory (now (w .exit)) s) (now (out .entry)) (now (out .exit))) ⌝ }
 {
     let n = tables::entry(w, i, tables::NUMBER);
@@ -69,8 +65,8 @@ fn query_status(
 }
 
 // AsyncLockInfo.
-fn tell_locks(w: &[u64; 235], out: &mut [u8], c: u64, i: usize, len: u64) -> Delivery
-    requires { ⌜ (i < 16) × (c < 32) × (len ≤ 1024) × (2048 ≤ length (now out)) ⌝ }
+fn tell_locks(w: &Words, out: &mut [u8], c: u64, i: usize, len: u64) -> Delivery
+    requires { ⌜ (i < sessionLimit) × (c < connectionLimit) × (len ≤ payloadLimit) × (outputMinimum ≤ length (now out)) ⌝ }
     ensures { λ r. ⌜ ((s p : List ℕ) (code param : ℕ) → DidKind k-lockInfo i c code param len p r (memory (now (w .entry)) s) (memory (now (w .entry)) s) (now (out .entry)) (now (out .exit))) ⌝ }
 {
     let n = tables::entry(w, i, tables::NUMBER);
@@ -87,7 +83,7 @@ fn tell_locks(w: &[u64; 235], out: &mut [u8], c: u64, i: usize, len: u64) -> Del
 }
 
 // The three flags, read: on where the word is 1.
-fn flags_of(w: &[u64; 235]) -> RemoteLocal
+fn flags_of(w: &Words) -> RemoteLocal
     ensures { λ r. ⌜ shown r ≡ restOf (now (w .entry)) .remoteLocal ⌝ }
 {
     RemoteLocal {
@@ -108,7 +104,7 @@ fn word_of(on: bool) -> u64
 }
 
 // The three flags, stored.
-fn set_flags(w: &mut [u64; 235], f: RemoteLocal)
+fn set_flags(w: &mut Words, f: RemoteLocal)
     ensures { λ _. ⌜ ((s : List ℕ) → view (memory (now (w .exit)) s) ≡ onRest (view (memory (now (w .entry)) s)) (flagging (shown f))) ⌝ }
 {
     tables::set_single(w, tables::ENABLE, word_of(f.enable));
@@ -117,7 +113,7 @@ fn set_flags(w: &mut [u64; 235], f: RemoteLocal)
 }
 
 // What the code makes of the three flags: read, by value, stored.
-fn set_control(w: &mut [u64; 235], code: u8)
+fn set_control(w: &mut Words, code: u8)
     ensures { λ _. ⌜ ((s : List ℕ) → view (memory (now (w .exit)) s) ≡ onRest (view (memory (now (w .entry)) s)) (controlling code)) ⌝ }
 {
     let f = flags_of(w);
@@ -125,8 +121,8 @@ fn set_control(w: &mut [u64; 235], code: u8)
 }
 
 // AsyncRemoteLocalControl.
-fn control(w: &mut [u64; 235], out: &mut [u8], c: u64, i: usize, code: u8, len: u64) -> Delivery
-    requires { ⌜ (i < 16) × (c < 32) × (len ≤ 1024) × (2048 ≤ length (now out)) ⌝ }
+fn control(w: &mut Words, out: &mut [u8], c: u64, i: usize, code: u8, len: u64) -> Delivery
+    requires { ⌜ (i < sessionLimit) × (c < connectionLimit) × (len ≤ payloadLimit) × (outputMinimum ≤ length (now out)) ⌝ }
     ensures { λ r. ⌜ ((s p : List ℕ) (param : ℕ) → DidKind k-remoteLocal i c code param len p r (memory (now (w .entry)) s) (memory (now (w .exit)) s) (now (out .entry)) (now (out .exit))) ⌝ }
 {
     let n = tables::entry(w, i, tables::NUMBER);
@@ -142,15 +138,8 @@ fn control(w: &mut [u64; 235], out: &mut [u8], c: u64, i: usize, code: u8, len: 
 }
 
 // AsyncMaximumMessageSize: the client's size is noted, and the server's is 1,024.
-fn note_size(
-    w: &mut [u64; 235],
-    out: &mut [u8],
-    c: u64,
-    i: usize,
-    len: u64,
-    payload: &[u8],
-) -> Delivery
-    requires { ⌜ (i < 16) × (c < 32) × (len ≤ 1024) × (length (now payload) ≡ 8) × (2048 ≤ length (now out)) ⌝ }
+fn note_size(w: &mut Words, out: &mut [u8], c: u64, i: usize, len: u64, payload: &[u8]) -> Delivery
+    requires { ⌜ (i < sessionLimit) × (c < connectionLimit) × (len ≤ payloadLimit) × (length (now payload) ≡ 8) × (outputMinimum ≤ length (now out)) ⌝ }
     ensures { λ r. ⌜ ((s : List ℕ) (code param : ℕ) → DidKind k-maximumSize i c code param len (now (payload .entry)) r (memory (now (w .entry)) s) (memory (now (w .exit)) s) (now (out .entry)) (now (out .exit))) ⌝ }
 {
     let n = tables::entry(w, i, tables::NUMBER);
@@ -176,8 +165,8 @@ fn note_size(
 }
 
 // In device clear, with nothing asked and no message available.
-fn enter_clear(w: &mut [u64; 235], i: usize)
-    requires { ⌜ i < 16 ⌝ }
+fn enter_clear(w: &mut Words, i: usize)
+    requires { ⌜ i < sessionLimit ⌝ }
     ensures { λ _. ⌜ ((s : List ℕ) → view (memory (now (w .exit)) s) ≡ onExchange (view (memory (now (w .entry)) s)) i enterClear) ⌝ }
 {
     tables::set_exchange(w, i, tables::IN_CLEAR, 1);
@@ -186,8 +175,8 @@ fn enter_clear(w: &mut [u64; 235], i: usize)
 }
 
 // AsyncDeviceClear: a waiting request is answered first.
-fn clear(w: &mut [u64; 235], out: &mut [u8], c: u64, i: usize, len: u64) -> Delivery
-    requires { ⌜ (i < 16) × (c < 32) × (len ≤ 1024) × (2048 ≤ length (now out)) ⌝ }
+fn clear(w: &mut Words, out: &mut [u8], c: u64, i: usize, len: u64) -> Delivery
+    requires { ⌜ (i < sessionLimit) × (c < connectionLimit) × (len ≤ payloadLimit) × (outputMinimum ≤ length (now out)) ⌝ }
     ensures { λ r. ⌜ ((s p : List ℕ) (code param : ℕ) → DidKind k-deviceClear i c code param len p r (memory (now (w .entry)) s) (memory (now (w .exit)) s) (now (out .entry)) (now (out .exit))) ⌝ }
 {
     let n = tables::entry(w, i, tables::NUMBER);
@@ -212,8 +201,8 @@ fn clear(w: &mut [u64; 235], out: &mut [u8], c: u64, i: usize, len: u64) -> Deli
 
 // AsyncLock: code 0 releases, and then those that wait are looked at; any other code requests.
 fn lock(
-    w: &mut [u64; 235],
-    strings: &mut [u8; 1088],
+    w: &mut Words,
+    strings: &mut Strings,
     out: &mut [u8],
     i: usize,
     code: u8,
@@ -221,7 +210,7 @@ fn lock(
     len: u64,
     payload: &[u8],
 ) -> Delivery
-    requires { ⌜ (i < 16) × (len ≤ 1024) × (2048 ≤ length (now out)) ⌝ }
+    requires { ⌜ (i < sessionLimit) × (len ≤ payloadLimit) × (outputMinimum ≤ length (now out)) ⌝ }
     ensures { λ r. ⌜ ((c : ℕ) → DidKind k-lock i c code param len (now (payload .entry)) r (memory (now (w .entry)) (now (strings .entry))) (memory (now (w .exit)) (now (strings .exit))) (now (out .entry)) (now (out .exit))) ⌝ }
 {
     let n = tables::entry(w, i, tables::NUMBER);
@@ -248,8 +237,8 @@ fn lock(
 
 // What a message of the asynchronous lane does, by its type.
 pub fn act_asynchronous(
-    w: &mut [u64; 235],
-    strings: &mut [u8; 1088],
+    w: &mut Words,
+    strings: &mut Strings,
     out: &mut [u8],
     c: u64,
     i: usize,
@@ -259,7 +248,7 @@ pub fn act_asynchronous(
     len: u64,
     payload: &[u8],
 ) -> Delivery
-    requires { ⌜ (i < 16) × (c < 32) × (len ≤ 1024) × (length (now payload) ≡ len) × (2048 ≤ length (now out)) × (kind ≡ 15 → len ≡ 8) ⌝ }
+    requires { ⌜ (i < sessionLimit) × (c < connectionLimit) × (len ≤ payloadLimit) × (length (now payload) ≡ len) × (outputMinimum ≤ length (now out)) × (kind ≡ 15 → len ≡ 8) ⌝ }
     ensures { λ r. ⌜ Did (finish (view (memory (now (w .entry)) (now (strings .entry)))) (acts r-asynchronous (view (memory (now (w .entry)) (now (strings .entry)))) i c (heading kind code param len) (now (payload .entry)))) r (memory (now (w .entry)) (now (strings .entry))) (memory (now (w .exit)) (now (strings .exit))) (now (out .entry)) (now (out .exit)) ⌝ }
 {
     if kind == types::ASYNC_LOCK {

@@ -12,15 +12,22 @@ ghost use lib.ListN.{length};
 ghost use mathlib.Core.Bool.{cond};
 ghost use mathlib.Core.List.{List, [], _∷_};
 ghost use mathlib.Core.Path.{_≡_};
+ghost use Rattle.model.specs.Sizes.{sessionLimit};
 use locks::grant_pass;
 use locks::sessions;
+use state::sizes::CONNECTIONS;
+use state::sizes::NO_CONNECTION;
+use state::sizes::PAYLOAD;
+use state::sizes::SESSION_LIMIT;
+use state::sizes::Strings;
+use state::sizes::Words;
 use state::tables;
 
 // Connection x is closed, and what is left to skip of it is dropped.
-fn shut_connection(w: &mut [u64; 235], x: u64)
+fn shut_connection(w: &mut Words, x: u64)
     ensures { λ _. ⌜ ((s : List ℕ) → view (memory (now (w .exit)) s) ≡ onRest (view (memory (now (w .entry)) s)) (shut x)) ⌝ }
 {
-    if x >= 32 {
+    if x >= CONNECTIONS {
         return;
     }
     tables::set_connection(w, x as usize, tables::IS_OPEN, 0);
@@ -28,36 +35,36 @@ fn shut_connection(w: &mut [u64; 235], x: u64)
 }
 
 // Slot i's exchange is as of a session that opens.
-pub fn renew_exchange(w: &mut [u64; 235], i: usize)
-    requires { ⌜ i < 16 ⌝ }
+pub fn renew_exchange(w: &mut Words, i: usize)
+    requires { ⌜ i < sessionLimit ⌝ }
     ensures { λ _. ⌜ ((s : List ℕ) → view (memory (now (w .exit)) s) ≡ onRest (view (memory (now (w .entry)) s)) (λ r. withExchange r i freshExchange)) ⌝ }
 {
     tables::set_exchange(w, i, tables::IN_CLEAR, 0);
     tables::set_exchange(w, i, tables::ASKED, 0);
     tables::set_exchange(w, i, tables::AVAILABLE, 0);
-    tables::set_exchange(w, i, tables::CLIENT_SIZE, 1024);
+    tables::set_exchange(w, i, tables::CLIENT_SIZE, PAYLOAD);
 }
 
 // The connections of slot i's session are closed.
-fn shut_channels(w: &mut [u64; 235], i: usize)
-    requires { ⌜ i < 16 ⌝ }
+fn shut_channels(w: &mut Words, i: usize)
+    requires { ⌜ i < sessionLimit ⌝ }
     ensures { λ _. ⌜ ((s : List ℕ) → view (memory (now (w .exit)) s) ≡ onRest (view (memory (now (w .entry)) s)) (λ r. withConnections r (shutAll (r .connections) ((at (locksOf (now (w .entry)) s .entries) i) .synchronous ∷ cond (eqb ((at (locksOf (now (w .entry)) s .entries) i) .asynchronous) noConnection) [] ((at (locksOf (now (w .entry)) s .entries) i) .asynchronous ∷ []))))) ⌝ }
 {
     let x = tables::entry(w, i, tables::SYNCHRONOUS) % 256;
     let y = tables::entry(w, i, tables::ASYNCHRONOUS) % 256;
     shut_connection(w, x);
-    if y == 255 {
+    if y == NO_CONNECTION {
         return;
     }
     shut_connection(w, y);
 }
 
-// Connection c is closed, with its session in slot i if it has one (16: none).
-fn close_parts(w: &mut [u64; 235], c: u64, i: usize)
+// Connection c is closed, with its session in slot i if it has one (past the slots: none).
+fn close_parts(w: &mut Words, c: u64, i: usize)
     requires { ⌜ ((s : List ℕ) → slotIn (locksOf (now w) s .entries) c ≡ i) ⌝ }
     ensures { λ _. ⌜ ((s : List ℕ) → view (memory (now (w .exit)) s) ≡ closedServer (view (memory (now (w .entry)) s)) c i) ⌝ }
 {
-    if i >= 16 {
+    if i >= SESSION_LIMIT {
         shut_connection(w, c);
         return;
     }
@@ -68,8 +75,8 @@ fn close_parts(w: &mut [u64; 235], c: u64, i: usize)
 
 // The same, and then those that wait are looked at; the place behind the frames.
 pub fn close_place(
-    w: &mut [u64; 235],
-    strings: &mut [u8; 1088],
+    w: &mut Words,
+    strings: &mut Strings,
     out: &mut [u8],
     at: usize,
     c: u64,

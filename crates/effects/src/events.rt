@@ -9,29 +9,31 @@ ghost use Rattle.state.specs.View.{memory, restOf, view};
 ghost use lib.ListN.{length};
 ghost use mathlib.Core.List.{List};
 ghost use mathlib.Core.Path.{_≡_};
+ghost use Rattle.model.specs.Sizes.{connectionLimit, outputMinimum, payloadLimit, sessionLimit};
 use crate::replies::keep_open;
+use state::sizes::Words;
 use state::tables;
 use wire::frame;
 use wire::types;
 
 // Connection c opens, with nothing to skip.
-pub fn open_connection(w: &mut [u64; 235], c: u64)
-    requires { ⌜ c < 32 ⌝ }
+pub fn open_connection(w: &mut Words, c: u64)
+    requires { ⌜ c < connectionLimit ⌝ }
     ensures { λ _. ⌜ ((s : List ℕ) → view (memory (now (w .exit)) s) ≡ onRest (view (memory (now (w .entry)) s)) (λ r. withConnection r c (openConnection 0))) ⌝ }
 {
     keep_open(w, c, 0);
 }
 
 // The instrument's status byte changes.
-pub fn set_status(w: &mut [u64; 235], b: u8)
+pub fn set_status(w: &mut Words, b: u8)
     ensures { λ _. ⌜ ((s : List ℕ) → view (memory (now (w .exit)) s) ≡ onRest (view (memory (now (w .entry)) s)) (λ r. withStatus r b)) ⌝ }
 {
     tables::set_single(w, tables::STATUS, b as u64);
 }
 
 // The number that an answer of slot i carries: that of the message asked, 0 if nothing is asked.
-fn number_asked(w: &[u64; 235], i: usize) -> u32
-    requires { ⌜ i < 16 ⌝ }
+fn number_asked(w: &Words, i: usize) -> u32
+    requires { ⌜ i < sessionLimit ⌝ }
     ensures { λ r. ⌜ answerNumber (exchangeAt (restOf (now (w .entry))) i) ≡ r ⌝ }
 {
     let v = tables::exchange(w, i, tables::ASKED);
@@ -42,8 +44,8 @@ fn number_asked(w: &[u64; 235], i: usize) -> u32
 }
 
 // Slot i was sent an answer: message available goes on, and with END nothing is asked any more.
-fn note_answer(w: &mut [u64; 235], i: usize, end: bool)
-    requires { ⌜ i < 16 ⌝ }
+fn note_answer(w: &mut Words, i: usize, end: bool)
+    requires { ⌜ i < sessionLimit ⌝ }
     ensures { λ _. ⌜ ((s : List ℕ) → view (memory (now (w .exit)) s) ≡ onRest (view (memory (now (w .entry)) s)) (λ r. withExchange r i (answeredWith end (exchangeAt r i)))) ⌝ }
 {
     tables::set_exchange(w, i, tables::AVAILABLE, 1);
@@ -64,8 +66,8 @@ fn answer_kind(end: bool) -> u8
 }
 
 // The instrument's answer to slot i goes to its synchronous connection; how many bytes of the output hold it.
-pub fn send_answer(w: &mut [u64; 235], out: &mut [u8], i: usize, end: bool, payload: &[u8]) -> usize
-    requires { ⌜ (i < 16) × (length (now payload) ≤ 1024) × (2048 ≤ length (now out)) ⌝ }
+pub fn send_answer(w: &mut Words, out: &mut [u8], i: usize, end: bool, payload: &[u8]) -> usize
+    requires { ⌜ (i < sessionLimit) × (length (now payload) ≤ payloadLimit) × (outputMinimum ≤ length (now out)) ⌝ }
     ensures { λ r. ⌜ ((s : List ℕ) → Answers (view (memory (now (w .entry)) s)) i end (now (payload .entry)) (view (memory (now (w .exit)) s)) (now (out .entry)) (now (out .exit)) r) ⌝ }
 {
     let c = (tables::entry(w, i, tables::SYNCHRONOUS) % 256) as u8;

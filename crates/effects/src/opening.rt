@@ -12,19 +12,21 @@ ghost use lib.ListN.{length};
 ghost use mathlib.Core.Bool.{false, true};
 ghost use mathlib.Core.List.{List};
 ghost use mathlib.Core.Path.{_≡_};
+ghost use Rattle.model.specs.Sizes.{connectionLimit, outputMinimum, payloadLimit, sessionLimit};
 use crate::Delivery;
 use crate::closing::renew_exchange;
 use crate::outcome;
 use crate::session_id;
 use locks::sessions;
 use state::search;
+use state::sizes::Words;
 use state::tables;
 use wire::frame;
 use wire::types;
 
 // Session n opens in slot i over connection c.
-fn enter_session(w: &mut [u64; 235], i: usize, n: u64, c: u64)
-    requires { ⌜ (i < 16) × (n < 65536) × (c < 256) ⌝ }
+fn enter_session(w: &mut Words, i: usize, n: u64, c: u64)
+    requires { ⌜ (i < sessionLimit) × (n < 65536) × (c < 256) ⌝ }
     ensures { λ _. ⌜ ((s : List ℕ) → view (memory (now (w .exit)) s) ≡ changed (view (memory (now (w .entry)) s)) (enter i n c) (withSession (restOf (now (w .entry))) i n)) ⌝ }
 {
     sessions::enter_slot(w, i, n, c);
@@ -44,8 +46,8 @@ fn version(param: u32) -> u32
 }
 
 // Initialize that acts: the first free slot, the next SessionID.
-pub fn initialize(w: &mut [u64; 235], out: &mut [u8], c: u64, param: u32, len: u64) -> Delivery
-    requires { ⌜ (c < 32) × (len ≤ 1024) × (2048 ≤ length (now out)) × ((s : List ℕ) → slotOfNumber (locksOf (now w) s .entries) 0 < 16) ⌝ }
+pub fn initialize(w: &mut Words, out: &mut [u8], c: u64, param: u32, len: u64) -> Delivery
+    requires { ⌜ (c < connectionLimit) × (len ≤ payloadLimit) × (outputMinimum ≤ length (now out)) × ((s : List ℕ) → slotOfNumber (locksOf (now w) s .entries) 0 < sessionLimit) ⌝ }
     ensures { λ r. ⌜ ((s : List ℕ) → Did (finish (view (memory (now (w .entry)) s)) (opens true (view (memory (now (w .entry)) s)) c (record { kind = 0; code = 0; param = param; len = len }))) r (memory (now (w .entry)) s) (memory (now (w .exit)) s) (now (out .entry)) (now (out .exit))) ⌝ }
 {
     let i = search::slot_of_number(w, 0);
@@ -70,14 +72,8 @@ pub fn initialize(w: &mut [u64; 235], out: &mut [u8], c: u64, param: u32, len: u
 }
 
 // AsyncInitialize that acts: the second connection of the session with the number in the parameter.
-pub fn async_initialize(
-    w: &mut [u64; 235],
-    out: &mut [u8],
-    c: u64,
-    param: u32,
-    len: u64,
-) -> Delivery
-    requires { ⌜ (c < 32) × (len ≤ 1024) × (2048 ≤ length (now out)) × ((s : List ℕ) → slotOfNumber (locksOf (now w) s .entries) param < 16) ⌝ }
+pub fn async_initialize(w: &mut Words, out: &mut [u8], c: u64, param: u32, len: u64) -> Delivery
+    requires { ⌜ (c < connectionLimit) × (len ≤ payloadLimit) × (outputMinimum ≤ length (now out)) × ((s : List ℕ) → slotOfNumber (locksOf (now w) s .entries) param < sessionLimit) ⌝ }
     ensures { λ r. ⌜ ((s : List ℕ) → Did (finish (view (memory (now (w .entry)) s)) (opens false (view (memory (now (w .entry)) s)) c (record { kind = 17; code = 0; param = param; len = len }))) r (memory (now (w .entry)) s) (memory (now (w .exit)) s) (now (out .entry)) (now (out .exit))) ⌝ }
 {
     let i = search::slot_of_number(w, param as u64);
@@ -95,14 +91,14 @@ pub fn async_initialize(
 
 // A message that acts on a connection without a role: Initialize by its kind, else AsyncInitialize.
 pub fn act_opening(
-    w: &mut [u64; 235],
+    w: &mut Words,
     out: &mut [u8],
     c: u64,
     kind: u8,
     param: u32,
     len: u64,
 ) -> Delivery
-    requires { ⌜ (c < 32) × (len ≤ 1024) × (2048 ≤ length (now out)) × ((s : List ℕ) → kind ≡ 0 → slotOfNumber (locksOf (now w) s .entries) 0 < 16) × ((s : List ℕ) → (kind ≡ 0 → ⊥) → slotOfNumber (locksOf (now w) s .entries) param < 16) ⌝ }
+    requires { ⌜ (c < connectionLimit) × (len ≤ payloadLimit) × (outputMinimum ≤ length (now out)) × ((s : List ℕ) → kind ≡ 0 → slotOfNumber (locksOf (now w) s .entries) 0 < sessionLimit) × ((s : List ℕ) → (kind ≡ 0 → ⊥) → slotOfNumber (locksOf (now w) s .entries) param < sessionLimit) ⌝ }
     ensures { λ r. ⌜ ((s p : List ℕ) (i code : ℕ) → Did (finish (view (memory (now (w .entry)) s)) (acts r-none (view (memory (now (w .entry)) s)) i c (record { kind = kind; code = code; param = param; len = len }) p)) r (memory (now (w .entry)) s) (memory (now (w .exit)) s) (now (out .entry)) (now (out .exit))) ⌝ }
 {
     if kind == types::INITIALIZE {

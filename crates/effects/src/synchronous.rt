@@ -11,15 +11,17 @@ ghost use Rattle.state.specs.View.{memory, view};
 ghost use lib.ListN.{length};
 ghost use mathlib.Core.List.{List};
 ghost use mathlib.Core.Path.{_≡_};
+ghost use Rattle.model.specs.Sizes.{connectionLimit, outputMinimum, payloadLimit, sessionLimit};
 use crate::Delivery;
 use crate::outcome;
+use state::sizes::Words;
 use state::tables;
 use wire::frame;
 use wire::types;
 
 // RMT-delivered (code 1) turns message available off.
-pub fn note_rmt(w: &mut [u64; 235], i: usize, code: u8)
-    requires { ⌜ i < 16 ⌝ }
+pub fn note_rmt(w: &mut Words, i: usize, code: u8)
+    requires { ⌜ i < sessionLimit ⌝ }
     ensures { λ _. ⌜ ((s : List ℕ) → view (memory (now (w .exit)) s) ≡ onRest (view (memory (now (w .entry)) s)) (withSlot i (noteRmt code))) ⌝ }
 {
     if code != 1 {
@@ -29,23 +31,23 @@ pub fn note_rmt(w: &mut [u64; 235], i: usize, code: u8)
 }
 
 // What is asked is this message.
-fn note_asked(w: &mut [u64; 235], i: usize, code: u8, param: u32)
-    requires { ⌜ i < 16 ⌝ }
+fn note_asked(w: &mut Words, i: usize, code: u8, param: u32)
+    requires { ⌜ i < sessionLimit ⌝ }
     ensures { λ _. ⌜ ((s : List ℕ) → view (memory (now (w .exit)) s) ≡ onRest (view (memory (now (w .entry)) s)) (withSlot i (ask code param))) ⌝ }
 {
     tables::set_exchange(w, i, tables::ASKED, param as u64 + 1);
     note_rmt(w, i, code);
 }
 
-fn leave_clear(w: &mut [u64; 235], i: usize)
-    requires { ⌜ i < 16 ⌝ }
+fn leave_clear(w: &mut Words, i: usize)
+    requires { ⌜ i < sessionLimit ⌝ }
     ensures { λ _. ⌜ ((s : List ℕ) → view (memory (now (w .exit)) s) ≡ onRest (view (memory (now (w .entry)) s)) (withSlot i leaveClear)) ⌝ }
 {
     tables::set_exchange(w, i, tables::IN_CLEAR, 0);
 }
 
 fn acted(session: u64, len: u64, output: u64) -> Delivery
-    requires { ⌜ len ≤ 1024 ⌝ }
+    requires { ⌜ len ≤ payloadLimit ⌝ }
     ensures { λ r. ⌜ r ≡ record { refusal = 0; outcome = 6; session = session; taken = 16 + len; output = output } ⌝ }
 {
     Delivery {
@@ -59,7 +61,7 @@ fn acted(session: u64, len: u64, output: u64) -> Delivery
 
 // A message of a kind that passed all checks acts.
 pub fn act_synchronous(
-    w: &mut [u64; 235],
+    w: &mut Words,
     out: &mut [u8],
     c: u64,
     i: usize,
@@ -68,7 +70,7 @@ pub fn act_synchronous(
     param: u32,
     len: u64,
 ) -> Delivery
-    requires { ⌜ (c < 32) × (i < 16) × (len ≤ 1024) × (2048 ≤ length (now out)) ⌝ }
+    requires { ⌜ (c < connectionLimit) × (i < sessionLimit) × (len ≤ payloadLimit) × (outputMinimum ≤ length (now out)) ⌝ }
     ensures { λ r. ⌜ ((s p : List ℕ) → Did (finish (view (memory (now (w .entry)) s)) (acts r-synchronous (view (memory (now (w .entry)) s)) i c (record { kind = kind; code = code; param = param; len = len }) p)) r (memory (now (w .entry)) s) (memory (now (w .exit)) s) (now (out .entry)) (now (out .exit))) ⌝ }
 {
     let session = tables::entry(w, i, tables::NUMBER);

@@ -1,8 +1,11 @@
 // The examples in the paper's order, each under its own words.
 ghost use Prim.Native.Nat.{_≤_};
 ghost use lib.ListN.{length};
+ghost use Rattle.model.specs.Sizes.{stringLimit};
 use crate::calls;
 use crate::text;
+use state::sizes::Strings;
+use state::sizes::Words;
 
 fn heading(example: &[u8]) {
     text::say(b"\n");
@@ -11,31 +14,25 @@ fn heading(example: &[u8]) {
 }
 
 // A fresh server, vendor "AA".
-fn fresh(words: &mut [u64; 235], strings: &mut [u8; 1088], example: &[u8]) {
+fn fresh(words: &mut Words, strings: &mut Strings, example: &[u8]) {
     heading(example);
     server::hislip_new(words, strings, 0x4141);
 }
 
 // The same with session A, on connections 0 and 1.
-fn with_a(words: &mut [u64; 235], strings: &mut [u8; 1088], example: &[u8]) {
+fn with_a(words: &mut Words, strings: &mut Strings, example: &[u8]) {
     fresh(words, strings, example);
     calls::session(words, strings, b"A", 0, 1);
 }
 
 // The same with session B too, on connections 2 and 3.
-fn with_a_and_b(words: &mut [u64; 235], strings: &mut [u8; 1088], example: &[u8]) {
+fn with_a_and_b(words: &mut Words, strings: &mut Strings, example: &[u8]) {
     with_a(words, strings, example);
     calls::session(words, strings, b"B", 2, 3);
 }
 
 // Data with a payload of so many bytes, all 7.
-fn long_data(
-    words: &mut [u64; 235],
-    strings: &mut [u8; 1088],
-    what: &[u8],
-    param: u32,
-    count: usize,
-)
+fn long_data(words: &mut Words, strings: &mut Strings, what: &[u8], param: u32, count: usize)
     requires { ⌜ count ≤ 1025 ⌝ }
 {
     let mut frame = [7; 1042];
@@ -46,38 +43,38 @@ fn long_data(
 
 // AsyncLock: a request with a timeout and a string.
 fn lock(
-    words: &mut [u64; 235],
-    strings: &mut [u8; 1088],
+    words: &mut Words,
+    strings: &mut Strings,
     connection: u32,
     what: &[u8],
     timeout: u32,
     string: &[u8],
 )
-    requires { ⌜ length (now string) ≤ 64 ⌝ }
+    requires { ⌜ length (now string) ≤ stringLimit ⌝ }
 {
     calls::send(words, strings, connection, what, 4, 1, timeout, string);
 }
 
-fn exclusive_for_a(words: &mut [u64; 235], strings: &mut [u8; 1088]) {
+fn exclusive_for_a(words: &mut Words, strings: &mut Strings) {
     lock(words, strings, 1, b"A exclusive", 0, b"");
 }
 
 // AsyncLock: A's release. It names fffffefe, for A has sent no message yet.
-fn release(words: &mut [u64; 235], strings: &mut [u8; 1088]) {
+fn release(words: &mut Words, strings: &mut Strings) {
     calls::send(words, strings, 1, b"A releases", 4, 0, 0xfffffefe, b"");
 }
 
-fn three_releases(words: &mut [u64; 235], strings: &mut [u8; 1088]) {
+fn three_releases(words: &mut Words, strings: &mut Strings) {
     release(words, strings);
     release(words, strings);
     release(words, strings);
 }
 
-fn data_of_b(words: &mut [u64; 235], strings: &mut [u8; 1088]) {
+fn data_of_b(words: &mut Words, strings: &mut Strings) {
     calls::send(words, strings, 2, b"B's Data", 6, 0, 0xffffff00, b"cal");
 }
 
-pub fn initialize(words: &mut [u64; 235], strings: &mut [u8; 1088]) {
+pub fn initialize(words: &mut Words, strings: &mut Strings) {
     fresh(
         words,
         strings,
@@ -87,7 +84,7 @@ pub fn initialize(words: &mut [u64; 235], strings: &mut [u8; 1088]) {
     calls::send(words, strings, 0, b"Initialize", 0, 0, 0x01004141, b"");
 }
 
-pub fn async_initialize(words: &mut [u64; 235], strings: &mut [u8; 1088]) {
+pub fn async_initialize(words: &mut Words, strings: &mut Strings) {
     heading(
         b"Then on connection 1 48 53 11 00 00 00 00 01 and eight zeros gives 01 48 53 12 00 00 00 41 41 and eight zeros.",
     );
@@ -95,13 +92,13 @@ pub fn async_initialize(words: &mut [u64; 235], strings: &mut [u8; 1088]) {
     calls::send(words, strings, 1, b"AsyncInitialize", 17, 0, 1, b"");
 }
 
-pub fn short_header(words: &mut [u64; 235], strings: &mut [u8; 1088]) {
+pub fn short_header(words: &mut Words, strings: &mut Strings) {
     with_a(words, strings, b"15 header bytes: more needed.");
     let header = b"HS\x06\x00\xff\xff\xff\x00\x00\x00\x00\x00\x00\x00\x00";
     calls::deliver(words, strings, 0, b"Data without its last byte", header);
 }
 
-pub fn wrong_prologue(words: &mut [u64; 235], strings: &mut [u8; 1088]) {
+pub fn wrong_prologue(words: &mut Words, strings: &mut Strings) {
     with_a(
         words,
         strings,
@@ -113,7 +110,7 @@ pub fn wrong_prologue(words: &mut [u64; 235], strings: &mut [u8; 1088]) {
     calls::deliver(words, strings, 9, b"without one", bytes);
 }
 
-pub fn lengths(words: &mut [u64; 235], strings: &mut [u8; 1088]) {
+pub fn lengths(words: &mut Words, strings: &mut Strings) {
     with_a(words, strings, b"Length 1,024 accepted, 1,025 Error 4.");
     long_data(words, strings, b"Data, 1,024", 0xffffff00, 1024);
     long_data(words, strings, b"Data, 1,025", 0xffffff02, 1025);
@@ -121,7 +118,7 @@ pub fn lengths(words: &mut [u64; 235], strings: &mut [u8; 1088]) {
     calls::deliver(words, strings, 0, b"its payload", &payload);
 }
 
-pub fn exclusive(words: &mut [u64; 235], strings: &mut [u8; 1088]) {
+pub fn exclusive(words: &mut Words, strings: &mut Strings) {
     with_a_and_b(
         words,
         strings,
@@ -132,7 +129,7 @@ pub fn exclusive(words: &mut [u64; 235], strings: &mut [u8; 1088]) {
     data_of_b(words, strings);
 }
 
-pub fn shared(words: &mut [u64; 235], strings: &mut [u8; 1088]) {
+pub fn shared(words: &mut Words, strings: &mut Strings) {
     with_a_and_b(
         words,
         strings,
@@ -147,7 +144,7 @@ pub fn shared(words: &mut [u64; 235], strings: &mut [u8; 1088]) {
     three_releases(words, strings);
 }
 
-pub fn deadline(words: &mut [u64; 235], strings: &mut [u8; 1088]) {
+pub fn deadline(words: &mut Words, strings: &mut Strings) {
     with_a_and_b(
         words,
         strings,
@@ -160,7 +157,7 @@ pub fn deadline(words: &mut [u64; 235], strings: &mut [u8; 1088]) {
     calls::clock(words, strings, 1500);
 }
 
-pub fn status(words: &mut [u64; 235], strings: &mut [u8; 1088]) {
+pub fn status(words: &mut Words, strings: &mut Strings) {
     with_a(words, strings, b"Status 41 hex with an answer sent: 51.");
     calls::status(words, strings, 0x41);
     calls::send(words, strings, 0, b"A asks", 7, 0, 0xffffff00, b"READ?");
@@ -168,7 +165,7 @@ pub fn status(words: &mut [u64; 235], strings: &mut [u8; 1088]) {
     calls::send(words, strings, 1, b"status query", 21, 0, 0xffffff00, b"");
 }
 
-pub fn other_types(words: &mut [u64; 235], strings: &mut [u8; 1088]) {
+pub fn other_types(words: &mut Words, strings: &mut Strings) {
     with_a(words, strings, b"Type 39: Error 1; type 128: Error 3.");
     calls::send(words, strings, 0, b"type 39", 39, 0, 0, b"");
     calls::send(words, strings, 0, b"type 128", 128, 0, 0, b"");

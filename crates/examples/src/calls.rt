@@ -1,9 +1,12 @@
 // One call of the server, then its answer and its output in words.
 ghost use Prim.Native.Nat.{_≤_};
 ghost use lib.ListN.{length};
+ghost use Rattle.model.specs.Sizes.{payloadLimit};
 use crate::text;
 use effects::Delivery;
 use server::Done;
+use state::sizes::Strings;
+use state::sizes::Words;
 
 fn accepted(refusal: u64) {
     if refusal == 0 {
@@ -48,7 +51,7 @@ fn told(answer: Delivery) {
     text::say(b" taken\n");
 }
 
-pub fn open(words: &mut [u64; 235], strings: &mut [u8; 1088], connection: u32) {
+pub fn open(words: &mut Words, strings: &mut Strings, connection: u32) {
     text::say_number(b"  open ", connection as u64);
     let answer = server::hislip_open(words, strings, connection);
     done(answer, b"");
@@ -64,8 +67,8 @@ fn asked(connection: u32, what: &[u8], bytes: &[u8]) {
 }
 
 pub fn deliver(
-    words: &mut [u64; 235],
-    strings: &mut [u8; 1088],
+    words: &mut Words,
+    strings: &mut Strings,
     connection: u32,
     what: &[u8],
     bytes: &[u8],
@@ -79,8 +82,8 @@ pub fn deliver(
 
 // A message of a client: it is written as a frame, and what follows the connection number is delivered.
 pub fn send(
-    words: &mut [u64; 235],
-    strings: &mut [u8; 1088],
+    words: &mut Words,
+    strings: &mut Strings,
     connection: u32,
     what: &[u8],
     kind: u8,
@@ -88,7 +91,7 @@ pub fn send(
     param: u32,
     payload: &[u8],
 )
-    requires { ⌜ length (now payload) ≤ 1024 ⌝ }
+    requires { ⌜ length (now payload) ≤ payloadLimit ⌝ }
 {
     let mut frame = [0; 1041];
     wire::frame::put_message(&mut frame, 0, 0, kind, code, param, payload);
@@ -96,21 +99,21 @@ pub fn send(
     deliver(words, strings, connection, what, &frame[1..end]);
 }
 
-pub fn clock(words: &mut [u64; 235], strings: &mut [u8; 1088], milliseconds: u64) {
+pub fn clock(words: &mut Words, strings: &mut Strings, milliseconds: u64) {
     text::say_number(b"  clock ", milliseconds);
     let mut out = [0; 2048];
     let answer = server::hislip_clock(words, strings, milliseconds, &mut out);
     done(answer, &out);
 }
 
-pub fn status(words: &mut [u64; 235], strings: &mut [u8; 1088], byte: u8) {
+pub fn status(words: &mut Words, strings: &mut Strings, byte: u8) {
     text::say_byte(b"  status ", byte);
     text::say(b"\n");
     server::hislip_status(words, strings, byte);
 }
 
 // The instrument answers a session, with END.
-pub fn answer(words: &mut [u64; 235], strings: &mut [u8; 1088], session: u32, payload: &[u8]) {
+pub fn answer(words: &mut Words, strings: &mut Strings, session: u32, payload: &[u8]) {
     text::say_number(b"  answer ", session as u64);
     text::say(b" with END, bytes");
     text::bytes(payload);
@@ -129,13 +132,7 @@ fn opened(name: &[u8], connection: u32, other: u32, session: u64) {
 }
 
 // A session opens on two connections; the first two examples show it in full.
-pub fn session(
-    words: &mut [u64; 235],
-    strings: &mut [u8; 1088],
-    name: &[u8],
-    connection: u32,
-    other: u32,
-) {
+pub fn session(words: &mut Words, strings: &mut Strings, name: &[u8], connection: u32, other: u32) {
     let mut out = [0; 2048];
     server::hislip_open(words, strings, connection);
     server::hislip_open(words, strings, other);

@@ -3,9 +3,11 @@ mod bench;
 mod calls;
 mod text;
 
+use state::sizes;
+
 fn main() {
-    let mut words = [0; 235];
-    let mut strings = [0; 1088];
+    let mut words = [0; sizes::WORDS];
+    let mut strings = [0; sizes::STRINGS];
     text::say(b"Bench examples, vendor \"AA\"\n");
     bench::initialize(&mut words, &mut strings);
     bench::async_initialize(&mut words, &mut strings);

@@ -7,13 +7,15 @@ ghost use Rattle.wire.specs.Splice.{splice};
 ghost use lib.ListN.{length};
 ghost use mathlib.Core.List.{List};
 ghost use mathlib.Core.Path.{_≡_};
+ghost use Rattle.model.specs.Sizes.{sessionLimit};
+use state::sizes::Words;
 use state::tables;
 use wire::frame;
 use wire::types;
 
 // An answer (type 5) to the asynchronous connection of slot i.
-pub fn put_answer(w: &[u64; 235], out: &mut [u8], at: usize, i: usize, code: u8) -> usize
-    requires { ⌜ (i < 16) × (at + 17 ≤ length (now out)) ⌝ }
+pub fn put_answer(w: &Words, out: &mut [u8], at: usize, i: usize, code: u8) -> usize
+    requires { ⌜ (i < sessionLimit) × (at + 17 ≤ length (now out)) ⌝ }
     ensures { λ r. ⌜ (r ≡ at + 17) × ((s : List ℕ) → now (out .exit) ≡ splice (now (out .entry)) at (frameBytes (answerFrame (locksOf (now (w .entry)) s .entries) i code))) ⌝ }
 {
     let c = (tables::entry(w, i, tables::ASYNCHRONOUS) % 256) as u8;

@@ -6,14 +6,11 @@ ghost use Rattle.state.specs.View.{locksOf, memory};
 ghost use lib.ListN.{length};
 use crate::granting;
 use state::requests;
+use state::sizes::Strings;
+use state::sizes::Words;
 
 // Oldest first, each that may be granted is, and is told; the others go on waiting.
-pub fn grant_waiting(
-    w: &mut [u64; 235],
-    strings: &mut [u8; 1088],
-    out: &mut [u8],
-    start: usize,
-) -> usize
+pub fn grant_waiting(w: &mut Words, strings: &mut Strings, out: &mut [u8], start: usize) -> usize
     requires { ⌜ start + 272 ≤ length (now out) ⌝ }
     ensures { λ r. ⌜ Met (grantPass (locksOf (now (w .entry)) (now (strings .entry)))) (memory (now (w .entry)) (now (strings .entry))) (memory (now (w .exit)) (now (strings .exit))) (now (out .entry)) (now (out .exit)) start r ⌝ }
 {

@@ -8,21 +8,25 @@ ghost use Rattle.state.specs.View.{locksOf, memory, view};
 ghost use lib.ListN.{length};
 ghost use mathlib.Core.Bool.{true};
 ghost use mathlib.Core.Path.{_≡_};
+ghost use Rattle.model.specs.Sizes.{sessionLimit, stringLimit};
+ghost use Rattle.state.specs.Layout.{STRINGS};
 use crate::answers::put_answer;
 use state::holders;
 use state::requests;
+use state::sizes::Strings;
+use state::sizes::Words;
 
 // The length of the string of slot i's request; 0 asks for the exclusive lock.
-fn asked_length(w: &[u64; 235], strings: &[u8], i: usize) -> usize
-    requires { ⌜ (i < 16) × (length (now strings) ≡ 1088) ⌝ }
-    ensures { λ r. ⌜ (r ≤ 64) × (r ≡ length (stringAt (now (w .entry)) (now (strings .entry)) i)) ⌝ }
+fn asked_length(w: &Words, strings: &[u8], i: usize) -> usize
+    requires { ⌜ (i < sessionLimit) × (length (now strings) ≡ STRINGS) ⌝ }
+    ensures { λ r. ⌜ (r ≤ stringLimit) × (r ≡ length (stringAt (now (w .entry)) (now (strings .entry)) i)) ⌝ }
 {
     requests::string_length(w, i)
 }
 
 // May the request of slot i be granted?
-pub fn may_grant(w: &[u64; 235], strings: &[u8; 1088], i: usize) -> bool
-    requires { ⌜ i < 16 ⌝ }
+pub fn may_grant(w: &Words, strings: &Strings, i: usize) -> bool
+    requires { ⌜ i < sessionLimit ⌝ }
     ensures { λ r. ⌜ mayGrant (locksOf (now (w .entry)) (now (strings .entry)) .entries) i (stringAt (now (w .entry)) (now (strings .entry)) i) ≡ r ⌝ }
 {
     if !holders::no_other_exclusive(w, i) {
@@ -41,8 +45,8 @@ pub fn may_grant(w: &[u64; 235], strings: &[u8; 1088], i: usize) -> bool
 }
 
 // Slot i gets the lock that its request asks for.
-pub fn grant(w: &mut [u64; 235], strings: &mut [u8; 1088], i: usize)
-    requires { ⌜ (i < 16) × (mayGrant (locksOf (now w) (now strings) .entries) i (stringAt (now w) (now strings) i) ≡ true) ⌝ }
+pub fn grant(w: &mut Words, strings: &mut Strings, i: usize)
+    requires { ⌜ (i < sessionLimit) × (mayGrant (locksOf (now w) (now strings) .entries) i (stringAt (now w) (now strings) i) ≡ true) ⌝ }
     ensures { λ _. ⌜ view (memory (now (w .exit)) (now (strings .exit))) ≡ onEntry (view (memory (now (w .entry)) (now (strings .entry)))) i (give (stringAt (now (w .entry)) (now (strings .entry)) i)) ⌝ }
 {
     let n = asked_length(w, strings, i);
@@ -55,13 +59,13 @@ pub fn grant(w: &mut [u64; 235], strings: &mut [u8; 1088], i: usize)
 
 // Slot i gets the lock that its request asks for, and is told (1).
 pub fn grant_and_answer(
-    w: &mut [u64; 235],
-    strings: &mut [u8; 1088],
+    w: &mut Words,
+    strings: &mut Strings,
     out: &mut [u8],
     at: usize,
     i: usize,
 ) -> usize
-    requires { ⌜ (i < 16) × (at + 17 ≤ length (now out)) × (mayGrant (locksOf (now w) (now strings) .entries) i (stringAt (now w) (now strings) i) ≡ true) ⌝ }
+    requires { ⌜ (i < sessionLimit) × (at + 17 ≤ length (now out)) × (mayGrant (locksOf (now w) (now strings) .entries) i (stringAt (now w) (now strings) i) ≡ true) ⌝ }
     ensures { λ r. ⌜ Granted i (now (w .entry)) (now (w .exit)) (now (strings .entry)) (now (strings .exit)) (now (out .entry)) (now (out .exit)) at r ⌝ }
 {
     let r = put_answer(w, out, at, i, 1);

@@ -8,10 +8,13 @@ ghost use Rattle.state.specs.View.{locksOf};
 ghost use mathlib.Core.Bool.{cond};
 ghost use mathlib.Core.List.{List};
 ghost use mathlib.Core.Path.{_≡_};
+ghost use Rattle.model.specs.Sizes.{sessionLimit};
 use state::holders;
+use state::sizes::SESSION_LIMIT;
+use state::sizes::Words;
 
 // The control code: 1 if the exclusive lock is held.
-pub fn exclusive_code(w: &[u64; 235]) -> u8
+pub fn exclusive_code(w: &Words) -> u8
     ensures { λ r. ⌜ ((s : List ℕ) → cond (all noExclusive (locksOf (now (w .entry)) s .entries)) 0 1 ≡ r) ⌝ }
 {
     if holders::nobody_exclusive(w) {
@@ -20,8 +23,8 @@ pub fn exclusive_code(w: &[u64; 235]) -> u8
     1
 }
 
-fn holds_any(w: &[u64; 235], i: usize) -> bool
-    requires { ⌜ i < 16 ⌝ }
+fn holds_any(w: &Words, i: usize) -> bool
+    requires { ⌜ i < sessionLimit ⌝ }
     ensures { λ r. ⌜ ((s : List ℕ) → holder (at (locksOf (now (w .entry)) s .entries) i) ≡ r) ⌝ }
 {
     if holders::is_exclusive(w, i) {
@@ -31,12 +34,12 @@ fn holds_any(w: &[u64; 235], i: usize) -> bool
 }
 
 // The parameter: the sessions that hold any lock, each once.
-pub fn holder_count(w: &[u64; 235]) -> u32
-    ensures { λ r. ⌜ (r ≤ 16) × ((s : List ℕ) → tally holder (locksOf (now (w .entry)) s .entries) ≡ r) ⌝ }
+pub fn holder_count(w: &Words) -> u32
+    ensures { λ r. ⌜ (r ≤ sessionLimit) × ((s : List ℕ) → tally holder (locksOf (now (w .entry)) s .entries) ≡ r) ⌝ }
 {
     let mut n: u32 = 0;
     let mut k = 0;
-    while k < 16 {
+    while k < SESSION_LIMIT {
         if holds_any(w, k) {
             n += 1;
         }

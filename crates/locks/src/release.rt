@@ -6,12 +6,14 @@ ghost use Rattle.model.specs.Locks.{change};
 ghost use Rattle.state.specs.View.{locksOf, memory};
 ghost use lib.ListN.{length};
 ghost use mathlib.Core.List.{List};
+ghost use Rattle.model.specs.Sizes.{sessionLimit};
 use crate::answers::put_answer;
 use state::holders;
+use state::sizes::Words;
 
 // A release frees the exclusive lock first (1), then the shared one (2); with none held the answer is 3.
-pub fn release_lock(w: &mut [u64; 235], out: &mut [u8], at: usize, i: usize) -> usize
-    requires { ⌜ (i < 16) × (at + 17 ≤ length (now out)) ⌝ }
+pub fn release_lock(w: &mut Words, out: &mut [u8], at: usize, i: usize) -> usize
+    requires { ⌜ (i < sessionLimit) × (at + 17 ≤ length (now out)) ⌝ }
     ensures { λ r. ⌜ ((s : List ℕ) → Met (change (locksOf (now (w .entry)) s) (release i)) (memory (now (w .entry)) s) (memory (now (w .exit)) s) (now (out .entry)) (now (out .exit)) at r) ⌝ }
 {
     if holders::is_exclusive(w, i) {

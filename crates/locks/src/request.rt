@@ -13,15 +13,20 @@ ghost use lib.ListN.{length};
 ghost use mathlib.Core.Bool.{_||_, true};
 ghost use mathlib.Core.List.{List};
 ghost use mathlib.Core.Path.{_≡_};
+ghost use Rattle.model.specs.Sizes.{sessionLimit};
 use crate::answers::put_answer;
 use crate::granting;
 use state::holders;
 use state::requests;
+use state::sizes::SESSION_LIMIT;
+use state::sizes::STRING_LIMIT;
+use state::sizes::Strings;
+use state::sizes::Words;
 use state::tables;
 
 // Does slot i hold the kind that a string of n bytes asks for?
-fn holds_kind(w: &[u64; 235], i: usize, n: usize) -> bool
-    requires { ⌜ i < 16 ⌝ }
+fn holds_kind(w: &Words, i: usize, n: usize) -> bool
+    requires { ⌜ i < sessionLimit ⌝ }
     ensures { λ r. ⌜ ((s k : List ℕ) → length k ≡ n → holds k (at (locksOf (now (w .entry)) s .entries) i) ≡ r) ⌝ }
 {
     if n == 0 {
@@ -31,7 +36,7 @@ fn holds_kind(w: &[u64; 235], i: usize, n: usize) -> bool
 }
 
 // Does no request of slot i wait?
-fn is_idle(w: &[u64; 235], i: usize) -> bool
+fn is_idle(w: &Words, i: usize) -> bool
     ensures { λ r. ⌜ ((s : List ℕ) → all (elsewhere i) (locksOf (now (w .entry)) s .waiting) ≡ r) ⌝ }
 {
     let n = requests::waiting_count(w);
@@ -46,11 +51,11 @@ fn is_idle(w: &[u64; 235], i: usize) -> bool
 }
 
 // Is a request with a string of n bytes answered 3?
-fn is_invalid(w: &[u64; 235], i: usize, n: usize) -> bool
-    requires { ⌜ i < 16 ⌝ }
+fn is_invalid(w: &Words, i: usize, n: usize) -> bool
+    requires { ⌜ i < sessionLimit ⌝ }
     ensures { λ r. ⌜ ((s k : List ℕ) → length k ≡ n → unable (locksOf (now (w .entry)) s) i k ≡ r) ⌝ }
 {
-    if n > 64 {
+    if n > STRING_LIMIT {
         return true;
     }
     if holds_kind(w, i, n) {
@@ -60,25 +65,25 @@ fn is_invalid(w: &[u64; 235], i: usize, n: usize) -> bool
 }
 
 // Can a request not wait?
-fn cannot_wait(w: &[u64; 235], timeout: u32) -> bool
+fn cannot_wait(w: &Words, timeout: u32) -> bool
     ensures { λ r. ⌜ ((s : List ℕ) → (eqb timeout 0 || noPlace (locksOf (now (w .entry)) s .waiting)) ≡ r) ⌝ }
 {
     if timeout == 0 {
         return true;
     }
-    requests::waiting_count(w) >= 16
+    requests::waiting_count(w) >= SESSION_LIMIT
 }
 
 // The request of slot i, its string laid: 1 if it may be granted, 0 if it cannot wait, else it waits until the clock and the timeout.
 fn decide(
-    w: &mut [u64; 235],
-    strings: &mut [u8; 1088],
+    w: &mut Words,
+    strings: &mut Strings,
     out: &mut [u8],
     at: usize,
     i: usize,
     timeout: u32,
 ) -> usize
-    requires { ⌜ (i < 16) × (at + 17 ≤ length (now out)) × (all (elsewhere i) (locksOf (now w) (now strings) .waiting) ≡ true) ⌝ }
+    requires { ⌜ (i < sessionLimit) × (at + 17 ≤ length (now out)) × (all (elsewhere i) (locksOf (now w) (now strings) .waiting) ≡ true) ⌝ }
     ensures { λ r. ⌜ Met (decided (locksOf (now (w .entry)) (now (strings .entry))) i timeout (stringAt (now (w .entry)) (now (strings .entry)) i)) (memory (now (w .entry)) (now (strings .entry))) (memory (now (w .exit)) (now (strings .exit))) (now (out .entry)) (now (out .exit)) at r ⌝ }
 {
     if granting::may_grant(w, strings, i) {
@@ -94,15 +99,15 @@ fn decide(
 
 // A request of slot i. The order of the answers is the rule's: 3, 1, 0, or it waits.
 pub fn request_lock(
-    w: &mut [u64; 235],
-    strings: &mut [u8; 1088],
+    w: &mut Words,
+    strings: &mut Strings,
     out: &mut [u8],
     at: usize,
     i: usize,
     timeout: u32,
     string: &[u8],
 ) -> usize
-    requires { ⌜ (i < 16) × (at + 17 ≤ length (now out)) ⌝ }
+    requires { ⌜ (i < sessionLimit) × (at + 17 ≤ length (now out)) ⌝ }
     ensures { λ r. ⌜ Met (change (locksOf (now (w .entry)) (now (strings .entry))) (request i timeout (now (string .entry)))) (memory (now (w .entry)) (now (strings .entry))) (memory (now (w .exit)) (now (strings .exit))) (now (out .entry)) (now (out .exit)) at r ⌝ }
 {
     if is_invalid(w, i, string.len()) {

@@ -8,15 +8,17 @@ ghost use Rattle.state.specs.Change.{onEntry};
 ghost use Rattle.state.specs.View.{locksOf, memory, view};
 ghost use mathlib.Core.List.{List};
 ghost use mathlib.Core.Path.{_≡_};
+ghost use Rattle.model.specs.Sizes.{sessionLimit};
 use crate::waiting::drop_request;
 use state::holders;
+use state::sizes::Words;
 use state::tables;
 
 // No connection.
 const NONE: u64 = 255;
 
-fn renew(w: &mut [u64; 235], i: usize, n: u64, a: u64, b: u64)
-    requires { ⌜ (i < 16) × (a < 256) × (b < 256) ⌝ }
+fn renew(w: &mut Words, i: usize, n: u64, a: u64, b: u64)
+    requires { ⌜ (i < sessionLimit) × (a < 256) × (b < 256) ⌝ }
     ensures { λ _. ⌜ ((s : List ℕ) → view (memory (now (w .exit)) s) ≡ onEntry (view (memory (now (w .entry)) s)) i (λ e. slotOf n a b)) ⌝ }
 {
     tables::set_entry(w, i, tables::NUMBER, n);
@@ -27,24 +29,24 @@ fn renew(w: &mut [u64; 235], i: usize, n: u64, a: u64, b: u64)
 }
 
 // Session n opens in slot i over connection c.
-pub fn enter_slot(w: &mut [u64; 235], i: usize, n: u64, c: u64)
-    requires { ⌜ (i < 16) × (c < 256) ⌝ }
+pub fn enter_slot(w: &mut Words, i: usize, n: u64, c: u64)
+    requires { ⌜ (i < sessionLimit) × (c < 256) ⌝ }
     ensures { λ _. ⌜ ((s : List ℕ) → Quiet (change (locksOf (now (w .entry)) s) (enter i n c)) (memory (now (w .entry)) s) (memory (now (w .exit)) s)) ⌝ }
 {
     renew(w, i, n, c, NONE);
 }
 
 // Connection c is the second of slot i.
-pub fn join_slot(w: &mut [u64; 235], i: usize, c: u64)
-    requires { ⌜ (i < 16) × (c < 256) ⌝ }
+pub fn join_slot(w: &mut Words, i: usize, c: u64)
+    requires { ⌜ (i < sessionLimit) × (c < 256) ⌝ }
     ensures { λ _. ⌜ ((s : List ℕ) → Quiet (change (locksOf (now (w .entry)) s) (join i c)) (memory (now (w .entry)) s) (memory (now (w .exit)) s)) ⌝ }
 {
     tables::set_entry(w, i, tables::ASYNCHRONOUS, c);
 }
 
 // The session of slot i closes: its locks and its waiting request go, and nobody is told.
-pub fn close_slot(w: &mut [u64; 235], i: usize)
-    requires { ⌜ i < 16 ⌝ }
+pub fn close_slot(w: &mut Words, i: usize)
+    requires { ⌜ i < sessionLimit ⌝ }
     ensures { λ _. ⌜ ((s : List ℕ) → Quiet (change (locksOf (now (w .entry)) s) (close i)) (memory (now (w .entry)) s) (memory (now (w .exit)) s)) ⌝ }
 {
     renew(w, i, 0, NONE, NONE);

@@ -10,26 +10,29 @@ ghost use Rattle.state.specs.View.{locksOf, memory, requestAt, view};
 ghost use lib.ListN.{length};
 ghost use mathlib.Core.List.{List};
 ghost use mathlib.Core.Path.{_≡_};
+ghost use Rattle.model.specs.Sizes.{sessionLimit};
 use crate::answers::put_answer;
 use state::requests;
+use state::sizes::SESSION_LIMIT;
+use state::sizes::Words;
 use state::tables;
 
 // Stands for no slot.
-const NO_SLOT: usize = 16;
+const NO_SLOT: usize = SESSION_LIMIT;
 
 // Does the request of slot x stay? With a slot i, where x is another; with none, where its deadline is past t.
-fn may_stay(w: &[u64; 235], x: usize, i: usize, t: u64) -> bool
-    requires { ⌜ x < 16 ⌝ }
+fn may_stay(w: &Words, x: usize, i: usize, t: u64) -> bool
+    requires { ⌜ x < sessionLimit ⌝ }
     ensures { λ r. ⌜ ((s : List ℕ) → stays i t (requestAt (now (w .entry)) s x) ≡ r) ⌝ }
 {
-    if i < 16 {
+    if i < SESSION_LIMIT {
         return x != i;
     }
     requests::deadline_of(w, x) > t
 }
 
 // Those that do not stay are answered 0, oldest first.
-fn answer_leaving(w: &[u64; 235], out: &mut [u8], start: usize, i: usize, t: u64) -> usize
+fn answer_leaving(w: &Words, out: &mut [u8], start: usize, i: usize, t: u64) -> usize
     requires { ⌜ start + 272 ≤ length (now out) ⌝ }
     ensures { λ r. ⌜ ((s : List ℕ) → ends (refuse (locksOf (now (w .entry)) s .entries) (stays i t) (locksOf (now (w .entry)) s .waiting)) (now (out .entry)) start ≡ spot (now (out .exit)) r) ⌝ }
 {
@@ -47,7 +50,7 @@ fn answer_leaving(w: &[u64; 235], out: &mut [u8], start: usize, i: usize, t: u64
 }
 
 // Those that stay go on waiting, in their order.
-fn keep_staying(w: &mut [u64; 235], i: usize, t: u64)
+fn keep_staying(w: &mut Words, i: usize, t: u64)
     ensures { λ _. ⌜ ((s : List ℕ) → view (memory (now (w .exit)) s) ≡ onWaiting (view (memory (now (w .entry)) s)) (keep (stays i t))) ⌝ }
 {
     let n = requests::waiting_count(w);
@@ -65,7 +68,7 @@ fn keep_staying(w: &mut [u64; 235], i: usize, t: u64)
 }
 
 // What does not stay is answered 0 and leaves the queue.
-fn sweep(w: &mut [u64; 235], out: &mut [u8], at: usize, i: usize, t: u64) -> usize
+fn sweep(w: &mut Words, out: &mut [u8], at: usize, i: usize, t: u64) -> usize
     requires { ⌜ at + 272 ≤ length (now out) ⌝ }
     ensures { λ r. ⌜ ((s : List ℕ) → Met (swept (locksOf (now (w .entry)) s) i t) (memory (now (w .entry)) s) (memory (now (w .exit)) s) (now (out .entry)) (now (out .exit)) at r) ⌝ }
 {
@@ -79,15 +82,15 @@ fn sweep(w: &mut [u64; 235], out: &mut [u8], at: usize, i: usize, t: u64) -> usi
 }
 
 // A device clear: the request of slot i is answered 0.
-pub fn clear_request(w: &mut [u64; 235], out: &mut [u8], at: usize, i: usize) -> usize
-    requires { ⌜ (i < 16) × (at + 272 ≤ length (now out)) ⌝ }
+pub fn clear_request(w: &mut Words, out: &mut [u8], at: usize, i: usize) -> usize
+    requires { ⌜ (i < sessionLimit) × (at + 272 ≤ length (now out)) ⌝ }
     ensures { λ r. ⌜ ((s : List ℕ) → Met (change (locksOf (now (w .entry)) s) (clear i)) (memory (now (w .entry)) s) (memory (now (w .exit)) s) (now (out .entry)) (now (out .exit)) at r) ⌝ }
 {
     sweep(w, out, at, i, 0)
 }
 
 // The clock reads t: a request whose deadline is t or before is answered 0.
-pub fn expire(w: &mut [u64; 235], out: &mut [u8], at: usize, t: u64) -> usize
+pub fn expire(w: &mut Words, out: &mut [u8], at: usize, t: u64) -> usize
     requires { ⌜ (t < 9223372036854775808) × (at + 272 ≤ length (now out)) ⌝ }
     ensures { λ r. ⌜ ((s : List ℕ) → Met (change (locksOf (now (w .entry)) s) (reading t)) (memory (now (w .entry)) s) (memory (now (w .exit)) s) (now (out .entry)) (now (out .exit)) at r) ⌝ }
 {
@@ -96,8 +99,8 @@ pub fn expire(w: &mut [u64; 235], out: &mut [u8], at: usize, t: u64) -> usize
 }
 
 // The request of slot i leaves the queue unanswered.
-pub fn drop_request(w: &mut [u64; 235], i: usize)
-    requires { ⌜ i < 16 ⌝ }
+pub fn drop_request(w: &mut Words, i: usize)
+    requires { ⌜ i < sessionLimit ⌝ }
     ensures { λ _. ⌜ ((s : List ℕ) → view (memory (now (w .exit)) s) ≡ onWaiting (view (memory (now (w .entry)) s)) (keep (elsewhere i))) ⌝ }
 {
     keep_staying(w, i, 0);

@@ -14,8 +14,11 @@ ghost use Rattle.state.specs.View.{locksOf, memory, restOf, view};
 ghost use lib.ListN.{length};
 ghost use mathlib.Core.List.{List};
 ghost use mathlib.Core.Path.{_≡_};
+ghost use Rattle.model.specs.Sizes.{connectionLimit, outputMinimum, payloadLimit, sessionLimit};
 use checks::verdict::ACTS;
 use checks::verdict::CLOSED;
+use checks::verdict::ERROR_0;
+use checks::verdict::FATAL_0;
 use checks::verdict::HELD;
 use checks::verdict::IGNORED;
 use checks::whole;
@@ -26,6 +29,9 @@ use effects::outcome;
 use effects::replies;
 use effects::synchronous;
 use state::search;
+use state::sizes::PAYLOAD;
+use state::sizes::Strings;
+use state::sizes::Words;
 use state::tables;
 use wire::reading;
 
@@ -44,8 +50,8 @@ fn quiet(outcome: u64, taken: u64) -> Delivery
 // What a verdict other than "acts" does: so many bytes are taken, and so many are left to skip. Callers take the answer into a local: it is
 // written to memory by this call, and a delivery that acts keeps its own in registers.
 fn apply(
-    w: &mut [u64; 235],
-    strings: &mut [u8; 1088],
+    w: &mut Words,
+    strings: &mut Strings,
     out: &mut [u8],
     c: u64,
     i: usize,
@@ -53,14 +59,14 @@ fn apply(
     taken: u64,
     left: u64,
 ) -> Delivery
-    requires { ⌜ (c < 32) × (2048 ≤ length (now out)) × ((s : List ℕ) → slotIn (locksOf (now w) s .entries) c ≡ i) × (v ≡ 5 → ⊥) ⌝ }
+    requires { ⌜ (c < connectionLimit) × (outputMinimum ≤ length (now out)) × ((s : List ℕ) → slotIn (locksOf (now w) s .entries) c ≡ i) × (v ≡ 5 → ⊥) ⌝ }
     ensures { λ r. ⌜ ((ro : Role) (x : Scan) → size x ≡ taken → leftover x ≡ left → Did (finish (view (memory (now (w .entry)) (now (strings .entry)))) (effect (verdictOf v) x ro (view (memory (now (w .entry)) (now (strings .entry)))) i c)) r (memory (now (w .entry)) (now (strings .entry))) (memory (now (w .exit)) (now (strings .exit))) (now (out .entry)) (now (out .exit))) ⌝ }
 {
-    if v >= 32 {
-        return replies::send_fatal(w, strings, out, c, i, v - 32);
+    if v >= FATAL_0 {
+        return replies::send_fatal(w, strings, out, c, i, v - FATAL_0);
     }
-    if v >= 16 {
-        return replies::send_error(w, out, c, v - 16, taken, left);
+    if v >= ERROR_0 {
+        return replies::send_error(w, out, c, v - ERROR_0, taken, left);
     }
     if v == CLOSED {
         return replies::close_silently(w, strings, out, c, i);
@@ -76,8 +82,8 @@ fn apply(
 
 // A message that passed all checks acts, by the role of its connection.
 fn act(
-    w: &mut [u64; 235],
-    strings: &mut [u8; 1088],
+    w: &mut Words,
+    strings: &mut Strings,
     out: &mut [u8],
     c: u64,
     i: usize,
@@ -88,13 +94,13 @@ fn act(
     len: u64,
     payload: &[u8],
 ) -> Delivery
-    requires { ⌜ (c < 32) × (len ≤ 1024) × (length (now payload) ≡ len) × (2048 ≤ length (now out)) × ((role ≡ 0 → ⊥) → i < 16) × ((s : List ℕ) (ro : Role) → roleNumber ro ≡ role → judged ro (view (memory (now w) s)) i (message kind code param len) (now payload) ≡ v-acts) ⌝ }
+    requires { ⌜ (c < connectionLimit) × (len ≤ payloadLimit) × (length (now payload) ≡ len) × (outputMinimum ≤ length (now out)) × ((role ≡ 0 → ⊥) → i < sessionLimit) × ((s : List ℕ) (ro : Role) → roleNumber ro ≡ role → judged ro (view (memory (now w) s)) i (message kind code param len) (now payload) ≡ v-acts) ⌝ }
     ensures { λ r. ⌜ ((ro : Role) → roleNumber ro ≡ role → Did (finish (view (memory (now (w .entry)) (now (strings .entry)))) (acts ro (view (memory (now (w .entry)) (now (strings .entry)))) i c (message kind code param len) (now (payload .entry)))) r (memory (now (w .entry)) (now (strings .entry))) (memory (now (w .exit)) (now (strings .exit))) (now (out .entry)) (now (out .exit))) ⌝ }
 {
-    if role == 2 {
+    if role == search::ON_SYNCHRONOUS {
         return synchronous::act_synchronous(w, out, c, i, kind, code, param, len);
     }
-    if role == 3 {
+    if role == search::ON_ASYNCHRONOUS {
         return asynchronous::act_asynchronous(
             w,
             strings,
@@ -108,7 +114,7 @@ fn act(
             payload,
         );
     }
-    if role == 0 {
+    if role == search::NO_ROLE {
         return opening::act_opening(w, out, c, kind, param, len);
     }
     quiet(outcome::ACTED, 16 + len)
@@ -116,8 +122,8 @@ fn act(
 
 // A whole message: the verdict, and what it does.
 fn deliver_whole(
-    w: &mut [u64; 235],
-    strings: &mut [u8; 1088],
+    w: &mut Words,
+    strings: &mut Strings,
     out: &mut [u8],
     c: u64,
     i: usize,
@@ -128,7 +134,7 @@ fn deliver_whole(
     len: u64,
     payload: &[u8],
 ) -> Delivery
-    requires { ⌜ (c < 32) × (len ≤ 1024) × (length (now payload) ≡ len) × (2048 ≤ length (now out)) × ((s : List ℕ) → slotIn (locksOf (now w) s .entries) c ≡ i) × ((role ≡ 0 → ⊥) → i < 16) ⌝ }
+    requires { ⌜ (c < connectionLimit) × (len ≤ payloadLimit) × (length (now payload) ≡ len) × (outputMinimum ≤ length (now out)) × ((s : List ℕ) → slotIn (locksOf (now w) s .entries) c ≡ i) × ((role ≡ 0 → ⊥) → i < sessionLimit) ⌝ }
     ensures { λ r. ⌜ ((ro : Role) → roleNumber ro ≡ role → Did (finish (view (memory (now (w .entry)) (now (strings .entry)))) (effect (judged ro (view (memory (now (w .entry)) (now (strings .entry)))) i (message kind code param len) (now (payload .entry))) (whole (message kind code param len) (now (payload .entry))) ro (view (memory (now (w .entry)) (now (strings .entry)))) i c)) r (memory (now (w .entry)) (now (strings .entry))) (memory (now (w .exit)) (now (strings .exit))) (now (out .entry)) (now (out .exit))) ⌝ }
 {
     let v = whole::whole_verdict(w, role, i, kind, code, param, len, payload);
@@ -141,15 +147,15 @@ fn deliver_whole(
 
 // At least sixteen bytes, with nothing to skip.
 fn deliver_message(
-    w: &mut [u64; 235],
-    strings: &mut [u8; 1088],
+    w: &mut Words,
+    strings: &mut Strings,
     out: &mut [u8],
     c: u64,
     i: usize,
     role: u8,
     bytes: &[u8],
 ) -> Delivery
-    requires { ⌜ (c < 32) × (16 ≤ length (now bytes)) × (2048 ≤ length (now out)) × ((s : List ℕ) → slotIn (locksOf (now w) s .entries) c ≡ i) × ((role ≡ 0 → ⊥) → i < 16) ⌝ }
+    requires { ⌜ (c < connectionLimit) × (16 ≤ length (now bytes)) × (outputMinimum ≤ length (now out)) × ((s : List ℕ) → slotIn (locksOf (now w) s .entries) c ≡ i) × ((role ≡ 0 → ⊥) → i < sessionLimit) ⌝ }
     ensures { λ r. ⌜ ((ro : Role) → roleNumber ro ≡ role → DidOn (view (memory (now (w .entry)) (now (strings .entry)))) c i r (memory (now (w .entry)) (now (strings .entry))) (memory (now (w .exit)) (now (strings .exit))) (now (out .entry)) (now (out .exit)) ro (freshScan (now (bytes .entry)))) ⌝ }
 {
     if !reading::has_prologue(bytes) {
@@ -157,7 +163,7 @@ fn deliver_message(
     }
     let h = reading::header_at(bytes);
     let len = h.len;
-    if len > 1024 {
+    if len > PAYLOAD {
         let v = whole::long_verdict(role);
         let told = apply(w, strings, out, c, i, v, 16, len);
         return told;
@@ -194,13 +200,13 @@ fn least(a: u64, b: usize) -> u64
 
 // The unread bytes of an open connection.
 pub fn deliver_open(
-    w: &mut [u64; 235],
-    strings: &mut [u8; 1088],
+    w: &mut Words,
+    strings: &mut Strings,
     out: &mut [u8],
     c: u64,
     bytes: &[u8],
 ) -> Delivery
-    requires { ⌜ (c < 32) × (2048 ≤ length (now out)) ⌝ }
+    requires { ⌜ (c < connectionLimit) × (outputMinimum ≤ length (now out)) ⌝ }
     ensures { λ r. ⌜ Did (finish (view (memory (now (w .entry)) (now (strings .entry)))) (received (view (memory (now (w .entry)) (now (strings .entry)))) c (scan ((connectionAt (restOf (now (w .entry))) c) .remainder) (now (bytes .entry))))) r (memory (now (w .entry)) (now (strings .entry))) (memory (now (w .exit)) (now (strings .exit))) (now (out .entry)) (now (out .exit)) ⌝ }
 {
     if bytes.len() == 0 {

@@ -10,6 +10,7 @@ ghost use lib.Dec.{eqb};
 ghost use mathlib.Core.Bool.{not};
 ghost use mathlib.Core.List.{[]};
 ghost use mathlib.Core.Path.{_≡_};
+ghost use Rattle.state.specs.Layout.{STRINGS, WORDS};
 
 mod deliver;
 
@@ -19,7 +20,18 @@ use effects::events;
 use locks::waiting;
 use state::fresh as start;
 use state::search;
+use state::sizes;
+use state::sizes::CLOCK_LIMIT;
+use state::sizes::CONNECTION_LIMIT;
+use state::sizes::OUTPUT_MINIMUM;
+use state::sizes::PAYLOAD_LIMIT;
+use state::sizes::SESSION_LIMIT;
+use state::sizes::Strings;
+use state::sizes::Words;
 use state::tables;
+
+// Connection numbers at the C interface are 32 bits wide.
+const CONNECTIONS: u32 = CONNECTION_LIMIT as u32;
 
 // What the other calls answer the host: the refusal (0: none), and how many bytes of the output hold frames.
 #[repr(C)]
@@ -43,18 +55,18 @@ fn refuse(n: u64) -> Delivery
 // Unread bytes of a connection are delivered.
 #[no_mangle]
 pub extern "C" fn hislip_deliver(
-    words: &mut [u64; 235],
-    strings: &mut [u8; 1088],
+    words: &mut Words,
+    strings: &mut Strings,
     connection: u32,
     bytes: &[u8],
     out: &mut [u8],
 ) -> Delivery
     ensures { λ r. ⌜ Delivered (delivery connection (now (bytes .entry)) (length (now (out .entry)))) r (memory (now (words .entry)) (now (strings .entry))) (memory (now (words .exit)) (now (strings .exit))) (now (out .entry)) (now (out .exit)) ⌝ }
 {
-    if out.len() < 2048 {
+    if out.len() < OUTPUT_MINIMUM {
         return refuse(7);
     }
-    if connection >= 32 {
+    if connection >= CONNECTIONS {
         return refuse(1);
     }
     if tables::connection(words, connection as usize, tables::IS_OPEN) != 1 {
@@ -71,14 +83,10 @@ fn told(refusal: u64, output: u64) -> Done
 
 // A connection opens.
 #[no_mangle]
-pub extern "C" fn hislip_open(
-    words: &mut [u64; 235],
-    strings: &mut [u8; 1088],
-    connection: u32,
-) -> Done
+pub extern "C" fn hislip_open(words: &mut Words, strings: &mut Strings, connection: u32) -> Done
     ensures { λ r. ⌜ Called (opening connection) r (memory (now (words .entry)) (now (strings .entry))) (memory (now (words .exit)) (now (strings .exit))) [] [] ⌝ }
 {
-    if connection >= 32 {
+    if connection >= CONNECTIONS {
         return told(1, 0);
     }
     if tables::connection(words, connection as usize, tables::IS_OPEN) == 1 {
@@ -91,17 +99,17 @@ pub extern "C" fn hislip_open(
 // A connection is cut.
 #[no_mangle]
 pub extern "C" fn hislip_cut(
-    words: &mut [u64; 235],
-    strings: &mut [u8; 1088],
+    words: &mut Words,
+    strings: &mut Strings,
     connection: u32,
     out: &mut [u8],
 ) -> Done
     ensures { λ r. ⌜ Called (cut connection (length (now (out .entry)))) r (memory (now (words .entry)) (now (strings .entry))) (memory (now (words .exit)) (now (strings .exit))) (now (out .entry)) (now (out .exit)) ⌝ }
 {
-    if out.len() < 2048 {
+    if out.len() < OUTPUT_MINIMUM {
         return told(7, 0);
     }
-    if connection >= 32 {
+    if connection >= CONNECTIONS {
         return told(1, 0);
     }
     if tables::connection(words, connection as usize, tables::IS_OPEN) != 1 {
@@ -116,17 +124,17 @@ pub extern "C" fn hislip_cut(
 // The clock reads so many milliseconds.
 #[no_mangle]
 pub extern "C" fn hislip_clock(
-    words: &mut [u64; 235],
-    strings: &mut [u8; 1088],
+    words: &mut Words,
+    strings: &mut Strings,
     milliseconds: u64,
     out: &mut [u8],
 ) -> Done
     ensures { λ r. ⌜ Called (clock milliseconds (length (now (out .entry)))) r (memory (now (words .entry)) (now (strings .entry))) (memory (now (words .exit)) (now (strings .exit))) (now (out .entry)) (now (out .exit)) ⌝ }
 {
-    if out.len() < 2048 {
+    if out.len() < OUTPUT_MINIMUM {
         return told(7, 0);
     }
-    if milliseconds > 4611686018427387904 {
+    if milliseconds > CLOCK_LIMIT {
         return told(4, 0);
     }
     if milliseconds < tables::clock(words) {
@@ -138,7 +146,7 @@ pub extern "C" fn hislip_clock(
 
 // The instrument's status byte changes.
 #[no_mangle]
-pub extern "C" fn hislip_status(words: &mut [u64; 235], strings: &mut [u8; 1088], status: u8)
+pub extern "C" fn hislip_status(words: &mut Words, strings: &mut Strings, status: u8)
     ensures { λ _. ⌜ Post view (Event.status status) (memory (now (words .entry)) (now (strings .entry))) (memory (now (words .exit)) (now (strings .exit))) [] [] done 0 ⌝ }
 {
     events::set_status(words, status);
@@ -146,7 +154,7 @@ pub extern "C" fn hislip_status(words: &mut [u64; 235], strings: &mut [u8; 1088]
 
 // A fresh server in the lent memory.
 #[no_mangle]
-pub extern "C" fn hislip_new(words: &mut [u64; 235], strings: &mut [u8; 1088], vendor: u16)
+pub extern "C" fn hislip_new(words: &mut Words, strings: &mut Strings, vendor: u16)
     ensures { λ _. ⌜ Fresh vendor (memory (now (words .exit)) (now (strings .exit))) ⌝ }
 {
     start::start(words, strings, vendor);
@@ -155,16 +163,16 @@ pub extern "C" fn hislip_new(words: &mut [u64; 235], strings: &mut [u8; 1088], v
 // How many words and bytes to lend.
 #[no_mangle]
 pub extern "C" fn hislip_words() -> u64
-    ensures { λ r. ⌜ r ≡ 235 ⌝ }
+    ensures { λ r. ⌜ r ≡ WORDS ⌝ }
 {
-    235
+    sizes::words()
 }
 
 #[no_mangle]
 pub extern "C" fn hislip_string_bytes() -> u64
-    ensures { λ r. ⌜ r ≡ 1088 ⌝ }
+    ensures { λ r. ⌜ r ≡ STRINGS ⌝ }
 {
-    1088
+    sizes::string_bytes()
 }
 
 fn is_end(end: u8) -> bool
@@ -179,8 +187,8 @@ fn is_end(end: u8) -> bool
 // The instrument answers a session, with END unless `end` is 0.
 #[no_mangle]
 pub extern "C" fn hislip_answer(
-    words: &mut [u64; 235],
-    strings: &mut [u8; 1088],
+    words: &mut Words,
+    strings: &mut Strings,
     session: u32,
     payload: &[u8],
     end: u8,
@@ -188,11 +196,11 @@ pub extern "C" fn hislip_answer(
 ) -> Done
     ensures { λ r. ⌜ Called (answer session (now (payload .entry)) (not (eqb end 0)) (length (now (out .entry)))) r (memory (now (words .entry)) (now (strings .entry))) (memory (now (words .exit)) (now (strings .exit))) (now (out .entry)) (now (out .exit)) ⌝ }
 {
-    if out.len() < 2048 {
+    if out.len() < OUTPUT_MINIMUM {
         return told(7, 0);
     }
     let i = search::slot_of_number(words, session as u64);
-    if i >= 16 {
+    if i >= SESSION_LIMIT {
         return told(8, 0);
     }
     if tables::entry(words, i, tables::NUMBER) == 0 {
@@ -201,7 +209,7 @@ pub extern "C" fn hislip_answer(
     if tables::exchange(words, i, tables::ASKED) == 0 {
         return told(5, 0);
     }
-    if payload.len() > 1024 {
+    if payload.len() > PAYLOAD_LIMIT {
         return told(6, 0);
     }
     if tables::exchange(words, i, tables::CLIENT_SIZE) < payload.len() as u64 {

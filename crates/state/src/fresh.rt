@@ -4,9 +4,12 @@ ghost use Rattle.state.specs.Fresh.{freshStrings, freshWords};
 ghost use Rattle.state.specs.View.{memory, view};
 ghost use lib.ListN.{length, replicate};
 ghost use mathlib.Core.Path.{_≡_};
+ghost use Rattle.state.specs.Layout.{STRINGS, WORDS};
+use crate::sizes::Strings;
+use crate::sizes::Words;
 use crate::tables::VENDOR;
 
-const FRESH: [u64; 235] = [
+const FRESH: Words = [
     0,
     0,
     0,
@@ -266,7 +269,7 @@ fn put_zeros(s: &mut [u8])
 }
 
 fn start_in(w: &mut [u64], strings: &mut [u8], vendor: u16)
-    requires { ⌜ (length (now w) ≡ 235) × (length (now strings) ≡ 1088) ⌝ }
+    requires { ⌜ (length (now w) ≡ WORDS) × (length (now strings) ≡ STRINGS) ⌝ }
     ensures { λ _. ⌜ (now (w .exit) ≡ freshWords vendor) × (now (strings .exit) ≡ freshStrings) ⌝ }
 {
     put_words(w, &FRESH);
@@ -275,7 +278,7 @@ fn start_in(w: &mut [u64], strings: &mut [u8], vendor: u16)
 }
 
 // Makes a fresh server in the lent memory.
-pub fn start(w: &mut [u64; 235], strings: &mut [u8; 1088], vendor: u16)
+pub fn start(w: &mut Words, strings: &mut Strings, vendor: u16)
     ensures { λ _. ⌜ (now (w .exit) ≡ freshWords vendor) × (now (strings .exit) ≡ freshStrings) × (view (memory (now (w .exit)) (now (strings .exit))) ≡ fresh vendor) ⌝ }
 {
     start_in(w, strings, vendor);

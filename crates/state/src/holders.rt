@@ -12,33 +12,39 @@ ghost use lib.ListN.{length};
 ghost use mathlib.Core.Bool.{not, true};
 ghost use mathlib.Core.List.{List, []};
 ghost use mathlib.Core.Path.{_≡_};
+ghost use Rattle.model.specs.Sizes.{sessionLimit, stringLimit};
+ghost use Rattle.state.specs.Layout.{STRINGS, WORDS};
 use crate::layout::HOLDER;
 use crate::layout::KEY;
 use crate::layout::SHARERS;
 use crate::requests;
+use crate::sizes::SESSIONS;
+use crate::sizes::STRING_LIMIT;
+use crate::sizes::Strings;
+use crate::sizes::Words;
 
 // Does slot i hold the exclusive lock?
-pub fn is_exclusive(w: &[u64; 235], i: usize) -> bool
-    requires { ⌜ i < 16 ⌝ }
+pub fn is_exclusive(w: &Words, i: usize) -> bool
+    requires { ⌜ i < sessionLimit ⌝ }
     ensures { λ r. ⌜ ((s : List ℕ) → (at (locksOf (now (w .entry)) s .entries) i) .exclusive ≡ r) ⌝ }
 {
     w[HOLDER] == i as u64 + 1
 }
 
 // Does nobody hold the exclusive lock?
-pub fn nobody_exclusive(w: &[u64; 235]) -> bool
+pub fn nobody_exclusive(w: &Words) -> bool
     ensures { λ r. ⌜ ((s : List ℕ) → all noExclusive (locksOf (now (w .entry)) s .entries) ≡ r) ⌝ }
 {
     let h = w[HOLDER];
     if h == 0 {
         return true;
     }
-    h > 16
+    h > SESSIONS
 }
 
 // Does nobody but slot i hold the exclusive lock?
-pub fn no_other_exclusive(w: &[u64; 235], i: usize) -> bool
-    requires { ⌜ i < 16 ⌝ }
+pub fn no_other_exclusive(w: &Words, i: usize) -> bool
+    requires { ⌜ i < sessionLimit ⌝ }
     ensures { λ r. ⌜ ((s : List ℕ) → allBut noExclusive i (locksOf (now (w .entry)) s .entries) ≡ r) ⌝ }
 {
     let h = w[HOLDER];
@@ -48,26 +54,29 @@ pub fn no_other_exclusive(w: &[u64; 235], i: usize) -> bool
     if h == 0 {
         return true;
     }
-    h > 16
+    h > SESSIONS
 }
+
+// Sets of slots, a bit each: 2^16.
+const SETS: u64 = 65536;
 
 // Bit i of a set.
 fn bit_of(m: u64, i: usize) -> u64
-    requires { ⌜ i < 16 ⌝ }
+    requires { ⌜ i < sessionLimit ⌝ }
     ensures { λ r. ⌜ r ≡ bit m i ⌝ }
 {
     (m >> i) % 2
 }
 
 fn power_of(i: usize) -> u64
-    requires { ⌜ i < 16 ⌝ }
+    requires { ⌜ i < sessionLimit ⌝ }
     ensures { λ r. ⌜ (r ≡ 2 ^ i) × (r < 65536) ⌝ }
 {
     1 << i
 }
 
 fn taken_out(m: u64, i: usize) -> u64
-    requires { ⌜ i < 16 ⌝ }
+    requires { ⌜ i < sessionLimit ⌝ }
     ensures { λ r. ⌜ r ≡ without m i ⌝ }
 {
     if bit_of(m, i) == 1 {
@@ -77,52 +86,52 @@ fn taken_out(m: u64, i: usize) -> u64
 }
 
 fn put_in(m: u64, i: usize) -> u64
-    requires { ⌜ i < 16 ⌝ }
-    ensures { λ r. ⌜ r ≡ with-bit 16 m i ⌝ }
+    requires { ⌜ i < sessionLimit ⌝ }
+    ensures { λ r. ⌜ r ≡ with-bit sessionLimit m i ⌝ }
 {
-    taken_out(m, i) % 65536 + power_of(i)
+    taken_out(m, i) % SETS + power_of(i)
 }
 
 // Does slot i hold the shared lock?
-pub fn is_sharing(w: &[u64; 235], i: usize) -> bool
-    requires { ⌜ i < 16 ⌝ }
+pub fn is_sharing(w: &Words, i: usize) -> bool
+    requires { ⌜ i < sessionLimit ⌝ }
     ensures { λ r. ⌜ ((s : List ℕ) → noShared (at (locksOf (now (w .entry)) s .entries) i) ≡ not r) ⌝ }
 {
     bit_of(w[SHARERS], i) == 1
 }
 
 // Does nobody hold the shared lock?
-pub fn nobody_shares(w: &[u64; 235]) -> bool
+pub fn nobody_shares(w: &Words) -> bool
     ensures { λ r. ⌜ ((s : List ℕ) → all noShared (locksOf (now (w .entry)) s .entries) ≡ r) ⌝ }
 {
-    w[SHARERS] % 65536 == 0
+    w[SHARERS] % SETS == 0
 }
 
 // Does nobody but slot i hold the shared lock?
-pub fn no_other_shares(w: &[u64; 235], i: usize) -> bool
-    requires { ⌜ i < 16 ⌝ }
+pub fn no_other_shares(w: &Words, i: usize) -> bool
+    requires { ⌜ i < sessionLimit ⌝ }
     ensures { λ r. ⌜ ((s : List ℕ) → allBut noShared i (locksOf (now (w .entry)) s .entries) ≡ r) ⌝ }
 {
-    taken_out(w[SHARERS], i) % 65536 == 0
+    taken_out(w[SHARERS], i) % SETS == 0
 }
 
 fn give_exclusive_in(w: &mut [u64], i: usize)
-    requires { ⌜ (i < 16) × (length (now w) ≡ 235) × NoOther (now w) i ⌝ }
+    requires { ⌜ (i < sessionLimit) × (length (now w) ≡ WORDS) × NoOther (now w) i ⌝ }
     ensures { λ _. ⌜ ((s : List ℕ) → view (memory (now (w .exit)) s) ≡ onEntry (view (memory (now (w .entry)) s)) i (give [])) ⌝ }
 {
     w[HOLDER] = i as u64 + 1;
 }
 
 // Slot i gets the exclusive lock, which nobody else holds.
-pub fn give_exclusive(w: &mut [u64; 235], i: usize)
-    requires { ⌜ (i < 16) × NoOther (now w) i ⌝ }
+pub fn give_exclusive(w: &mut Words, i: usize)
+    requires { ⌜ (i < sessionLimit) × NoOther (now w) i ⌝ }
     ensures { λ _. ⌜ ((s : List ℕ) → view (memory (now (w .exit)) s) ≡ onEntry (view (memory (now (w .entry)) s)) i (give [])) ⌝ }
 {
     give_exclusive_in(w, i);
 }
 
 fn drop_exclusive_in(w: &mut [u64], i: usize)
-    requires { ⌜ (i < 16) × (length (now w) ≡ 235) ⌝ }
+    requires { ⌜ (i < sessionLimit) × (length (now w) ≡ WORDS) ⌝ }
     ensures { λ _. ⌜ ((s : List ℕ) → view (memory (now (w .exit)) s) ≡ onEntry (view (memory (now (w .entry)) s)) i withoutExclusive) ⌝ }
 {
     if w[HOLDER] == i as u64 + 1 {
@@ -131,15 +140,15 @@ fn drop_exclusive_in(w: &mut [u64], i: usize)
 }
 
 // Slot i holds the exclusive lock no more, if it did.
-pub fn drop_exclusive(w: &mut [u64; 235], i: usize)
-    requires { ⌜ i < 16 ⌝ }
+pub fn drop_exclusive(w: &mut Words, i: usize)
+    requires { ⌜ i < sessionLimit ⌝ }
     ensures { λ _. ⌜ ((s : List ℕ) → view (memory (now (w .exit)) s) ≡ onEntry (view (memory (now (w .entry)) s)) i withoutExclusive) ⌝ }
 {
     drop_exclusive_in(w, i);
 }
 
 fn drop_shared_in(w: &mut [u64], i: usize)
-    requires { ⌜ (i < 16) × (length (now w) ≡ 235) ⌝ }
+    requires { ⌜ (i < sessionLimit) × (length (now w) ≡ WORDS) ⌝ }
     ensures { λ _. ⌜ ((s : List ℕ) → view (memory (now (w .exit)) s) ≡ onEntry (view (memory (now (w .entry)) s)) i withoutShared) ⌝ }
 {
     let m = taken_out(w[SHARERS], i);
@@ -147,26 +156,26 @@ fn drop_shared_in(w: &mut [u64], i: usize)
 }
 
 // Slot i holds the shared lock no more, if it did.
-pub fn drop_shared(w: &mut [u64; 235], i: usize)
-    requires { ⌜ i < 16 ⌝ }
+pub fn drop_shared(w: &mut Words, i: usize)
+    requires { ⌜ i < sessionLimit ⌝ }
     ensures { λ _. ⌜ ((s : List ℕ) → view (memory (now (w .exit)) s) ≡ onEntry (view (memory (now (w .entry)) s)) i withoutShared) ⌝ }
 {
     drop_shared_in(w, i);
 }
 
 fn give_shared_in(w: &mut [u64], strings: &mut [u8], i: usize, n: usize)
-    requires { ⌜ (i < 16) × (length (now w) ≡ 235) × (length (now strings) ≡ 1088) × (n ≡ length (stringAt (now w) (now strings) i)) × (0 < n) × (n ≤ 64) × (all (fits (stringAt (now w) (now strings) i)) (locksOf (now w) (now strings) .entries) ≡ true) ⌝ }
+    requires { ⌜ (i < sessionLimit) × (length (now w) ≡ WORDS) × (length (now strings) ≡ STRINGS) × (n ≡ length (stringAt (now w) (now strings) i)) × (0 < n) × (n ≤ stringLimit) × (all (fits (stringAt (now w) (now strings) i)) (locksOf (now w) (now strings) .entries) ≡ true) ⌝ }
     ensures { λ _. ⌜ view (memory (now (w .exit)) (now (strings .exit))) ≡ onEntry (view (memory (now (w .entry)) (now (strings .entry)))) i (give (stringAt (now (w .entry)) (now (strings .entry)) i)) ⌝ }
 {
     let m = put_in(w[SHARERS], i);
-    requests::copy_to_front(strings, 64 + i * 64, n);
+    requests::copy_to_front(strings, STRING_LIMIT + i * STRING_LIMIT, n);
     w[KEY] = n as u64 - 1;
     w[SHARERS] = m;
 }
 
 // Slot i gets the shared lock with the string of its request, which fits the shared locks.
-pub fn give_shared(w: &mut [u64; 235], strings: &mut [u8; 1088], i: usize, n: usize)
-    requires { ⌜ (i < 16) × (n ≡ length (stringAt (now w) (now strings) i)) × (0 < n) × (n ≤ 64) × (all (fits (stringAt (now w) (now strings) i)) (locksOf (now w) (now strings) .entries) ≡ true) ⌝ }
+pub fn give_shared(w: &mut Words, strings: &mut Strings, i: usize, n: usize)
+    requires { ⌜ (i < sessionLimit) × (n ≡ length (stringAt (now w) (now strings) i)) × (0 < n) × (n ≤ stringLimit) × (all (fits (stringAt (now w) (now strings) i)) (locksOf (now w) (now strings) .entries) ≡ true) ⌝ }
     ensures { λ _. ⌜ view (memory (now (w .exit)) (now (strings .exit))) ≡ onEntry (view (memory (now (w .entry)) (now (strings .entry)))) i (give (stringAt (now (w .entry)) (now (strings .entry)) i)) ⌝ }
 {
     give_shared_in(w, strings, i, n);

@@ -1,35 +1,48 @@
-// Where each part of the server stands in the lent words and bytes; docs/MEMORY.md draws it.
+// Where each part of the server stands in the lent words and bytes: one part behind the other, each as long as its rows; docs/MEMORY.md
+// draws it. A row's width stands beside it.
+use crate::sizes::CONNECTION_LIMIT;
+use crate::sizes::SESSION_LIMIT;
+use crate::sizes::STRING_LIMIT;
+
 // a row for each slot: in device clear, what is asked (plus 1), message available, the client's size
 pub const EXCHANGES: usize = 6;
-// words a row
-pub const EXCHANGE: usize = 4;
-// a row for each connection: open, remainder to skip
-pub const CONNECTIONS: usize = 70;
-// words a row
-pub const CONNECTION: usize = 2;
-// here the words of the locks begin
-pub const LOCKS: usize = 134;
 
-pub const CLOCK: usize = 134;
+pub const EXCHANGE: usize = 4;
+
+// a row for each connection: open, remainder to skip
+pub const CONNECTIONS: usize = EXCHANGES + SESSION_LIMIT * EXCHANGE;
+
+pub const CONNECTION: usize = 2;
+
+pub const CLOCK: usize = CONNECTIONS + CONNECTION_LIMIT * CONNECTION;
+
 // the slot of the exclusive holder, plus 1; 0 or a number past the slots: nobody
-pub const HOLDER: usize = 135;
+pub const HOLDER: usize = CLOCK + 1;
+
 // bit i: slot i holds the shared lock
-pub const SHARERS: usize = 136;
+pub const SHARERS: usize = HOLDER + 1;
+
 // the length of the shared string, less 1
-pub const KEY: usize = 137;
+pub const KEY: usize = SHARERS + 1;
+
 // how many requests wait
-pub const COUNT: usize = 138;
+pub const COUNT: usize = KEY + 1;
+
 // a row for each slot: SessionID, synchronous and asynchronous connection
-pub const ENTRIES: usize = 139;
-// words a row
+pub const ENTRIES: usize = COUNT + 1;
+
 pub const ENTRY: usize = 3;
+
 // a row for each slot: its request's deadline, the length of its string
-pub const REQUESTS: usize = 187;
-// words a row
+pub const REQUESTS: usize = ENTRIES + SESSION_LIMIT * ENTRY;
+
 pub const REQUEST: usize = 2;
+
 // the slots that wait, oldest first
-pub const QUEUE: usize = 219;
+pub const QUEUE: usize = REQUESTS + SESSION_LIMIT * REQUEST;
+
 // words to lend
-pub const WORDS: usize = 235;
-// bytes to lend: the shared string, then the string of each slot's request, 64 bytes each
-pub const STRINGS: usize = 1088;
+pub const WORDS: usize = QUEUE + SESSION_LIMIT;
+
+// bytes to lend: the shared string, then the string of each slot's request
+pub const STRINGS: usize = STRING_LIMIT + SESSION_LIMIT * STRING_LIMIT;

@@ -5,4 +5,5 @@ pub mod holders;
 mod layout;
 pub mod requests;
 pub mod search;
+pub mod sizes;
 pub mod tables;

@@ -11,14 +11,24 @@ ghost use Rattle.wire.specs.Splice.{splice};
 ghost use lib.ListN.{drop, getD, length, set, take};
 ghost use mathlib.Core.List.{List, [], _++_, _∷_};
 ghost use mathlib.Core.Path.{_≡_};
+ghost use Rattle.model.specs.Sizes.{sessionLimit, stringLimit};
+ghost use Rattle.state.specs.Layout.{STRINGS, WORDS};
 use crate::layout::COUNT;
 use crate::layout::KEY;
 use crate::layout::QUEUE;
 use crate::layout::REQUEST;
 use crate::layout::REQUESTS;
+use crate::sizes::SESSION_LIMIT;
+use crate::sizes::SESSIONS;
+use crate::sizes::STRING_LIMIT;
+use crate::sizes::Strings;
+use crate::sizes::Words;
+
+// the shared string has a first byte, and so many more at the most
+const KEY_REST: usize = STRING_LIMIT - 1;
 
 fn least(a: u64, b: usize) -> usize
-    requires { ⌜ b ≤ 64 ⌝ }
+    requires { ⌜ b ≤ stringLimit ⌝ }
     ensures { λ r. ⌜ (r ≡ min a b) × (r ≤ b) ⌝ }
 {
     if a < b as u64 {
@@ -28,46 +38,46 @@ fn least(a: u64, b: usize) -> usize
 }
 
 // How many requests wait.
-pub fn waiting_count(w: &[u64; 235]) -> usize
-    ensures { λ r. ⌜ (r ≡ countOf (now (w .entry))) × (r ≤ 16) ⌝ }
+pub fn waiting_count(w: &Words) -> usize
+    ensures { λ r. ⌜ (r ≡ countOf (now (w .entry))) × (r ≤ sessionLimit) ⌝ }
 {
-    least(w[COUNT], 16)
+    least(w[COUNT], SESSION_LIMIT)
 }
 
 // The slot of the j-th request that waits.
-pub fn waiting_slot(w: &[u64; 235], j: usize) -> usize
+pub fn waiting_slot(w: &Words, j: usize) -> usize
     requires { ⌜ j < countOf (now w) ⌝ }
-    ensures { λ r. ⌜ (r < 16) × ((s : List ℕ) → getD (locksOf (now (w .entry)) s .waiting) j noRequest ≡ requestAt (now (w .entry)) s r) ⌝ }
+    ensures { λ r. ⌜ (r < sessionLimit) × ((s : List ℕ) → getD (locksOf (now (w .entry)) s .waiting) j noRequest ≡ requestAt (now (w .entry)) s r) ⌝ }
 {
-    (w[QUEUE + j] % 16) as usize
+    (w[QUEUE + j] % SESSIONS) as usize
 }
 
 // The deadline of the request of slot i.
-pub fn deadline_of(w: &[u64; 235], i: usize) -> u64
-    requires { ⌜ i < 16 ⌝ }
+pub fn deadline_of(w: &Words, i: usize) -> u64
+    requires { ⌜ i < sessionLimit ⌝ }
     ensures { λ r. ⌜ ((s : List ℕ) → (requestAt (now (w .entry)) s i) .deadline ≡ r) ⌝ }
 {
     w[REQUESTS + i * REQUEST]
 }
 
 // The length of the string of slot i's request.
-pub fn string_length(w: &[u64; 235], i: usize) -> usize
-    requires { ⌜ i < 16 ⌝ }
-    ensures { λ r. ⌜ (r ≤ 64) × ((s : List ℕ) → length s ≡ 1088 → r ≡ length (stringAt (now (w .entry)) s i)) ⌝ }
+pub fn string_length(w: &Words, i: usize) -> usize
+    requires { ⌜ i < sessionLimit ⌝ }
+    ensures { λ r. ⌜ (r ≤ stringLimit) × ((s : List ℕ) → length s ≡ STRINGS → r ≡ length (stringAt (now (w .entry)) s i)) ⌝ }
 {
-    least(w[REQUESTS + i * REQUEST + 1], 64)
+    least(w[REQUESTS + i * REQUEST + 1], STRING_LIMIT)
 }
 
 fn move_waiting_in(w: &mut [u64], j: usize, k: usize)
-    requires { ⌜ (j < countOf (now w)) × (k < countOf (now w)) × (length (now w) ≡ 235) ⌝ }
+    requires { ⌜ (j < countOf (now w)) × (k < countOf (now w)) × (length (now w) ≡ WORDS) ⌝ }
     ensures { λ _. ⌜ ((s : List ℕ) → view (memory (now (w .exit)) s) ≡ onWaiting (view (memory (now (w .entry)) s)) (λ x. set x k (getD x j noRequest))) ⌝ }
 {
-    let x = w[QUEUE + j] % 16;
+    let x = w[QUEUE + j] % SESSIONS;
     w[QUEUE + k] = x;
 }
 
 // The j-th request that waits is put at place k of the queue.
-pub fn move_waiting(w: &mut [u64; 235], j: usize, k: usize)
+pub fn move_waiting(w: &mut Words, j: usize, k: usize)
     requires { ⌜ (j < countOf (now w)) × (k < countOf (now w)) ⌝ }
     ensures { λ _. ⌜ ((s : List ℕ) → view (memory (now (w .exit)) s) ≡ onWaiting (view (memory (now (w .entry)) s)) (λ x. set x k (getD x j noRequest))) ⌝ }
 {
@@ -75,14 +85,14 @@ pub fn move_waiting(w: &mut [u64; 235], j: usize, k: usize)
 }
 
 fn keep_first_in(w: &mut [u64], n: usize)
-    requires { ⌜ (n ≤ countOf (now w)) × (length (now w) ≡ 235) ⌝ }
+    requires { ⌜ (n ≤ countOf (now w)) × (length (now w) ≡ WORDS) ⌝ }
     ensures { λ _. ⌜ ((s : List ℕ) → view (memory (now (w .exit)) s) ≡ onWaiting (view (memory (now (w .entry)) s)) (take n)) ⌝ }
 {
     w[COUNT] = n as u64;
 }
 
 // Only the first n go on waiting.
-pub fn keep_first(w: &mut [u64; 235], n: usize)
+pub fn keep_first(w: &mut Words, n: usize)
     requires { ⌜ n ≤ countOf (now w) ⌝ }
     ensures { λ _. ⌜ ((s : List ℕ) → view (memory (now (w .exit)) s) ≡ onWaiting (view (memory (now (w .entry)) s)) (take n)) ⌝ }
 {
@@ -90,7 +100,7 @@ pub fn keep_first(w: &mut [u64; 235], n: usize)
 }
 
 fn queue_request_in(w: &mut [u64], i: usize, deadline: u64, n: usize)
-    requires { ⌜ (i < 16) × (length (now w) ≡ 235) × (n ≡ countOf (now w)) × (n < 16) × Idle (now w) i ⌝ }
+    requires { ⌜ (i < sessionLimit) × (length (now w) ≡ WORDS) × (n ≡ countOf (now w)) × (n < sessionLimit) × Idle (now w) i ⌝ }
     ensures { λ _. ⌜ ((s : List ℕ) → view (memory (now (w .exit)) s) ≡ onWaiting (view (memory (now (w .entry)) s)) (λ x. x ++ (record { slot = i; deadline = deadline; string = stringAt (now (w .entry)) s i } ∷ []))) ⌝ }
 {
     w[REQUESTS + i * REQUEST + 0] = deadline;
@@ -99,8 +109,8 @@ fn queue_request_in(w: &mut [u64], i: usize, deadline: u64, n: usize)
 }
 
 // Slot i's request, its string laid already, goes to the end of the queue with a deadline.
-pub fn queue_request(w: &mut [u64; 235], i: usize, deadline: u64)
-    requires { ⌜ (i < 16) × (countOf (now w) < 16) × Idle (now w) i ⌝ }
+pub fn queue_request(w: &mut Words, i: usize, deadline: u64)
+    requires { ⌜ (i < sessionLimit) × (countOf (now w) < sessionLimit) × Idle (now w) i ⌝ }
     ensures { λ _. ⌜ ((s : List ℕ) → view (memory (now (w .exit)) s) ≡ onWaiting (view (memory (now (w .entry)) s)) (λ x. x ++ (record { slot = i; deadline = deadline; string = stringAt (now (w .entry)) s i } ∷ []))) ⌝ }
 {
     let n = waiting_count(w);
@@ -108,16 +118,16 @@ pub fn queue_request(w: &mut [u64; 235], i: usize, deadline: u64)
 }
 
 fn lay_request_in(w: &mut [u64], strings: &mut [u8], i: usize, string: &[u8])
-    requires { ⌜ (i < 16) × (length (now string) ≤ 64) × (length (now w) ≡ 235) × (length (now strings) ≡ 1088) × Idle (now w) i ⌝ }
+    requires { ⌜ (i < sessionLimit) × (length (now string) ≤ stringLimit) × (length (now w) ≡ WORDS) × (length (now strings) ≡ STRINGS) × Idle (now w) i ⌝ }
     ensures { λ _. ⌜ (view (memory (now (w .exit)) (now (strings .exit))) ≡ view (memory (now (w .entry)) (now (strings .entry)))) × (stringAt (now (w .exit)) (now (strings .exit)) i ≡ now (string .entry)) ⌝ }
 {
-    wire::frame::put_payload(strings, 64 + i * 64, string);
+    wire::frame::put_payload(strings, STRING_LIMIT + i * STRING_LIMIT, string);
     w[REQUESTS + i * REQUEST + 1] = string.len() as u64;
 }
 
 // The string of a request of slot i, which does not wait, is laid into its place. Nobody sees it yet.
-pub fn lay_request(w: &mut [u64; 235], strings: &mut [u8; 1088], i: usize, string: &[u8])
-    requires { ⌜ (i < 16) × (length (now string) ≤ 64) × Idle (now w) i ⌝ }
+pub fn lay_request(w: &mut Words, strings: &mut Strings, i: usize, string: &[u8])
+    requires { ⌜ (i < sessionLimit) × (length (now string) ≤ stringLimit) × Idle (now w) i ⌝ }
     ensures { λ _. ⌜ (view (memory (now (w .exit)) (now (strings .exit))) ≡ view (memory (now (w .entry)) (now (strings .entry)))) × (stringAt (now (w .exit)) (now (strings .exit)) i ≡ now (string .entry)) ⌝ }
 {
     lay_request_in(w, strings, i, string);
@@ -148,32 +158,32 @@ fn same_parts(strings: &[u8], k: usize, a: usize, n: usize) -> bool
     same_bytes(&strings[..k], &strings[a..e])
 }
 
-fn has_key_in(w: &[u64; 235], strings: &[u8], i: usize) -> bool
-    requires { ⌜ (i < 16) × (length (now strings) ≡ 1088) ⌝ }
+fn has_key_in(w: &Words, strings: &[u8], i: usize) -> bool
+    requires { ⌜ (i < sessionLimit) × (length (now strings) ≡ STRINGS) ⌝ }
     ensures { λ r. ⌜ same (keyOf (now (w .entry)) (now (strings .entry))) (stringAt (now (w .entry)) (now (strings .entry)) i) ≡ r ⌝ }
 {
-    let k = least(w[KEY], 63) + 1;
-    let n = least(w[REQUESTS + i * REQUEST + 1], 64);
-    same_parts(strings, k, 64 + i * 64, n)
+    let k = least(w[KEY], KEY_REST) + 1;
+    let n = least(w[REQUESTS + i * REQUEST + 1], STRING_LIMIT);
+    same_parts(strings, k, STRING_LIMIT + i * STRING_LIMIT, n)
 }
 
 // Is the string of slot i's request the shared one?
-pub fn has_key(w: &[u64; 235], strings: &[u8; 1088], i: usize) -> bool
-    requires { ⌜ i < 16 ⌝ }
+pub fn has_key(w: &Words, strings: &Strings, i: usize) -> bool
+    requires { ⌜ i < sessionLimit ⌝ }
     ensures { λ r. ⌜ same (keyOf (now (w .entry)) (now (strings .entry))) (stringAt (now (w .entry)) (now (strings .entry)) i) ≡ r ⌝ }
 {
     has_key_in(w, strings, i)
 }
 
 fn lay_first(strings: &mut [u8], b: &[u8], n: usize)
-    requires { ⌜ (n ≤ length (now b)) × (n ≤ 64) × (length (now strings) ≡ 1088) ⌝ }
+    requires { ⌜ (n ≤ length (now b)) × (n ≤ stringLimit) × (length (now strings) ≡ STRINGS) ⌝ }
     ensures { λ _. ⌜ now (strings .exit) ≡ splice (now (strings .entry)) 0 (take n (now (b .entry))) ⌝ }
 {
     wire::frame::put_payload(strings, 0, &b[..n]);
 }
 
 fn pick_up(b: &mut [u8], strings: &[u8], a: usize, n: usize)
-    requires { ⌜ (a + n ≤ length (now strings)) × (n ≤ length (now b)) × (n ≤ 64) ⌝ }
+    requires { ⌜ (a + n ≤ length (now strings)) × (n ≤ length (now b)) × (n ≤ stringLimit) ⌝ }
     ensures { λ _. ⌜ now (b .exit) ≡ splice (now (b .entry)) 0 (take n (drop a (now (strings .entry)))) ⌝ }
 {
     let e = a + n;
@@ -182,10 +192,10 @@ fn pick_up(b: &mut [u8], strings: &[u8], a: usize, n: usize)
 
 // The n bytes from a place on become the first n.
 pub fn copy_to_front(strings: &mut [u8], a: usize, n: usize)
-    requires { ⌜ (a + n ≤ length (now strings)) × (n ≤ 64) × (length (now strings) ≡ 1088) ⌝ }
+    requires { ⌜ (a + n ≤ length (now strings)) × (n ≤ stringLimit) × (length (now strings) ≡ STRINGS) ⌝ }
     ensures { λ _. ⌜ now (strings .exit) ≡ splice (now (strings .entry)) 0 (take n (drop a (now (strings .entry)))) ⌝ }
 {
-    let mut b = [0; 64];
+    let mut b = [0; STRING_LIMIT];
     pick_up(&mut b, strings, a, n);
     lay_first(strings, &b, n);
 }

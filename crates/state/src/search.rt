@@ -8,17 +8,29 @@ ghost use Rattle.state.specs.View.{locksOf};
 ghost use lib.Dec.{eqb};
 ghost use mathlib.Core.List.{List};
 ghost use mathlib.Core.Path.{_≡_};
+ghost use Rattle.model.specs.Sizes.{sessionLimit};
+use crate::sizes::NO_CONNECTION;
+use crate::sizes::SESSION_LIMIT;
+use crate::sizes::Words;
 use crate::tables;
 
-// The slot of a connection's session (16: none), and the connection's role: 0 none, 1 of a half-open session, 2 synchronous, 3
-// asynchronous.
+// The role of a connection: none, the one of a half-open session, synchronous, asynchronous.
+pub const NO_ROLE: u8 = 0;
+
+pub const HALF_OPEN: u8 = 1;
+
+pub const ON_SYNCHRONOUS: u8 = 2;
+
+pub const ON_ASYNCHRONOUS: u8 = 3;
+
+// The slot of a connection's session (past the slots: none), and the connection's role.
 pub struct Place {
     pub slot: usize,
     pub role: u8,
 }
 
-fn has_connection(w: &[u64; 235], i: usize, c: u64) -> bool
-    requires { ⌜ i < 16 ⌝ }
+fn has_connection(w: &Words, i: usize, c: u64) -> bool
+    requires { ⌜ i < sessionLimit ⌝ }
     ensures { λ r. ⌜ ((s : List ℕ) → onConnection c (at (locksOf (now (w .entry)) s .entries) i) ≡ r) ⌝ }
 {
     if tables::entry(w, i, tables::NUMBER) == 0 {
@@ -30,11 +42,11 @@ fn has_connection(w: &[u64; 235], i: usize, c: u64) -> bool
     tables::entry(w, i, tables::ASYNCHRONOUS) % 256 == c
 }
 
-fn slot_of_connection(w: &[u64; 235], c: u64) -> usize
-    ensures { λ r. ⌜ (r ≤ 16) × ((s : List ℕ) → position (onConnection c) (locksOf (now (w .entry)) s .entries) ≡ r) ⌝ }
+fn slot_of_connection(w: &Words, c: u64) -> usize
+    ensures { λ r. ⌜ (r ≤ sessionLimit) × ((s : List ℕ) → position (onConnection c) (locksOf (now (w .entry)) s .entries) ≡ r) ⌝ }
 {
     let mut i = 0;
-    while i < 16 {
+    while i < SESSION_LIMIT {
         if has_connection(w, i, c) {
             return i;
         }
@@ -43,29 +55,32 @@ fn slot_of_connection(w: &[u64; 235], c: u64) -> usize
     i
 }
 
-fn role_in(w: &[u64; 235], i: usize, c: u64) -> u8
-    requires { ⌜ i < 16 ⌝ }
+fn role_in(w: &Words, i: usize, c: u64) -> u8
+    requires { ⌜ i < sessionLimit ⌝ }
     ensures { λ r. ⌜ ((s : List ℕ) → roleNumber (Rattle.model.specs.Place.roleIn c (at (locksOf (now (w .entry)) s .entries) i)) ≡ r) ⌝ }
 {
     if tables::entry(w, i, tables::NUMBER) == 0 {
-        return 0;
+        return NO_ROLE;
     }
-    if tables::entry(w, i, tables::ASYNCHRONOUS) % 256 == 255 {
-        return 1;
+    if tables::entry(w, i, tables::ASYNCHRONOUS) % 256 == NO_CONNECTION {
+        return HALF_OPEN;
     }
     if tables::entry(w, i, tables::SYNCHRONOUS) % 256 == c {
-        return 2;
+        return ON_SYNCHRONOUS;
     }
-    3
+    ON_ASYNCHRONOUS
 }
 
 // The place of a connection.
-pub fn place_of(w: &[u64; 235], c: u64) -> Place
-    ensures { λ r. ⌜ (r .slot ≤ 16) × ((s : List ℕ) → (placeOf (locksOf (now (w .entry)) s .entries) c) .slot ≡ r .slot) × ((s : List ℕ) → roleNumber ((placeOf (locksOf (now (w .entry)) s .entries) c) .role) ≡ r .role) ⌝ }
+pub fn place_of(w: &Words, c: u64) -> Place
+    ensures { λ r. ⌜ (r .slot ≤ sessionLimit) × ((s : List ℕ) → (placeOf (locksOf (now (w .entry)) s .entries) c) .slot ≡ r .slot) × ((s : List ℕ) → roleNumber ((placeOf (locksOf (now (w .entry)) s .entries) c) .role) ≡ r .role) ⌝ }
 {
     let slot = slot_of_connection(w, c);
-    if slot >= 16 {
-        return Place { slot, role: 0 };
+    if slot >= SESSION_LIMIT {
+        return Place {
+            slot,
+            role: NO_ROLE,
+        };
     }
     Place {
         slot,
@@ -73,12 +88,12 @@ pub fn place_of(w: &[u64; 235], c: u64) -> Place
     }
 }
 
-// The slot of the session with a number (16: none); of number 0, the first free slot.
-pub fn slot_of_number(w: &[u64; 235], n: u64) -> usize
-    ensures { λ r. ⌜ (r ≤ 16) × ((s : List ℕ) → slotOfNumber (locksOf (now (w .entry)) s .entries) n ≡ r) ⌝ }
+// The slot of the session with a number (past the slots: none); of number 0, the first free slot.
+pub fn slot_of_number(w: &Words, n: u64) -> usize
+    ensures { λ r. ⌜ (r ≤ sessionLimit) × ((s : List ℕ) → slotOfNumber (locksOf (now (w .entry)) s .entries) n ≡ r) ⌝ }
 {
     let mut i = 0;
-    while i < 16 {
+    while i < SESSION_LIMIT {
         if tables::entry(w, i, tables::NUMBER) == n {
             return i;
         }

@@ -7,6 +7,8 @@ ghost use Rattle.state.specs.View.{locksOf, memory, restOf, view};
 ghost use lib.ListN.{length};
 ghost use mathlib.Core.List.{List};
 ghost use mathlib.Core.Path.{_≡_};
+ghost use Rattle.model.specs.Sizes.{connectionLimit, sessionLimit};
+ghost use Rattle.state.specs.Layout.{WORDS};
 use crate::layout::CLOCK;
 use crate::layout::CONNECTION;
 use crate::layout::CONNECTIONS;
@@ -14,6 +16,7 @@ use crate::layout::ENTRIES;
 use crate::layout::ENTRY;
 use crate::layout::EXCHANGE;
 use crate::layout::EXCHANGES;
+use crate::sizes::Words;
 
 // The fields of an exchange: in device clear, what is asked (plus 1), message available, the client's size.
 pub const IN_CLEAR: usize = 0;
@@ -50,73 +53,73 @@ pub const LOCKOUT: usize = 4;
 pub const REMOTE: usize = 5;
 
 // What a session has asked and been sent.
-pub fn exchange(w: &[u64; 235], i: usize, f: usize) -> u64
-    requires { ⌜ (i < 16) × (f < 4) ⌝ }
+pub fn exchange(w: &Words, i: usize, f: usize) -> u64
+    requires { ⌜ (i < sessionLimit) × (f < 4) ⌝ }
     ensures { λ r. ⌜ exchangeWith f r (exchangeAt (restOf (now (w .entry))) i) ≡ exchangeAt (restOf (now (w .entry))) i ⌝ }
 {
     w[EXCHANGES + i * EXCHANGE + f]
 }
 
 fn set_exchange_in(w: &mut [u64], i: usize, f: usize, v: u64)
-    requires { ⌜ (i < 16) × (f < 4) × (length (now w) ≡ 235) ⌝ }
+    requires { ⌜ (i < sessionLimit) × (f < 4) × (length (now w) ≡ WORDS) ⌝ }
     ensures { λ _. ⌜ ((s : List ℕ) → view (memory (now (w .exit)) s) ≡ onExchange (view (memory (now (w .entry)) s)) i (exchangeWith f v)) ⌝ }
 {
     w[EXCHANGES + i * EXCHANGE + f] = v;
 }
 
-pub fn set_exchange(w: &mut [u64; 235], i: usize, f: usize, v: u64)
-    requires { ⌜ (i < 16) × (f < 4) ⌝ }
+pub fn set_exchange(w: &mut Words, i: usize, f: usize, v: u64)
+    requires { ⌜ (i < sessionLimit) × (f < 4) ⌝ }
     ensures { λ _. ⌜ ((s : List ℕ) → view (memory (now (w .exit)) s) ≡ onExchange (view (memory (now (w .entry)) s)) i (exchangeWith f v)) ⌝ }
 {
     set_exchange_in(w, i, f, v);
 }
 
 // A connection.
-pub fn connection(w: &[u64; 235], i: usize, f: usize) -> u64
-    requires { ⌜ (i < 32) × (f < 2) ⌝ }
+pub fn connection(w: &Words, i: usize, f: usize) -> u64
+    requires { ⌜ (i < connectionLimit) × (f < 2) ⌝ }
     ensures { λ r. ⌜ connectionWith f r (connectionAt (restOf (now (w .entry))) i) ≡ connectionAt (restOf (now (w .entry))) i ⌝ }
 {
     w[CONNECTIONS + i * CONNECTION + f]
 }
 
 fn set_connection_in(w: &mut [u64], i: usize, f: usize, v: u64)
-    requires { ⌜ (i < 32) × (f < 2) × (length (now w) ≡ 235) ⌝ }
+    requires { ⌜ (i < connectionLimit) × (f < 2) × (length (now w) ≡ WORDS) ⌝ }
     ensures { λ _. ⌜ ((s : List ℕ) → view (memory (now (w .exit)) s) ≡ onConnection (view (memory (now (w .entry)) s)) i (connectionWith f v)) ⌝ }
 {
     w[CONNECTIONS + i * CONNECTION + f] = v;
 }
 
-pub fn set_connection(w: &mut [u64; 235], i: usize, f: usize, v: u64)
-    requires { ⌜ (i < 32) × (f < 2) ⌝ }
+pub fn set_connection(w: &mut Words, i: usize, f: usize, v: u64)
+    requires { ⌜ (i < connectionLimit) × (f < 2) ⌝ }
     ensures { λ _. ⌜ ((s : List ℕ) → view (memory (now (w .exit)) s) ≡ onConnection (view (memory (now (w .entry)) s)) i (connectionWith f v)) ⌝ }
 {
     set_connection_in(w, i, f, v);
 }
 
 // A slot of the table of sessions.
-pub fn entry(w: &[u64; 235], i: usize, f: usize) -> u64
-    requires { ⌜ (i < 16) × (f < 3) ⌝ }
+pub fn entry(w: &Words, i: usize, f: usize) -> u64
+    requires { ⌜ (i < sessionLimit) × (f < 3) ⌝ }
     ensures { λ r. ⌜ ((s : List ℕ) → entryWith f r (at (locksOf (now (w .entry)) s .entries) i) ≡ at (locksOf (now (w .entry)) s .entries) i) ⌝ }
 {
     w[ENTRIES + i * ENTRY + f]
 }
 
 fn set_entry_in(w: &mut [u64], i: usize, f: usize, v: u64)
-    requires { ⌜ (i < 16) × (f < 3) × (length (now w) ≡ 235) ⌝ }
+    requires { ⌜ (i < sessionLimit) × (f < 3) × (length (now w) ≡ WORDS) ⌝ }
     ensures { λ _. ⌜ ((s : List ℕ) → view (memory (now (w .exit)) s) ≡ onEntry (view (memory (now (w .entry)) s)) i (entryWith f v)) ⌝ }
 {
     w[ENTRIES + i * ENTRY + f] = v;
 }
 
-pub fn set_entry(w: &mut [u64; 235], i: usize, f: usize, v: u64)
-    requires { ⌜ (i < 16) × (f < 3) ⌝ }
+pub fn set_entry(w: &mut Words, i: usize, f: usize, v: u64)
+    requires { ⌜ (i < sessionLimit) × (f < 3) ⌝ }
     ensures { λ _. ⌜ ((s : List ℕ) → view (memory (now (w .exit)) s) ≡ onEntry (view (memory (now (w .entry)) s)) i (entryWith f v)) ⌝ }
 {
     set_entry_in(w, i, f, v);
 }
 
 // A single value; its place is its word.
-pub fn single(w: &[u64; 235], f: usize) -> u64
+pub fn single(w: &Words, f: usize) -> u64
     requires { ⌜ f < 6 ⌝ }
     ensures { λ r. ⌜ singleWith f r (restOf (now (w .entry))) ≡ restOf (now (w .entry)) ⌝ }
 {
@@ -124,34 +127,37 @@ pub fn single(w: &[u64; 235], f: usize) -> u64
 }
 
 fn set_single_in(w: &mut [u64], f: usize, v: u64)
-    requires { ⌜ (f < 6) × (length (now w) ≡ 235) ⌝ }
+    requires { ⌜ (f < 6) × (length (now w) ≡ WORDS) ⌝ }
     ensures { λ _. ⌜ ((s : List ℕ) → view (memory (now (w .exit)) s) ≡ onRest (view (memory (now (w .entry)) s)) (singleWith f v)) ⌝ }
 {
     w[f] = v;
 }
 
-pub fn set_single(w: &mut [u64; 235], f: usize, v: u64)
+pub fn set_single(w: &mut Words, f: usize, v: u64)
     requires { ⌜ f < 6 ⌝ }
     ensures { λ _. ⌜ ((s : List ℕ) → view (memory (now (w .exit)) s) ≡ onRest (view (memory (now (w .entry)) s)) (singleWith f v)) ⌝ }
 {
     set_single_in(w, f, v);
 }
 
+// A clock's word is read below 2^63, so that a deadline can be formed.
+const CLOCK_RANGE: u64 = 9223372036854775808;
+
 // The clock, in milliseconds.
-pub fn clock(w: &[u64; 235]) -> u64
+pub fn clock(w: &Words) -> u64
     ensures { λ r. ⌜ (r < 9223372036854775808) × ((s : List ℕ) → r ≡ locksOf (now (w .entry)) s .clock) ⌝ }
 {
-    w[CLOCK] % 9223372036854775808
+    w[CLOCK] % CLOCK_RANGE
 }
 
 fn set_clock_in(w: &mut [u64], t: u64)
-    requires { ⌜ (t < 9223372036854775808) × (length (now w) ≡ 235) ⌝ }
+    requires { ⌜ (t < 9223372036854775808) × (length (now w) ≡ WORDS) ⌝ }
     ensures { λ _. ⌜ ((s : List ℕ) → view (memory (now (w .exit)) s) ≡ withClock (view (memory (now (w .entry)) s)) t) ⌝ }
 {
     w[CLOCK] = t;
 }
 
-pub fn set_clock(w: &mut [u64; 235], t: u64)
+pub fn set_clock(w: &mut Words, t: u64)
     requires { ⌜ t < 9223372036854775808 ⌝ }
     ensures { λ _. ⌜ ((s : List ℕ) → view (memory (now (w .exit)) s) ≡ withClock (view (memory (now (w .entry)) s)) t) ⌝ }
 {
