@@ -1,6 +1,6 @@
 -- Demand 3 about the program, proved: the returned structs tell the model's replies, so a run of the C interface is a list of calls
 -- that each meet `Post`. The statement is specs/Program.antt.
-use mathlib.Core.Path.{_≡_, refl, sym, ap, subst, _∙_}
+use mathlib.Core.Path.{_≡_, refl, sym, ap, ap₂, subst, _∙_}
 use mathlib.Core.Bool.{Bool, true, false, not}
 use mathlib.Core.List.{List, [], _∷_, map}
 use Prim.Native.Nat.{ℕ, zero, suc}
@@ -66,6 +66,12 @@ effect-took v-acts (skipping k) r d i c = tt
 effect-took v-acts (long h) r d i c = tt
 effect-took v-acts (part h) r d i c = tt
 effect-took v-acts (whole h p) r d i c = acts-took r d i c h p
+
+-- was the call done?
+abbrev Done? : Reply → Type 0
+Done? (refused n) = ⊥
+Done? done = Unit {0}
+Done? (took o k n) = ⊥
 
 -- the struct tells the reply y and how many bytes of the buffer hold frames
 abbrev Tells : Delivery → Reply → ℕ → Type 0
@@ -164,38 +170,43 @@ unfolding askedBy
 asked-seen [] n p = refl
 asked-seen (l ∷ ls) n p = asked-seen ls n (track (l .event) (l .reply) n p)
 
--- a call that returned no refusal was not refused
-not-refused : (d : Server) (e : Event) (r : Done) → doneNumbers r ≡ doneAnswer ((step d e) .reply) (length (bytesOf ((step d e) .frames))) → r .refusal ≡ 0 → refusal d e ≡ 0
+-- a call that was not refused, by what the host saw
+not-refused : (d : Server) (e : Event) → (step d e) .reply ≡ done → refusal d e ≡ 0
 unfolding step answered
-not-refused d e r q z = go (refusal d e) q
+not-refused d e q = go (refusal d e) q
   where
-    go : (k : ℕ) → doneNumbers r ≡ doneAnswer ((answered k d e) .reply) (length (bytesOf ((answered k d e) .frames))) → k ≡ 0
-    go zero q = refl
-    go (suc k) q = sym (ap (λ (a : DoneAnswer). a .refusal) q) ∙ z
+    done≢refused : (k : ℕ) → refused (suc k) ≡ done → ⊥
+    done≢refused k z = subst (λ (y : Reply). Done? y) (sym z) tt
 
-tied : (v : ℕ) (m m′ m″ : Memory) (ss : List Seen) → Fresh v m → Run m ss m′
-    → (n : ℕ) (payload : List ℕ) (end : ℕ) (out out′ : List ℕ) (r : Done) → Called (answer n payload (not (eqb end 0)) (length out)) r m′ m″ out out′ → r .refusal ≡ 0
-    → Tied ss m′ n payload (not (eqb end 0)) (take (r .output) out′)
-unfolding plan
-tied v m m′ m″ ss f g n payload end out out′ r p z =
+    go : (k : ℕ) → (answered k d e) .reply ≡ done → k ≡ 0
+    go zero q = refl
+    go (suc k) q = absurd (done≢refused k q)
+
+tied : (v : ℕ) (m m′ m″ : Memory) (ss : List Seen) (s : Seen) → Fresh v m → Run m ss m′ → Run m′ (s ∷ []) m″
+    → (n : ℕ) (payload : List ℕ) (end : Bool) (room : ℕ) → s .event ≡ answer n payload end room → s .reply ≡ done → Tied ss m′ n payload end (s .output)
+unfolding log
+tied v m m′ m″ ss s f g g′ n payload end room x y =
     let es : List Event = seenEvents ss in
-    let e : Event = answer n payload (not (eqb end 0)) (length out) in
+    let e : Event = answer n payload end room in
     let h = made view (calls g) in
     let d : view m′ ≡ final (fresh v) es = h .1 ∙ ap (λ (x : Server). final x es) (f .shows) in
-    let s : ss ≡ map seen (log (fresh v) es) = h .0 ∙ ap (λ (x : Server). map seen (log x es)) (f .shows) in
-    let t = tie v es n payload (not (eqb end 0)) (length out) (sym (ap (λ (x : Server). refusal x e) d) ∙ not-refused (view m′) e r (p .numbers) z) in
-    let i : ℕ = t .number in
-    let o = one view e m′ m″ out out′ (doneReply r) (r .output) (call-post e m′ m″ out out′ refl r p) in
+    let t : ss ≡ map seen (log (fresh v) es) = h .0 ∙ ap (λ (x : Server). map seen (log x es)) (f .shows) in
+    let o : s ≡ seen record { event = e; reply = (step (final (fresh v) es) e) .reply; frames = (step (final (fresh v) es) e) .frames } =
+    ap first (made view (calls g′) .0 ∙ ap₂ (λ (a : Server) (b : Event). map seen (log a (b ∷ []))) d x) in
+    let q = tie v es n payload end room (not-refused (final (fresh v) es) e (sym (ap (λ (a : Seen). a .reply) o) ∙ y)) in
     record {
-      number = i;
-      asked = ap (λ (x : List Seen). askedIn x n Asked.none) s ∙ asked-seen (log (fresh v) es) n Asked.none ∙ t .asked;
+      number = q .number;
+      asked = ap (λ (a : List Seen). askedIn a n Asked.none) t ∙ asked-seen (log (fresh v) es) n Asked.none ∙ q .asked;
       sent =
-          ap (λ (x : Seen). x .output) o
-          ∙ ap (λ (x : Server). bytesOf ((step x e) .frames)) d
-          ∙ ap bytesOf (t .sent)
+          ap (λ (a : Seen). a .output) o
+          ∙ ap bytesOf (q .sent)
           ∙ bytes-one _
-          ∙ ap (λ (x : Server). frameBytes (frameOf ((at (x .locks .entries) (slotOfNumber (x .locks .entries) n)) .synchronous) (answerType (not (eqb end 0))) 0 i payload)) (sym d);
+          ∙ ap (λ (a : Server). frameBytes (frameOf ((at (a .locks .entries) (slotOfNumber (a .locks .entries) n)) .synchronous) (answerType end) 0 (q .number) payload)) (sym d);
     }
+  where
+    first : List Seen → Seen
+    first [] = s
+    first (a ∷ rest) = a
 
 decided : (m m′ n n′ : Memory) (ss rs : List Seen) → view m ≡ view n → Run m ss m′ → Run n rs n′ → seenEvents ss ≡ seenEvents rs → (ss ≡ rs) × (view m′ ≡ view n′)
 decided m m′ n n′ ss rs v f g e =
@@ -223,7 +234,7 @@ isolated v m m′ m″ ss rs f g j h g′ u =
     λ x e a b. subst (λ (y : Server). (at (y .locks .entries) j) .exclusive ≡ true → Undisturbed j y fs → Log.OnlyOf ((at (y .locks .entries) j) .number) (log y fs)) (sym e) (λ a b. (isolation-run v es j .from-now fs a b) .only-its-own) a b in
     subst (OnlyOf ((at (view m′ .locks .entries) j) .number)) (sym (made view (calls g′) .0)) (only-seen _ (log (view m′) fs) (whole (view m′) d h u))
 
-pub program : Program
+pub program : Program Fresh Run
 program =
     record {
       by-definition = λ m m′ ss g. let h = made view (calls g) in record { seen-is = h .0; server-is = h .1 };

@@ -85,16 +85,18 @@ OnlyOf n (s ∷ ss) =
     ((c : ℕ) (bs : List ℕ) (room k m : ℕ) → s .event ≡ delivery c bs room → s .reply ≡ took acted k m → one-of commands ((header bs) .kind) ≡ true → m ≡ n)
     × OnlyOf n ss
 
-pub record Program : Type 0 where
-  pub by-definition : (m m′ : Memory) (ss : List Seen) → Run m ss m′ → ByDefinition m m′ ss
+-- the claims, for memory that is new (of vendor number v) and for runs, in whatever way the two are told: by the words of the contracts
+-- (`Fresh`, `Run`), or by what the toolchain reads off the functions themselves (proofs/Contracts.antt)
+pub record Program (New : ℕ → Memory → Type 0) (Ran : Memory → List Seen → Memory → Type 0) : Type 0 where
+  pub by-definition : (m m′ : Memory) (ss : List Seen) → Ran m ss m′ → ByDefinition m m′ ss
   -- the view shows everything that a later call can depend on: from two memories with one view the same events show the host the same
-  pub view-decides : (m m′ n n′ : Memory) (ss rs : List Seen) → view m ≡ view n → Run m ss m′ → Run n rs n′ → seenEvents ss ≡ seenEvents rs
+  pub view-decides : (m m′ n n′ : Memory) (ss rs : List Seen) → view m ≡ view n → Ran m ss m′ → Ran n rs n′ → seenEvents ss ≡ seenEvents rs
       → (ss ≡ rs) × (view m′ ≡ view n′)
-  pub demand3 : (v : ℕ) (m m′ : Memory) (ss : List Seen) → Fresh v m → Run m ss m′ → Demand3 view v ss m′
-  pub tie : (v : ℕ) (m m′ m″ : Memory) (ss : List Seen) → Fresh v m → Run m ss m′
-      → (n : ℕ) (payload : List ℕ) (end : ℕ) (out out′ : List ℕ) (r : Done) → Called (answer n payload (not (eqb end 0)) (length out)) r m′ m″ out out′ → r .refusal ≡ 0
-      → Tied ss m′ n payload (not (eqb end 0)) (take (r .output) out′)
+  pub demand3 : (v : ℕ) (m m′ : Memory) (ss : List Seen) → New v m → Ran m ss m′ → Demand3 view v ss m′
+  -- of an answer that was not refused
+  pub tie : (v : ℕ) (m m′ m″ : Memory) (ss : List Seen) (s : Seen) → New v m → Ran m ss m′ → Ran m′ (s ∷ []) m″
+      → (n : ℕ) (payload : List ℕ) (end : Bool) (room : ℕ) → s .event ≡ answer n payload end room → s .reply ≡ done → Tied ss m′ n payload end (s .output)
   -- N about the program: from where a session holds exclusive until its release or its closing, nobody else's command acts
-  pub isolation : (v : ℕ) (m m′ m″ : Memory) (ss rs : List Seen) → Fresh v m → Run m ss m′
-      → (j : ℕ) → (at (view m′ .locks .entries) j) .exclusive ≡ true → Run m′ rs m″ → Undisturbed j (view m′) (seenEvents rs)
+  pub isolation : (v : ℕ) (m m′ m″ : Memory) (ss rs : List Seen) → New v m → Ran m ss m′
+      → (j : ℕ) → (at (view m′ .locks .entries) j) .exclusive ≡ true → Ran m′ rs m″ → Undisturbed j (view m′) (seenEvents rs)
       → OnlyOf ((at (view m′ .locks .entries) j) .number) rs
