@@ -22,6 +22,8 @@ use crate::sizes::SESSIONS;
 use crate::sizes::STRING_LIMIT;
 use crate::sizes::Strings;
 use crate::sizes::Words;
+use crate::words::sized;
+use crate::words::store;
 
 // Does slot i hold the exclusive lock?
 pub fn is_exclusive(w: &Words, i: usize) -> bool
@@ -115,28 +117,12 @@ pub fn no_other_shares(w: &Words, i: usize) -> bool
     taken_out(w[SHARERS], i) % SETS == 0
 }
 
-fn give_exclusive_in(w: &mut [u64], i: usize)
-    requires { ⌜ (i < sessionLimit) × (length (now w) ≡ WORDS) × NoOther (now w) i ⌝ }
-    ensures { λ _. ⌜ ((s : List ℕ) → view (memory (now (w .exit)) s) ≡ onEntry (view (memory (now (w .entry)) s)) i (give [])) ⌝ }
-{
-    w[HOLDER] = i as u64 + 1;
-}
-
 // Slot i gets the exclusive lock, which nobody else holds.
 pub fn give_exclusive(w: &mut Words, i: usize)
     requires { ⌜ (i < sessionLimit) × NoOther (now w) i ⌝ }
     ensures { λ _. ⌜ ((s : List ℕ) → view (memory (now (w .exit)) s) ≡ onEntry (view (memory (now (w .entry)) s)) i (give [])) ⌝ }
 {
-    give_exclusive_in(w, i);
-}
-
-fn drop_exclusive_in(w: &mut [u64], i: usize)
-    requires { ⌜ (i < sessionLimit) × (length (now w) ≡ WORDS) ⌝ }
-    ensures { λ _. ⌜ ((s : List ℕ) → view (memory (now (w .exit)) s) ≡ onEntry (view (memory (now (w .entry)) s)) i withoutExclusive) ⌝ }
-{
-    if w[HOLDER] == i as u64 + 1 {
-        w[HOLDER] = 0;
-    }
+    store(w, HOLDER, i as u64 + 1);
 }
 
 // Slot i holds the exclusive lock no more, if it did.
@@ -144,15 +130,10 @@ pub fn drop_exclusive(w: &mut Words, i: usize)
     requires { ⌜ i < sessionLimit ⌝ }
     ensures { λ _. ⌜ ((s : List ℕ) → view (memory (now (w .exit)) s) ≡ onEntry (view (memory (now (w .entry)) s)) i withoutExclusive) ⌝ }
 {
-    drop_exclusive_in(w, i);
-}
-
-fn drop_shared_in(w: &mut [u64], i: usize)
-    requires { ⌜ (i < sessionLimit) × (length (now w) ≡ WORDS) ⌝ }
-    ensures { λ _. ⌜ ((s : List ℕ) → view (memory (now (w .exit)) s) ≡ onEntry (view (memory (now (w .entry)) s)) i withoutShared) ⌝ }
-{
-    let m = taken_out(w[SHARERS], i);
-    w[SHARERS] = m;
+    sized(w);
+    if w[HOLDER] == i as u64 + 1 {
+        store(w, HOLDER, 0);
+    }
 }
 
 // Slot i holds the shared lock no more, if it did.
@@ -160,7 +141,8 @@ pub fn drop_shared(w: &mut Words, i: usize)
     requires { ⌜ i < sessionLimit ⌝ }
     ensures { λ _. ⌜ ((s : List ℕ) → view (memory (now (w .exit)) s) ≡ onEntry (view (memory (now (w .entry)) s)) i withoutShared) ⌝ }
 {
-    drop_shared_in(w, i);
+    let m = taken_out(w[SHARERS], i);
+    store(w, SHARERS, m);
 }
 
 fn give_shared_in(w: &mut [u64], strings: &mut [u8], i: usize, n: usize)

@@ -7,3 +7,4 @@ pub mod requests;
 pub mod search;
 pub mod sizes;
 pub mod tables;
+mod words;

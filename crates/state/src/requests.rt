@@ -23,6 +23,7 @@ use crate::sizes::SESSIONS;
 use crate::sizes::STRING_LIMIT;
 use crate::sizes::Strings;
 use crate::sizes::Words;
+use crate::words::store;
 
 // the shared string has a first byte, and so many more at the most
 const KEY_REST: usize = STRING_LIMIT - 1;
@@ -68,27 +69,13 @@ pub fn string_length(w: &Words, i: usize) -> usize
     least(w[REQUESTS + i * REQUEST + 1], STRING_LIMIT)
 }
 
-fn move_waiting_in(w: &mut [u64], j: usize, k: usize)
-    requires { ⌜ (j < countOf (now w)) × (k < countOf (now w)) × (length (now w) ≡ WORDS) ⌝ }
-    ensures { λ _. ⌜ ((s : List ℕ) → view (memory (now (w .exit)) s) ≡ onWaiting (view (memory (now (w .entry)) s)) (λ x. set x k (getD x j noRequest))) ⌝ }
-{
-    let x = w[QUEUE + j] % SESSIONS;
-    w[QUEUE + k] = x;
-}
-
 // The j-th request that waits is put at place k of the queue.
 pub fn move_waiting(w: &mut Words, j: usize, k: usize)
     requires { ⌜ (j < countOf (now w)) × (k < countOf (now w)) ⌝ }
     ensures { λ _. ⌜ ((s : List ℕ) → view (memory (now (w .exit)) s) ≡ onWaiting (view (memory (now (w .entry)) s)) (λ x. set x k (getD x j noRequest))) ⌝ }
 {
-    move_waiting_in(w, j, k);
-}
-
-fn keep_first_in(w: &mut [u64], n: usize)
-    requires { ⌜ (n ≤ countOf (now w)) × (length (now w) ≡ WORDS) ⌝ }
-    ensures { λ _. ⌜ ((s : List ℕ) → view (memory (now (w .exit)) s) ≡ onWaiting (view (memory (now (w .entry)) s)) (take n)) ⌝ }
-{
-    w[COUNT] = n as u64;
+    let x = w[QUEUE + j] % SESSIONS;
+    store(w, QUEUE + k, x);
 }
 
 // Only the first n go on waiting.
@@ -96,16 +83,7 @@ pub fn keep_first(w: &mut Words, n: usize)
     requires { ⌜ n ≤ countOf (now w) ⌝ }
     ensures { λ _. ⌜ ((s : List ℕ) → view (memory (now (w .exit)) s) ≡ onWaiting (view (memory (now (w .entry)) s)) (take n)) ⌝ }
 {
-    keep_first_in(w, n);
-}
-
-fn queue_request_in(w: &mut [u64], i: usize, deadline: u64, n: usize)
-    requires { ⌜ (i < sessionLimit) × (length (now w) ≡ WORDS) × (n ≡ countOf (now w)) × (n < sessionLimit) × Idle (now w) i ⌝ }
-    ensures { λ _. ⌜ ((s : List ℕ) → view (memory (now (w .exit)) s) ≡ onWaiting (view (memory (now (w .entry)) s)) (λ x. x ++ (record { slot = i; deadline = deadline; string = stringAt (now (w .entry)) s i } ∷ []))) ⌝ }
-{
-    w[REQUESTS + i * REQUEST + 0] = deadline;
-    w[QUEUE + n] = i as u64;
-    w[COUNT] = n as u64 + 1;
+    store(w, COUNT, n as u64);
 }
 
 // Slot i's request, its string laid already, goes to the end of the queue with a deadline.
@@ -114,7 +92,9 @@ pub fn queue_request(w: &mut Words, i: usize, deadline: u64)
     ensures { λ _. ⌜ ((s : List ℕ) → view (memory (now (w .exit)) s) ≡ onWaiting (view (memory (now (w .entry)) s)) (λ x. x ++ (record { slot = i; deadline = deadline; string = stringAt (now (w .entry)) s i } ∷ []))) ⌝ }
 {
     let n = waiting_count(w);
-    queue_request_in(w, i, deadline, n);
+    store(w, REQUESTS + i * REQUEST + 0, deadline);
+    store(w, QUEUE + n, i as u64);
+    store(w, COUNT, n as u64 + 1);
 }
 
 fn lay_request_in(w: &mut [u64], strings: &mut [u8], i: usize, string: &[u8])

@@ -17,6 +17,7 @@ use crate::layout::ENTRY;
 use crate::layout::EXCHANGE;
 use crate::layout::EXCHANGES;
 use crate::sizes::Words;
+use crate::words::store;
 
 // The fields of an exchange: in device clear, what is asked (plus 1), message available, the client's size.
 pub const IN_CLEAR: usize = 0;
@@ -60,18 +61,11 @@ pub fn exchange(w: &Words, i: usize, f: usize) -> u64
     w[EXCHANGES + i * EXCHANGE + f]
 }
 
-fn set_exchange_in(w: &mut [u64], i: usize, f: usize, v: u64)
-    requires { ⌜ (i < sessionLimit) × (f < 4) × (length (now w) ≡ WORDS) ⌝ }
-    ensures { λ _. ⌜ ((s : List ℕ) → view (memory (now (w .exit)) s) ≡ onExchange (view (memory (now (w .entry)) s)) i (exchangeWith f v)) ⌝ }
-{
-    w[EXCHANGES + i * EXCHANGE + f] = v;
-}
-
 pub fn set_exchange(w: &mut Words, i: usize, f: usize, v: u64)
     requires { ⌜ (i < sessionLimit) × (f < 4) ⌝ }
     ensures { λ _. ⌜ ((s : List ℕ) → view (memory (now (w .exit)) s) ≡ onExchange (view (memory (now (w .entry)) s)) i (exchangeWith f v)) ⌝ }
 {
-    set_exchange_in(w, i, f, v);
+    store(w, EXCHANGES + i * EXCHANGE + f, v);
 }
 
 // A connection.
@@ -82,18 +76,11 @@ pub fn connection(w: &Words, i: usize, f: usize) -> u64
     w[CONNECTIONS + i * CONNECTION + f]
 }
 
-fn set_connection_in(w: &mut [u64], i: usize, f: usize, v: u64)
-    requires { ⌜ (i < connectionLimit) × (f < 2) × (length (now w) ≡ WORDS) ⌝ }
-    ensures { λ _. ⌜ ((s : List ℕ) → view (memory (now (w .exit)) s) ≡ onConnection (view (memory (now (w .entry)) s)) i (connectionWith f v)) ⌝ }
-{
-    w[CONNECTIONS + i * CONNECTION + f] = v;
-}
-
 pub fn set_connection(w: &mut Words, i: usize, f: usize, v: u64)
     requires { ⌜ (i < connectionLimit) × (f < 2) ⌝ }
     ensures { λ _. ⌜ ((s : List ℕ) → view (memory (now (w .exit)) s) ≡ onConnection (view (memory (now (w .entry)) s)) i (connectionWith f v)) ⌝ }
 {
-    set_connection_in(w, i, f, v);
+    store(w, CONNECTIONS + i * CONNECTION + f, v);
 }
 
 // A slot of the table of sessions.
@@ -104,18 +91,11 @@ pub fn entry(w: &Words, i: usize, f: usize) -> u64
     w[ENTRIES + i * ENTRY + f]
 }
 
-fn set_entry_in(w: &mut [u64], i: usize, f: usize, v: u64)
-    requires { ⌜ (i < sessionLimit) × (f < 3) × (length (now w) ≡ WORDS) ⌝ }
-    ensures { λ _. ⌜ ((s : List ℕ) → view (memory (now (w .exit)) s) ≡ onEntry (view (memory (now (w .entry)) s)) i (entryWith f v)) ⌝ }
-{
-    w[ENTRIES + i * ENTRY + f] = v;
-}
-
 pub fn set_entry(w: &mut Words, i: usize, f: usize, v: u64)
     requires { ⌜ (i < sessionLimit) × (f < 3) ⌝ }
     ensures { λ _. ⌜ ((s : List ℕ) → view (memory (now (w .exit)) s) ≡ onEntry (view (memory (now (w .entry)) s)) i (entryWith f v)) ⌝ }
 {
-    set_entry_in(w, i, f, v);
+    store(w, ENTRIES + i * ENTRY + f, v);
 }
 
 // A single value; its place is its word.
@@ -126,18 +106,11 @@ pub fn single(w: &Words, f: usize) -> u64
     w[f]
 }
 
-fn set_single_in(w: &mut [u64], f: usize, v: u64)
-    requires { ⌜ (f < 6) × (length (now w) ≡ WORDS) ⌝ }
-    ensures { λ _. ⌜ ((s : List ℕ) → view (memory (now (w .exit)) s) ≡ onRest (view (memory (now (w .entry)) s)) (singleWith f v)) ⌝ }
-{
-    w[f] = v;
-}
-
 pub fn set_single(w: &mut Words, f: usize, v: u64)
     requires { ⌜ f < 6 ⌝ }
     ensures { λ _. ⌜ ((s : List ℕ) → view (memory (now (w .exit)) s) ≡ onRest (view (memory (now (w .entry)) s)) (singleWith f v)) ⌝ }
 {
-    set_single_in(w, f, v);
+    store(w, f, v);
 }
 
 // A clock's word is read below 2^63, so that a deadline can be formed.
@@ -150,16 +123,9 @@ pub fn clock(w: &Words) -> u64
     w[CLOCK] % CLOCK_RANGE
 }
 
-fn set_clock_in(w: &mut [u64], t: u64)
-    requires { ⌜ (t < 9223372036854775808) × (length (now w) ≡ WORDS) ⌝ }
-    ensures { λ _. ⌜ ((s : List ℕ) → view (memory (now (w .exit)) s) ≡ withClock (view (memory (now (w .entry)) s)) t) ⌝ }
-{
-    w[CLOCK] = t;
-}
-
 pub fn set_clock(w: &mut Words, t: u64)
     requires { ⌜ t < 9223372036854775808 ⌝ }
     ensures { λ _. ⌜ ((s : List ℕ) → view (memory (now (w .exit)) s) ≡ withClock (view (memory (now (w .entry)) s)) t) ⌝ }
 {
-    set_clock_in(w, t);
+    store(w, CLOCK, t);
 }
