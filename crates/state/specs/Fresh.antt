@@ -1,16 +1,18 @@
 -- The memory of a fresh server, word for word and byte for byte; and that it shows the fresh server. Assumes nothing.
-use mathlib.Core.Path.{_≡_, sym, ap, ap₂, _∙_}
+use mathlib.Core.Path.{_≡_, refl, sym, ap, ap₂, _∙_}
+use mathlib.Core.Bool.{cond}
 use mathlib.Core.List.{List, [], _∷_, _++_}
-use Prim.Native.Nat.{ℕ, zero, suc, _+_, _*_, _%_, _^_, _≤_, _<_}
-use native.Mathlib.Nat.{mod-eq-of-lt}
+use Prim.Native.Nat.{ℕ, zero, suc, _+_, _*_, _-_, _%_, _^_, _≤_, _<_}
+use native.Mathlib.Nat.{mod-eq-of-lt, zero-add}
 use native.Mathlib.Numerals.{add-one}
+use lib.Dec.{eqb, ltb}
 use lib.ListN.{length, getD, set, take, replicate}
 use lib.Seq.{take-all, take-suc, take-suc-set}
 use Rattle.model.specs.Sizes.{sessionLimit, connectionLimit, payloadLimit, noConnection}
 use Rattle.model.specs.State.{Server, Rest, fresh}
-use Rattle.state.specs.Table.{tab}
+use Rattle.state.specs.Table.{tab, getD-tab}
 use Rattle.state.specs.Grid.{grid}
-use Rattle.state.specs.Layout.{REQUEST, STRINGS}
+use Rattle.state.specs.Layout.{EXCHANGES, EXCHANGE, CONNECTIONS, ENTRIES, ENTRY, REQUESTS, REQUEST, WORDS, STRINGS}
 use Rattle.state.specs.View.{memory, view, keyOf, entryAt, entriesOf, waitingOf, locksOf, restOf}
 
 -- n rows alike
@@ -30,6 +32,21 @@ freshWords v =
     ++ rows sessionLimit (0 ∷ noConnection ∷ noConnection ∷ [])
     ++ replicate (sessionLimit * REQUEST) 0
     ++ replicate sessionLimit 0
+
+-- the word at a place
+unfoldable pub freshWord : ℕ → ℕ
+freshWord i =
+    cond (ltb i EXCHANGES) 0
+    (cond (ltb i CONNECTIONS) (cond (eqb ((i - EXCHANGES) % EXCHANGE) 3) payloadLimit 0)
+    (cond (ltb i ENTRIES) 0 (cond (ltb i REQUESTS) (cond (eqb ((i - ENTRIES) % ENTRY) 0) 0 noConnection) 0)))
+
+-- it is that of the list: computed over every place
+fresh-table : tab freshWord 0 WORDS ≡ freshWords 0
+unfolding tab freshWord
+fresh-table = refl
+
+pub fresh-at : (i : ℕ) → i < WORDS → getD (freshWords 0) i 0 ≡ freshWord i
+fresh-at i h = ap (λ (l : List ℕ). getD l i 0) (sym fresh-table) ∙ getD-tab freshWord 0 WORDS i 0 h ∙ ap freshWord (zero-add i)
 
 abbrev pub freshStrings : List ℕ
 freshStrings = replicate STRINGS 0

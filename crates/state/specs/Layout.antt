@@ -1,5 +1,7 @@
--- Where each part of the server stands in the lent words and bytes; docs/MEMORY.md draws it. The code's constants have these names.
-use Prim.Native.Nat.{ℕ}
+-- Where each part of the server stands in the lent words and bytes: one part behind the other, each as long as its rows; docs/MEMORY.md draws it.
+-- The code's constants have these names.
+use Prim.Native.Nat.{ℕ, _+_, _*_}
+use Rattle.model.specs.Sizes.{sessionLimit, connectionLimit, stringLimit}
 
 -- the vendor number
 abbrev pub VENDOR : ℕ
@@ -33,7 +35,7 @@ EXCHANGE = 4
 
 -- a row for each connection: open, remainder to skip
 abbrev pub CONNECTIONS : ℕ
-CONNECTIONS = 70
+CONNECTIONS = EXCHANGES + sessionLimit * EXCHANGE
 
 -- words a row
 abbrev pub CONNECTION : ℕ
@@ -41,30 +43,30 @@ CONNECTION = 2
 
 -- here the words of the locks begin
 abbrev pub LOCKS : ℕ
-LOCKS = 134
+LOCKS = CONNECTIONS + connectionLimit * CONNECTION
 
 abbrev pub CLOCK : ℕ
-CLOCK = 134
+CLOCK = LOCKS
 
 -- the slot of the exclusive holder, plus 1; 0 or a number past the slots: nobody
 abbrev pub HOLDER : ℕ
-HOLDER = 135
+HOLDER = CLOCK + 1
 
 -- bit i: slot i holds the shared lock
 abbrev pub SHARERS : ℕ
-SHARERS = 136
+SHARERS = HOLDER + 1
 
 -- the length of the shared string, less 1
 abbrev pub KEY : ℕ
-KEY = 137
+KEY = SHARERS + 1
 
 -- how many requests wait
 abbrev pub COUNT : ℕ
-COUNT = 138
+COUNT = KEY + 1
 
 -- a row for each slot: SessionID, synchronous and asynchronous connection
 abbrev pub ENTRIES : ℕ
-ENTRIES = 139
+ENTRIES = COUNT + 1
 
 -- words a row
 abbrev pub ENTRY : ℕ
@@ -72,7 +74,7 @@ ENTRY = 3
 
 -- a row for each slot: its request's deadline, the length of its string
 abbrev pub REQUESTS : ℕ
-REQUESTS = 187
+REQUESTS = ENTRIES + sessionLimit * ENTRY
 
 -- words a row
 abbrev pub REQUEST : ℕ
@@ -80,12 +82,12 @@ REQUEST = 2
 
 -- the slots that wait, oldest first
 abbrev pub QUEUE : ℕ
-QUEUE = 219
+QUEUE = REQUESTS + sessionLimit * REQUEST
 
 -- words to lend
 abbrev pub WORDS : ℕ
-WORDS = 235
+WORDS = QUEUE + sessionLimit
 
--- bytes to lend: the shared string, then the string of each slot's request, 64 bytes each
+-- bytes to lend: the shared string, then the string of each slot's request
 abbrev pub STRINGS : ℕ
-STRINGS = 1088
+STRINGS = stringLimit + sessionLimit * stringLimit

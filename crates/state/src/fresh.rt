@@ -1,259 +1,57 @@
 // A fresh server: every word and every byte is written, whatever was there.
 ghost use Rattle.model.specs.State.{fresh};
-ghost use Rattle.state.specs.Fresh.{freshStrings, freshWords};
+ghost use Rattle.state.specs.Fresh.{freshStrings, freshWord, freshWords};
 ghost use Rattle.state.specs.View.{memory, view};
 ghost use lib.ListN.{length, replicate};
 ghost use mathlib.Core.Path.{_≡_};
 ghost use Rattle.state.specs.Layout.{STRINGS, WORDS};
+use crate::layout::CONNECTIONS;
+use crate::layout::ENTRIES;
+use crate::layout::ENTRY;
+use crate::layout::EXCHANGE;
+use crate::layout::EXCHANGES;
+use crate::layout::REQUESTS;
+use crate::sizes;
+use crate::sizes::NO_CONNECTION;
+use crate::sizes::PAYLOAD;
 use crate::sizes::Strings;
 use crate::sizes::Words;
+use crate::tables::CLIENT_SIZE;
+use crate::tables::NUMBER;
 use crate::tables::VENDOR;
 
-const FRESH: Words = [
-    0,
-    0,
-    0,
-    0,
-    0,
-    0,
-    0,
-    0,
-    0,
-    1024,
-    0,
-    0,
-    0,
-    1024,
-    0,
-    0,
-    0,
-    1024,
-    0,
-    0,
-    0,
-    1024,
-    0,
-    0,
-    0,
-    1024,
-    0,
-    0,
-    0,
-    1024,
-    0,
-    0,
-    0,
-    1024,
-    0,
-    0,
-    0,
-    1024,
-    0,
-    0,
-    0,
-    1024,
-    0,
-    0,
-    0,
-    1024,
-    0,
-    0,
-    0,
-    1024,
-    0,
-    0,
-    0,
-    1024,
-    0,
-    0,
-    0,
-    1024,
-    0,
-    0,
-    0,
-    1024,
-    0,
-    0,
-    0,
-    1024,
-    0,
-    0,
-    0,
-    1024,
-    0,
-    0,
-    0,
-    0,
-    0,
-    0,
-    0,
-    0,
-    0,
-    0,
-    0,
-    0,
-    0,
-    0,
-    0,
-    0,
-    0,
-    0,
-    0,
-    0,
-    0,
-    0,
-    0,
-    0,
-    0,
-    0,
-    0,
-    0,
-    0,
-    0,
-    0,
-    0,
-    0,
-    0,
-    0,
-    0,
-    0,
-    0,
-    0,
-    0,
-    0,
-    0,
-    0,
-    0,
-    0,
-    0,
-    0,
-    0,
-    0,
-    0,
-    0,
-    0,
-    0,
-    0,
-    0,
-    0,
-    0,
-    0,
-    0,
-    0,
-    0,
-    0,
-    0,
-    0,
-    0,
-    0,
-    0,
-    0,
-    0,
-    0,
-    255,
-    255,
-    0,
-    255,
-    255,
-    0,
-    255,
-    255,
-    0,
-    255,
-    255,
-    0,
-    255,
-    255,
-    0,
-    255,
-    255,
-    0,
-    255,
-    255,
-    0,
-    255,
-    255,
-    0,
-    255,
-    255,
-    0,
-    255,
-    255,
-    0,
-    255,
-    255,
-    0,
-    255,
-    255,
-    0,
-    255,
-    255,
-    0,
-    255,
-    255,
-    0,
-    255,
-    255,
-    0,
-    255,
-    255,
-    0,
-    0,
-    0,
-    0,
-    0,
-    0,
-    0,
-    0,
-    0,
-    0,
-    0,
-    0,
-    0,
-    0,
-    0,
-    0,
-    0,
-    0,
-    0,
-    0,
-    0,
-    0,
-    0,
-    0,
-    0,
-    0,
-    0,
-    0,
-    0,
-    0,
-    0,
-    0,
-    0,
-    0,
-    0,
-    0,
-    0,
-    0,
-    0,
-    0,
-    0,
-    0,
-    0,
-    0,
-    0,
-    0,
-    0,
-    0,
-];
+// The word of a fresh server at a place: an exchange has the client's size, a slot no connections, all else is 0.
+fn fresh_word(at: usize) -> u64
+    ensures { λ r. ⌜ r ≡ freshWord at ⌝ }
+{
+    if at < EXCHANGES {
+        return 0;
+    }
+    if at < CONNECTIONS {
+        if (at - EXCHANGES) % EXCHANGE == CLIENT_SIZE {
+            return PAYLOAD;
+        }
+        return 0;
+    }
+    if at < ENTRIES {
+        return 0;
+    }
+    if at < REQUESTS {
+        if (at - ENTRIES) % ENTRY == NUMBER {
+            return 0;
+        }
+        return NO_CONNECTION;
+    }
+    0
+}
 
-fn put_words(w: &mut [u64], src: &[u64])
-    requires { ⌜ length (now w) ≡ length (now src) ⌝ }
-    ensures { λ _. ⌜ now (w .exit) ≡ now (src .entry) ⌝ }
+fn put_words(w: &mut [u64])
+    requires { ⌜ length (now w) ≡ WORDS ⌝ }
+    ensures { λ _. ⌜ now (w .exit) ≡ freshWords 0 ⌝ }
 {
     let mut i = 0;
-    while i < src.len() {
-        w[i] = src[i];
+    while i < sizes::WORDS {
+        w[i] = fresh_word(i);
         i += 1;
     }
 }
@@ -272,7 +70,7 @@ fn start_in(w: &mut [u64], strings: &mut [u8], vendor: u16)
     requires { ⌜ (length (now w) ≡ WORDS) × (length (now strings) ≡ STRINGS) ⌝ }
     ensures { λ _. ⌜ (now (w .exit) ≡ freshWords vendor) × (now (strings .exit) ≡ freshStrings) ⌝ }
 {
-    put_words(w, &FRESH);
+    put_words(w);
     w[VENDOR] = vendor as u64;
     put_zeros(strings);
 }

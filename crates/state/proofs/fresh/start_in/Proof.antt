@@ -8,15 +8,14 @@ use Rattle.state.proofs.fresh.start_in.Statement.{statement}
 use Rattle.state.proofs.fresh.start_in.Tie as tie
 
 returns : tie.Need-returns
-returns c = let a = c .before .before .before .before .before .before .before .before .before .before .before .args in
-    let p = c .before .before .before .before .before .before .before .before .before .before .before .pre in
+returns c = let a = c .before .before .before .before .before .before .before .before .before .before .args in
+    let p = c .before .before .before .before .before .before .before .before .before .before .pre in
     (ap (λ (l : List ℕ). set l 0 (a .vendor)) (c .before .before .before .before .before .before .put-words .ensures), c .before .before .put-zeros .ensures ∙ ap (λ (n : ℕ). replicate n 0) (p .1))
 
 pub start-in-spec : {M : Type 1} → statement M
 start-in-spec =
     tie.close
     (tie.spec
-    (λ c. search needs)
     (λ c κs. search needs)
     (λ c. search needs)
     (λ c κs. search needs)
