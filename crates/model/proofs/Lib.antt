@@ -35,3 +35,5 @@ pub mod AlwaysRoom
 pub mod OneString
 pub mod FixedPoint
 pub mod Demand3
+pub mod Reader
+pub mod Codes

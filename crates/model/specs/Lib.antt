@@ -34,3 +34,6 @@ pub mod AlwaysRoom
 pub mod Demand3
 pub mod Instance
 pub mod Cases
+pub mod Reader
+pub mod Possible
+pub mod SentFits
