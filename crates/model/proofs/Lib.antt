@@ -37,3 +37,6 @@ pub mod FixedPoint
 pub mod Demand3
 pub mod Reader
 pub mod Codes
+pub mod Reached
+pub mod SentFits
+pub mod ReadBack

@@ -37,3 +37,4 @@ pub mod Cases
 pub mod Reader
 pub mod Possible
 pub mod SentFits
+pub mod ReadBack
