@@ -40,3 +40,5 @@ pub mod Codes
 pub mod Reached
 pub mod SentFits
 pub mod ReadBack
+pub mod Owed
+pub mod OnlyWhole

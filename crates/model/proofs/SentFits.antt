@@ -232,7 +232,7 @@ module _ (d : Server) (g : InRange d) (c : ℕ) (small : c < 256) where
   closing-fits : RestFits (closing d c)
   closing-fits = record { asked = all-set exchangeFits (d .rest .exchanges) _ freshExchange refl (g .rest .asked); vendor = g .rest .vendor; status = g .rest .status }
 
-  effect-fits : (v : Verdict) (s : Scan) (r : Role) (i : ℕ) → coded 5 v ≡ true → Parameter s → PlanFits (effect v s r d i c)
+  effect-fits : (v : Verdict) (s : Scan) (r : Role) (i : ℕ) → coded v ≡ true → Parameter s → PlanFits (effect v s r d i c)
   unfolding effect
   effect-fits v-more s r i e q = record { said = tt; rest = g .rest; brings = tt }
   effect-fits v-held s r i e q = record { said = tt; rest = g .rest; brings = tt }

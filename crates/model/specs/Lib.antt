@@ -38,3 +38,4 @@ pub mod Reader
 pub mod Possible
 pub mod SentFits
 pub mod ReadBack
+pub mod OnlyWhole
