@@ -35,3 +35,10 @@ pub mod AlwaysRoom
 pub mod OneString
 pub mod FixedPoint
 pub mod Demand3
+pub mod Reader
+pub mod Codes
+pub mod Reached
+pub mod SentFits
+pub mod ReadBack
+pub mod Owed
+pub mod OnlyWhole

@@ -34,3 +34,8 @@ pub mod AlwaysRoom
 pub mod Demand3
 pub mod Instance
 pub mod Cases
+pub mod Reader
+pub mod Possible
+pub mod SentFits
+pub mod ReadBack
+pub mod OnlyWhole
