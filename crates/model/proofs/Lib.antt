@@ -35,3 +35,4 @@ pub mod AlwaysRoom
 pub mod OneString
 pub mod FixedPoint
 pub mod Demand3
+pub mod Deciding

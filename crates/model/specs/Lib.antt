@@ -34,3 +34,4 @@ pub mod AlwaysRoom
 pub mod Demand3
 pub mod Instance
 pub mod Cases
+pub mod Deciding
