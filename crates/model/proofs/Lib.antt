@@ -36,3 +36,5 @@ pub mod OneString
 pub mod FixedPoint
 pub mod Demand3
 pub mod Deciding
+pub mod Forms
+pub mod Permitted

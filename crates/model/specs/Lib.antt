@@ -35,3 +35,4 @@ pub mod Demand3
 pub mod Instance
 pub mod Cases
 pub mod Deciding
+pub mod Permitted
