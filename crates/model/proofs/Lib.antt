@@ -38,3 +38,4 @@ pub mod Demand3
 pub mod Deciding
 pub mod Forms
 pub mod Permitted
+pub mod Opening

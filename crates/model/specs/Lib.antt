@@ -36,3 +36,4 @@ pub mod Instance
 pub mod Cases
 pub mod Deciding
 pub mod Permitted
+pub mod Opening
