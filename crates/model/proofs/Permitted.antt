@@ -49,7 +49,7 @@ read-whole (suc r) (b ∷ bs) w = absurd (omega (arith, w .no-remainder))
 
 -- roles
 module _ (d : Server) (c : ℕ) where
-  role-async : OnAsynchronous d c → roleOf (d .locks .entries) c ≡ r-asynchronous
+  pub role-async : OnAsynchronous d c → roleOf (d .locks .entries) c ≡ r-asynchronous
   role-async s = place-role (d .locks .entries) c ∙ rw (s .alive, ne-eqb ((entryOf d c) .asynchronous) noConnection (s .established), ne-eqb ((entryOf d c) .synchronous) c (s .not-synchronous))
 
   async-role : roleOf (d .locks .entries) c ≡ r-asynchronous → OnAsynchronous d c
@@ -119,16 +119,21 @@ module _ (d : Server) (c : ℕ) (bs : List ℕ) (room : ℕ) where
   abbrev Does : Role → Type 0
   Does r = step d (delivery c bs room) ≡ finish d (Acts.acts r d (slotOf d c) c (header bs) p)
 
-  -- a whole message that passes its rules does what it should
-  pub whole-does : refusal d (delivery c bs room) ≡ 0 → WholeMessage ((connectionAt (d .rest) c) .remainder) bs → (r : Role) → roleOf (d .locks .entries) c ≡ r
-      → judged r d (slotOf d c) (header bs) p ≡ v-acts → Does r
-  unfolding step answered plan received verdict effect
-  whole-does z w r er q =
+  -- a whole message is judged by the rules of its connection's role
+  pub whole-step : refusal d (delivery c bs room) ≡ 0 → WholeMessage ((connectionAt (d .rest) c) .remainder) bs → (r : Role) → roleOf (d .locks .entries) c ≡ r
+      → step d (delivery c bs room) ≡ finish d (effect (judged r d (slotOf d c) (header bs) p) (Scan.whole (header bs) p) r d (slotOf d c) c)
+  unfolding step answered plan received verdict
+  whole-step z w r er =
       let s = Scan.whole (header bs) p in
       ap (λ n. answered n d (delivery c bs room)) z
       ∙ ap (λ x. finish d (received d c x)) (read-whole _ bs w)
       ∙ ap (λ x. finish d (effect (verdict x d (slotOf d c) s) s x d (slotOf d c) c)) er
-      ∙ ap (λ v. finish d (effect v s r d (slotOf d c) c)) q
+
+  -- one that passes them does what it should
+  pub whole-does : refusal d (delivery c bs room) ≡ 0 → WholeMessage ((connectionAt (d .rest) c) .remainder) bs → (r : Role) → roleOf (d .locks .entries) c ≡ r
+      → judged r d (slotOf d c) (header bs) p ≡ v-acts → Does r
+  unfolding effect
+  whole-does z w r er q = whole-step z w r er ∙ ap (λ v. finish d (effect v (Scan.whole (header bs) p) r d (slotOf d c) c)) q
 
   pub record Shows : Type 0 where
     pub message : WholeMessage ((connectionAt (d .rest) c) .remainder) bs
@@ -160,9 +165,9 @@ module _ (d : Server) (c : ℕ) (bs : List ℕ) (room : ℕ) where
 
     acts : (n : ℕ) → refusal d (delivery c bs room) ≡ 0 → Permitted d last c bs n → Acted n
     unfolding finish Acts.acts
-    acts n z (Permitted.command w s q a f) = ap (λ (x : Result). x .reply) (whole-does z w r-synchronous (role-sync d c s) (command-passes d (slotOf d c) p q a (header bs) f))
-    acts n z (Permitted.clear-complete w s q f) = ap (λ (x : Result). x .reply) (whole-does z w r-synchronous (role-sync d c s) (clear-passes d (slotOf d c) p q (header bs) f))
-    acts n z (Permitted.on-asynchronous w s f) = ap (λ (x : Result). x .reply) (whole-does z w r-asynchronous (role-async d c s) (async-passes p (header bs) f))
+    acts n z (Permitted.established fs w (Permitted.commands s q a) f) = ap (λ (x : Result). x .reply) (whole-does z w r-synchronous (role-sync d c s) (command-passes d (slotOf d c) p q a (header bs) f))
+    acts n z (Permitted.established fs w (Permitted.clear-complete s q) f) = ap (λ (x : Result). x .reply) (whole-does z w r-synchronous (role-sync d c s) (clear-passes d (slotOf d c) p q (header bs) f))
+    acts n z (Permitted.established fs w (Permitted.on-asynchronous s) f) = ap (λ (x : Result). x .reply) (whole-does z w r-asynchronous (role-async d c s) (async-passes p (header bs) f))
     acts n z (Permitted.initialize m w o f s l x) =
         let free : all live (d .locks .entries) ≡ false = isn't _ (λ a. omega (arith, all-count live (d .locks .entries) a, firm .slots)) in
         let r = opens-as f (whole-does z w r-none (role-none d c o) (initialize-passes d p s free (header bs) f)) in
@@ -200,9 +205,9 @@ module _ (d : Server) (c : ℕ) (bs : List ℕ) (room : ℕ) where
     by-role r-synchronous k n w er q e f = same-reply k n _ e (go (sync-permitted d (slotOf d c) p (header bs) q))
       where
         go : Synchronous d (slotOf d c) p (header bs) → Permitted d last c bs ((entryOf d c) .number)
-        go (inl x) = Permitted.command w (sync-role d c er) (x .0) (x .1) (x .2)
-        go (inr x) = Permitted.clear-complete w (sync-role d c er) (x .0) (x .1)
-    by-role r-asynchronous k n w er q e f = same-reply k n _ e (Permitted.on-asynchronous w (async-role d c er) (async-permitted p (header bs) q))
+        go (inl x) = Permitted.established _ w (Permitted.commands (sync-role d c er) (x .0) (x .1)) (x .2)
+        go (inr x) = Permitted.established _ w (Permitted.clear-complete (sync-role d c er) (x .0)) (x .1)
+    by-role r-asynchronous k n w er q e f = same-reply k n _ e (Permitted.established _ w (Permitted.on-asynchronous (async-role d c er)) (async-permitted p (header bs) q))
 
     pub acts-exactly : ActsExactly d last c bs room
     unfolding finish

@@ -84,17 +84,19 @@ pub record WithoutRole (d : Server) (c : ℕ) : Type 0 where
 pub record SubAddress (p : List ℕ) : Type 0 where
   pub empty-or-hislip0 : (p ≡ []) ⊎ (p ≡ hislip0)
 
+-- the forms that a connection of an established session takes
+pub data Takes (d : Server) (c : ℕ) : List Form → Type 0 where
+  -- outside a device clear, with access
+  commands : OnSynchronous d c → (exchangeAt (d .rest) (slotOf d c)) .inClear ≡ false → accessOf d c ≡ true → Takes d c commandForms
+  -- in a device clear
+  clear-complete : OnSynchronous d c → (exchangeAt (d .rest) (slotOf d c)) .inClear ≡ true → Takes d c clearForms
+  -- 01: "Asynchronous messages are not held"
+  on-asynchronous : OnAsynchronous d c → Takes d c asynchronousForms
+
 -- what a delivery must show on connection c to act as a message of session n; LAST is the SessionID issued last
 pub data Permitted (d : Server) (last c : ℕ) (bs : List ℕ) : ℕ → Type 0 where
-  -- Data, DataEND, Trigger: outside a device clear, with access
-  command : WholeMessage ((connectionAt (d .rest) c) .remainder) bs → OnSynchronous d c → (exchangeAt (d .rest) (slotOf d c)) .inClear ≡ false → accessOf d c ≡ true
-      → permits commandForms (header bs) ≡ true → Permitted d last c bs ((entryOf d c) .number)
-  -- DeviceClearComplete: in a device clear
-  clear-complete : WholeMessage ((connectionAt (d .rest) c) .remainder) bs → OnSynchronous d c → (exchangeAt (d .rest) (slotOf d c)) .inClear ≡ true
-      → permits clearForms (header bs) ≡ true → Permitted d last c bs ((entryOf d c) .number)
-  -- 01: "Asynchronous messages are not held"
-  on-asynchronous : WholeMessage ((connectionAt (d .rest) c) .remainder) bs → OnAsynchronous d c
-      → permits asynchronousForms (header bs) ≡ true → Permitted d last c bs ((entryOf d c) .number)
+  established : (fs : List Form) → WholeMessage ((connectionAt (d .rest) c) .remainder) bs → Takes d c fs → permits fs (header bs) ≡ true
+      → Permitted d last c bs ((entryOf d c) .number)
   -- Initialize: fewer than 16 live sessions, half-open ones included; n is the next SessionID
   initialize : (n : ℕ) → WholeMessage ((connectionAt (d .rest) c) .remainder) bs → WithoutRole d c → permits initializeForms (header bs) ≡ true
       → SubAddress (payloadOf (header bs) bs) → tally live (d .locks .entries) < sessionLimit → FirstFree (d .locks .entries) last n → Permitted d last c bs n
