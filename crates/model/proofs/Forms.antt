@@ -1,12 +1,12 @@
 -- The rows of rules let pass exactly what the table of forms permits, role by role.
 use mathlib.Core.Path.{_≡_, refl, sym, ap, _∙_}
-use mathlib.Core.Bool.{Bool, true, false, _&&_, _||_, true≢false, false≢true}
+use mathlib.Core.Bool.{Bool, true, false, not, _&&_, _||_, true≢false, false≢true}
 use mathlib.Core.List.{List, [], _∷_}
 use mathlib.Core.Logic.{_⊎_, inl, inr}
 use Prim.Native.Nat.{ℕ, zero, suc}
 use native.Mathlib.Omega.{arith}
 use lib.Dec.{eqb, leb, ltb}
-use borrow.Author.Tests.{eqb-true, eq-eqb, leb-true, le-leb, ltb-false, le-ltb}
+use borrow.Author.Tests.{eqb-true, eq-eqb, ne-eqb, le-leb, lt-leb, ltb-true, ltb-false}
 use Rattle.wire.specs.declared.Header.{Header}
 use Rattle.wire.specs.Class.{one-of, classOf, synchronous, asynchronous}
 use Rattle.model.specs.Lists.{isNil, same, all}
@@ -15,7 +15,7 @@ use Rattle.model.specs.Locks.{access}
 use Rattle.model.specs.Checks
 use Rattle.model.specs.Checks.{Verdict.v-acts, first, either, hislip0}
 use Rattle.model.specs.Permitted.{within, Form, permits, commandForms, clearForms, asynchronousForms, initializeForms, asyncInitializeForms, SubAddress}
-use Rattle.model.proofs.Basics.{and-l, and-r, not-off, and-true, or→, or-of, or-r}
+use Rattle.model.proofs.Basics.{and-l, and-r, not-of, not-off, and-true, or→, or-of, or-r}
 use Rattle.model.proofs.Classes.{acted-class, synchronousTypes, asynchronousTypes}
 use Rattle.model.proofs.GrantingRule.{nil→, nil←, same→, same-refl}
 use Rattle.model.proofs.Fits.{Passes, opening-passed, sync-passed, async-passed}
@@ -23,7 +23,7 @@ use Rattle.model.proofs.ReadOff.{each-of}
 
 -- cases in a row
 infixr 1 _also_
-_also_ : {A B : Type 0} → A → B → A × B
+pub _also_ : {A B : Type 0} → A → B → A × B
 a also b = (a, b)
 
 -- a message that is permitted is of some form
@@ -42,17 +42,31 @@ form-of P (f ∷ fs) g h e = go (λ q. form-of P fs (g .1) h q) (or→ (eqb (h .
     go r (inr q) = r q
 
 -- a limit as the forms and as the rules test it
+pub limit : (n x : ℕ) → leb x n ≡ not (ltb n x)
+limit n x = go (ltb n x) refl
+  where
+    go : (b : Bool) → ltb n x ≡ b → leb x n ≡ not b
+    go true e = lt-leb x n (ltb-true n x e)
+    go false e = le-leb x n (ltb-false n x e)
+
+pub none : (x : ℕ) → eqb x 0 ≡ not (ltb 0 x)
+none x = go (ltb 0 x) refl
+  where
+    go : (b : Bool) → ltb 0 x ≡ b → eqb x 0 ≡ not b
+    go true e = ne-eqb x 0 (λ q. omega (arith, ltb-true 0 x e))
+    go false e = eq-eqb x 0 (omega (arith, ltb-false 0 x e))
+
 above : (n x : ℕ) → leb x n ≡ true → ltb n x ≡ false
-above n x e = le-ltb n x (leb-true x n e)
+above n x e = not-of (ltb n x) (sym (limit n x) ∙ e)
 
 below : (n x : ℕ) → ltb n x ≡ false → leb x n ≡ true
-below n x e = le-leb x n (ltb-false n x e)
+below n x e = limit n x ∙ ap not e
 
 empty : (x : ℕ) → ltb 0 x ≡ false → eqb x 0 ≡ true
-empty x e = eq-eqb x 0 (omega (arith, ltb-false 0 x e))
+empty x e = none x ∙ ap not e
 
 -- a header of type t
-abbrev typed : ℕ → Header → Header
+abbrev pub typed : ℕ → Header → Header
 typed t h = record { kind = t; code = h .code; param = h .param; len = h .len }
 
 -- the synchronous channel

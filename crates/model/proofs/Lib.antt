@@ -39,3 +39,4 @@ pub mod Deciding
 pub mod Forms
 pub mod Permitted
 pub mod Opening
+pub mod Malformed

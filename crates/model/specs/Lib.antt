@@ -37,3 +37,4 @@ pub mod Cases
 pub mod Deciding
 pub mod Permitted
 pub mod Opening
+pub mod Malformed
