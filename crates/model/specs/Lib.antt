@@ -38,3 +38,4 @@ pub mod Deciding
 pub mod Permitted
 pub mod Opening
 pub mod Malformed
+pub mod FormCorners
