@@ -42,3 +42,8 @@ pub mod SentFits
 pub mod ReadBack
 pub mod Owed
 pub mod OnlyWhole
+pub mod Deciding
+pub mod Forms
+pub mod Permitted
+pub mod Opening
+pub mod Malformed

@@ -39,3 +39,8 @@ pub mod Possible
 pub mod SentFits
 pub mod ReadBack
 pub mod OnlyWhole
+pub mod Deciding
+pub mod Permitted
+pub mod Opening
+pub mod Malformed
+pub mod FormCorners
