@@ -35,3 +35,8 @@ pub mod AlwaysRoom
 pub mod OneString
 pub mod FixedPoint
 pub mod Demand3
+pub mod LocalityLists
+pub mod LocalityParts
+pub mod LocalityRest
+pub mod LocalityLocks
+pub mod LocalityMessages

@@ -34,3 +34,7 @@ pub mod AlwaysRoom
 pub mod Demand3
 pub mod Instance
 pub mod Cases
+pub mod Happening
+pub mod LocalityRows
+pub mod LocalityReplies
+pub mod Locality
