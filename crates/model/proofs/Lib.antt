@@ -40,3 +40,4 @@ pub mod LocalityParts
 pub mod LocalityRest
 pub mod LocalityLocks
 pub mod LocalityMessages
+pub mod Locality
