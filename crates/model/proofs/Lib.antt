@@ -40,4 +40,5 @@ pub mod LocalityParts
 pub mod LocalityRest
 pub mod LocalityLocks
 pub mod LocalityMessages
+pub mod LocalitySilence
 pub mod Locality

@@ -26,10 +26,11 @@ use Rattle.model.specs.Checks.{Verdict, Verdict.v-more, Verdict.v-skippe
 use Rattle.model.specs.Acts
 use Rattle.model.specs.Acts.{Plan}
 use Rattle.model.specs.Refusals.{causes, refusal}
-use Rattle.model.specs.Step.{effect, received, plan, answered, finish, step, final, lockFrame, channels, closing, answerType}
+use Rattle.model.specs.Step.{effect, received, plan, answered, finish, step, final, log, lockFrame, channels, closing, answerType}
 use Rattle.model.specs.Happening.{Heard, Heard.silence, Heard.code, Action, Happening, Happening.unmoved, Happening.disconnected, Happening.message-acted, heard, happened}
 use Rattle.model.specs.LocalityReplies.{saidTo, reached, askedNumber, sessionSaid}
-use Rattle.model.specs.Locality.{Local, Locality, EachLocal}
+use Rattle.model.specs.LocalityRows.{isSilence, Single, singly, the-clock, the-status, the-vendor, the-last-issued, the-enable, the-lockout, the-remote}
+use Rattle.model.specs.Locality.{atCall, Local, clientsFatalError, Locality, EachLocal, overLog, LocalRun}
 use Rattle.model.proofs.Basics.{and-l, and-r, or→, not-off}
 use Rattle.model.proofs.Scanning.{whole-scan}
 use Rattle.model.proofs.Place.{place-sound, place-role, async-live}
@@ -40,6 +41,7 @@ use Rattle.model.proofs.Closing.{pass-looks}
 use Rattle.model.proofs.LocalityParts.{assemble}
 use Rattle.model.proofs.LocalityRest.{rest-unmoved, rest-clock, rest-status, rest-answer, rest-opening, rest-skipped, rest-error, scan-error, rest-closing}
 use Rattle.model.proofs.LocalityLocks.{locks-unmoved, locks-opening, locks-skipped, locks-error, locks-status, locks-answer, locks-clock, locks-closing, freed, stay, pass-frames, refused-frames}
+use Rattle.model.proofs.LocalitySilence.{fatal-heard, none-heard, closes-silently}
 use Rattle.model.proofs.LocalityMessages.{action, num, LocalBy, synchronously, asynchronously, local-synchronous, local-asynchronous, issuedNow, local-0, local-17}
 
 -- the asynchronous channel's connection is its session's second
@@ -123,15 +125,6 @@ module _ (d : Server) (c : ℕ) (bs : List ℕ) (h : Header) (p : List ℕ) wher
       let g = async-passed h p q in
       shown-acted (asynchronously d c h p (h .kind)) (num d c h p) eh ep (local-asynchronous d c h p (second-is (d .locks .entries) c e) (h .kind) (async-acts g) (g .1 .1 .1 .1 .1 .1 .0))
 
--- FatalError is heard: some connection gets it first; without one no frame has its type at the front
-fatal-heard : (n : ℕ) (b : Bool) (x y : ℕ) (xs : List ℕ) (fs : List Frame) → heard 2 (map (λ (z : ℕ). frameOf z FatalError n 0 []) (cond b (x ∷ xs) (y ∷ [])) ++ fs) ≡ code n
-fatal-heard n true x y xs fs = refl
-fatal-heard n false x y xs fs = refl
-
-none-heard : (xs : List Answer) → heard 2 (map lockFrame xs) ≡ silence
-none-heard [] = refl
-none-heard (x ∷ xs) = refl
-
 -- an Error answers a message that is not skipped
 error-scan : (r : Role) (d : Server) (i : ℕ) (s : Scan) (n : ℕ) → verdict r d i s ≡ v-error n → (size s ≡ 0 → ⊥) × ((k : ℕ) → s ≡ Scan.skipping k → ⊥)
 unfolding verdict
@@ -202,14 +195,56 @@ plan-local d (answer n p end room) q =
 plan-local d (status b) q = assemble d _ _ (d .locks .entries) [] (rest-status d b) (locks-status d b) refl (λ o k n e. absurd (let y : _≡_ {A = ℕ} 0 1 = cc in omega arith))
 
 -- any call
-pub locality : (d : Server) (e : Event) → Locality d e
+local-call : (d : Server) (e : Event) → Local d (atCall d e) (step d e)
 unfolding step answered finish
-locality d e = record { local = go (refusal d e) refl }
+local-call d e = go (refusal d e) refl
   where
     go : (k : ℕ) → refusal d e ≡ k → Local d (happened e ((answered k d e) .reply) ((answered k d e) .frames)) (answered k d e)
     go zero q = plan-local d e q
     go (suc k) q = local-unmoved d _ (λ o k n e. absurd (let y : _≡_ {A = ℕ} 0 1 = cc in omega arith))
 
-pub each-local : (d : Server) (es : List Event) → EachLocal d es
-each-local d [] = tt
-each-local d (e ∷ es) = (locality d e, each-local ((step d e) .server) es)
+pub locality : (d : Server) (e : Event) → Locality d e
+locality d e =
+    record {
+      local = local-call d e;
+      silent = λ c bs room k n q. subst (λ (x : Event). (step d x) .reply ≡ took closed k n → isSilence (heard 2 ((step d x) .frames)) ≡ clientsFatalError d c bs) (sym q) (closes-silently d c bs room k n);
+    }
+
+-- each call of a list, and the single fields after it
+each-local : (es : List Event) (d : Server) → EachLocal d es
+each-local [] d = tt
+each-local (e ∷ es) d = (locality d e, each-local es ((step d e) .server))
+
+read-off : {A : Type 0} (g : Server → A) (r : Single A) → ((d : Server) (e : Event) → g ((step d e) .server) ≡ singly r (atCall d e) (g d)) → (es : List Event) (d : Server) → g (final d es) ≡ overLog r (log d es) (g d)
+unfolding final log
+read-off g r f [] d = refl
+read-off g r f (e ∷ es) d = read-off g r f es ((step d e) .server) ∙ ap (overLog r (log ((step d e) .server) es)) (f d e)
+
+same-vendor : (es : List Event) (d : Server) → (final d es) .rest .vendor ≡ d .rest .vendor
+unfolding final
+same-vendor [] d = refl
+same-vendor (e ∷ es) d = same-vendor es ((step d e) .server) ∙ (local-call d e) .vendor ∙ never (atCall d e) (d .rest .vendor)
+  where
+    never : (h : Happening) (x : ℕ) → singly the-vendor h x ≡ x
+    never unmoved x = refl
+    never (Happening.connected c) x = refl
+    never (disconnected c k) x = refl
+    never (Happening.skipped-over c k) x = refl
+    never (Happening.errored c n k) x = refl
+    never (message-acted a) x = refl
+    never (Happening.clock-read t) x = refl
+    never (Happening.status-set b) x = refl
+    never (Happening.answer-sent n p end) x = refl
+
+pub local-run : (d : Server) (es : List Event) → LocalRun d es
+local-run d es =
+    record {
+      each = each-local es d;
+      clock = read-off (λ (d : Server). d .locks .clock) the-clock (λ d e. (local-call d e) .clock) es d;
+      status = read-off (λ (d : Server). d .rest .status) the-status (λ d e. (local-call d e) .status) es d;
+      vendor = same-vendor es d;
+      last-issued = read-off (λ (d : Server). d .rest .lastIssued) the-last-issued (λ d e. (local-call d e) .last-issued) es d;
+      enable = read-off (λ (d : Server). d .rest .remoteLocal .enable) the-enable (λ d e. (local-call d e) .enable) es d;
+      lockout = read-off (λ (d : Server). d .rest .remoteLocal .lockout) the-lockout (λ d e. (local-call d e) .lockout) es d;
+      remote = read-off (λ (d : Server). d .rest .remoteLocal .remote) the-remote (λ d e. (local-call d e) .remote) es d;
+    }

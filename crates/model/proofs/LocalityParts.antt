@@ -4,7 +4,7 @@ use mathlib.Core.Bool.{Bool, true, false, _||_, cond}
 use mathlib.Core.List.{List, [], _∷_, _++_, map}
 use Prim.Native.Nat.{ℕ, _<_}
 use lib.ListN.{getD, length}
-use Rattle.model.specs.State.{Server, Locks, Rest, Entry, Waiting, Exchange, Connection, at, blank, freshExchange, closedConnection, exchangeAt, connectionAt}
+use Rattle.model.specs.State.{Server, Locks, Rest, Entry, Waiting, Exchange, Connection, RemoteLocal, at, blank, freshExchange, closedConnection, exchangeAt, connectionAt}
 use Rattle.model.specs.Interface.{Outcome, Reply.took}
 use Rattle.model.specs.Step.{Result}
 use Rattle.model.specs.Happening.{Happening}
@@ -20,16 +20,17 @@ pub record Places (d : Server) (h : Happening) (cs : List Connection) : Type 0 w
   pub size : length cs ≡ length (d .rest .connections)
   pub each : (x : ℕ) → x < length (d .rest .connections) → getD cs x closedConnection ≡ connectionDue (d .locks .entries) h x (connectionAt (d .rest) x)
 
-pub record Singles (d : Server) (h : Happening) (r : Rest) : Type 0 where
-  pub status : r .status ≡ singly the-status h (d .rest .status)
-  pub vendor : r .vendor ≡ singly the-vendor h (d .rest .vendor)
-  pub last-issued : r .lastIssued ≡ singly the-last-issued h (d .rest .lastIssued)
-  pub enable : r .remoteLocal .enable ≡ singly the-enable h (d .rest .remoteLocal .enable)
-  pub lockout : r .remoteLocal .lockout ≡ singly the-lockout h (d .rest .remoteLocal .lockout)
-  pub remote : r .remoteLocal .remote ≡ singly the-remote h (d .rest .remoteLocal .remote)
+-- of the rest, what stands once: status byte, vendor number, the number issued last, flags
+pub record Singles (d : Server) (h : Happening) (b v n : ℕ) (f : RemoteLocal) : Type 0 where
+  pub status : b ≡ singly the-status h (d .rest .status)
+  pub vendor : v ≡ singly the-vendor h (d .rest .vendor)
+  pub last-issued : n ≡ singly the-last-issued h (d .rest .lastIssued)
+  pub enable : f .enable ≡ singly the-enable h (d .rest .remoteLocal .enable)
+  pub lockout : f .lockout ≡ singly the-lockout h (d .rest .remoteLocal .lockout)
+  pub remote : f .remote ≡ singly the-remote h (d .rest .remoteLocal .remote)
 
 pub record RestPart (d : Server) (h : Happening) (r : Rest) : Type 0 where
-  pub singles : Singles d h r
+  pub singles : Singles d h (r .status) (r .vendor) (r .lastIssued) (r .remoteLocal)
   pub exchanges : Rowed freshExchange exchangeRow (d .locks .entries) h (d .rest .exchanges) (r .exchanges)
   pub connections : Places d h (r .connections)
 

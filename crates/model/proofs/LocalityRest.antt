@@ -20,17 +20,51 @@ use Rattle.model.specs.Exchange
 use Rattle.model.specs.Exchange.{controlled}
 use Rattle.model.specs.Step.{channels, shutAll, closing}
 use Rattle.model.specs.Happening.{Heard, Action, Happening, Happening.unmoved, Happening.connected, Happening.disconnected, Happening.skipped-over, Happening.errored, Happening.message-acted, Happening.clock-read, Happening.status-set, Happening.answer-sent}
-use Rattle.model.specs.LocalityRows.{Row, kindOf, slotActed, concerns, connectionsOf, singly, the-enable, the-lockout, the-remote}
+use Rattle.model.specs.LocalityRows.{Row, kindOf, slotActed, concerns, connectionsOf, Single, singly, the-status, the-vendor, the-last-issued, the-enable, the-lockout, the-remote}
 use Rattle.model.proofs.Basics.{and-l, or→, or-of, or-r}
 use Rattle.model.proofs.Place.{place-sound}
 use Rattle.model.proofs.LocalityLists.{set-at, touch, Rowed, row-message, row-kept, exchangeRow}
 use Rattle.model.proofs.LocalityParts.{connectionDue, Places, Singles, RestPart}
 
+-- what stands once changes by messages, clock readings and status changes alone
+abbrev Still : Happening → Type 0
+Still unmoved = Unit {0}
+Still (connected c) = Unit {0}
+Still (disconnected c k) = Unit {0}
+Still (skipped-over c k) = Unit {0}
+Still (errored c n k) = Unit {0}
+Still (message-acted a) = ⊥
+Still (clock-read t) = ⊥
+Still (status-set b) = ⊥
+Still (answer-sent n p end) = Unit {0}
+
+as-it-was : {A : Type 0} (r : Single A) (h : Happening) (x : A) → Still h → x ≡ singly r h x
+as-it-was r unmoved x s = refl
+as-it-was r (connected c) x s = refl
+as-it-was r (disconnected c k) x s = refl
+as-it-was r (skipped-over c k) x s = refl
+as-it-was r (errored c n k) x s = refl
+as-it-was r (message-acted a) x s = absurd s
+as-it-was r (clock-read t) x s = absurd s
+as-it-was r (status-set b) x s = absurd s
+as-it-was r (answer-sent n p end) x s = refl
+
+singles-still : (d : Server) (h : Happening) → Still h → Singles d h (d .rest .status) (d .rest .vendor) (d .rest .lastIssued) (d .rest .remoteLocal)
+singles-still d h s =
+    record {
+      status = as-it-was the-status h (d .rest .status) s;
+      vendor = as-it-was the-vendor h (d .rest .vendor) s;
+      last-issued = as-it-was the-last-issued h (d .rest .lastIssued) s;
+      enable = as-it-was the-enable h (d .rest .remoteLocal .enable) s;
+      lockout = as-it-was the-lockout h (d .rest .remoteLocal .lockout) s;
+      remote = as-it-was the-remote h (d .rest .remoteLocal .remote) s;
+    }
+
 -- calls that leave all of it
 pub rest-unmoved : (d : Server) → RestPart d unmoved (d .rest)
 rest-unmoved d =
     record {
-      singles = record { status = refl; vendor = refl; last-issued = refl; enable = refl; lockout = refl; remote = refl };
+      singles = singles-still d unmoved tt;
       exchanges = record { size = refl; each = λ i l. refl };
       connections = record { size = refl; each = λ x l. refl };
     }
@@ -59,7 +93,7 @@ pub rest-answer : (d : Server) (n : ℕ) (p : List ℕ) (end : Bool) → RestPar
 rest-answer d n p end =
     let i = slotOfNumber (d .locks .entries) n in
     record {
-      singles = record { status = refl; vendor = refl; last-issued = refl; enable = refl; lockout = refl; remote = refl };
+      singles = singles-still d (answer-sent n p end) tt;
       exchanges =
           record {
             size = length-set (d .rest .exchanges) i _;
@@ -76,7 +110,7 @@ split-connection false u v = refl
 pub rest-opening : (d : Server) (c : ℕ) → RestPart d (connected c) (withConnection (d .rest) c (openConnection 0))
 rest-opening d c =
     record {
-      singles = record { status = refl; vendor = refl; last-issued = refl; enable = refl; lockout = refl; remote = refl };
+      singles = singles-still d (connected c) tt;
       exchanges = record { size = refl; each = λ i l. refl };
       connections = record { size = length-set (d .rest .connections) c _; each = λ x l. set-at (d .rest .connections) c (openConnection 0) closedConnection x l ∙ split-connection (eqb x c) (openConnection 0) (connectionAt (d .rest) x) };
     }
@@ -85,7 +119,7 @@ pub rest-skipped : (d : Server) (c k : ℕ) → (connectionAt (d .rest) c) .isOp
     → RestPart d (skipped-over c k) (withConnection (d .rest) c (openConnection ((connectionAt (d .rest) c) .remainder - k)))
 rest-skipped d c k o =
     record {
-      singles = record { status = refl; vendor = refl; last-issued = refl; enable = refl; lockout = refl; remote = refl };
+      singles = singles-still d (skipped-over c k) tt;
       exchanges = record { size = refl; each = λ i l. refl };
       connections =
           record {
@@ -106,7 +140,7 @@ pub rest-error : (d : Server) (c n m : ℕ) (k : Heard) → (connectionAt (d .re
     → RestPart d (errored c n k) (withConnection (d .rest) c (openConnection m))
 rest-error d c n m k o e =
     record {
-      singles = record { status = refl; vendor = refl; last-issued = refl; enable = refl; lockout = refl; remote = refl };
+      singles = singles-still d (errored c n k) tt;
       exchanges = record { size = refl; each = λ i l. refl };
       connections =
           record {
@@ -193,7 +227,7 @@ module _ (d : Server) (c : ℕ) (real : c ≡ noConnection → ⊥) where
   pub rest-closing : (k : Heard) → RestPart d (disconnected c k) (closing d c)
   rest-closing k =
       record {
-        singles = record { status = refl; vendor = refl; last-issued = refl; enable = refl; lockout = refl; remote = refl };
+        singles = singles-still d (disconnected c k) tt;
         exchanges = record { size = length-set (d .rest .exchanges) (slotOf d c) freshExchange; each = λ i l. set-at (d .rest .exchanges) (slotOf d c) freshExchange freshExchange i l };
         connections =
             record {
@@ -204,23 +238,15 @@ module _ (d : Server) (c : ℕ) (real : c ≡ noConnection → ⊥) where
 
 -- a message that acted, of a session: of the single fields the flags alone, by type 10
 module _ (d : Server) (a : Action) (q0 : eqb (kindOf a) 0 ≡ false) where
-  no-singles : (r : Rest) → eqb (kindOf a) 10 ≡ false → r .status ≡ d .rest .status → r .vendor ≡ d .rest .vendor → r .lastIssued ≡ d .rest .lastIssued → r .remoteLocal ≡ d .rest .remoteLocal → Singles d (message-acted a) r
-  no-singles r q s v n f =
-      record {
-        status = s;
-        vendor = v;
-        last-issued = rw q0 n;
-        enable = rw q (ap (λ (x : RemoteLocal). x .enable) f);
-        lockout = rw q (ap (λ (x : RemoteLocal). x .lockout) f);
-        remote = rw q (ap (λ (x : RemoteLocal). x .remote) f);
-      }
+  no-singles : eqb (kindOf a) 10 ≡ false → Singles d (message-acted a) (d .rest .status) (d .rest .vendor) (d .rest .lastIssued) (d .rest .remoteLocal)
+  no-singles q = record { status = refl; vendor = refl; last-issued = rw q0; enable = rw q; lockout = rw q; remote = rw q }
 
   -- one that changes its session's exchange
   pub rest-touched : eqb (kindOf a) 17 ≡ false → eqb (kindOf a) 10 ≡ false → (y : Exchange) → y ≡ exchangeRow .by-message a (exchangeAt (d .rest) (slotOf d (a .connection)))
       → RestPart d (message-acted a) (withExchange (d .rest) (slotOf d (a .connection)) y)
   rest-touched q17 q10 y e =
       record {
-        singles = no-singles _ q10 refl refl refl refl;
+        singles = no-singles q10;
         exchanges = row-message freshExchange exchangeRow (d .locks .entries) (d .rest .exchanges) a (slotOf d (a .connection)) y (rw (q0, q17)) e;
         connections = record { size = refl; each = λ x l. refl };
       }
@@ -229,7 +255,7 @@ module _ (d : Server) (a : Action) (q0 : eqb (kindOf a) 0 ≡ false) where
   pub rest-kept : eqb (kindOf a) 10 ≡ false → ((x : Exchange) → exchangeRow .by-message a x ≡ x) → RestPart d (message-acted a) (d .rest)
   rest-kept q10 f =
       record {
-        singles = no-singles _ q10 refl refl refl refl;
+        singles = no-singles q10;
         exchanges = row-kept freshExchange exchangeRow (d .locks .entries) (d .rest .exchanges) a f;
         connections = record { size = refl; each = λ x l. refl };
       }

@@ -6,13 +6,16 @@ use mathlib.Core.List.{List, [], _∷_, _++_, map}
 use Prim.Native.Nat.{ℕ, _<_}
 use lib.Dec.{eqb}
 use lib.ListN.{length}
+use Rattle.wire.specs.Message.{header, prologue}
+use Rattle.model.specs.Sizes.{noConnection}
 use Rattle.model.specs.Lists.{isNil, any}
-use Rattle.model.specs.State.{Server, Entry, Waiting, at, exchangeAt, connectionAt}
-use Rattle.model.specs.Interface.{Event, Outcome, Reply.took}
-use Rattle.model.specs.Step.{Result, step}
+use Rattle.model.specs.State.{Server, Entry, Waiting, at, live, exchangeAt, connectionAt}
+use Rattle.model.specs.Place.{entryOf}
+use Rattle.model.specs.Interface.{Event, Event.delivery, Outcome, Outcome.closed, Reply.took}
+use Rattle.model.specs.Step.{Line, Result, step, final, log}
 use Rattle.model.specs.Closing.{OldestFirst}
-use Rattle.model.specs.Happening.{Happening, happened}
-use Rattle.model.specs.LocalityRows.{inSlot, in-clear, asked, message-available, client-size, session-number, synchronous-connection, asynchronous-connection, exclusive-lock, shared-lock, requestsLeft, looksAfter, isOpenAfter, remainderAfter, singly, the-clock, the-status, the-vendor, the-last-issued, the-enable, the-lockout, the-remote}
+use Rattle.model.specs.Happening.{Happening, heard, happened}
+use Rattle.model.specs.LocalityRows.{inSlot, in-clear, asked, message-available, client-size, session-number, synchronous-connection, asynchronous-connection, exclusive-lock, shared-lock, requestsLeft, looksAfter, isOpenAfter, remainderAfter, isSilence, Single, singly, the-clock, the-status, the-vendor, the-last-issued, the-enable, the-lockout, the-remote}
 use Rattle.model.specs.LocalityReplies.{direct, answeredFirst, answerTo, sessionSaid}
 
 -- what happened at a call, as the host sees it
@@ -87,10 +90,33 @@ pub record Local (d : Server) (h : Happening) (r : Result) : Type 0 where
   -- the session's number in the reply
   pub session : (o : Outcome) (k n : ℕ) → r .reply ≡ took o k n → n ≡ sessionSaid d h n
 
+-- 01, check 6: FatalError (2) from a client closes its session without reply. On an established session
+abbrev pub clientsFatalError : Server → ℕ → List ℕ → Bool
+clientsFatalError d c bs =
+    let e = entryOf d c in
+    prologue bs && (eqb ((header bs) .kind) 2 && (live e && not (eqb (e .asynchronous) noConnection)))
+
 pub record Locality (d : Server) (e : Event) : Type 0 where
   pub local : Local d (atCall d e) (step d e)
+  -- any other delivery that closes sends FatalError
+  pub silent : (c : ℕ) (bs : List ℕ) (room k n : ℕ) → e ≡ delivery c bs room → (step d e) .reply ≡ took closed k n → isSilence (heard 2 ((step d e) .frames)) ≡ clientsFatalError d c bs
 
 -- each call of a list, the first on server d
 abbrev pub EachLocal : Server → List Event → Type 0
 EachLocal d [] = Unit {0}
 EachLocal d (e ∷ es) = Locality d e × EachLocal ((step d e) .server) es
+
+-- a single field after a list, read off the log alone
+abbrev pub overLog : {A : Type 0} → Single A → List Line → A → A
+overLog r [] x = x
+overLog r (l ∷ ls) x = overLog r ls (singly r (happened (l .event) (l .reply) (l .frames)) x)
+
+pub record LocalRun (d : Server) (es : List Event) : Type 0 where
+  pub each : EachLocal d es
+  pub clock : (final d es) .locks .clock ≡ overLog the-clock (log d es) (d .locks .clock)
+  pub status : (final d es) .rest .status ≡ overLog the-status (log d es) (d .rest .status)
+  pub vendor : (final d es) .rest .vendor ≡ d .rest .vendor
+  pub last-issued : (final d es) .rest .lastIssued ≡ overLog the-last-issued (log d es) (d .rest .lastIssued)
+  pub enable : (final d es) .rest .remoteLocal .enable ≡ overLog the-enable (log d es) (d .rest .remoteLocal .enable)
+  pub lockout : (final d es) .rest .remoteLocal .lockout ≡ overLog the-lockout (log d es) (d .rest .remoteLocal .lockout)
+  pub remote : (final d es) .rest .remoteLocal .remote ≡ overLog the-remote (log d es) (d .rest .remoteLocal .remote)
