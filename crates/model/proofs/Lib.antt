@@ -47,3 +47,10 @@ pub mod Forms
 pub mod Permitted
 pub mod Opening
 pub mod Malformed
+pub mod LocalityLists
+pub mod LocalityParts
+pub mod LocalityRest
+pub mod LocalityLocks
+pub mod LocalityMessages
+pub mod LocalitySilence
+pub mod Locality

@@ -44,3 +44,7 @@ pub mod Permitted
 pub mod Opening
 pub mod Malformed
 pub mod FormCorners
+pub mod Happening
+pub mod LocalityRows
+pub mod LocalityReplies
+pub mod Locality

@@ -1,0 +1,158 @@
+-- Lists that a call changes at one place, and the rows of a record read off the rows of its fields.
+use mathlib.Core.Path.{_≡_, refl, sym, ap, _∙_}
+use mathlib.Core.Bool.{Bool, true, false, not, _&&_, _||_, cond}
+use mathlib.Core.List.{List, [], _∷_}
+use mathlib.Core.Logic.{_⊎_, inl, inr}
+use Prim.Native.Nat.{ℕ, _<_}
+use native.Mathlib.Omega.{arith}
+use lib.Dec.{eqb}
+use lib.ListN.{getD, set, length, length-set}
+use lib.Seq.{getD-set-same, getD-set-other}
+use borrow.Author.Tests.{eqb-true, eq-eqb, ne-eqb}
+use Rattle.model.specs.Lists.{isNil, all}
+use Rattle.model.specs.State.{Entry, Waiting, Exchange, at, blank, slotOfNumber}
+use Rattle.model.specs.Place.{slotIn}
+use Rattle.model.specs.Locks.{give, grant}
+use Rattle.model.specs.Closing.{OldestFirst, OldestFirst.pass-end, OldestFirst.pass-grant, OldestFirst.pass-wait}
+use Rattle.model.specs.Happening.{Action, Happening, Happening.unmoved, Happening.connected, Happening.disconnected, Happening.skipped-over, Happening.errored, Happening.message-acted, Happening.clock-read, Happening.status-set, Happening.answer-sent}
+use Rattle.model.specs.LocalityRows.{Row, inSlot, slotActed, in-clear, asked, message-available, client-size, session-number, synchronous-connection, asynchronous-connection, exclusive-lock, shared-lock}
+use Rattle.model.specs.Locality.{entryDue, givenExclusive, givenShared, Look}
+use Rattle.model.proofs.Basics.{same?}
+
+module _ {A : Type 0} where
+  pub set-at : (xs : List A) (s : ℕ) (y z : A) (i : ℕ) → i < length xs → getD (set xs s y) i z ≡ cond (eqb i s) y (getD xs i z)
+  set-at xs s y z i l = go (same? i s)
+    where
+      go : (i ≡ s) ⊎ (i ≡ s → ⊥) → getD (set xs s y) i z ≡ cond (eqb i s) y (getD xs i z)
+      go (inl e) = ap (λ k. getD (set xs s y) k z) e ∙ getD-set-same xs s y z (rw e at l) ∙ sym (ap (λ b. cond b y (getD xs i z)) (eq-eqb i s e))
+      go (inr n) = getD-set-other xs s i y z n ∙ sym (ap (λ b. cond b y (getD xs i z)) (ne-eqb i s n))
+
+  -- what is stored is made of what stood there
+  pub touch : (xs : List A) (s : ℕ) (f : A → A) (y z : A) (i : ℕ) → i < length xs → y ≡ f (getD xs s z) → getD (set xs s y) i z ≡ cond (eqb i s) (f (getD xs i z)) (getD xs i z)
+  touch xs s f y z i l e = set-at xs s y z i l ∙ go (eqb i s) refl
+    where
+      go : (b : Bool) → eqb i s ≡ b → cond b y (getD xs i z) ≡ cond b (f (getD xs i z)) (getD xs i z)
+      go true q = e ∙ ap (λ k. f (getD xs k z)) (sym (eqb-true i s q))
+      go false q = refl
+
+  pub same-both : (b : Bool) (x y : A) → y ≡ x → cond b y x ≡ x
+  same-both true x y e = e
+  same-both false x y e = refl
+
+-- a row of a list: each of its elements goes by a row of fields
+pub record Rowed {A : Type 0} (z : A) (r : Row A) (es : List Entry) (h : Happening) (xs xs′ : List A) : Type 0 where
+  pub size : length xs′ ≡ length xs
+  pub each : (i : ℕ) → i < length xs → getD xs′ i z ≡ inSlot r es i h (getD xs i z)
+
+module _ {A : Type 0} (z : A) (r : Row A) (es : List Entry) (xs : List A) where
+  pub row-message : (a : Action) (s : ℕ) (y : A) → s ≡ slotActed es a → y ≡ r .by-message a (getD xs s z) → Rowed z r es (message-acted a) xs (set xs s y)
+  row-message a s y e q =
+      record {
+        size = length-set xs s y;
+        each = λ i l. touch xs s (r .by-message a) y z i l q ∙ ap (λ (k : ℕ). cond (eqb i k) (r .by-message a (getD xs i z)) (getD xs i z)) e;
+      }
+
+  pub row-kept : (a : Action) → ((x : A) → r .by-message a x ≡ x) → Rowed z r es (message-acted a) xs xs
+  row-kept a f = record { size = refl; each = λ i l. sym (same-both (eqb i (slotActed es a)) (getD xs i z) (r .by-message a (getD xs i z)) (f (getD xs i z))) }
+
+-- a field of a row
+pub project : {X A : Type 0} (g : X → A) (r : Row X) (s : Row A) → ((a : Action) (x : X) → g (r .by-message a x) ≡ s .by-message a (g x)) → ((b : Bool) (x : X) → g (r .by-answer b x) ≡ s .by-answer b (g x))
+    → g (r .once-closed) ≡ s .once-closed → (es : List Entry) (i : ℕ) (h : Happening) (x : X) → g (inSlot r es i h x) ≡ inSlot s es i h (g x)
+project g r s m n q es i unmoved x = refl
+project g r s m n q es i (connected c) x = refl
+project g r s m n q es i (disconnected c k) x = push (eqb i _)
+  where
+    push : (b : Bool) → g (cond b (r .once-closed) x) ≡ cond b (s .once-closed) (g x)
+    push true = q
+    push false = refl
+project g r s m n q es i (skipped-over c k) x = refl
+project g r s m n q es i (errored c l k) x = refl
+project g r s m n q es i (message-acted a) x = push (eqb i (slotActed es a))
+  where
+    push : (b : Bool) → g (cond b (r .by-message a x) x) ≡ cond b (s .by-message a (g x)) (g x)
+    push true = m a x
+    push false = refl
+project g r s m n q es i (clock-read t) x = refl
+project g r s m n q es i (status-set b) x = refl
+project g r s m n q es i (answer-sent k p end) x = push (eqb i _)
+  where
+    push : (b : Bool) → g (cond b (r .by-answer end x) x) ≡ cond b (s .by-answer end (g x)) (g x)
+    push true = n end x
+    push false = refl
+
+-- the rows of an exchange and of an entry
+abbrev pub exchangeRow : Row Exchange
+exchangeRow =
+    record {
+      by-message = λ a x. record { inClear = in-clear .by-message a (x .inClear); asked = asked .by-message a (x .asked); messageAvailable = message-available .by-message a (x .messageAvailable); clientSize = client-size .by-message a (x .clientSize) };
+      by-answer = λ b x. record { inClear = in-clear .by-answer b (x .inClear); asked = asked .by-answer b (x .asked); messageAvailable = message-available .by-answer b (x .messageAvailable); clientSize = client-size .by-answer b (x .clientSize) };
+      once-closed = record { inClear = in-clear .once-closed; asked = asked .once-closed; messageAvailable = message-available .once-closed; clientSize = client-size .once-closed };
+    }
+
+abbrev pub entryRow : Row Entry
+entryRow =
+    record {
+      by-message = λ a x. record { number = session-number .by-message a (x .number); synchronous = synchronous-connection .by-message a (x .synchronous); asynchronous = asynchronous-connection .by-message a (x .asynchronous); exclusive = exclusive-lock .by-message a (x .exclusive); shared = shared-lock .by-message a (x .shared) };
+      by-answer = λ b x. x;
+      once-closed = blank;
+    }
+
+split-entry : (b : Bool) (u x : Entry)
+    → cond b u x
+    ≡ record { number = cond b (u .number) (x .number); synchronous = cond b (u .synchronous) (x .synchronous); asynchronous = cond b (u .asynchronous) (x .asynchronous); exclusive = cond b (u .exclusive) (x .exclusive); shared = cond b (u .shared) (x .shared) }
+split-entry true u x = refl
+split-entry false u x = refl
+
+pub due-entry : (es : List Entry) (i : ℕ) (h : Happening) (x : Entry) → inSlot entryRow es i h x ≡ entryDue es h i x
+due-entry es i unmoved x = refl
+due-entry es i (connected c) x = refl
+due-entry es i (disconnected c k) x = split-entry (eqb i (slotIn es c)) blank x
+due-entry es i (skipped-over c k) x = refl
+due-entry es i (errored c l k) x = refl
+due-entry es i (message-acted a) x = split-entry (eqb i (slotActed es a)) (entryRow .by-message a x) x
+due-entry es i (clock-read t) x = refl
+due-entry es i (status-set b) x = refl
+due-entry es i (answer-sent k p end) x = split-entry (eqb i (slotOfNumber es k)) x x
+
+-- what a look leaves of an entry
+abbrev pub lookedAt : List Waiting → ℕ → Entry → Entry
+lookedAt gs i x = record { number = x .number; synchronous = x .synchronous; asynchronous = x .asynchronous; exclusive = givenExclusive gs i || x .exclusive; shared = givenShared gs i (x .shared) }
+
+or-true : (a : Bool) → (a || true) ≡ true
+or-true true = refl
+or-true false = refl
+
+grant-look : (w : Waiting) (gs : List Waiting) (i : ℕ) (x : Entry) (b : Bool) (k : List ℕ) → eqb (w .slot) i ≡ b → w .string ≡ k → lookedAt gs i (cond b (give k x) x) ≡ lookedAt (w ∷ gs) i x
+grant-look w gs i x true [] e q = rw (e, q) (λ j. record { number = x .number; synchronous = x .synchronous; asynchronous = x .asynchronous; exclusive = or-true (givenExclusive gs i) j; shared = givenShared gs i (x .shared) })
+grant-look w gs i x true (y ∷ k) e q = rw (e, q)
+grant-look w gs i x false k e q = rw e
+
+pub pass-sized : {es es′ : List Entry} {ws vs gs : List Waiting} → OldestFirst es ws es′ vs gs → length es′ ≡ length es
+pass-sized pass-end = refl
+pass-sized (pass-grant {es = es} w m l) = pass-sized l ∙ length-set es (w .slot) (give (w .string) (at es (w .slot)))
+pass-sized (pass-wait w m l) = pass-sized l
+
+flip : (a b : ℕ) → eqb a b ≡ eqb b a
+flip a b = go (same? a b)
+  where
+    go : (a ≡ b) ⊎ (a ≡ b → ⊥) → eqb a b ≡ eqb b a
+    go (inl e) = eq-eqb a b e ∙ sym (eq-eqb b a (sym e))
+    go (inr n) = ne-eqb a b n ∙ sym (ne-eqb b a (λ e. n (sym e)))
+
+pub pass-each : {es es′ : List Entry} {ws vs gs : List Waiting} → OldestFirst es ws es′ vs gs → (i : ℕ) → i < length es → at es′ i ≡ lookedAt gs i (at es i)
+pass-each pass-end i l = refl
+pass-each (pass-grant {es = es} {gs = gs} w m p) i l =
+    pass-each p i (rw (length-set es (w .slot) (give (w .string) (at es (w .slot)))) l)
+    ∙ ap (lookedAt gs i) (touch es (w .slot) (give (w .string)) (give (w .string) (at es (w .slot))) blank i l refl)
+    ∙ ap (λ b. lookedAt gs i (cond b (give (w .string) (at es i)) (at es i))) (flip i (w .slot))
+    ∙ grant-look w gs i (at es i) (eqb (w .slot) i) (w .string) refl refl
+pass-each (pass-wait w m p) i l = pass-each p i l
+
+module _ (es es′ : List Entry) (ws vs gs : List Waiting) where
+  pub look-sized : (b : Bool) → Look b es ws es′ vs gs → length es′ ≡ length es
+  look-sized true p = pass-sized p
+  look-sized false p = ap length (p .0)
+
+  pub look-each : (b : Bool) → Look b es ws es′ vs gs → (i : ℕ) → i < length es → at es′ i ≡ lookedAt gs i (at es i)
+  look-each true p i l = pass-each p i l
+  look-each false p i l = ap (λ (x : List Entry). at x i) (p .0) ∙ ap (λ (gs : List Waiting). lookedAt gs i (at es i)) (sym (p .2))

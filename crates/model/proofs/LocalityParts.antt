@@ -1,0 +1,83 @@
+-- The parts of a call's locality, and the whole put together from them.
+use mathlib.Core.Path.{_≡_, refl, sym, ap, _∙_}
+use mathlib.Core.Bool.{Bool, true, false, _||_, cond}
+use mathlib.Core.List.{List, [], _∷_, _++_, map}
+use Prim.Native.Nat.{ℕ, _<_}
+use lib.ListN.{getD, length}
+use Rattle.model.specs.State.{Server, Locks, Rest, Entry, Waiting, Exchange, Connection, RemoteLocal, at, blank, freshExchange, closedConnection, exchangeAt, connectionAt}
+use Rattle.model.specs.Interface.{Outcome, Reply.took}
+use Rattle.model.specs.Step.{Result}
+use Rattle.model.specs.Happening.{Happening}
+use Rattle.model.specs.LocalityRows.{Row, inSlot, in-clear, asked, message-available, client-size, session-number, synchronous-connection, asynchronous-connection, exclusive-lock, shared-lock, requestsLeft, looksAfter, isOpenAfter, remainderAfter, singly, the-clock, the-status, the-vendor, the-last-issued, the-enable, the-lockout, the-remote}
+use Rattle.model.specs.LocalityReplies.{direct, answeredFirst, answerTo, sessionSaid}
+use Rattle.model.specs.Locality.{entryDue, givenExclusive, givenShared, Look, Local}
+use Rattle.model.proofs.LocalityLists.{Rowed, project, exchangeRow, entryRow, due-entry, lookedAt, look-sized, look-each}
+
+abbrev pub connectionDue : List Entry → Happening → ℕ → Connection → Connection
+connectionDue es h x y = record { isOpen = isOpenAfter es x h (y .isOpen); remainder = remainderAfter es x h (y .remainder) }
+
+pub record Places (d : Server) (h : Happening) (cs : List Connection) : Type 0 where
+  pub size : length cs ≡ length (d .rest .connections)
+  pub each : (x : ℕ) → x < length (d .rest .connections) → getD cs x closedConnection ≡ connectionDue (d .locks .entries) h x (connectionAt (d .rest) x)
+
+-- of the rest, what stands once: status byte, vendor number, the number issued last, flags
+pub record Singles (d : Server) (h : Happening) (b v n : ℕ) (f : RemoteLocal) : Type 0 where
+  pub status : b ≡ singly the-status h (d .rest .status)
+  pub vendor : v ≡ singly the-vendor h (d .rest .vendor)
+  pub last-issued : n ≡ singly the-last-issued h (d .rest .lastIssued)
+  pub enable : f .enable ≡ singly the-enable h (d .rest .remoteLocal .enable)
+  pub lockout : f .lockout ≡ singly the-lockout h (d .rest .remoteLocal .lockout)
+  pub remote : f .remote ≡ singly the-remote h (d .rest .remoteLocal .remote)
+
+pub record RestPart (d : Server) (h : Happening) (r : Rest) : Type 0 where
+  pub singles : Singles d h (r .status) (r .vendor) (r .lastIssued) (r .remoteLocal)
+  pub exchanges : Rowed freshExchange exchangeRow (d .locks .entries) h (d .rest .exchanges) (r .exchanges)
+  pub connections : Places d h (r .connections)
+
+pub record LocksPart (d : Server) (h : Happening) (l : Locks) (due : List Entry) (granted : List Waiting) : Type 0 where
+  pub clock : l .clock ≡ singly the-clock h (d .locks .clock)
+  pub rows : Rowed blank entryRow (d .locks .entries) h (d .locks .entries) due
+  pub look : Look (looksAfter h) due (requestsLeft (d .locks .entries) (d .locks .clock) h (d .locks .waiting)) (l .entries) (l .waiting) granted
+
+pub assemble : (d : Server) (h : Happening) (r : Result) (due : List Entry) (granted : List Waiting) → RestPart d h (r .server .rest) → LocksPart d h (r .server .locks) due granted
+    → r .frames ≡ answeredFirst d h ++ (direct d h ++ map (answerTo 1 due) granted) → ((o : Outcome) (k n : ℕ) → r .reply ≡ took o k n → n ≡ sessionSaid d h n) → Local d h r
+assemble d h r due granted p l f s =
+    record {
+      clock = l .clock;
+      status = p .singles .status;
+      vendor = p .singles .vendor;
+      last-issued = p .singles .last-issued;
+      enable = p .singles .enable;
+      lockout = p .singles .lockout;
+      remote = p .singles .remote;
+      exchange-slots = p .exchanges .size;
+      in-clear = λ i q. ap (λ (x : Exchange). x .inClear) (p .exchanges .each i q) ∙ project (λ (x : Exchange). x .inClear) exchangeRow in-clear (λ a x. refl) (λ b x. refl) refl es i h _;
+      asked = λ i q. ap (λ (x : Exchange). x .asked) (p .exchanges .each i q) ∙ project (λ (x : Exchange). x .asked) exchangeRow asked (λ a x. refl) (λ b x. refl) refl es i h _;
+      message-available = λ i q. ap (λ (x : Exchange). x .messageAvailable) (p .exchanges .each i q) ∙ project (λ (x : Exchange). x .messageAvailable) exchangeRow message-available (λ a x. refl) (λ b x. refl) refl es i h _;
+      client-size = λ i q. ap (λ (x : Exchange). x .clientSize) (p .exchanges .each i q) ∙ project (λ (x : Exchange). x .clientSize) exchangeRow client-size (λ a x. refl) (λ b x. refl) refl es i h _;
+      connection-places = p .connections .size;
+      is-open = λ x q. ap (λ (y : Connection). y .isOpen) (p .connections .each x q);
+      remainder = λ x q. ap (λ (y : Connection). y .remainder) (p .connections .each x q);
+      slots = look-sized due (r .server .locks .entries) _ (r .server .locks .waiting) granted (looksAfter h) (l .look) ∙ l .rows .size;
+      number = λ i q. ap (λ (x : Entry). x .number) (ends i q);
+      synchronous = λ i q. ap (λ (x : Entry). x .synchronous) (ends i q);
+      asynchronous = λ i q. ap (λ (x : Entry). x .asynchronous) (ends i q);
+      granted = granted;
+      exclusive = λ i q. ap (λ (x : Entry). x .exclusive) (ends i q);
+      shared = λ i q. ap (λ (x : Entry). x .shared) (ends i q);
+      due = due;
+      due-slots = l .rows .size;
+      due-is = λ i q. begins i q;
+      waiting = l .look;
+      frames = f;
+      session = s;
+    }
+  where
+    es : List Entry
+    es = d .locks .entries
+
+    begins : (i : ℕ) → i < length es → at due i ≡ entryDue es h i (at es i)
+    begins i q = l .rows .each i q ∙ due-entry es i h (at es i)
+
+    ends : (i : ℕ) → i < length es → at (r .server .locks .entries) i ≡ lookedAt granted i (entryDue es h i (at es i))
+    ends i q = look-each due (r .server .locks .entries) _ (r .server .locks .waiting) granted (looksAfter h) (l .look) i (rw (l .rows .size) q) ∙ ap (lookedAt granted i) (begins i q)

@@ -1,0 +1,242 @@
+-- The table of locality: for each field of the server what may change it, and to what. Written from 01's sentences by type number, code,
+-- parameter and payload, apart from the definitions of the checks and of what a message does. Assumes nothing.
+use mathlib.Core.Bool.{Bool, true, false, not, _&&_, _||_, cond}
+use mathlib.Core.List.{List, [], _∷_, _++_}
+use Prim.Native.Nat.{ℕ, _+_, _-_}
+use lib.Dec.{eqb, leb, ltb}
+use Rattle.wire.specs.Field.{number}
+use Rattle.wire.specs.Class.{one-of}
+use Rattle.model.specs.Sizes.{noConnection}
+use Rattle.model.specs.Lists.{isNil, keep}
+use Rattle.model.specs.State.{Entry, Waiting, Asked, Asked.none, Asked.some, at, live, slotOfNumber}
+use Rattle.model.specs.Place.{slotIn}
+use Rattle.model.specs.Happening.{Heard, Heard.silence, Heard.code, Action, Happening, Happening.unmoved, Happening.connected, Happening.disconnected, Happening.skipped-over, Happening.errored, Happening.message-acted, Happening.clock-read, Happening.status-set, Happening.answer-sent}
+
+abbrev pub kindOf : Action → ℕ
+kindOf a = a .message .kind
+
+-- the slot of the session that a message acted for: Initialize (0) takes the first free one, AsyncInitialize (17) names its session, any
+-- other message is its connection's session's
+abbrev pub slotActed : List Entry → Action → ℕ
+slotActed es a = cond (eqb (kindOf a) 0) (slotOfNumber es 0) (cond (eqb (kindOf a) 17) (slotOfNumber es (a .message .param)) (slotIn es (a .connection)))
+
+-- a field that each session has: what a message of the session makes of it, what an answer to it makes of it, with or without END, and
+-- what it is once the session is closed
+pub record Row (A : Type 0) : Type 0 where
+  pub by-message : Action → A → A
+  pub by-answer : Bool → A → A
+  pub once-closed : A
+
+-- of the session in slot i; nothing else changes it
+abbrev pub inSlot : {A : Type 0} → Row A → List Entry → ℕ → Happening → A → A
+inSlot r es i unmoved x = x
+inSlot r es i (connected c) x = x
+inSlot r es i (disconnected c k) x = cond (eqb i (slotIn es c)) (r .once-closed) x
+inSlot r es i (skipped-over c k) x = x
+inSlot r es i (errored c n k) x = x
+inSlot r es i (message-acted a) x = cond (eqb i (slotActed es a)) (r .by-message a x) x
+inSlot r es i (clock-read t) x = x
+inSlot r es i (status-set b) x = x
+inSlot r es i (answer-sent n p end) x = cond (eqb i (slotOfNumber es n)) (r .by-answer end x) x
+
+-- EXCHANGES. 01: AsyncDeviceClear (19); DeviceClearComplete (8) ends it. A session begins (0) outside a clear
+abbrev pub in-clear : Row Bool
+in-clear =
+    record {
+      by-message = λ a b. cond (eqb (kindOf a) 19) true (cond (one-of (0 ∷ 8 ∷ []) (kindOf a)) false b);
+      by-answer = λ end b. b;
+      once-closed = false;
+    }
+
+-- 01: DataEND (7) and Trigger (12) acted on set what is asked to their MessageID; at a clear (19) nothing is asked any more; an answer by
+-- DataEND then clears it
+abbrev pub asked : Row Asked
+asked =
+    record {
+      by-message = λ a x. cond (one-of (7 ∷ 12 ∷ []) (kindOf a)) (some (a .message .param)) (cond (one-of (0 ∷ 19 ∷ []) (kindOf a)) none x);
+      by-answer = λ end x. cond end none x;
+      once-closed = none;
+    }
+
+-- 01: message available goes on when an answer is sent, off when a message that acts carries RMT-delivered 1 (6, 7, 12, 21), and at a
+-- clear (19)
+abbrev pub message-available : Row Bool
+message-available =
+    record {
+      by-message = λ a b. cond (one-of (0 ∷ 19 ∷ []) (kindOf a) || (one-of (6 ∷ 7 ∷ 12 ∷ 21 ∷ []) (kindOf a) && eqb (a .message .code) 1)) false b;
+      by-answer = λ end b. true;
+      once-closed = false;
+    }
+
+-- 01: a client's size starts at 1,024 per session; AsyncMaximumMessageSize (15) says it in its payload
+abbrev pub client-size : Row ℕ
+client-size =
+    record {
+      by-message = λ a n. cond (eqb (kindOf a) 15) (number (a .message .payload)) (cond (eqb (kindOf a) 0) 1024 n);
+      by-answer = λ end n. n;
+      once-closed = 1024;
+    }
+
+-- SESSIONS. 01: Initialize (0) issues the number in its reply and is the synchronous connection, AsyncInitialize (17) the other one
+abbrev pub session-number : Row ℕ
+session-number = record { by-message = λ a n. cond (eqb (kindOf a) 0) (a .session) n; by-answer = λ end n. n; once-closed = 0 }
+
+abbrev pub synchronous-connection : Row ℕ
+synchronous-connection = record { by-message = λ a c. cond (eqb (kindOf a) 0) (a .connection) c; by-answer = λ end c. c; once-closed = noConnection }
+
+abbrev pub asynchronous-connection : Row ℕ
+asynchronous-connection =
+    record {
+      by-message = λ a c. cond (eqb (kindOf a) 17) (a .connection) (cond (eqb (kindOf a) 0) noConnection c);
+      by-answer = λ end c. c;
+      once-closed = noConnection;
+    }
+
+-- AsyncLock (4): a release (code 0) answered k; a request granted at once (answered 1) and one that is not answered, so waits
+abbrev pub isCode : ℕ → Heard → Bool
+isCode k silence = false
+isCode k (code n) = eqb n k
+
+abbrev pub isSilence : Heard → Bool
+isSilence silence = true
+isSilence (code n) = false
+
+abbrev pub releases : ℕ → Action → Bool
+releases k a = eqb (kindOf a) 4 && (eqb (a .message .code) 0 && isCode k (a .told))
+
+abbrev pub obtains : Action → Bool
+obtains a = eqb (kindOf a) 4 && (not (eqb (a .message .code) 0) && isCode 1 (a .told))
+
+abbrev pub waits : Action → Bool
+waits a = eqb (kindOf a) 4 && (not (eqb (a .message .code) 0) && isSilence (a .told))
+
+-- the session's own locks, before waiting requests are looked at. 01: exclusive has the empty string; release frees exclusive first (1),
+-- then shared (2)
+abbrev pub exclusive-lock : Row Bool
+exclusive-lock =
+    record {
+      by-message = λ a b. cond (eqb (kindOf a) 0 || releases 1 a) false (cond (obtains a && isNil (a .message .payload)) true b);
+      by-answer = λ end b. b;
+      once-closed = false;
+    }
+
+abbrev pub shared-lock : Row (List ℕ)
+shared-lock =
+    record {
+      by-message = λ a s. cond (eqb (kindOf a) 0 || releases 2 a) [] (cond (obtains a && not (isNil (a .message .payload))) (a .message .payload) s);
+      by-answer = λ end s. s;
+      once-closed = [];
+    }
+
+-- REQUESTS, before they are looked at: one that waits is the last, until clock of arrival plus timeout; a clear (19) and a closing take
+-- the session's; a clock reading takes those at whose deadline it is, or past it
+abbrev pub requestsOf : ℕ → Waiting → Bool
+requestsOf i w = eqb (w .slot) i
+
+abbrev pub reachedBy : ℕ → Waiting → Bool
+reachedBy t w = leb (w .deadline) t
+
+abbrev pub requestsLeft : List Entry → ℕ → Happening → List Waiting → List Waiting
+requestsLeft es now unmoved ws = ws
+requestsLeft es now (connected c) ws = ws
+requestsLeft es now (disconnected c k) ws = keep (λ w. not (requestsOf (slotIn es c) w)) ws
+requestsLeft es now (skipped-over c k) ws = ws
+requestsLeft es now (errored c n k) ws = ws
+requestsLeft es now (message-acted a) ws =
+    cond (waits a) (ws ++ record { slot = slotActed es a; deadline = now + a .message .param; string = a .message .payload } ∷ [])
+    (cond (eqb (kindOf a) 19) (keep (λ w. not (requestsOf (slotActed es a) w)) ws) ws)
+requestsLeft es now (clock-read t) ws = keep (λ w. not (reachedBy t w)) ws
+requestsLeft es now (status-set b) ws = ws
+requestsLeft es now (answer-sent n p end) ws = ws
+
+-- they are looked at after a release and after a closing (that a look would grant nobody after any other call is `always-settled`)
+abbrev pub looksAfter : Happening → Bool
+looksAfter unmoved = false
+looksAfter (connected c) = false
+looksAfter (disconnected c k) = true
+looksAfter (skipped-over c k) = false
+looksAfter (errored c n k) = false
+looksAfter (message-acted a) = eqb (kindOf a) 4 && eqb (a .message .code) 0
+looksAfter (clock-read t) = false
+looksAfter (status-set b) = false
+looksAfter (answer-sent n p end) = false
+
+-- CONNECTIONS. A closing of connection c concerns c and each connection of its session
+abbrev pub connectionsOf : Entry → List ℕ
+connectionsOf e = e .synchronous ∷ cond (eqb (e .asynchronous) noConnection) [] (e .asynchronous ∷ [])
+
+abbrev pub concerns : List Entry → ℕ → ℕ → Bool
+concerns es c x = let e = at es (slotIn es c) in eqb x c || (live e && one-of (connectionsOf e) x)
+
+-- whether connection x is open
+abbrev pub isOpenAfter : List Entry → ℕ → Happening → Bool → Bool
+isOpenAfter es x unmoved b = b
+isOpenAfter es x (connected c) b = cond (eqb x c) true b
+isOpenAfter es x (disconnected c k) b = cond (concerns es c x) false b
+isOpenAfter es x (skipped-over c k) b = b
+isOpenAfter es x (errored c n k) b = b
+isOpenAfter es x (message-acted a) b = b
+isOpenAfter es x (clock-read t) b = b
+isOpenAfter es x (status-set s) b = b
+isOpenAfter es x (answer-sent n p end) b = b
+
+-- its remainder to skip. Check 4: length above 1,024, the payload is skipped as it comes
+abbrev pub remainderAfter : List Entry → ℕ → Happening → ℕ → ℕ
+remainderAfter es x unmoved r = r
+remainderAfter es x (connected c) r = cond (eqb x c) 0 r
+remainderAfter es x (disconnected c k) r = cond (concerns es c x) 0 r
+remainderAfter es x (skipped-over c k) r = cond (eqb x c) (r - k) r
+remainderAfter es x (errored c n k) r = cond (eqb x c && ltb 1024 n) n r
+remainderAfter es x (message-acted a) r = r
+remainderAfter es x (clock-read t) r = r
+remainderAfter es x (status-set b) r = r
+remainderAfter es x (answer-sent n p end) r = r
+
+-- SINGLE FIELDS: what a message makes of it, a clock reading, a status change; nothing else changes it
+pub record Single (A : Type 0) : Type 0 where
+  pub on-message : Action → A → A
+  pub on-clock : ℕ → A → A
+  pub on-status : ℕ → A → A
+
+abbrev pub singly : {A : Type 0} → Single A → Happening → A → A
+singly r unmoved x = x
+singly r (connected c) x = x
+singly r (disconnected c k) x = x
+singly r (skipped-over c k) x = x
+singly r (errored c n k) x = x
+singly r (message-acted a) x = r .on-message a x
+singly r (clock-read t) x = r .on-clock t x
+singly r (status-set b) x = r .on-status b x
+singly r (answer-sent n p end) x = x
+
+abbrev pub the-clock : Single ℕ
+the-clock = record { on-message = λ a x. x; on-clock = λ t x. t; on-status = λ b x. x }
+
+abbrev pub the-status : Single ℕ
+the-status = record { on-message = λ a x. x; on-clock = λ t x. x; on-status = λ b x. b }
+
+abbrev pub the-vendor : Single ℕ
+the-vendor = record { on-message = λ a x. x; on-clock = λ t x. x; on-status = λ b x. x }
+
+-- the SessionID issued last: Initialize (0), the number in its reply
+abbrev pub the-last-issued : Single ℕ
+the-last-issued = record { on-message = λ a x. cond (eqb (kindOf a) 0) (a .session) x; on-clock = λ t x. x; on-status = λ b x. x }
+
+-- a flag: AsyncRemoteLocalControl (10), with the codes that set it and those that clear it
+abbrev pub flag : List ℕ → List ℕ → Single Bool
+flag ons offs =
+    record {
+      on-message = λ a b. cond (eqb (kindOf a) 10) (cond (one-of ons (a .message .code)) true (cond (one-of offs (a .message .code)) false b)) b;
+      on-clock = λ t b. b;
+      on-status = λ s b. b;
+    }
+
+-- 01: codes 0 and 2 clear all three; 1 sets enable; 3 sets enable and remote; 4 enable and lockout; 5 all; 6 clears remote
+abbrev pub the-enable : Single Bool
+the-enable = flag (1 ∷ 3 ∷ 4 ∷ 5 ∷ []) (0 ∷ 2 ∷ [])
+
+abbrev pub the-lockout : Single Bool
+the-lockout = flag (4 ∷ 5 ∷ []) (0 ∷ 2 ∷ [])
+
+abbrev pub the-remote : Single Bool
+the-remote = flag (3 ∷ 5 ∷ []) (0 ∷ 2 ∷ 6 ∷ [])
