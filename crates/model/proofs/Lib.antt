@@ -54,3 +54,5 @@ pub mod LocalityLocks
 pub mod LocalityMessages
 pub mod LocalitySilence
 pub mod Locality
+pub mod Refused
+pub mod Statements

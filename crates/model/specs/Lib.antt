@@ -48,3 +48,4 @@ pub mod Happening
 pub mod LocalityRows
 pub mod LocalityReplies
 pub mod Locality
+pub mod Statements

@@ -23,6 +23,7 @@ use Rattle.model.specs.Tie.{track, askedBy}
 use Rattle.model.specs.IsolationRun as Log
 use Rattle.model.specs.IsolationRun.{Undisturbed}
 use Rattle.model.proofs.Demand3.{demand3, made, one}
+use Rattle.model.proofs.Refused.{Took, effect-took}
 use Rattle.model.proofs.Tied.{tie}
 use Rattle.model.proofs.IsolationRun.{isolation-run}
 use Rattle.state.specs.View.{Memory, view}
@@ -32,40 +33,6 @@ use Rattle.server.specs.declared.Done.{Done}
 use Rattle.server.specs.Calls.{Delivered}
 use Rattle.server.specs.Events.{Called, Fresh, doneNumbers}
 use Rattle.server.specs.Program.{outcomeOf, refusedOr, deliveryReply, doneReply, Run, Run.stop, Run.hislip-open, Run.hislip-deliver, Run.hislip-cut, Run.hislip-clock, Run.hislip-answer, Run.hislip-status, askedIn, Tied, OnlyOf, Program}
-
--- a delivery that is not refused is answered with an outcome
-abbrev Took : Reply → Type 0
-Took (refused n) = ⊥
-Took done = ⊥
-Took (took o k n) = Unit {0}
-
-opens-took : (b : Bool) (d : Server) (c : ℕ) (h : Header) → Took ((opens b d c h) .reply)
-opens-took true d c h = tt
-opens-took false d c h = tt
-
-acts-took : (r : Role) (d : Server) (i c : ℕ) (h : Header) (p : List ℕ) → Took ((acts r d i c h p) .reply)
-unfolding acts
-acts-took r-none d i c h p = opens-took (eqb (h .kind) 0) d c h
-acts-took r-halfOpen d i c h p = tt
-acts-took r-synchronous d i c h p = tt
-acts-took r-asynchronous d i c h p = tt
-
-effect-took : (v : Verdict) (s : Scan) (r : Role) (d : Server) (i c : ℕ) → Took ((effect v s r d i c) .reply)
-unfolding effect
-effect-took v-more s r d i c = tt
-effect-took v-skipped s r d i c = tt
-effect-took v-held s r d i c = tt
-effect-took v-ignored s r d i c = tt
-effect-took v-closed s r d i c = tt
-effect-took (v-error n) s r d i c = tt
-effect-took (v-fatal n) s r d i c = tt
-effect-took v-acts empty r d i c = tt
-effect-took v-acts few r d i c = tt
-effect-took v-acts wrong r d i c = tt
-effect-took v-acts (skipping k) r d i c = tt
-effect-took v-acts (long h) r d i c = tt
-effect-took v-acts (part h) r d i c = tt
-effect-took v-acts (whole h p) r d i c = acts-took r d i c h p
 
 -- was the call done?
 abbrev Done? : Reply → Type 0

@@ -1,0 +1,69 @@
+-- Every statement of specs/Statements.antt, proved: each by the theorem of its own file.
+use Rattle.model.specs.Statements.{Demand1, Demand2, Demand3Parts, Beyond, Statements}
+use Rattle.model.proofs.Refused.{for-its-cause, changes-nothing}
+use Rattle.model.proofs.Bound.{output-fits}
+use Rattle.model.proofs.Reader.{one-reader}
+use Rattle.model.proofs.SentFits.{sent-fits}
+use Rattle.model.proofs.Permitted.{permitted-acts}
+use Rattle.model.proofs.Malformed.{malformed}
+use Rattle.model.proofs.Opening.{sessions-open}
+use Rattle.model.proofs.SessionId.{numbers-issued}
+use Rattle.model.proofs.GrantingRule.{may-exclusive, exclusive-may, may-shared, shared-may}
+use Rattle.model.proofs.Access.{accessed}
+use Rattle.model.proofs.Canonical.{canonical-history}
+use Rattle.model.proofs.FixedPoint.{fixed-point}
+use Rattle.model.proofs.OnlyWhole.{taken-whole}
+use Rattle.model.proofs.Agreement.{agreement}
+use Rattle.model.proofs.Deciding.{deciding, run-decides}
+use Rattle.model.proofs.Closing.{closings}
+use Rattle.model.proofs.Counting.{counted}
+use Rattle.model.proofs.Demand3.{demand3}
+use Rattle.model.proofs.ReadBack.{reads-back}
+use Rattle.model.proofs.Tied.{tie}
+use Rattle.model.proofs.Isolation.{isolated}
+use Rattle.model.proofs.IsolationRun.{isolation-run}
+use Rattle.model.proofs.Locality.{local-run}
+use Rattle.model.proofs.Fewer.{fewer-never-hurts}
+use Rattle.model.proofs.Fits.{found-run, inv-run}
+use Rattle.model.proofs.OneString.{one-string}
+use Rattle.model.proofs.AlwaysRoom.{always-room}
+
+pub statements : Statements
+statements =
+    record {
+      demand1 = record { for-its-cause = for-its-cause; changes-nothing = changes-nothing; output-fits = output-fits };
+      demand2 = record {
+        one-reader = one-reader;
+        sent-fits = sent-fits;
+        permitted = permitted-acts;
+        malformed = malformed;
+        openings = sessions-open;
+        session-ids = numbers-issued;
+        exclusive-rule = λ es i. (may-exclusive es i, exclusive-may es i);
+        shared-rule = λ es i x k. (may-shared es i x k, shared-may es i x k);
+        access = accessed;
+      };
+      demand3 = record {
+        canonical-history = λ d es. canonical-history es d;
+        fixed-point = fixed-point;
+        taken-whole = taken-whole;
+        lock-model = agreement;
+        decides = run-decides;
+        decides-next = deciding;
+        settled = λ v es. (inv-run v es) .quiet;
+        closings = closings;
+        count = counted;
+        calls = λ view v m m′ ss f c. demand3 view v m f c;
+        reads-back = reads-back;
+      };
+      beyond = record {
+        tie = tie;
+        isolated = isolated;
+        isolation = isolation-run;
+        locality = local-run;
+        fewer-locks = fewer-never-hurts;
+        found = found-run;
+        one-string = one-string;
+        always-room = always-room;
+      };
+    }

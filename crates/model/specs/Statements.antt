@@ -1,0 +1,112 @@
+-- Every statement about the definitions, fully quantified, in the order of the customer's demands (00). A reader may stop here: the predicates
+-- that it names are this folder's, and proofs/Statements.antt proves all of it. What a host meets is the program: server/specs/Program.antt.
+use mathlib.Core.Path.{_≡_}
+use mathlib.Core.Bool.{Bool, true, not}
+use mathlib.Core.Logic.{_↔_}
+use mathlib.Core.List.{List, [], _∷_}
+use Prim.Native.Nat.{ℕ, suc}
+use Rattle.model.specs.Sizes.{noConnection}
+use Rattle.model.specs.Lists.{all}
+use Rattle.model.specs.State.{Server, Entry, at, fresh}
+use Rattle.model.specs.Interface.{Event, Event.answer, Reply.refused}
+use Rattle.model.specs.Refusals.{refusal}
+use Rattle.model.specs.Place.{onConnection, slotOf}
+use Rattle.model.specs.Locks.{mayGrant}
+use Rattle.model.specs.Step.{step, final}
+use Rattle.model.specs.Bound.{OutputFits}
+use Rattle.model.specs.Reader.{OneReader}
+use Rattle.model.specs.SentFits.{SentFits}
+use Rattle.model.specs.Permitted.{PermittedActs}
+use Rattle.model.specs.Malformed.{Malformed}
+use Rattle.model.specs.Opening.{Opening}
+use Rattle.model.specs.SessionId.{NumbersIssued}
+use Rattle.model.specs.Granting.{MayExclusive, MayShared}
+use Rattle.model.specs.Access.{Access}
+use Rattle.model.specs.Canonical.{Canonical}
+use Rattle.model.specs.FixedPoint.{FixedPoint}
+use Rattle.model.specs.OnlyWhole.{TakenWhole}
+use Rattle.model.specs.LockModel.{freshModel}
+use Rattle.model.specs.Agreement.{Agreement}
+use Rattle.model.specs.Deciding.{Deciding, EachDecides}
+use Rattle.model.specs.Closing.{Closings}
+use Rattle.model.specs.Count.{Count}
+use Rattle.model.specs.ReadBack.{ReadsBack}
+use Rattle.model.specs.Demand3.{Seen, Calls, Demand3}
+use Rattle.model.specs.Tie.{Tie}
+use Rattle.model.specs.Isolation.{Isolated}
+use Rattle.model.specs.IsolationRun.{IsolationRun}
+use Rattle.model.specs.Fewer.{FewerNeverHurts}
+use Rattle.model.specs.Locality.{LocalRun}
+use Rattle.model.specs.OneString.{OneStringRun}
+use Rattle.model.specs.AlwaysRoom.{AlwaysRoom}
+
+-- Demand 1. That every call ends and answers is what a definition is: `step` is total
+pub record Demand1 : Type 0 where
+  -- "A refusal to the host has a number and a stated cause, is given for that cause only": the first cause of 01's list that holds
+  pub for-its-cause : (d : Server) (e : Event) (n : ℕ) → ((step d e) .reply ≡ refused (suc n)) ↔ (refusal d e ≡ suc n)
+  -- "and changes nothing the desk holds", and sends nothing (that no lent byte changes is `Post`, `same-memory` and `same-buffer`)
+  pub changes-nothing : (d : Server) (e : Event) (n : ℕ) → (step d e) .reply ≡ refused n → step d e ≡ record { server = d; reply = refused n; frames = [] }
+  -- every call's output fits the buffer that is lent with it
+  pub output-fits : OutputFits
+
+-- Demand 2
+pub record Demand2 : Type 0 where
+  -- "Messages are read .. as IVI-6.1 lays them out": the reader of the checks is wire's `decode`, whose round trip is wire's
+  pub one-reader : OneReader
+  -- "and written": what is sent fits its fields, so it reads back
+  pub sent-fits : SentFits
+  -- what a table of types, codes and payloads permits acts, and nothing else does; what it does not permit gets its Error
+  pub permitted : (v : ℕ) (es : List Event) → PermittedActs v es
+  pub malformed : (d : Server) (c : ℕ) (bs : List ℕ) (room : ℕ) → Malformed d c bs room
+  -- a session opens and is joined, with these replies, and gets the first free SessionID
+  pub openings : (v : ℕ) (es : List Event) → Opening v es
+  pub session-ids : NumbersIssued
+  -- "Locks are granted exactly when the rules allow"
+  pub exclusive-rule : (es : List Entry) (i : ℕ) → (mayGrant es i [] ≡ true) ↔ MayExclusive es i
+  pub shared-rule : (es : List Entry) (i x : ℕ) (k : List ℕ) → (mayGrant es i (x ∷ k) ≡ true) ↔ MayShared es i (x ∷ k)
+  -- "While a program lacks access, its data and triggers of permitted size are held, neither acted on nor lost"
+  pub access : (d : Server) (c : ℕ) (bs : List ℕ) (room : ℕ) → Access d c bs room
+
+-- Demand 3, part by part, and whole (`calls`) for any list of calls that each meet the contract `Post`
+pub record Demand3Parts : Type 1 where
+  -- "the very one that document 01's shortened list leaves, which has only the whole messages taken and the other events"
+  pub canonical-history : (d : Server) (es : List Event) → Canonical d es
+  pub fixed-point : (d : Server) (es : List Event) → FixedPoint d es
+  pub taken-whole : TakenWhole
+  -- "Who holds which lock, who waits in what order, and every lock answer sent are exactly as document 01's ledger has them"
+  pub lock-model : (v : ℕ) (es : List Event) → Agreement (fresh v) freshModel es
+  -- 01: "By exactly its holders .. the desk grants, gives access and answers AsyncLockInfo", at every call of a list, and at the next one
+  pub decides : (v : ℕ) (es : List Event) → EachDecides (fresh v) freshModel es
+  pub decides-next : (v : ℕ) (es : List Event) → Deciding v es
+  -- "whoever may now be granted is granted": after any list no request waits that may be granted
+  pub settled : (v : ℕ) (es : List Event) → all (λ w. not (mayGrant ((final (fresh v) es) .locks .entries) (w .slot) (w .string))) ((final (fresh v) es) .locks .waiting) ≡ true
+  -- "A closing .. takes exactly that program's locks and its waiting request. Everyone else keeps theirs"
+  pub closings : (v : ℕ) (es : List Event) → Closings v es
+  -- "Locks granted .. = those released + those dropped by closings + those still held"
+  pub count : (v : ℕ) (es : List Event) → Count v es
+  -- all of it of what the host sees and of the memory that it lends, whatever its layout
+  pub calls : {M : Type 0} (view : M → Server) (v : ℕ) (m m′ : M) (ss : List Seen) → view m ≡ fresh v → Calls view m ss m′ → Demand3 view v ss m′
+  -- and what the host saw can be read back from its bytes, lock answers too
+  pub reads-back : {M : Type 0} (view : M → Server) → ReadsBack view
+
+-- Beyond the demands
+pub record Beyond : Type 0 where
+  -- the tie of an answer to its command
+  pub tie : (v : ℕ) (es : List Event) (n : ℕ) (x : List ℕ) (end : Bool) (room : ℕ) → refusal (final (fresh v) es) (answer n x end room) ≡ 0 → Tie v es n x end room
+  -- isolation of whoever holds exclusive, at a call and over time
+  pub isolated : (v : ℕ) (es : List Event) → Isolated (final (fresh v) es)
+  pub isolation : (v : ℕ) (es : List Event) (j : ℕ) → IsolationRun v es j
+  -- which call changes which field, and to what
+  pub locality : (d : Server) (es : List Event) → LocalRun d es
+  -- where others hold fewer locks nobody is worse off
+  pub fewer-locks : FewerNeverHurts
+  -- the session that has a connection is the one that is found
+  pub found : (v : ℕ) (es : List Event) (c j : ℕ) → (c ≡ noConnection → ⊥) → onConnection c (at ((final (fresh v) es) .locks .entries) j) ≡ true → j ≡ slotOf (final (fresh v) es) c
+  pub one-string : (v : ℕ) (es : List Event) → OneStringRun v es
+  pub always-room : (v : ℕ) (es : List Event) → AlwaysRoom v es
+
+pub record Statements : Type 1 where
+  pub demand1 : Demand1
+  pub demand2 : Demand2
+  pub demand3 : Demand3Parts
+  pub beyond : Beyond
