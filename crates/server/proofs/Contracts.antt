@@ -77,6 +77,12 @@ about-the-code =
       by-definition = λ m m′ ss g. program .by-definition m m′ ss (runs g);
       view-decides = λ m m′ n n′ ss rs v f g. program .view-decides m m′ n n′ ss rs v (runs f) (runs g);
       demand3 = λ v m m′ ss f g. program .demand3 v m m′ ss (fresh f) (runs g);
+      decides = λ v m m′ ss f g. program .decides v m m′ ss (fresh f) (runs g);
+      taken-whole = λ v m m′ ss f g. program .taken-whole v m m′ ss (fresh f) (runs g);
+      reads-back = λ v m m′ ss l f g. program .reads-back v m m′ ss l (fresh f) (runs g);
+      acts-exactly = λ v m m′ ss f g. program .acts-exactly v m m′ ss (fresh f) (runs g);
+      opens = λ v m m′ ss f g. program .opens v m m′ ss (fresh f) (runs g);
+      locality = λ m m′ ss g. program .locality m m′ ss (runs g);
       tie = λ v m m′ m″ ss s f g g′. program .tie v m m′ m″ ss s (fresh f) (runs g) (runs g′);
       isolation = λ v m m′ m″ ss rs f g j h g′. program .isolation v m m′ m″ ss rs (fresh f) (runs g) j h (runs g′);
     }

@@ -24,6 +24,15 @@ use Rattle.model.specs.IsolationRun as Log
 use Rattle.model.specs.IsolationRun.{Undisturbed}
 use Rattle.model.proofs.Demand3.{demand3, made, one}
 use Rattle.model.proofs.Refused.{Took, effect-took}
+use Rattle.model.specs.SessionId.{lastInLog}
+use Rattle.model.specs.Permitted.{ActsExactly}
+use Rattle.model.specs.Opening.{Opens}
+use Rattle.model.proofs.Deciding.{run-decides}
+use Rattle.model.proofs.OnlyWhole.{taken-whole}
+use Rattle.model.proofs.ReadBack.{reads-back}
+use Rattle.model.proofs.Permitted.{permitted-acts}
+use Rattle.model.proofs.Opening.{sessions-open}
+use Rattle.model.proofs.Locality.{local-run}
 use Rattle.model.proofs.Tied.{tie}
 use Rattle.model.proofs.IsolationRun.{isolation-run}
 use Rattle.state.specs.View.{Memory, view}
@@ -201,12 +210,23 @@ isolated v m m′ m″ ss rs f g j h g′ u =
     λ x e a b. subst (λ (y : Server). (at (y .locks .entries) j) .exclusive ≡ true → Undisturbed j y fs → Log.OnlyOf ((at (y .locks .entries) j) .number) (log y fs)) (sym e) (λ a b. (isolation-run v es j .from-now fs a b) .only-its-own) a b in
     subst (OnlyOf ((at (view m′ .locks .entries) j) .number)) (sym (made view (calls g′) .0)) (only-seen _ (log (view m′) fs) (whole (view m′) d h u))
 
+-- the server that a run from a new one leaves
+left : (v : ℕ) (m m′ : Memory) (ss : List Seen) → Fresh v m → Run m ss m′ → view m′ ≡ final (fresh v) (seenEvents ss)
+left v m m′ ss f g = made view (calls g) .1 ∙ ap (λ (x : Server). final x (seenEvents ss)) (f .shows)
+
 pub program : Program Fresh Run
 program =
     record {
       by-definition = λ m m′ ss g. let h = made view (calls g) in record { seen-is = h .0; server-is = h .1 };
       view-decides = decided;
       demand3 = λ v m m′ ss f g. demand3 view v m (f .shows) (calls g);
+      decides = λ v m m′ ss f g. run-decides v (seenEvents ss);
+      taken-whole = λ v m m′ ss f g p. taken-whole .any-run v (seenEvents ss) p;
+      reads-back = λ v m m′ ss l f g p. reads-back view .any-calls v m l (f .shows) (calls g) p;
+      acts-exactly = λ v m m′ ss f g c bs room.
+          subst (λ (d : Server). ActsExactly d (lastInLog (log (fresh v) (seenEvents ss)) 0) c bs room) (sym (left v m m′ ss f g)) (permitted-acts v (seenEvents ss) .acts-next c bs room);
+      opens = λ v m m′ ss f g c bs room. subst (λ (d : Server). Opens d v c bs room) (sym (left v m m′ ss f g)) (sessions-open v (seenEvents ss) .opens-next c bs room);
+      locality = λ m m′ ss g. local-run (view m) (seenEvents ss);
       tie = tied;
       isolation = isolated;
     }

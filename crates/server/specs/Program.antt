@@ -1,23 +1,33 @@
--- Demand 3 about the program: a run of the C interface, call by call, each as its function's `ensures` says, from memory that
--- `hislip_new` wrote. What the host saw is read off the structs that the calls returned and the buffers that they wrote. Assumes
--- nothing.
+-- Every statement about the program, fully quantified: runs of the C interface, call by call, each as its function's `ensures` says, from
+-- memory that `hislip_new` wrote. What the host saw is read off the structs that the calls returned and the buffers that they wrote.
+-- The predicates are the model's; proofs/Contracts.antt has `about-the-code`, whose premises are the functions' own contracts.
 use mathlib.Core.Path.{_≡_}
 use mathlib.Core.Bool.{Bool, true, not, cond}
 use mathlib.Core.List.{List, [], _∷_, map}
-use Prim.Native.Nat.{ℕ, zero, suc}
+use Prim.Native.Nat.{ℕ, zero, suc, _<_, _^_}
 use lib.Dec.{eqb}
 use lib.ListN.{length, take}
 use Rattle.wire.specs.Class.{one-of}
 use Rattle.wire.specs.Frame.{frameOf, frameBytes}
 use Rattle.wire.specs.Message.{header}
 use Rattle.model.specs.Interface.{Event.opening, Event.delivery, Event.cut, Event.clock, Event.answer, Event.status, Outcome, Outcome.more-needed, Outcome.skipped, Outcome.held, Outcome.ignored, Outcome.error-sent, Outcome.closed, Outcome.acted, Reply, Reply.refused, Reply.done, Reply.took}
-use Rattle.model.specs.State.{Asked, Asked.none, Asked.some, at, slotOfNumber}
+use Rattle.model.specs.State.{Asked, Asked.none, Asked.some, at, fresh, slotOfNumber}
 use Rattle.model.specs.Step.{final, log, answerType}
 use Rattle.model.specs.Post.{Post}
 use Rattle.model.specs.MessageTypes.{commands}
 use Rattle.model.specs.IsolationRun.{Undisturbed}
 use Rattle.model.specs.Tie.{track}
 use Rattle.model.specs.Demand3.{Seen, seen, seenEvents, Demand3}
+use Rattle.model.specs.LockModel.{freshModel}
+use Rattle.model.specs.Deciding.{EachDecides}
+use Rattle.model.specs.Canonical.{kept}
+use Rattle.model.specs.OnlyWhole.{OnlyWhole}
+use Rattle.model.specs.Possible.{AllPossible}
+use Rattle.model.specs.ReadBack.{ReadBack}
+use Rattle.model.specs.SessionId.{lastInLog}
+use Rattle.model.specs.Permitted.{ActsExactly}
+use Rattle.model.specs.Opening.{Opens}
+use Rattle.model.specs.Locality.{LocalRun}
 use Rattle.state.specs.View.{Memory, view}
 use Rattle.effects.specs.declared.Delivery.{Delivery}
 use Rattle.server.specs.declared.Done.{Done}
@@ -93,6 +103,17 @@ pub record Program (New : ℕ → Memory → Type 0) (Ran : Memory → List Seen
   pub view-decides : (m m′ n n′ : Memory) (ss rs : List Seen) → view m ≡ view n → Ran m ss m′ → Ran n rs n′ → seenEvents ss ≡ seenEvents rs
       → (ss ≡ rs) × (view m′ ≡ view n′)
   pub demand3 : (v : ℕ) (m m′ : Memory) (ss : List Seen) → New v m → Ran m ss m′ → Demand3 view v ss m′
+  -- each call of the list decides by the lock model's holders just before it: held or not, granted or not, AsyncLockInfo's frame
+  pub decides : (v : ℕ) (m m′ : Memory) (ss : List Seen) → New v m → Ran m ss m′ → EachDecides (fresh v) freshModel (seenEvents ss)
+  -- each kept delivery shows one whole message, the header of one that is too long, or skipped bytes that are owed
+  pub taken-whole : (v : ℕ) (m m′ : Memory) (ss : List Seen) → New v m → Ran m ss m′ → AllPossible (seenEvents ss) → OnlyWhole (λ c. 0) (kept (log (fresh v) (seenEvents ss)))
+  -- the frames, and among them the lock answers, are read off the bytes that the host saw
+  pub reads-back : (v : ℕ) (m m′ : Memory) (ss : List Seen) → v < 2 ^ 16 → New v m → Ran m ss m′ → AllPossible (seenEvents ss) → ReadBack v ss
+  -- after the list: a delivery acts exactly where the table of forms permits it; what opens and joins a session, and how
+  pub acts-exactly : (v : ℕ) (m m′ : Memory) (ss : List Seen) → New v m → Ran m ss m′ → (c : ℕ) (bs : List ℕ) (room : ℕ) → ActsExactly (view m′) (lastInLog (log (fresh v) (seenEvents ss)) 0) c bs room
+  pub opens : (v : ℕ) (m m′ : Memory) (ss : List Seen) → New v m → Ran m ss m′ → (c : ℕ) (bs : List ℕ) (room : ℕ) → Opens (view m′) v c bs room
+  -- from any memory: which call changed which field, and to what
+  pub locality : (m m′ : Memory) (ss : List Seen) → Ran m ss m′ → LocalRun (view m) (seenEvents ss)
   -- of an answer that was not refused
   pub tie : (v : ℕ) (m m′ m″ : Memory) (ss : List Seen) (s : Seen) → New v m → Ran m ss m′ → Ran m′ (s ∷ []) m″
       → (n : ℕ) (payload : List ℕ) (end : Bool) (room : ℕ) → s .event ≡ answer n payload end room → s .reply ≡ done → Tied ss m′ n payload end (s .output)
