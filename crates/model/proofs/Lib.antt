@@ -40,3 +40,4 @@ pub mod Forms
 pub mod Permitted
 pub mod Opening
 pub mod Malformed
+pub mod Sending

@@ -39,3 +39,4 @@ pub mod Permitted
 pub mod Opening
 pub mod Malformed
 pub mod FormCorners
+pub mod Sending
