@@ -56,3 +56,4 @@ pub mod LocalitySilence
 pub mod Locality
 pub mod Refused
 pub mod Statements
+pub mod Sending

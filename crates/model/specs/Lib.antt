@@ -49,3 +49,4 @@ pub mod LocalityRows
 pub mod LocalityReplies
 pub mod Locality
 pub mod Statements
+pub mod Sending

@@ -1,0 +1,43 @@
+-- What each message that acted sends, the whole of it. Openings are in specs/Opening.antt, lock messages and AsyncLockInfo in
+-- specs/Deciding.antt. Assumes nothing.
+use mathlib.Core.Path.{_≡_}
+use mathlib.Core.Bool.{true, not, _&&_, cond}
+use mathlib.Core.List.{List, [], _∷_, _++_}
+use Prim.Native.Nat.{ℕ}
+use lib.Dec.{eqb}
+use Rattle.wire.specs.Message.{header}
+use Rattle.wire.specs.Class.{one-of}
+use Rattle.wire.specs.Frame.{frameOf}
+use Rattle.model.specs.MessageTypes.{DeviceClearComplete, DeviceClearAcknowledge, AsyncRemoteLocalControl, AsyncRemoteLocalResponse, AsyncMaximumMessageSize, AsyncMaximumMessageSizeResponse, AsyncDeviceClear, AsyncStatusQuery, AsyncStatusResponse, AsyncDeviceClearAcknowledge, commands}
+use Rattle.model.specs.Lists.{any}
+use Rattle.model.specs.State.{Server, exchangeAt, fresh}
+use Rattle.model.specs.Interface.{Event, Event.delivery, Outcome.acted, Reply.took}
+use Rattle.model.specs.Place.{slotOf}
+use Rattle.model.specs.Exchange.{statusByte}
+use Rattle.model.specs.Step.{step, final}
+use Rattle.model.specs.LockModel.{Model}
+use Rattle.model.specs.Deciding.{modelAfter, lockAnswer}
+
+-- a delivery that acted as a message of session n, with lock model m before it
+pub record Sends (d : Server) (m : Model) (c : ℕ) (bs : List ℕ) (room : ℕ) : Type 0 where
+  -- Data, DataEND, Trigger: nothing
+  pub command : (k n : ℕ) → (step d (delivery c bs room)) .reply ≡ took acted k n → one-of commands ((header bs) .kind) ≡ true → (step d (delivery c bs room)) .frames ≡ []
+  -- 01: "DeviceClearComplete ends it with type 9, code 0"
+  pub clear-complete : (k n : ℕ) → (step d (delivery c bs room)) .reply ≡ took acted k n → (header bs) .kind ≡ DeviceClearComplete
+      → (step d (delivery c bs room)) .frames ≡ frameOf c DeviceClearAcknowledge 0 0 [] ∷ []
+  pub remote-local : (k n : ℕ) → (step d (delivery c bs room)) .reply ≡ took acted k n → (header bs) .kind ≡ AsyncRemoteLocalControl
+      → (step d (delivery c bs room)) .frames ≡ frameOf c AsyncRemoteLocalResponse 0 0 [] ∷ []
+  -- 01: "the reply says 1,024", as eight bytes
+  pub maximum-size : (k n : ℕ) → (step d (delivery c bs room)) .reply ≡ took acted k n → (header bs) .kind ≡ AsyncMaximumMessageSize
+      → (step d (delivery c bs room)) .frames ≡ frameOf c AsyncMaximumMessageSizeResponse 0 0 (0 ∷ 0 ∷ 0 ∷ 0 ∷ 0 ∷ 0 ∷ 4 ∷ 0 ∷ []) ∷ []
+  -- 01: "AsyncDeviceClear: a waiting request is answered 0, then type 23 with code 0"
+  pub device-clear : (k n : ℕ) → (step d (delivery c bs room)) .reply ≡ took acted k n → (header bs) .kind ≡ AsyncDeviceClear
+      → (step d (delivery c bs room)) .frames ≡ cond (any (λ w. eqb (w .number) n) (m .waiting)) (lockAnswer c 0 ∷ []) [] ++ (frameOf c AsyncDeviceClearAcknowledge 0 0 [] ∷ [])
+  -- 01: "The status response is the meter's byte with value 16 replaced by" message available, off at RMT-delivered 1 "before its response is formed"
+  pub status-query : (k n : ℕ) → (step d (delivery c bs room)) .reply ≡ took acted k n → (header bs) .kind ≡ AsyncStatusQuery
+      → (step d (delivery c bs room)) .frames
+      ≡ frameOf c AsyncStatusResponse (statusByte (d .rest .status) (not (eqb ((header bs) .code) 1) && (exchangeAt (d .rest) (slotOf d c)) .messageAvailable)) 0 [] ∷ []
+
+-- after any list from the fresh server, whatever is delivered next
+pub record Sending (v : ℕ) (es : List Event) : Type 0 where
+  pub sends-next : (c : ℕ) (bs : List ℕ) (room : ℕ) → Sends (final (fresh v) es) (modelAfter v es) c bs room
