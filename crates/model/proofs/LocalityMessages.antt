@@ -23,8 +23,8 @@ use Rattle.model.specs.Exchange.{statusByte, availableAt}
 use Rattle.model.specs.Acts
 use Rattle.model.specs.Acts.{Plan, holder}
 use Rattle.model.specs.Step.{Result, finish, lockFrame}
-use Rattle.model.specs.Happening.{Heard, Heard.silence, Heard.code, Action, Happening.message-acted, heard}
-use Rattle.model.specs.LocalityRows.{Row, message-available}
+use Rattle.model.specs.Happening.{Heard, Heard.silence, Heard.with-code, Action, Happening.message-acted, heard}
+use Rattle.model.specs.LocalityRows.{Row, available-row}
 use Rattle.model.specs.LocalityReplies.{with16, holdsAny, answerTo, sessionSaid}
 use Rattle.model.specs.Locality.{Local}
 use Rattle.model.proofs.ReadOff.{each-of}
@@ -205,10 +205,10 @@ module _ (d : Server) (c : ℕ) (h : Header) (p : List ℕ) where
     released-by q true s =
         let y = Locks.update es (slotOf d c) Locks.withoutExclusive in
         assemble d _ (releasing true s) y ((pass-looks (d .locks .waiting) y) .grants)
-        (rest-kept d (action 4 num (code 1)) refl refl (λ x. refl))
+        (rest-kept d (action 4 num (with-code 1)) refl refl (λ x. refl))
         record {
           clock = refl;
-          rows = row-message blank entryRow es es (action 4 num (code 1)) (slotOf d c) _ refl (rw q);
+          rows = row-message blank entryRow es es (action 4 num (with-code 1)) (slotOf d c) _ refl (rw q);
           look = rw q ((pass-looks (d .locks .waiting) y) .looked);
         }
         (ap₂ (λ (a : ℕ) (fs : List Frame). frameOf a 5 1 0 [] ∷ fs) mine (pass-frames (d .locks .waiting) y))
@@ -216,18 +216,18 @@ module _ (d : Server) (c : ℕ) (h : Header) (p : List ℕ) where
     released-by q false false =
         let y = Locks.update es (slotOf d c) Locks.withoutShared in
         assemble d _ (releasing false false) y ((pass-looks (d .locks .waiting) y) .grants)
-        (rest-kept d (action 4 num (code 2)) refl refl (λ x. refl))
+        (rest-kept d (action 4 num (with-code 2)) refl refl (λ x. refl))
         record {
           clock = refl;
-          rows = row-message blank entryRow es es (action 4 num (code 2)) (slotOf d c) _ refl (rw q);
+          rows = row-message blank entryRow es es (action 4 num (with-code 2)) (slotOf d c) _ refl (rw q);
           look = rw q ((pass-looks (d .locks .waiting) y) .looked);
         }
         (ap₂ (λ (a : ℕ) (fs : List Frame). frameOf a 5 2 0 [] ∷ fs) mine (pass-frames (d .locks .waiting) y))
         (λ o k n e. cc)
     released-by q false true =
         assemble d _ (releasing false true) es ((pass-looks (d .locks .waiting) es) .grants)
-        (rest-kept d (action 4 num (code 3)) refl refl (λ x. refl))
-        record { clock = refl; rows = row-kept blank entryRow es es (action 4 num (code 3)) (λ x. rw q); look = rw q ((pass-looks (d .locks .waiting) es) .looked) }
+        (rest-kept d (action 4 num (with-code 3)) refl refl (λ x. refl))
+        record { clock = refl; rows = row-kept blank entryRow es es (action 4 num (with-code 3)) (λ x. rw q); look = rw q ((pass-looks (d .locks .waiting) es) .looked) }
         (ap₂ (λ (a : ℕ) (fs : List Frame). frameOf a 5 3 0 [] ∷ fs) mine (pass-frames (d .locks .waiting) es))
         (λ o k n e. cc)
 
@@ -246,24 +246,24 @@ module _ (d : Server) (c : ℕ) (h : Header) (p : List ℕ) where
     requested-by : eqb (h .code) 0 ≡ false → (u : Locks.Ruling) → Local d (message-acted (action 4 num (heard 5 ((requesting u) .frames)))) (requesting u)
     requested-by q Locks.invalid =
         assemble d _ (requesting Locks.invalid) es []
-        (rest-kept d (action 4 num (code 3)) refl refl (λ x. refl))
-        record { clock = refl; rows = row-kept blank entryRow es es (action 4 num (code 3)) (λ x. rw q); look = rw q (refl, refl, refl) }
+        (rest-kept d (action 4 num (with-code 3)) refl refl (λ x. refl))
+        record { clock = refl; rows = row-kept blank entryRow es es (action 4 num (with-code 3)) (λ x. rw q); look = rw q (refl, refl, refl) }
         (ap (λ (a : ℕ). frameOf a 5 3 0 [] ∷ []) mine)
         (λ o k n e. cc)
     requested-by q Locks.granted =
         assemble d _ (requesting Locks.granted) (Locks.grant es (slotOf d c) p) []
-        (rest-kept d (action 4 num (code 1)) refl refl (λ x. refl))
+        (rest-kept d (action 4 num (with-code 1)) refl refl (λ x. refl))
         record {
           clock = refl;
-          rows = row-message blank entryRow es es (action 4 num (code 1)) (slotOf d c) _ refl (rw q (give-row p (at es (slotOf d c))));
+          rows = row-message blank entryRow es es (action 4 num (with-code 1)) (slotOf d c) _ refl (rw q (give-row p (at es (slotOf d c))));
           look = rw q (refl, refl, refl);
         }
         (ap (λ (a : ℕ). frameOf a 5 1 0 [] ∷ []) mine)
         (λ o k n e. cc)
     requested-by q Locks.denied =
         assemble d _ (requesting Locks.denied) es []
-        (rest-kept d (action 4 num (code 0)) refl refl (λ x. refl))
-        record { clock = refl; rows = row-kept blank entryRow es es (action 4 num (code 0)) (λ x. rw q); look = rw q (refl, refl, refl) }
+        (rest-kept d (action 4 num (with-code 0)) refl refl (λ x. refl))
+        record { clock = refl; rows = row-kept blank entryRow es es (action 4 num (with-code 0)) (λ x. rw q); look = rw q (refl, refl, refl) }
         (ap (λ (a : ℕ). frameOf a 5 0 0 [] ∷ []) mine)
         (λ o k n e. cc)
     requested-by q Locks.queued =
