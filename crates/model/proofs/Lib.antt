@@ -42,3 +42,4 @@ pub mod LocalityLocks
 pub mod LocalityMessages
 pub mod LocalitySilence
 pub mod Locality
+pub mod LocalityTable

@@ -130,3 +130,7 @@ pub record LocalRun (d : Server) (es : List Event) : Type 0 where
   pub enable : (final d es) .rest .remoteLocal .enable ≡ overLog enable-row (log d es) (d .rest .remoteLocal .enable)
   pub lockout : (final d es) .rest .remoteLocal .lockout ≡ overLog lockout-row (log d es) (d .rest .remoteLocal .lockout)
   pub remote : (final d es) .rest .remoteLocal .remote ≡ overLog remote-row (log d es) (d .rest .remoteLocal .remote)
+
+-- the table leaves nothing free: what happened decides the whole server after, and every frame
+pub record NothingFree : Type 0 where
+  pub decides : (d : Server) (h : Happening) (r r′ : Result) → Local d h r → Local d h r′ → (r .server ≡ r′ .server) × (r .frames ≡ r′ .frames)
