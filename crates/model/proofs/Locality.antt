@@ -16,7 +16,7 @@ use Rattle.model.specs.Sizes.{noConnection}
 use Rattle.model.specs.MessageTypes.{FatalError}
 use Rattle.model.specs.State.{Server, Rest, Entry, at, live, halfOpen, blank, slotOfNumber, connectionAt, exchangeAt, Asked, Asked.none, Asked.some}
 use Rattle.model.specs.Interface.{Event, Event.opening, Event.delivery, Event.cut, Event.clock, Event.answer, Event.status, Outcome.acted, Outcome.closed, Reply, Reply.done, Reply.took}
-use Rattle.model.specs.Scan.{Scan, Scan.empty, Scan.few, Scan.wrong, Scan.skipping, Scan.long, Scan.part, Scan.whole, scan, size}
+use Rattle.model.specs.Scan.{Scan, Scan.empty, Scan.few, Scan.wrong, Scan.skipping, Scan.long, Scan.part, Scan.whole, scan, size, leftover}
 use Rattle.model.specs.Place.{slotIn, slotOf, roleOf, roleBy, onConnection, entryOf, Role, Role.r-none, Role.r-halfOpen, Role.r-synchronous, Role.r-asynchronous}
 use Rattle.model.specs.Locks
 use Rattle.model.specs.Locks.{Answer, LockEvent, change, grantPass, passOver}
@@ -159,7 +159,7 @@ module _ (d : Server) (c : ℕ) (bs : List ℕ) (room : ℕ) (real : c ≡ noCon
   effect-local v-ignored s r es er ev = local-unmoved d _ (λ o k n e. cc)
   effect-local (v-error x) s r es er ev =
       let z = error-scan r d (slotOf d c) s x ev in
-      assemble d _ _ (d .locks .entries) [] (rest-error d c ((header bs) .len) _ (with-code x) opened (scan-error ((connectionAt (d .rest) c) .remainder) bs s es (z .0) (z .1))) (locks-error d c ((header bs) .len) (with-code x)) refl (λ o k n e. cc)
+      assemble d _ _ (d .locks .entries) [] (rest-error d c ((header bs) .len) (leftover s) (with-code x) opened (scan-error ((connectionAt (d .rest) c) .remainder) bs s es (z .0) (z .1))) (locks-error d c ((header bs) .len) (with-code x)) refl (λ o k n e. cc)
   effect-local (v-fatal x) s r es er ev =
       rw (fatal-heard x (live (entryOf d c)) ((entryOf d c) .synchronous) c (cond (eqb ((entryOf d c) .asynchronous) noConnection) [] ((entryOf d c) .asynchronous ∷ [])) _) (local-closing d c real (with-code x) _ (λ o k n e. cc))
   effect-local v-closed s r es er ev = rw (none-heard ((passOver (stay d c) (freed d c)) .answers)) (local-closing d c real silence _ (λ o k n e. cc))

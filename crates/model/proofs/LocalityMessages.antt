@@ -93,7 +93,7 @@ module _ (d : Server) (c : ℕ) (h : Header) (p : List ℕ) where
   unfolding finish change Acts.synchronousExchange Acts.synchronousSaid
   local-6 =
       assemble d _ (finish d (synchronously 6)) (d .locks .entries) []
-      (rest-touched d (action 6 num _) refl refl refl _ (rmt-row (ours .asked)))
+      (rest-touched d (action 6 num _) refl refl refl (Acts.synchronousExchange (Acts.synchronousKind 6) h ours) (rmt-row (ours .asked)))
       (locks-kept d (action 6 num _) refl refl refl refl)
       refl
       (λ o k n e. cc)
@@ -102,7 +102,7 @@ module _ (d : Server) (c : ℕ) (h : Header) (p : List ℕ) where
   unfolding finish change Acts.synchronousExchange Acts.synchronousSaid
   local-7 =
       assemble d _ (finish d (synchronously 7)) (d .locks .entries) []
-      (rest-touched d (action 7 num _) refl refl refl _ (rmt-row (some (h .param))))
+      (rest-touched d (action 7 num _) refl refl refl (Acts.synchronousExchange (Acts.synchronousKind 7) h ours) (rmt-row (some (h .param))))
       (locks-kept d (action 7 num _) refl refl refl refl)
       refl
       (λ o k n e. cc)
@@ -111,7 +111,7 @@ module _ (d : Server) (c : ℕ) (h : Header) (p : List ℕ) where
   unfolding finish change Acts.synchronousExchange Acts.synchronousSaid
   local-12 =
       assemble d _ (finish d (synchronously 12)) (d .locks .entries) []
-      (rest-touched d (action 12 num _) refl refl refl _ (rmt-row (some (h .param))))
+      (rest-touched d (action 12 num _) refl refl refl (Acts.synchronousExchange (Acts.synchronousKind 12) h ours) (rmt-row (some (h .param))))
       (locks-kept d (action 12 num _) refl refl refl refl)
       refl
       (λ o k n e. cc)
@@ -120,7 +120,7 @@ module _ (d : Server) (c : ℕ) (h : Header) (p : List ℕ) where
   unfolding finish change Acts.synchronousExchange Acts.synchronousSaid
   local-8 =
       assemble d _ (finish d (synchronously 8)) (d .locks .entries) []
-      (rest-touched d (action 8 num _) refl refl refl _ refl)
+      (rest-touched d (action 8 num _) refl refl refl (Acts.synchronousExchange (Acts.synchronousKind 8) h ours) refl)
       (locks-kept d (action 8 num _) refl refl refl refl)
       refl
       (λ o k n e. cc)
@@ -151,7 +151,7 @@ module _ (d : Server) (c : ℕ) (h : Header) (p : List ℕ) where
   unfolding finish change Acts.asynchronousRest Acts.asynchronousSaid Acts.asynchronousEvent field
   local-15 =
       assemble d _ (finish d (asynchronously 15)) (d .locks .entries) []
-      (rest-touched d (action 15 num _) refl refl refl _ refl)
+      (rest-touched d (action 15 num _) refl refl refl (Exchange.withClientSize (number p) ours) refl)
       (locks-kept d (action 15 num _) refl refl refl refl)
       refl
       (λ o k n e. cc)
@@ -160,7 +160,7 @@ module _ (d : Server) (c : ℕ) (h : Header) (p : List ℕ) where
   unfolding finish change Acts.asynchronousRest Acts.asynchronousSaid Acts.asynchronousEvent
   local-19 =
       assemble d _ (finish d (asynchronously 19)) (d .locks .entries) []
-      (rest-touched d (action 19 num _) refl refl refl _ refl)
+      (rest-touched d (action 19 num _) refl refl refl (Exchange.enterClear ours) refl)
       (locks-clear d (action 19 num _) refl)
       (ap (λ (fs : List Frame). fs ++ frameOf c 23 0 0 [] ∷ []) (refused-frames (d .locks .entries) (λ w. eqb (w .slot) (slotOf d c)) (d .locks .waiting)))
       (λ o k n e. cc)
@@ -169,7 +169,7 @@ module _ (d : Server) (c : ℕ) (h : Header) (p : List ℕ) where
   unfolding finish change Acts.asynchronousRest Acts.asynchronousSaid Acts.asynchronousEvent availableAt
   local-21 =
       assemble d _ (finish d (asynchronously 21)) (d .locks .entries) []
-      (rest-touched d (action 21 num _) refl refl refl _ (rmt-row (ours .asked)))
+      (rest-touched d (action 21 num _) refl refl refl (Exchange.noteRmt (h .code) ours) (rmt-row (ours .asked)))
       (locks-kept d (action 21 num _) refl refl refl refl)
       (ap (λ b. frameOf c 22 b 0 [] ∷ []) (ap (statusByte (d .rest .status)) (rmt (eqb (h .code) 1) (ours .messageAvailable)) ∙ status-same (d .rest .status) (cond (eqb (h .code) 1) false (ours .messageAvailable))))
       (λ o k n e. cc)
