@@ -1,4 +1,4 @@
--- What a call did, as the host sees it: read off the event, the reply and the frames alone. The rules of locality go by it. Assumes nothing.
+-- What a call did, as the host sees it: read off the event, the reply and the frames alone. The rules of locality go by it.
 use mathlib.Core.Bool.{Bool, cond}
 use mathlib.Core.List.{List, [], _∷_}
 use Prim.Native.Nat.{ℕ}

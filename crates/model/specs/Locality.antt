@@ -1,5 +1,5 @@
 -- Locality: which call may change which field of whose session and connection, and to what; and every field of every frame that it
--- sends. For every field of the server, on any server and for any call, refused ones too. Assumes nothing.
+-- sends. For every field of the server, on any server and for any call, refused ones too.
 use mathlib.Core.Path.{_≡_}
 use mathlib.Core.Bool.{Bool, true, false, not, _&&_, _||_, cond}
 use mathlib.Core.List.{List, [], _∷_, _++_, map}

@@ -1,5 +1,5 @@
 -- The table of what a call sends: every field of every frame. Written from 01's sentences by type number, apart from the definitions of
--- what a message does. Reply fields not named are 0. Assumes nothing.
+-- what a message does. Reply fields not named are 0.
 use mathlib.Core.Bool.{Bool, not, _||_, cond}
 use mathlib.Core.List.{List, [], _∷_, map}
 use Prim.Native.Nat.{ℕ, _+_, _*_, _/_, _%_, min}

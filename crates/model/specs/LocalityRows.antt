@@ -1,5 +1,5 @@
 -- The table of locality: for each field of the server what may change it, and to what. Written from 01's sentences by type number, code,
--- parameter and payload, apart from the definitions of the checks and of what a message does. Assumes nothing.
+-- parameter and payload, apart from the definitions of the checks and of what a message does.
 use mathlib.Core.Bool.{Bool, true, false, not, _&&_, _||_, cond}
 use mathlib.Core.List.{List, [], _∷_, _++_}
 use Prim.Native.Nat.{ℕ, _+_, _-_}
