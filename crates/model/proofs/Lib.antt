@@ -57,3 +57,4 @@ pub mod Locality
 pub mod Refused
 pub mod Statements
 pub mod Sending
+pub mod LocalityTable

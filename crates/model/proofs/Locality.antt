@@ -16,7 +16,7 @@ use Rattle.model.specs.Sizes.{noConnection}
 use Rattle.model.specs.MessageTypes.{FatalError}
 use Rattle.model.specs.State.{Server, Rest, Entry, at, live, halfOpen, blank, slotOfNumber, connectionAt, exchangeAt, Asked, Asked.none, Asked.some}
 use Rattle.model.specs.Interface.{Event, Event.opening, Event.delivery, Event.cut, Event.clock, Event.answer, Event.status, Outcome.acted, Outcome.closed, Reply, Reply.done, Reply.took}
-use Rattle.model.specs.Scan.{Scan, Scan.empty, Scan.few, Scan.wrong, Scan.skipping, Scan.long, Scan.part, Scan.whole, scan, size}
+use Rattle.model.specs.Scan.{Scan, Scan.empty, Scan.few, Scan.wrong, Scan.skipping, Scan.long, Scan.part, Scan.whole, scan, size, leftover}
 use Rattle.model.specs.Place.{slotIn, slotOf, roleOf, roleBy, onConnection, entryOf, Role, Role.r-none, Role.r-halfOpen, Role.r-synchronous, Role.r-asynchronous}
 use Rattle.model.specs.Locks
 use Rattle.model.specs.Locks.{Answer, LockEvent, change, grantPass, passOver}
@@ -27,9 +27,9 @@ use Rattle.model.specs.Acts
 use Rattle.model.specs.Acts.{Plan}
 use Rattle.model.specs.Refusals.{causes, refusal}
 use Rattle.model.specs.Step.{effect, received, plan, answered, finish, step, final, log, lockFrame, channels, closing, answerType}
-use Rattle.model.specs.Happening.{Heard, Heard.silence, Heard.code, Action, Happening, Happening.unmoved, Happening.disconnected, Happening.message-acted, heard, happened}
-use Rattle.model.specs.LocalityReplies.{saidTo, reached, askedNumber, sessionSaid}
-use Rattle.model.specs.LocalityRows.{isSilence, Single, singly, the-clock, the-status, the-vendor, the-last-issued, the-enable, the-lockout, the-remote}
+use Rattle.model.specs.Happening.{Heard, Heard.silence, Heard.with-code, Action, Happening, Happening.unmoved, Happening.disconnected, Happening.message-acted, heard, happened}
+use Rattle.model.specs.LocalityReplies.{saidTo, fatalTo, askedNumber, sessionSaid}
+use Rattle.model.specs.LocalityRows.{isSilence, Single, singly, clock-row, status-row, vendor-row, issued-row, enable-row, lockout-row, remote-row}
 use Rattle.model.specs.Locality.{atCall, Local, clientsFatalError, Locality, EachLocal, overLog, LocalRun}
 use Rattle.model.proofs.Basics.{and-l, and-r, or→, not-off}
 use Rattle.model.proofs.Scanning.{whole-scan}
@@ -159,9 +159,9 @@ module _ (d : Server) (c : ℕ) (bs : List ℕ) (room : ℕ) (real : c ≡ noCon
   effect-local v-ignored s r es er ev = local-unmoved d _ (λ o k n e. cc)
   effect-local (v-error x) s r es er ev =
       let z = error-scan r d (slotOf d c) s x ev in
-      assemble d _ _ (d .locks .entries) [] (rest-error d c ((header bs) .len) _ (code x) opened (scan-error ((connectionAt (d .rest) c) .remainder) bs s es (z .0) (z .1))) (locks-error d c ((header bs) .len) (code x)) refl (λ o k n e. cc)
+      assemble d _ _ (d .locks .entries) [] (rest-error d c ((header bs) .len) (leftover s) (with-code x) opened (scan-error ((connectionAt (d .rest) c) .remainder) bs s es (z .0) (z .1))) (locks-error d c ((header bs) .len) (with-code x)) refl (λ o k n e. cc)
   effect-local (v-fatal x) s r es er ev =
-      rw (fatal-heard x (live (entryOf d c)) ((entryOf d c) .synchronous) c (cond (eqb ((entryOf d c) .asynchronous) noConnection) [] ((entryOf d c) .asynchronous ∷ [])) _) (local-closing d c real (code x) _ (λ o k n e. cc))
+      rw (fatal-heard x (live (entryOf d c)) ((entryOf d c) .synchronous) c (cond (eqb ((entryOf d c) .asynchronous) noConnection) [] ((entryOf d c) .asynchronous ∷ [])) _) (local-closing d c real (with-code x) _ (λ o k n e. cc))
   effect-local v-closed s r es er ev = rw (none-heard ((passOver (stay d c) (freed d c)) .answers)) (local-closing d c real silence _ (λ o k n e. cc))
   effect-local v-acts empty r es er ev = idle-local _
   effect-local v-acts few r es er ev = idle-local _
@@ -225,7 +225,7 @@ unfolding final
 same-vendor [] d = refl
 same-vendor (e ∷ es) d = same-vendor es ((step d e) .server) ∙ (local-call d e) .vendor ∙ never (atCall d e) (d .rest .vendor)
   where
-    never : (h : Happening) (x : ℕ) → singly the-vendor h x ≡ x
+    never : (h : Happening) (x : ℕ) → singly vendor-row h x ≡ x
     never unmoved x = refl
     never (Happening.connected c) x = refl
     never (disconnected c k) x = refl
@@ -240,11 +240,11 @@ pub local-run : (d : Server) (es : List Event) → LocalRun d es
 local-run d es =
     record {
       each = each-local es d;
-      clock = read-off (λ (d : Server). d .locks .clock) the-clock (λ d e. (local-call d e) .clock) es d;
-      status = read-off (λ (d : Server). d .rest .status) the-status (λ d e. (local-call d e) .status) es d;
+      clock = read-off (λ (d : Server). d .locks .clock) clock-row (λ d e. (local-call d e) .clock) es d;
+      status = read-off (λ (d : Server). d .rest .status) status-row (λ d e. (local-call d e) .status) es d;
       vendor = same-vendor es d;
-      last-issued = read-off (λ (d : Server). d .rest .lastIssued) the-last-issued (λ d e. (local-call d e) .last-issued) es d;
-      enable = read-off (λ (d : Server). d .rest .remoteLocal .enable) the-enable (λ d e. (local-call d e) .enable) es d;
-      lockout = read-off (λ (d : Server). d .rest .remoteLocal .lockout) the-lockout (λ d e. (local-call d e) .lockout) es d;
-      remote = read-off (λ (d : Server). d .rest .remoteLocal .remote) the-remote (λ d e. (local-call d e) .remote) es d;
+      last-issued = read-off (λ (d : Server). d .rest .lastIssued) issued-row (λ d e. (local-call d e) .last-issued) es d;
+      enable = read-off (λ (d : Server). d .rest .remoteLocal .enable) enable-row (λ d e. (local-call d e) .enable) es d;
+      lockout = read-off (λ (d : Server). d .rest .remoteLocal .lockout) lockout-row (λ d e. (local-call d e) .lockout) es d;
+      remote = read-off (λ (d : Server). d .rest .remoteLocal .remote) remote-row (λ d e. (local-call d e) .remote) es d;
     }

@@ -15,7 +15,7 @@ use Rattle.model.specs.Place.{slotIn}
 use Rattle.model.specs.Locks.{give, grant}
 use Rattle.model.specs.Closing.{OldestFirst, OldestFirst.pass-end, OldestFirst.pass-grant, OldestFirst.pass-wait}
 use Rattle.model.specs.Happening.{Action, Happening, Happening.unmoved, Happening.connected, Happening.disconnected, Happening.skipped-over, Happening.errored, Happening.message-acted, Happening.clock-read, Happening.status-set, Happening.answer-sent}
-use Rattle.model.specs.LocalityRows.{Row, inSlot, slotActed, in-clear, asked, message-available, client-size, session-number, synchronous-connection, asynchronous-connection, exclusive-lock, shared-lock}
+use Rattle.model.specs.LocalityRows.{Row, inSlot, slotActed, clear-row, asked-row, available-row, size-row, number-row, synchronous-row, asynchronous-row, exclusive-row, shared-row}
 use Rattle.model.specs.Locality.{entryDue, givenExclusive, givenShared, Look}
 use Rattle.model.proofs.Basics.{same?}
 
@@ -84,15 +84,15 @@ project g r s m n q es i (answer-sent k p end) x = push (eqb i _)
 abbrev pub exchangeRow : Row Exchange
 exchangeRow =
     record {
-      by-message = λ a x. record { inClear = in-clear .by-message a (x .inClear); asked = asked .by-message a (x .asked); messageAvailable = message-available .by-message a (x .messageAvailable); clientSize = client-size .by-message a (x .clientSize) };
-      by-answer = λ b x. record { inClear = in-clear .by-answer b (x .inClear); asked = asked .by-answer b (x .asked); messageAvailable = message-available .by-answer b (x .messageAvailable); clientSize = client-size .by-answer b (x .clientSize) };
-      once-closed = record { inClear = in-clear .once-closed; asked = asked .once-closed; messageAvailable = message-available .once-closed; clientSize = client-size .once-closed };
+      by-message = λ a x. record { inClear = clear-row .by-message a (x .inClear); asked = asked-row .by-message a (x .asked); messageAvailable = available-row .by-message a (x .messageAvailable); clientSize = size-row .by-message a (x .clientSize) };
+      by-answer = λ b x. record { inClear = clear-row .by-answer b (x .inClear); asked = asked-row .by-answer b (x .asked); messageAvailable = available-row .by-answer b (x .messageAvailable); clientSize = size-row .by-answer b (x .clientSize) };
+      once-closed = record { inClear = clear-row .once-closed; asked = asked-row .once-closed; messageAvailable = available-row .once-closed; clientSize = size-row .once-closed };
     }
 
 abbrev pub entryRow : Row Entry
 entryRow =
     record {
-      by-message = λ a x. record { number = session-number .by-message a (x .number); synchronous = synchronous-connection .by-message a (x .synchronous); asynchronous = asynchronous-connection .by-message a (x .asynchronous); exclusive = exclusive-lock .by-message a (x .exclusive); shared = shared-lock .by-message a (x .shared) };
+      by-message = λ a x. record { number = number-row .by-message a (x .number); synchronous = synchronous-row .by-message a (x .synchronous); asynchronous = asynchronous-row .by-message a (x .asynchronous); exclusive = exclusive-row .by-message a (x .exclusive); shared = shared-row .by-message a (x .shared) };
       by-answer = λ b x. x;
       once-closed = blank;
     }

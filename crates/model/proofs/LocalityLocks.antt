@@ -12,7 +12,7 @@ use Rattle.model.specs.Place.{slotIn, slotOf}
 use Rattle.model.specs.Locks
 use Rattle.model.specs.Locks.{Answer, give, tell, refuse, unexpired, elsewhere, passOver}
 use Rattle.model.specs.Step.{lockFrame}
-use Rattle.model.specs.Happening.{Heard, Heard.code, Action, Happening, Happening.unmoved, Happening.connected, Happening.disconnected, Happening.skipped-over, Happening.errored, Happening.message-acted, Happening.clock-read, Happening.status-set, Happening.answer-sent}
+use Rattle.model.specs.Happening.{Heard, Heard.with-code, Action, Happening, Happening.unmoved, Happening.connected, Happening.disconnected, Happening.skipped-over, Happening.errored, Happening.message-acted, Happening.clock-read, Happening.status-set, Happening.answer-sent}
 use Rattle.model.specs.LocalityRows.{Row, kindOf}
 use Rattle.model.specs.LocalityReplies.{answerTo}
 use Rattle.model.proofs.Closing.{told, Found, pass-looks}

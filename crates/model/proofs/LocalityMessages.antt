@@ -23,8 +23,8 @@ use Rattle.model.specs.Exchange.{statusByte, availableAt}
 use Rattle.model.specs.Acts
 use Rattle.model.specs.Acts.{Plan, holder}
 use Rattle.model.specs.Step.{Result, finish, lockFrame}
-use Rattle.model.specs.Happening.{Heard, Heard.silence, Heard.code, Action, Happening.message-acted, heard}
-use Rattle.model.specs.LocalityRows.{Row, message-available}
+use Rattle.model.specs.Happening.{Heard, Heard.silence, Heard.with-code, Action, Happening.message-acted, heard}
+use Rattle.model.specs.LocalityRows.{Row, available-row}
 use Rattle.model.specs.LocalityReplies.{with16, holdsAny, answerTo, sessionSaid}
 use Rattle.model.specs.Locality.{Local}
 use Rattle.model.proofs.ReadOff.{each-of}
@@ -93,7 +93,7 @@ module _ (d : Server) (c : ℕ) (h : Header) (p : List ℕ) where
   unfolding finish change Acts.synchronousExchange Acts.synchronousSaid
   local-6 =
       assemble d _ (finish d (synchronously 6)) (d .locks .entries) []
-      (rest-touched d (action 6 num _) refl refl refl _ (rmt-row (ours .asked)))
+      (rest-touched d (action 6 num _) refl refl refl (Acts.synchronousExchange (Acts.synchronousKind 6) h ours) (rmt-row (ours .asked)))
       (locks-kept d (action 6 num _) refl refl refl refl)
       refl
       (λ o k n e. cc)
@@ -102,7 +102,7 @@ module _ (d : Server) (c : ℕ) (h : Header) (p : List ℕ) where
   unfolding finish change Acts.synchronousExchange Acts.synchronousSaid
   local-7 =
       assemble d _ (finish d (synchronously 7)) (d .locks .entries) []
-      (rest-touched d (action 7 num _) refl refl refl _ (rmt-row (some (h .param))))
+      (rest-touched d (action 7 num _) refl refl refl (Acts.synchronousExchange (Acts.synchronousKind 7) h ours) (rmt-row (some (h .param))))
       (locks-kept d (action 7 num _) refl refl refl refl)
       refl
       (λ o k n e. cc)
@@ -111,7 +111,7 @@ module _ (d : Server) (c : ℕ) (h : Header) (p : List ℕ) where
   unfolding finish change Acts.synchronousExchange Acts.synchronousSaid
   local-12 =
       assemble d _ (finish d (synchronously 12)) (d .locks .entries) []
-      (rest-touched d (action 12 num _) refl refl refl _ (rmt-row (some (h .param))))
+      (rest-touched d (action 12 num _) refl refl refl (Acts.synchronousExchange (Acts.synchronousKind 12) h ours) (rmt-row (some (h .param))))
       (locks-kept d (action 12 num _) refl refl refl refl)
       refl
       (λ o k n e. cc)
@@ -120,7 +120,7 @@ module _ (d : Server) (c : ℕ) (h : Header) (p : List ℕ) where
   unfolding finish change Acts.synchronousExchange Acts.synchronousSaid
   local-8 =
       assemble d _ (finish d (synchronously 8)) (d .locks .entries) []
-      (rest-touched d (action 8 num _) refl refl refl _ refl)
+      (rest-touched d (action 8 num _) refl refl refl (Acts.synchronousExchange (Acts.synchronousKind 8) h ours) refl)
       (locks-kept d (action 8 num _) refl refl refl refl)
       refl
       (λ o k n e. cc)
@@ -151,7 +151,7 @@ module _ (d : Server) (c : ℕ) (h : Header) (p : List ℕ) where
   unfolding finish change Acts.asynchronousRest Acts.asynchronousSaid Acts.asynchronousEvent field
   local-15 =
       assemble d _ (finish d (asynchronously 15)) (d .locks .entries) []
-      (rest-touched d (action 15 num _) refl refl refl _ refl)
+      (rest-touched d (action 15 num _) refl refl refl (Exchange.withClientSize (number p) ours) refl)
       (locks-kept d (action 15 num _) refl refl refl refl)
       refl
       (λ o k n e. cc)
@@ -160,7 +160,7 @@ module _ (d : Server) (c : ℕ) (h : Header) (p : List ℕ) where
   unfolding finish change Acts.asynchronousRest Acts.asynchronousSaid Acts.asynchronousEvent
   local-19 =
       assemble d _ (finish d (asynchronously 19)) (d .locks .entries) []
-      (rest-touched d (action 19 num _) refl refl refl _ refl)
+      (rest-touched d (action 19 num _) refl refl refl (Exchange.enterClear ours) refl)
       (locks-clear d (action 19 num _) refl)
       (ap (λ (fs : List Frame). fs ++ frameOf c 23 0 0 [] ∷ []) (refused-frames (d .locks .entries) (λ w. eqb (w .slot) (slotOf d c)) (d .locks .waiting)))
       (λ o k n e. cc)
@@ -169,7 +169,7 @@ module _ (d : Server) (c : ℕ) (h : Header) (p : List ℕ) where
   unfolding finish change Acts.asynchronousRest Acts.asynchronousSaid Acts.asynchronousEvent availableAt
   local-21 =
       assemble d _ (finish d (asynchronously 21)) (d .locks .entries) []
-      (rest-touched d (action 21 num _) refl refl refl _ (rmt-row (ours .asked)))
+      (rest-touched d (action 21 num _) refl refl refl (Exchange.noteRmt (h .code) ours) (rmt-row (ours .asked)))
       (locks-kept d (action 21 num _) refl refl refl refl)
       (ap (λ b. frameOf c 22 b 0 [] ∷ []) (ap (statusByte (d .rest .status)) (rmt (eqb (h .code) 1) (ours .messageAvailable)) ∙ status-same (d .rest .status) (cond (eqb (h .code) 1) false (ours .messageAvailable))))
       (λ o k n e. cc)
@@ -205,10 +205,10 @@ module _ (d : Server) (c : ℕ) (h : Header) (p : List ℕ) where
     released-by q true s =
         let y = Locks.update es (slotOf d c) Locks.withoutExclusive in
         assemble d _ (releasing true s) y ((pass-looks (d .locks .waiting) y) .grants)
-        (rest-kept d (action 4 num (code 1)) refl refl (λ x. refl))
+        (rest-kept d (action 4 num (with-code 1)) refl refl (λ x. refl))
         record {
           clock = refl;
-          rows = row-message blank entryRow es es (action 4 num (code 1)) (slotOf d c) _ refl (rw q);
+          rows = row-message blank entryRow es es (action 4 num (with-code 1)) (slotOf d c) _ refl (rw q);
           look = rw q ((pass-looks (d .locks .waiting) y) .looked);
         }
         (ap₂ (λ (a : ℕ) (fs : List Frame). frameOf a 5 1 0 [] ∷ fs) mine (pass-frames (d .locks .waiting) y))
@@ -216,18 +216,18 @@ module _ (d : Server) (c : ℕ) (h : Header) (p : List ℕ) where
     released-by q false false =
         let y = Locks.update es (slotOf d c) Locks.withoutShared in
         assemble d _ (releasing false false) y ((pass-looks (d .locks .waiting) y) .grants)
-        (rest-kept d (action 4 num (code 2)) refl refl (λ x. refl))
+        (rest-kept d (action 4 num (with-code 2)) refl refl (λ x. refl))
         record {
           clock = refl;
-          rows = row-message blank entryRow es es (action 4 num (code 2)) (slotOf d c) _ refl (rw q);
+          rows = row-message blank entryRow es es (action 4 num (with-code 2)) (slotOf d c) _ refl (rw q);
           look = rw q ((pass-looks (d .locks .waiting) y) .looked);
         }
         (ap₂ (λ (a : ℕ) (fs : List Frame). frameOf a 5 2 0 [] ∷ fs) mine (pass-frames (d .locks .waiting) y))
         (λ o k n e. cc)
     released-by q false true =
         assemble d _ (releasing false true) es ((pass-looks (d .locks .waiting) es) .grants)
-        (rest-kept d (action 4 num (code 3)) refl refl (λ x. refl))
-        record { clock = refl; rows = row-kept blank entryRow es es (action 4 num (code 3)) (λ x. rw q); look = rw q ((pass-looks (d .locks .waiting) es) .looked) }
+        (rest-kept d (action 4 num (with-code 3)) refl refl (λ x. refl))
+        record { clock = refl; rows = row-kept blank entryRow es es (action 4 num (with-code 3)) (λ x. rw q); look = rw q ((pass-looks (d .locks .waiting) es) .looked) }
         (ap₂ (λ (a : ℕ) (fs : List Frame). frameOf a 5 3 0 [] ∷ fs) mine (pass-frames (d .locks .waiting) es))
         (λ o k n e. cc)
 
@@ -246,24 +246,24 @@ module _ (d : Server) (c : ℕ) (h : Header) (p : List ℕ) where
     requested-by : eqb (h .code) 0 ≡ false → (u : Locks.Ruling) → Local d (message-acted (action 4 num (heard 5 ((requesting u) .frames)))) (requesting u)
     requested-by q Locks.invalid =
         assemble d _ (requesting Locks.invalid) es []
-        (rest-kept d (action 4 num (code 3)) refl refl (λ x. refl))
-        record { clock = refl; rows = row-kept blank entryRow es es (action 4 num (code 3)) (λ x. rw q); look = rw q (refl, refl, refl) }
+        (rest-kept d (action 4 num (with-code 3)) refl refl (λ x. refl))
+        record { clock = refl; rows = row-kept blank entryRow es es (action 4 num (with-code 3)) (λ x. rw q); look = rw q (refl, refl, refl) }
         (ap (λ (a : ℕ). frameOf a 5 3 0 [] ∷ []) mine)
         (λ o k n e. cc)
     requested-by q Locks.granted =
         assemble d _ (requesting Locks.granted) (Locks.grant es (slotOf d c) p) []
-        (rest-kept d (action 4 num (code 1)) refl refl (λ x. refl))
+        (rest-kept d (action 4 num (with-code 1)) refl refl (λ x. refl))
         record {
           clock = refl;
-          rows = row-message blank entryRow es es (action 4 num (code 1)) (slotOf d c) _ refl (rw q (give-row p (at es (slotOf d c))));
+          rows = row-message blank entryRow es es (action 4 num (with-code 1)) (slotOf d c) _ refl (rw q (give-row p (at es (slotOf d c))));
           look = rw q (refl, refl, refl);
         }
         (ap (λ (a : ℕ). frameOf a 5 1 0 [] ∷ []) mine)
         (λ o k n e. cc)
     requested-by q Locks.denied =
         assemble d _ (requesting Locks.denied) es []
-        (rest-kept d (action 4 num (code 0)) refl refl (λ x. refl))
-        record { clock = refl; rows = row-kept blank entryRow es es (action 4 num (code 0)) (λ x. rw q); look = rw q (refl, refl, refl) }
+        (rest-kept d (action 4 num (with-code 0)) refl refl (λ x. refl))
+        record { clock = refl; rows = row-kept blank entryRow es es (action 4 num (with-code 0)) (λ x. rw q); look = rw q (refl, refl, refl) }
         (ap (λ (a : ℕ). frameOf a 5 0 0 [] ∷ []) mine)
         (λ o k n e. cc)
     requested-by q Locks.queued =

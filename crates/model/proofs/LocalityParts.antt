@@ -8,13 +8,13 @@ use Rattle.model.specs.State.{Server, Locks, Rest, Entry, Waiting, Excha
 use Rattle.model.specs.Interface.{Outcome, Reply.took}
 use Rattle.model.specs.Step.{Result}
 use Rattle.model.specs.Happening.{Happening}
-use Rattle.model.specs.LocalityRows.{Row, inSlot, in-clear, asked, message-available, client-size, session-number, synchronous-connection, asynchronous-connection, exclusive-lock, shared-lock, requestsLeft, looksAfter, isOpenAfter, remainderAfter, singly, the-clock, the-status, the-vendor, the-last-issued, the-enable, the-lockout, the-remote}
+use Rattle.model.specs.LocalityRows.{Row, inSlot, clear-row, asked-row, available-row, size-row, number-row, synchronous-row, asynchronous-row, exclusive-row, shared-row, requestsLeft, looksAfter, open-row, remainder-row, singly, clock-row, status-row, vendor-row, issued-row, enable-row, lockout-row, remote-row}
 use Rattle.model.specs.LocalityReplies.{direct, answeredFirst, answerTo, sessionSaid}
 use Rattle.model.specs.Locality.{entryDue, givenExclusive, givenShared, Look, Local}
 use Rattle.model.proofs.LocalityLists.{Rowed, project, exchangeRow, entryRow, due-entry, lookedAt, look-sized, look-each}
 
 abbrev pub connectionDue : List Entry → Happening → ℕ → Connection → Connection
-connectionDue es h x y = record { isOpen = isOpenAfter es x h (y .isOpen); remainder = remainderAfter es x h (y .remainder) }
+connectionDue es h x y = record { isOpen = open-row es x h (y .isOpen); remainder = remainder-row es x h (y .remainder) }
 
 pub record Places (d : Server) (h : Happening) (cs : List Connection) : Type 0 where
   pub size : length cs ≡ length (d .rest .connections)
@@ -22,12 +22,12 @@ pub record Places (d : Server) (h : Happening) (cs : List Connection) : Type 0 w
 
 -- of the rest, what stands once: status byte, vendor number, the number issued last, flags
 pub record Singles (d : Server) (h : Happening) (b v n : ℕ) (f : RemoteLocal) : Type 0 where
-  pub status : b ≡ singly the-status h (d .rest .status)
-  pub vendor : v ≡ singly the-vendor h (d .rest .vendor)
-  pub last-issued : n ≡ singly the-last-issued h (d .rest .lastIssued)
-  pub enable : f .enable ≡ singly the-enable h (d .rest .remoteLocal .enable)
-  pub lockout : f .lockout ≡ singly the-lockout h (d .rest .remoteLocal .lockout)
-  pub remote : f .remote ≡ singly the-remote h (d .rest .remoteLocal .remote)
+  pub status : b ≡ singly status-row h (d .rest .status)
+  pub vendor : v ≡ singly vendor-row h (d .rest .vendor)
+  pub last-issued : n ≡ singly issued-row h (d .rest .lastIssued)
+  pub enable : f .enable ≡ singly enable-row h (d .rest .remoteLocal .enable)
+  pub lockout : f .lockout ≡ singly lockout-row h (d .rest .remoteLocal .lockout)
+  pub remote : f .remote ≡ singly remote-row h (d .rest .remoteLocal .remote)
 
 pub record RestPart (d : Server) (h : Happening) (r : Rest) : Type 0 where
   pub singles : Singles d h (r .status) (r .vendor) (r .lastIssued) (r .remoteLocal)
@@ -35,7 +35,7 @@ pub record RestPart (d : Server) (h : Happening) (r : Rest) : Type 0 where
   pub connections : Places d h (r .connections)
 
 pub record LocksPart (d : Server) (h : Happening) (l : Locks) (due : List Entry) (granted : List Waiting) : Type 0 where
-  pub clock : l .clock ≡ singly the-clock h (d .locks .clock)
+  pub clock : l .clock ≡ singly clock-row h (d .locks .clock)
   pub rows : Rowed blank entryRow (d .locks .entries) h (d .locks .entries) due
   pub look : Look (looksAfter h) due (requestsLeft (d .locks .entries) (d .locks .clock) h (d .locks .waiting)) (l .entries) (l .waiting) granted
 
@@ -51,10 +51,10 @@ assemble d h r due granted p l f s =
       lockout = p .singles .lockout;
       remote = p .singles .remote;
       exchange-slots = p .exchanges .size;
-      in-clear = λ i q. ap (λ (x : Exchange). x .inClear) (p .exchanges .each i q) ∙ project (λ (x : Exchange). x .inClear) exchangeRow in-clear (λ a x. refl) (λ b x. refl) refl es i h _;
-      asked = λ i q. ap (λ (x : Exchange). x .asked) (p .exchanges .each i q) ∙ project (λ (x : Exchange). x .asked) exchangeRow asked (λ a x. refl) (λ b x. refl) refl es i h _;
-      message-available = λ i q. ap (λ (x : Exchange). x .messageAvailable) (p .exchanges .each i q) ∙ project (λ (x : Exchange). x .messageAvailable) exchangeRow message-available (λ a x. refl) (λ b x. refl) refl es i h _;
-      client-size = λ i q. ap (λ (x : Exchange). x .clientSize) (p .exchanges .each i q) ∙ project (λ (x : Exchange). x .clientSize) exchangeRow client-size (λ a x. refl) (λ b x. refl) refl es i h _;
+      in-clear = λ i q. ap (λ (x : Exchange). x .inClear) (p .exchanges .each i q) ∙ project (λ (x : Exchange). x .inClear) exchangeRow clear-row (λ a x. refl) (λ b x. refl) refl es i h _;
+      asked = λ i q. ap (λ (x : Exchange). x .asked) (p .exchanges .each i q) ∙ project (λ (x : Exchange). x .asked) exchangeRow asked-row (λ a x. refl) (λ b x. refl) refl es i h _;
+      message-available = λ i q. ap (λ (x : Exchange). x .messageAvailable) (p .exchanges .each i q) ∙ project (λ (x : Exchange). x .messageAvailable) exchangeRow available-row (λ a x. refl) (λ b x. refl) refl es i h _;
+      client-size = λ i q. ap (λ (x : Exchange). x .clientSize) (p .exchanges .each i q) ∙ project (λ (x : Exchange). x .clientSize) exchangeRow size-row (λ a x. refl) (λ b x. refl) refl es i h _;
       connection-places = p .connections .size;
       is-open = λ x q. ap (λ (y : Connection). y .isOpen) (p .connections .each x q);
       remainder = λ x q. ap (λ (y : Connection). y .remainder) (p .connections .each x q);

@@ -20,7 +20,7 @@ use Rattle.model.specs.Exchange
 use Rattle.model.specs.Exchange.{controlled}
 use Rattle.model.specs.Step.{channels, shutAll, closing}
 use Rattle.model.specs.Happening.{Heard, Action, Happening, Happening.unmoved, Happening.connected, Happening.disconnected, Happening.skipped-over, Happening.errored, Happening.message-acted, Happening.clock-read, Happening.status-set, Happening.answer-sent}
-use Rattle.model.specs.LocalityRows.{Row, kindOf, slotActed, concerns, connectionsOf, Single, singly, the-status, the-vendor, the-last-issued, the-enable, the-lockout, the-remote}
+use Rattle.model.specs.LocalityRows.{Row, kindOf, slotActed, concerns, connectionsOf, Single, singly, status-row, vendor-row, issued-row, enable-row, lockout-row, remote-row}
 use Rattle.model.proofs.Basics.{and-l, or→, or-of, or-r}
 use Rattle.model.proofs.Place.{place-sound}
 use Rattle.model.proofs.LocalityLists.{set-at, touch, Rowed, row-message, row-kept, exchangeRow}
@@ -52,12 +52,12 @@ as-it-was r (answer-sent n p end) x s = refl
 singles-still : (d : Server) (h : Happening) → Still h → Singles d h (d .rest .status) (d .rest .vendor) (d .rest .lastIssued) (d .rest .remoteLocal)
 singles-still d h s =
     record {
-      status = as-it-was the-status h (d .rest .status) s;
-      vendor = as-it-was the-vendor h (d .rest .vendor) s;
-      last-issued = as-it-was the-last-issued h (d .rest .lastIssued) s;
-      enable = as-it-was the-enable h (d .rest .remoteLocal .enable) s;
-      lockout = as-it-was the-lockout h (d .rest .remoteLocal .lockout) s;
-      remote = as-it-was the-remote h (d .rest .remoteLocal .remote) s;
+      status = as-it-was status-row h (d .rest .status) s;
+      vendor = as-it-was vendor-row h (d .rest .vendor) s;
+      last-issued = as-it-was issued-row h (d .rest .lastIssued) s;
+      enable = as-it-was enable-row h (d .rest .remoteLocal .enable) s;
+      lockout = as-it-was lockout-row h (d .rest .remoteLocal .lockout) s;
+      remote = as-it-was remote-row h (d .rest .remoteLocal .remote) s;
     }
 
 -- calls that leave all of it

@@ -22,7 +22,7 @@ use Rattle.model.specs.Checks.{Verdict, Verdict.v-more, Verdict.v-skippe
 use Rattle.model.specs.Acts
 use Rattle.model.specs.Refusals.{refusal}
 use Rattle.model.specs.Step.{effect, received, plan, answered, finish, step, lockFrame}
-use Rattle.model.specs.Happening.{Heard, Heard.silence, Heard.code, heard}
+use Rattle.model.specs.Happening.{Heard, Heard.silence, Heard.with-code, heard}
 use Rattle.model.specs.LocalityRows.{isSilence}
 use Rattle.model.specs.Locality.{clientsFatalError}
 use Rattle.model.proofs.Basics.{and-l, and-r, not-of, and-true}
@@ -31,7 +31,7 @@ use Rattle.model.proofs.Scanning.{whole-scan}
 use Rattle.model.proofs.LocalityLocks.{freed, stay}
 
 -- FatalError is heard: some connection gets it first; without one no frame has its type at the front
-pub fatal-heard : (n : ℕ) (b : Bool) (x y : ℕ) (xs : List ℕ) (fs : List Frame) → heard 2 (map (λ (z : ℕ). frameOf z FatalError n 0 []) (cond b (x ∷ xs) (y ∷ [])) ++ fs) ≡ code n
+pub fatal-heard : (n : ℕ) (b : Bool) (x y : ℕ) (xs : List ℕ) (fs : List Frame) → heard 2 (map (λ (z : ℕ). frameOf z FatalError n 0 []) (cond b (x ∷ xs) (y ∷ [])) ++ fs) ≡ with-code n
 fatal-heard n true x y xs fs = refl
 fatal-heard n false x y xs fs = refl
 

@@ -1,4 +1,4 @@
--- What a call did, as the host sees it: read off the event, the reply and the frames alone. The rules of locality go by it. Assumes nothing.
+-- What a call did, as the host sees it: read off the event, the reply and the frames alone. The rules of locality go by it.
 use mathlib.Core.Bool.{Bool, cond}
 use mathlib.Core.List.{List, [], _∷_}
 use Prim.Native.Nat.{ℕ}
@@ -10,11 +10,11 @@ use Rattle.model.specs.Interface.{Event, Event.opening, Event.delivery, 
 -- the control code of the first frame of a call, if that frame has a given type
 pub data Heard : Type 0 where
   silence : Heard
-  code : ℕ → Heard
+  with-code : ℕ → Heard
 
 abbrev pub heard : ℕ → List Frame → Heard
 heard t [] = silence
-heard t (f ∷ fs) = cond (eqb (f .message .kind) t) (code (f .message .code)) silence
+heard t (f ∷ fs) = cond (eqb (f .message .kind) t) (with-code (f .message .code)) silence
 
 -- a message that acted: its connection, the message, the session's number in the reply, the code of the lock answer (type 5), if any
 pub record Action : Type 0 where

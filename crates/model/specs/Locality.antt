@@ -1,5 +1,5 @@
 -- Locality: which call may change which field of whose session and connection, and to what; and every field of every frame that it
--- sends. For every field of the server, on any server and for any call, refused ones too. Assumes nothing.
+-- sends. For every field of the server, on any server and for any call, refused ones too.
 use mathlib.Core.Path.{_≡_}
 use mathlib.Core.Bool.{Bool, true, false, not, _&&_, _||_, cond}
 use mathlib.Core.List.{List, [], _∷_, _++_, map}
@@ -9,13 +9,13 @@ use lib.ListN.{length}
 use Rattle.wire.specs.Message.{header, prologue}
 use Rattle.model.specs.Sizes.{noConnection}
 use Rattle.model.specs.Lists.{isNil, any}
-use Rattle.model.specs.State.{Server, Entry, Waiting, at, live, exchangeAt, connectionAt}
+use Rattle.model.specs.State.{Server, Entry, Waiting, Exchange, Connection, at, live, exchangeAt, connectionAt}
 use Rattle.model.specs.Place.{entryOf}
 use Rattle.model.specs.Interface.{Event, Event.delivery, Outcome, Outcome.closed, Reply.took}
 use Rattle.model.specs.Step.{Line, Result, step, final, log}
 use Rattle.model.specs.Closing.{OldestFirst}
 use Rattle.model.specs.Happening.{Happening, heard, happened}
-use Rattle.model.specs.LocalityRows.{inSlot, in-clear, asked, message-available, client-size, session-number, synchronous-connection, asynchronous-connection, exclusive-lock, shared-lock, requestsLeft, looksAfter, isOpenAfter, remainderAfter, isSilence, Single, singly, the-clock, the-status, the-vendor, the-last-issued, the-enable, the-lockout, the-remote}
+use Rattle.model.specs.LocalityRows.{Row, inSlot, clear-row, asked-row, available-row, size-row, number-row, synchronous-row, asynchronous-row, exclusive-row, shared-row, requestsLeft, looksAfter, open-row, remainder-row, isSilence, Single, singly, clock-row, status-row, vendor-row, issued-row, enable-row, lockout-row, remote-row}
 use Rattle.model.specs.LocalityReplies.{direct, answeredFirst, answerTo, sessionSaid}
 
 -- what happened at a call, as the host sees it
@@ -26,11 +26,11 @@ atCall d e = happened e ((step d e) .reply) ((step d e) .frames)
 abbrev pub entryDue : List Entry → Happening → ℕ → Entry → Entry
 entryDue es h i x =
     record {
-      number = inSlot session-number es i h (x .number);
-      synchronous = inSlot synchronous-connection es i h (x .synchronous);
-      asynchronous = inSlot asynchronous-connection es i h (x .asynchronous);
-      exclusive = inSlot exclusive-lock es i h (x .exclusive);
-      shared = inSlot shared-lock es i h (x .shared);
+      number = inSlot number-row es i h (x .number);
+      synchronous = inSlot synchronous-row es i h (x .synchronous);
+      asynchronous = inSlot asynchronous-row es i h (x .asynchronous);
+      exclusive = inSlot exclusive-row es i h (x .exclusive);
+      shared = inSlot shared-row es i h (x .shared);
     }
 
 -- what a grant makes of a session's locks: exclusive if the string is empty, else shared with that string
@@ -46,46 +46,56 @@ abbrev pub Look : Bool → List Entry → List Waiting → List Entry → List W
 Look true es ws es′ ws′ gs = OldestFirst es ws es′ ws′ gs
 Look false es ws es′ ws′ gs = (es′ ≡ es) × (ws′ ≡ ws) × (gs ≡ [])
 
--- call e on server d leaves server r .server; h is what happened
+-- a row for what stands once; for the exchange of each slot; for each connection; for the session of each slot
+abbrev pub Once : {A : Type 0} → Server → Happening → Result → (Server → A) → Single A → Type 0
+Once d h r field row = field (r .server) ≡ singly row h (field d)
+
+abbrev pub EachExchange : {A : Type 0} → Server → Happening → Result → (Exchange → A) → Row A → Type 0
+EachExchange d h r field row =
+    (i : ℕ) → i < length (d .rest .exchanges) → field (exchangeAt (r .server .rest) i) ≡ inSlot row (d .locks .entries) i h (field (exchangeAt (d .rest) i))
+
+abbrev pub EachConnection : {A : Type 0} → Server → Happening → Result → (Connection → A) → (List Entry → ℕ → Happening → A → A) → Type 0
+EachConnection d h r field row =
+    (x : ℕ) → x < length (d .rest .connections) → field (connectionAt (r .server .rest) x) ≡ row (d .locks .entries) x h (field (connectionAt (d .rest) x))
+
+-- with what the requests that are granted then make of it
+abbrev pub EachSession : {A : Type 0} → Server → Happening → Result → (ℕ → A → A) → (Entry → A) → Row A → Type 0
+EachSession d h r given field row =
+    (i : ℕ) → i < length (d .locks .entries) → field (at (r .server .locks .entries) i) ≡ given i (inSlot row (d .locks .entries) i h (field (at (d .locks .entries) i)))
+
+-- h happened, and a call left server r .server and sent frames r .frames: one row for every field of the server
 pub record Local (d : Server) (h : Happening) (r : Result) : Type 0 where
-  -- the single fields
-  pub clock : r .server .locks .clock ≡ singly the-clock h (d .locks .clock)
-  pub status : r .server .rest .status ≡ singly the-status h (d .rest .status)
-  pub vendor : r .server .rest .vendor ≡ singly the-vendor h (d .rest .vendor)
-  pub last-issued : r .server .rest .lastIssued ≡ singly the-last-issued h (d .rest .lastIssued)
-  pub enable : r .server .rest .remoteLocal .enable ≡ singly the-enable h (d .rest .remoteLocal .enable)
-  pub lockout : r .server .rest .remoteLocal .lockout ≡ singly the-lockout h (d .rest .remoteLocal .lockout)
-  pub remote : r .server .rest .remoteLocal .remote ≡ singly the-remote h (d .rest .remoteLocal .remote)
-  -- the exchange of each slot
+  pub clock : Once d h r (λ s. s .locks .clock) clock-row
+  pub status : Once d h r (λ s. s .rest .status) status-row
+  pub vendor : Once d h r (λ s. s .rest .vendor) vendor-row
+  pub last-issued : Once d h r (λ s. s .rest .lastIssued) issued-row
+  pub enable : Once d h r (λ s. s .rest .remoteLocal .enable) enable-row
+  pub lockout : Once d h r (λ s. s .rest .remoteLocal .lockout) lockout-row
+  pub remote : Once d h r (λ s. s .rest .remoteLocal .remote) remote-row
+  -- exchanges
   pub exchange-slots : length (r .server .rest .exchanges) ≡ length (d .rest .exchanges)
-  pub in-clear : (i : ℕ) → i < length (d .rest .exchanges) → (exchangeAt (r .server .rest) i) .inClear ≡ inSlot in-clear (d .locks .entries) i h ((exchangeAt (d .rest) i) .inClear)
-  pub asked : (i : ℕ) → i < length (d .rest .exchanges) → (exchangeAt (r .server .rest) i) .asked ≡ inSlot asked (d .locks .entries) i h ((exchangeAt (d .rest) i) .asked)
-  pub message-available : (i : ℕ) → i < length (d .rest .exchanges)
-      → (exchangeAt (r .server .rest) i) .messageAvailable ≡ inSlot message-available (d .locks .entries) i h ((exchangeAt (d .rest) i) .messageAvailable)
-  pub client-size : (i : ℕ) → i < length (d .rest .exchanges) → (exchangeAt (r .server .rest) i) .clientSize ≡ inSlot client-size (d .locks .entries) i h ((exchangeAt (d .rest) i) .clientSize)
-  -- each connection
+  pub in-clear : EachExchange d h r (λ x. x .inClear) clear-row
+  pub asked : EachExchange d h r (λ x. x .asked) asked-row
+  pub message-available : EachExchange d h r (λ x. x .messageAvailable) available-row
+  pub client-size : EachExchange d h r (λ x. x .clientSize) size-row
+  -- connections
   pub connection-places : length (r .server .rest .connections) ≡ length (d .rest .connections)
-  pub is-open : (x : ℕ) → x < length (d .rest .connections) → (connectionAt (r .server .rest) x) .isOpen ≡ isOpenAfter (d .locks .entries) x h ((connectionAt (d .rest) x) .isOpen)
-  pub remainder : (x : ℕ) → x < length (d .rest .connections) → (connectionAt (r .server .rest) x) .remainder ≡ remainderAfter (d .locks .entries) x h ((connectionAt (d .rest) x) .remainder)
-  -- each slot's session
-  pub slots : length (r .server .locks .entries) ≡ length (d .locks .entries)
-  pub number : (i : ℕ) → i < length (d .locks .entries) → (at (r .server .locks .entries) i) .number ≡ inSlot session-number (d .locks .entries) i h ((at (d .locks .entries) i) .number)
-  pub synchronous : (i : ℕ) → i < length (d .locks .entries)
-      → (at (r .server .locks .entries) i) .synchronous ≡ inSlot synchronous-connection (d .locks .entries) i h ((at (d .locks .entries) i) .synchronous)
-  pub asynchronous : (i : ℕ) → i < length (d .locks .entries)
-      → (at (r .server .locks .entries) i) .asynchronous ≡ inSlot asynchronous-connection (d .locks .entries) i h ((at (d .locks .entries) i) .asynchronous)
-  -- its locks: its own doing, and then the requests that are granted
+  pub is-open : EachConnection d h r (λ y. y .isOpen) open-row
+  pub remainder : EachConnection d h r (λ y. y .remainder) remainder-row
+  -- sessions; their locks: first the session's own doing, then the requests that are granted
   pub granted : List Waiting
-  pub exclusive : (i : ℕ) → i < length (d .locks .entries)
-      → (at (r .server .locks .entries) i) .exclusive ≡ (givenExclusive granted i || inSlot exclusive-lock (d .locks .entries) i h ((at (d .locks .entries) i) .exclusive))
-  pub shared : (i : ℕ) → i < length (d .locks .entries)
-      → (at (r .server .locks .entries) i) .shared ≡ givenShared granted i (inSlot shared-lock (d .locks .entries) i h ((at (d .locks .entries) i) .shared))
-  -- which are granted and which wait on: the look begins with the slots and the requests that the call itself makes
+  pub slots : length (r .server .locks .entries) ≡ length (d .locks .entries)
+  pub number : EachSession d h r (λ i n. n) (λ e. e .number) number-row
+  pub synchronous : EachSession d h r (λ i c. c) (λ e. e .synchronous) synchronous-row
+  pub asynchronous : EachSession d h r (λ i c. c) (λ e. e .asynchronous) asynchronous-row
+  pub exclusive : EachSession d h r (λ i b. givenExclusive granted i || b) (λ e. e .exclusive) exclusive-row
+  pub shared : EachSession d h r (λ i s. givenShared granted i s) (λ e. e .shared) shared-row
+  -- requests: which are granted and which wait on. The look begins with the slots and the requests as the call itself leaves them
   pub due : List Entry
   pub due-slots : length due ≡ length (d .locks .entries)
   pub due-is : (i : ℕ) → i < length (d .locks .entries) → at due i ≡ entryDue (d .locks .entries) h i (at (d .locks .entries) i)
   pub waiting : Look (looksAfter h) due (requestsLeft (d .locks .entries) (d .locks .clock) h (d .locks .waiting)) (r .server .locks .entries) (r .server .locks .waiting) granted
-  -- every frame: lock answers that come first, direct replies, answers 1 to those granted
+  -- every frame: the lock answers that come first, direct replies, answers 1 to those granted
   pub frames : r .frames ≡ answeredFirst d h ++ (direct d h ++ map (answerTo 1 due) granted)
   -- the session's number in the reply
   pub session : (o : Outcome) (k n : ℕ) → r .reply ≡ took o k n → n ≡ sessionSaid d h n
@@ -113,10 +123,14 @@ overLog r (l ∷ ls) x = overLog r ls (singly r (happened (l .event) (l .reply) 
 
 pub record LocalRun (d : Server) (es : List Event) : Type 0 where
   pub each : EachLocal d es
-  pub clock : (final d es) .locks .clock ≡ overLog the-clock (log d es) (d .locks .clock)
-  pub status : (final d es) .rest .status ≡ overLog the-status (log d es) (d .rest .status)
+  pub clock : (final d es) .locks .clock ≡ overLog clock-row (log d es) (d .locks .clock)
+  pub status : (final d es) .rest .status ≡ overLog status-row (log d es) (d .rest .status)
   pub vendor : (final d es) .rest .vendor ≡ d .rest .vendor
-  pub last-issued : (final d es) .rest .lastIssued ≡ overLog the-last-issued (log d es) (d .rest .lastIssued)
-  pub enable : (final d es) .rest .remoteLocal .enable ≡ overLog the-enable (log d es) (d .rest .remoteLocal .enable)
-  pub lockout : (final d es) .rest .remoteLocal .lockout ≡ overLog the-lockout (log d es) (d .rest .remoteLocal .lockout)
-  pub remote : (final d es) .rest .remoteLocal .remote ≡ overLog the-remote (log d es) (d .rest .remoteLocal .remote)
+  pub last-issued : (final d es) .rest .lastIssued ≡ overLog issued-row (log d es) (d .rest .lastIssued)
+  pub enable : (final d es) .rest .remoteLocal .enable ≡ overLog enable-row (log d es) (d .rest .remoteLocal .enable)
+  pub lockout : (final d es) .rest .remoteLocal .lockout ≡ overLog lockout-row (log d es) (d .rest .remoteLocal .lockout)
+  pub remote : (final d es) .rest .remoteLocal .remote ≡ overLog remote-row (log d es) (d .rest .remoteLocal .remote)
+
+-- the table leaves nothing free: what happened decides the whole server after, and every frame
+pub record NothingFree : Type 0 where
+  pub decides : (d : Server) (h : Happening) (r r′ : Result) → Local d h r → Local d h r′ → (r .server ≡ r′ .server) × (r .frames ≡ r′ .frames)

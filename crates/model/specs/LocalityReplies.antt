@@ -1,5 +1,5 @@
 -- The table of what a call sends: every field of every frame. Written from 01's sentences by type number, apart from the definitions of
--- what a message does. Reply fields not named are 0. Assumes nothing.
+-- what a message does. Reply fields not named are 0.
 use mathlib.Core.Bool.{Bool, not, _||_, cond}
 use mathlib.Core.List.{List, [], _∷_, map}
 use Prim.Native.Nat.{ℕ, _+_, _*_, _/_, _%_, min}
@@ -8,8 +8,8 @@ use Rattle.wire.specs.Frame.{Frame, frameOf}
 use Rattle.model.specs.Lists.{isNil, any, keep, tally}
 use Rattle.model.specs.State.{Server, Entry, Waiting, Asked, Asked.none, Asked.some, at, live, slotOfNumber, exchangeAt}
 use Rattle.model.specs.Place.{slotIn}
-use Rattle.model.specs.Happening.{Heard, Heard.silence, Heard.code, Action, Happening, Happening.unmoved, Happening.connected, Happening.disconnected, Happening.skipped-over, Happening.errored, Happening.message-acted, Happening.clock-read, Happening.status-set, Happening.answer-sent}
-use Rattle.model.specs.LocalityRows.{kindOf, slotActed, Row, message-available, requestsOf, reachedBy, connectionsOf}
+use Rattle.model.specs.Happening.{Heard, Heard.silence, Heard.with-code, Action, Happening, Happening.unmoved, Happening.connected, Happening.disconnected, Happening.skipped-over, Happening.errored, Happening.message-acted, Happening.clock-read, Happening.status-set, Happening.answer-sent}
+use Rattle.model.specs.LocalityRows.{kindOf, slotActed, Row, available-row, requestsOf, reachedBy, connectionsOf}
 
 -- a message to a connection with a type, code and parameter and no payload
 abbrev pub plainTo : ℕ → ℕ → ℕ → ℕ → Frame
@@ -48,18 +48,18 @@ replies d a =
     ∷ record { type = 15; reply = frameOf c 16 0 0 (0 ∷ 0 ∷ 0 ∷ 0 ∷ 0 ∷ 0 ∷ 4 ∷ 0 ∷ []) }
     ∷ record { type = 19; reply = plainTo c 23 0 0 }
     -- message available as the query leaves it
-    ∷ record { type = 21; reply = plainTo c 22 (with16 (d .rest .status) (message-available .by-message a ((exchangeAt (d .rest) (slotActed es a)) .messageAvailable))) 0 }
+    ∷ record { type = 21; reply = plainTo c 22 (with16 (d .rest .status) (available-row .by-message a ((exchangeAt (d .rest) (slotActed es a)) .messageAvailable))) 0 }
     ∷ record { type = 24; reply = plainTo c 25 (cond (any (λ e. e .exclusive) es) 1 0) (tally holdsAny es) }
     ∷ []
 
 -- as a code was heard, in one frame to each of some connections
 abbrev pub saidTo : Heard → ℕ → List ℕ → List Frame
 saidTo silence t cs = []
-saidTo (code k) t cs = map (λ c. plainTo c t k 0) cs
+saidTo (with-code k) t cs = map (λ c. plainTo c t k 0) cs
 
 -- 01: a FatalError goes to each connection of the session, synchronous first (without a session, to that connection alone)
-abbrev pub reached : List Entry → ℕ → List ℕ
-reached es c = let e = at es (slotIn es c) in cond (live e) (connectionsOf e) (c ∷ [])
+abbrev pub fatalTo : List Entry → ℕ → List ℕ
+fatalTo es c = let e = at es (slotIn es c) in cond (live e) (connectionsOf e) (c ∷ [])
 
 abbrev pub askedNumber : Asked → ℕ
 askedNumber none = 0
@@ -69,7 +69,7 @@ askedNumber (some n) = n
 abbrev pub direct : Server → Happening → List Frame
 direct d unmoved = []
 direct d (connected c) = []
-direct d (disconnected c k) = saidTo k 2 (reached (d .locks .entries) c)
+direct d (disconnected c k) = saidTo k 2 (fatalTo (d .locks .entries) c)
 direct d (skipped-over c k) = []
 -- 01: errors go back on the same lane, with code as control code, parameter 0, no payload
 direct d (errored c n k) = saidTo k 3 (c ∷ [])

@@ -1,5 +1,5 @@
 -- The table of locality: for each field of the server what may change it, and to what. Written from 01's sentences by type number, code,
--- parameter and payload, apart from the definitions of the checks and of what a message does. Assumes nothing.
+-- parameter and payload, apart from the definitions of the checks and of what a message does.
 use mathlib.Core.Bool.{Bool, true, false, not, _&&_, _||_, cond}
 use mathlib.Core.List.{List, [], _∷_, _++_}
 use Prim.Native.Nat.{ℕ, _+_, _-_}
@@ -10,7 +10,7 @@ use Rattle.model.specs.Sizes.{noConnection}
 use Rattle.model.specs.Lists.{isNil, keep}
 use Rattle.model.specs.State.{Entry, Waiting, Asked, Asked.none, Asked.some, at, live, slotOfNumber}
 use Rattle.model.specs.Place.{slotIn}
-use Rattle.model.specs.Happening.{Heard, Heard.silence, Heard.code, Action, Happening, Happening.unmoved, Happening.connected, Happening.disconnected, Happening.skipped-over, Happening.errored, Happening.message-acted, Happening.clock-read, Happening.status-set, Happening.answer-sent}
+use Rattle.model.specs.Happening.{Heard, Heard.silence, Heard.with-code, Action, Happening, Happening.unmoved, Happening.connected, Happening.disconnected, Happening.skipped-over, Happening.errored, Happening.message-acted, Happening.clock-read, Happening.status-set, Happening.answer-sent}
 
 abbrev pub kindOf : Action → ℕ
 kindOf a = a .message .kind
@@ -40,8 +40,8 @@ inSlot r es i (status-set b) x = x
 inSlot r es i (answer-sent n p end) x = cond (eqb i (slotOfNumber es n)) (r .by-answer end x) x
 
 -- EXCHANGES. 01: AsyncDeviceClear (19); DeviceClearComplete (8) ends it. A session begins (0) outside a clear
-abbrev pub in-clear : Row Bool
-in-clear =
+abbrev pub clear-row : Row Bool
+clear-row =
     record {
       by-message = λ a b. cond (eqb (kindOf a) 19) true (cond (one-of (0 ∷ 8 ∷ []) (kindOf a)) false b);
       by-answer = λ end b. b;
@@ -50,8 +50,8 @@ in-clear =
 
 -- 01: DataEND (7) and Trigger (12) acted on set what is asked to their MessageID; at a clear (19) nothing is asked any more; an answer by
 -- DataEND then clears it
-abbrev pub asked : Row Asked
-asked =
+abbrev pub asked-row : Row Asked
+asked-row =
     record {
       by-message = λ a x. cond (one-of (7 ∷ 12 ∷ []) (kindOf a)) (some (a .message .param)) (cond (one-of (0 ∷ 19 ∷ []) (kindOf a)) none x);
       by-answer = λ end x. cond end none x;
@@ -60,8 +60,8 @@ asked =
 
 -- 01: message available goes on when an answer is sent, off when a message that acts carries RMT-delivered 1 (6, 7, 12, 21), and at a
 -- clear (19)
-abbrev pub message-available : Row Bool
-message-available =
+abbrev pub available-row : Row Bool
+available-row =
     record {
       by-message = λ a b. cond (one-of (0 ∷ 19 ∷ []) (kindOf a) || (one-of (6 ∷ 7 ∷ 12 ∷ 21 ∷ []) (kindOf a) && eqb (a .message .code) 1)) false b;
       by-answer = λ end b. true;
@@ -69,8 +69,8 @@ message-available =
     }
 
 -- 01: a client's size starts at 1,024 per session; AsyncMaximumMessageSize (15) says it in its payload
-abbrev pub client-size : Row ℕ
-client-size =
+abbrev pub size-row : Row ℕ
+size-row =
     record {
       by-message = λ a n. cond (eqb (kindOf a) 15) (number (a .message .payload)) (cond (eqb (kindOf a) 0) 1024 n);
       by-answer = λ end n. n;
@@ -78,14 +78,14 @@ client-size =
     }
 
 -- SESSIONS. 01: Initialize (0) issues the number in its reply and is the synchronous connection, AsyncInitialize (17) the other one
-abbrev pub session-number : Row ℕ
-session-number = record { by-message = λ a n. cond (eqb (kindOf a) 0) (a .session) n; by-answer = λ end n. n; once-closed = 0 }
+abbrev pub number-row : Row ℕ
+number-row = record { by-message = λ a n. cond (eqb (kindOf a) 0) (a .session) n; by-answer = λ end n. n; once-closed = 0 }
 
-abbrev pub synchronous-connection : Row ℕ
-synchronous-connection = record { by-message = λ a c. cond (eqb (kindOf a) 0) (a .connection) c; by-answer = λ end c. c; once-closed = noConnection }
+abbrev pub synchronous-row : Row ℕ
+synchronous-row = record { by-message = λ a c. cond (eqb (kindOf a) 0) (a .connection) c; by-answer = λ end c. c; once-closed = noConnection }
 
-abbrev pub asynchronous-connection : Row ℕ
-asynchronous-connection =
+abbrev pub asynchronous-row : Row ℕ
+asynchronous-row =
     record {
       by-message = λ a c. cond (eqb (kindOf a) 17) (a .connection) (cond (eqb (kindOf a) 0) noConnection c);
       by-answer = λ end c. c;
@@ -95,14 +95,14 @@ asynchronous-connection =
 -- AsyncLock (4): a release (code 0) answered k; a request granted at once (answered 1) and one that is not answered, so waits
 abbrev pub isCode : ℕ → Heard → Bool
 isCode k silence = false
-isCode k (code n) = eqb n k
+isCode k (with-code n) = eqb n k
 
 abbrev pub isSilence : Heard → Bool
 isSilence silence = true
-isSilence (code n) = false
+isSilence (with-code n) = false
 
-abbrev pub releases : ℕ → Action → Bool
-releases k a = eqb (kindOf a) 4 && (eqb (a .message .code) 0 && isCode k (a .told))
+abbrev pub releasedWith : ℕ → Action → Bool
+releasedWith k a = eqb (kindOf a) 4 && (eqb (a .message .code) 0 && isCode k (a .told))
 
 abbrev pub obtains : Action → Bool
 obtains a = eqb (kindOf a) 4 && (not (eqb (a .message .code) 0) && isCode 1 (a .told))
@@ -112,18 +112,18 @@ waits a = eqb (kindOf a) 4 && (not (eqb (a .message .code) 0) && isSilence (a .t
 
 -- the session's own locks, before waiting requests are looked at. 01: exclusive has the empty string; release frees exclusive first (1),
 -- then shared (2)
-abbrev pub exclusive-lock : Row Bool
-exclusive-lock =
+abbrev pub exclusive-row : Row Bool
+exclusive-row =
     record {
-      by-message = λ a b. cond (eqb (kindOf a) 0 || releases 1 a) false (cond (obtains a && isNil (a .message .payload)) true b);
+      by-message = λ a b. cond (eqb (kindOf a) 0 || releasedWith 1 a) false (cond (obtains a && isNil (a .message .payload)) true b);
       by-answer = λ end b. b;
       once-closed = false;
     }
 
-abbrev pub shared-lock : Row (List ℕ)
-shared-lock =
+abbrev pub shared-row : Row (List ℕ)
+shared-row =
     record {
-      by-message = λ a s. cond (eqb (kindOf a) 0 || releases 2 a) [] (cond (obtains a && not (isNil (a .message .payload))) (a .message .payload) s);
+      by-message = λ a s. cond (eqb (kindOf a) 0 || releasedWith 2 a) [] (cond (obtains a && not (isNil (a .message .payload))) (a .message .payload) s);
       by-answer = λ end s. s;
       once-closed = [];
     }
@@ -169,28 +169,28 @@ abbrev pub concerns : List Entry → ℕ → ℕ → Bool
 concerns es c x = let e = at es (slotIn es c) in eqb x c || (live e && one-of (connectionsOf e) x)
 
 -- whether connection x is open
-abbrev pub isOpenAfter : List Entry → ℕ → Happening → Bool → Bool
-isOpenAfter es x unmoved b = b
-isOpenAfter es x (connected c) b = cond (eqb x c) true b
-isOpenAfter es x (disconnected c k) b = cond (concerns es c x) false b
-isOpenAfter es x (skipped-over c k) b = b
-isOpenAfter es x (errored c n k) b = b
-isOpenAfter es x (message-acted a) b = b
-isOpenAfter es x (clock-read t) b = b
-isOpenAfter es x (status-set s) b = b
-isOpenAfter es x (answer-sent n p end) b = b
+abbrev pub open-row : List Entry → ℕ → Happening → Bool → Bool
+open-row es x unmoved b = b
+open-row es x (connected c) b = cond (eqb x c) true b
+open-row es x (disconnected c k) b = cond (concerns es c x) false b
+open-row es x (skipped-over c k) b = b
+open-row es x (errored c n k) b = b
+open-row es x (message-acted a) b = b
+open-row es x (clock-read t) b = b
+open-row es x (status-set s) b = b
+open-row es x (answer-sent n p end) b = b
 
 -- its remainder to skip. Check 4: length above 1,024, the payload is skipped as it comes
-abbrev pub remainderAfter : List Entry → ℕ → Happening → ℕ → ℕ
-remainderAfter es x unmoved r = r
-remainderAfter es x (connected c) r = cond (eqb x c) 0 r
-remainderAfter es x (disconnected c k) r = cond (concerns es c x) 0 r
-remainderAfter es x (skipped-over c k) r = cond (eqb x c) (r - k) r
-remainderAfter es x (errored c n k) r = cond (eqb x c && ltb 1024 n) n r
-remainderAfter es x (message-acted a) r = r
-remainderAfter es x (clock-read t) r = r
-remainderAfter es x (status-set b) r = r
-remainderAfter es x (answer-sent n p end) r = r
+abbrev pub remainder-row : List Entry → ℕ → Happening → ℕ → ℕ
+remainder-row es x unmoved r = r
+remainder-row es x (connected c) r = cond (eqb x c) 0 r
+remainder-row es x (disconnected c k) r = cond (concerns es c x) 0 r
+remainder-row es x (skipped-over c k) r = cond (eqb x c) (r - k) r
+remainder-row es x (errored c n k) r = cond (eqb x c && ltb 1024 n) n r
+remainder-row es x (message-acted a) r = r
+remainder-row es x (clock-read t) r = r
+remainder-row es x (status-set b) r = r
+remainder-row es x (answer-sent n p end) r = r
 
 -- SINGLE FIELDS: what a message makes of it, a clock reading, a status change; nothing else changes it
 pub record Single (A : Type 0) : Type 0 where
@@ -209,18 +209,18 @@ singly r (clock-read t) x = r .on-clock t x
 singly r (status-set b) x = r .on-status b x
 singly r (answer-sent n p end) x = x
 
-abbrev pub the-clock : Single ℕ
-the-clock = record { on-message = λ a x. x; on-clock = λ t x. t; on-status = λ b x. x }
+abbrev pub clock-row : Single ℕ
+clock-row = record { on-message = λ a x. x; on-clock = λ t x. t; on-status = λ b x. x }
 
-abbrev pub the-status : Single ℕ
-the-status = record { on-message = λ a x. x; on-clock = λ t x. x; on-status = λ b x. b }
+abbrev pub status-row : Single ℕ
+status-row = record { on-message = λ a x. x; on-clock = λ t x. x; on-status = λ b x. b }
 
-abbrev pub the-vendor : Single ℕ
-the-vendor = record { on-message = λ a x. x; on-clock = λ t x. x; on-status = λ b x. x }
+abbrev pub vendor-row : Single ℕ
+vendor-row = record { on-message = λ a x. x; on-clock = λ t x. x; on-status = λ b x. x }
 
 -- the SessionID issued last: Initialize (0), the number in its reply
-abbrev pub the-last-issued : Single ℕ
-the-last-issued = record { on-message = λ a x. cond (eqb (kindOf a) 0) (a .session) x; on-clock = λ t x. x; on-status = λ b x. x }
+abbrev pub issued-row : Single ℕ
+issued-row = record { on-message = λ a x. cond (eqb (kindOf a) 0) (a .session) x; on-clock = λ t x. x; on-status = λ b x. x }
 
 -- a flag: AsyncRemoteLocalControl (10), with the codes that set it and those that clear it
 abbrev pub flag : List ℕ → List ℕ → Single Bool
@@ -232,11 +232,11 @@ flag ons offs =
     }
 
 -- 01: codes 0 and 2 clear all three; 1 sets enable; 3 sets enable and remote; 4 enable and lockout; 5 all; 6 clears remote
-abbrev pub the-enable : Single Bool
-the-enable = flag (1 ∷ 3 ∷ 4 ∷ 5 ∷ []) (0 ∷ 2 ∷ [])
+abbrev pub enable-row : Single Bool
+enable-row = flag (1 ∷ 3 ∷ 4 ∷ 5 ∷ []) (0 ∷ 2 ∷ [])
 
-abbrev pub the-lockout : Single Bool
-the-lockout = flag (4 ∷ 5 ∷ []) (0 ∷ 2 ∷ [])
+abbrev pub lockout-row : Single Bool
+lockout-row = flag (4 ∷ 5 ∷ []) (0 ∷ 2 ∷ [])
 
-abbrev pub the-remote : Single Bool
-the-remote = flag (3 ∷ 5 ∷ []) (0 ∷ 2 ∷ 6 ∷ [])
+abbrev pub remote-row : Single Bool
+remote-row = flag (3 ∷ 5 ∷ []) (0 ∷ 2 ∷ 6 ∷ [])
