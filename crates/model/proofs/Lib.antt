@@ -42,3 +42,4 @@ pub mod SentFits
 pub mod ReadBack
 pub mod Owed
 pub mod OnlyWhole
+pub mod Outcomes

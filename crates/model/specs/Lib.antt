@@ -39,3 +39,4 @@ pub mod Possible
 pub mod SentFits
 pub mod ReadBack
 pub mod OnlyWhole
+pub mod Outcomes
