@@ -2,7 +2,7 @@
 use mathlib.Core.Path.{_≡_, refl}
 use mathlib.Core.Bool.{Bool, true, false, cond}
 use mathlib.Core.List.{List, [], _∷_}
-use Prim.Native.Nat.{ℕ, _≤_, _<_}
+use Prim.Native.Nat.{ℕ}
 use native.Mathlib.Omega.{arith}
 use lib.Dec.{ltb}
 use borrow.Author.Tests.{ltb-true, lt-ltb}
@@ -26,9 +26,9 @@ coded v-acts = true
 coded (v-error n) = ltb n 5
 coded (v-fatal n) = ltb n 5
 
--- what a whole message may be answered: Error below 4, and no bytes skipped
+-- what a whole message may be answered: Error below 4; it waits for nothing, and no bytes are skipped
 abbrev pub ofMessage : Verdict → Bool
-ofMessage v-more = true
+ofMessage v-more = false
 ofMessage v-skipped = false
 ofMessage v-held = true
 ofMessage v-ignored = true

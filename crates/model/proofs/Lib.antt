@@ -58,3 +58,4 @@ pub mod Refused
 pub mod Statements
 pub mod Sending
 pub mod LocalityTable
+pub mod Outcomes

@@ -1,9 +1,9 @@
 -- Only whole messages are taken, proved: by what the bytes show, then by the verdict.
 use mathlib.Core.Path.{_≡_, refl, sym, ap, subst, _∙_}
-use mathlib.Core.Bool.{Bool, true, false, not, cond, false≢true, true≢false}
+use mathlib.Core.Bool.{Bool, true, false, cond, false≢true, true≢false}
 use mathlib.Core.List.{List, [], _∷_, _++_, map}
 use mathlib.Core.Logic.{_⊎_, inl, inr}
-use Prim.Native.Nat.{ℕ, zero, suc, _+_, _-_, _≤_, _<_, min}
+use Prim.Native.Nat.{ℕ, zero, suc, _+_, _-_, _≤_, min}
 use native.Mathlib.Omega.{arith}
 use lib.Dec.{eqb, ltb}
 use lib.ListN.{length, take, getD, replicate}
@@ -18,18 +18,19 @@ use Rattle.wire.proofs.Sixteen.{header-bytes}
 use Rattle.model.specs.Sizes.{payloadLimit, connectionLimit, noConnection}
 use Rattle.model.specs.MessageTypes.{FatalError}
 use Rattle.model.specs.State.{Server, Entry, at, live, blank, Connection, closedConnection, connectionAt, fresh}
-use Rattle.model.specs.Interface.{Event, Event.opening, Event.delivery, Event.cut, Event.clock, Event.answer, Event.status, Reply, Reply.took, Outcome.acted}
+use Rattle.model.specs.Interface.{Event, Event.opening, Event.delivery, Event.cut, Event.clock, Event.answer, Event.status}
 use Rattle.model.specs.Scan.{Scan, Scan.empty, Scan.few, Scan.wrong, Scan.skipping, Scan.long, Scan.part, Scan.whole, sorted, freshScan, scan, size}
 use Rattle.model.specs.Place.{slotOf, entryOf, roleOf, Role, Role.r-none, Role.r-halfOpen, Role.r-synchronous, Role.r-asynchronous}
-use Rattle.model.specs.Locks.{change, settle}
+use Rattle.model.specs.Locks.{change}
 use Rattle.model.specs.Checks.{Verdict, Verdict.v-more, Verdict.v-skipped, Verdict.v-held, Verdict.v-ignored, Verdict.v-closed, Verdict.v-acts, Verdict.v-error, Verdict.v-fatal, verdict, judged, partly, either}
 use Rattle.model.specs.Acts
 use Rattle.model.specs.Refusals.{causes, refusal}
-use Rattle.model.specs.Step.{Line, effect, received, plan, answered, finish, step, log}
+use Rattle.model.specs.Step.{effect, received, plan, answered, finish, step, final, log}
 use Rattle.model.specs.Canonical.{omits, taken, bytes, shown, kept}
 use Rattle.model.specs.Reader.{messageWith, ReadsLong}
 use Rattle.model.specs.Possible.{Possible, AllPossible}
-use Rattle.model.specs.OnlyWhole.{ShowsMessage, ShowsLong, AnsweredError, ShowsRest, FatalFirst, Closes, Closes.by-prologue, Closes.by-header, Closes.by-message, ShowsBy, ShowsReply, Shows, owesAfter, owesNext, OnlyWhole, TakenWhole}
+use Rattle.model.specs.OnlyWhole.{ShowsMessage, ShowsLong, FatalFirst, Closes, Closes.by-prologue, Closes.by-header, Closes.by-message, ShowsReply, Shows, owesNext, OnlyWhole, TakenWhole}
+use Rattle.model.specs.Outcomes.{owedIn}
 use Rattle.model.proofs.Basics.{not-off}
 use Rattle.model.proofs.Place.{no-role, place-sound}
 use Rattle.model.proofs.Fits.{uncaused}
@@ -39,11 +40,11 @@ use Rattle.model.proofs.Reader.{alike, taken-is}
 use Rattle.model.proofs.Codes.{ofMessage, judged-of}
 use Rattle.model.proofs.Owed.{Tracks, tracks-store, tracks-same, tracks-closing, here, elsewhere, no-change, acts-connections}
 
-never : {A : Type 0} → _≡_ {A = ℕ} 0 1 → A
+pub never : {A : Type 0} → _≡_ {A = ℕ} 0 1 → A
 never z = absurd (omega arith)
 
 -- a header or a message is looked at only where nothing is to skip
-abbrev reads : Scan → Bool
+abbrev pub reads : Scan → Bool
 reads empty = false
 reads (skipping k) = false
 reads few = true
@@ -52,13 +53,13 @@ reads (long h) = true
 reads (part h) = true
 reads (whole h p) = true
 
-fresh-scan : (r : ℕ) (bs : List ℕ) (s : Scan) → scan r bs ≡ s → reads s ≡ true → (r ≡ 0) × (freshScan bs ≡ s)
+pub fresh-scan : (r : ℕ) (bs : List ℕ) (s : Scan) → scan r bs ≡ s → reads s ≡ true → (r ≡ 0) × (freshScan bs ≡ s)
 unfolding scan
 fresh-scan r [] s e q = absurd (false≢true (ap reads e ∙ q))
 fresh-scan zero (b ∷ bs) s e q = (refl, e)
 fresh-scan (suc r) (b ∷ bs) s e q = absurd (false≢true (ap reads e ∙ q))
 
-fresh-reads : (bs : List ℕ) → reads (freshScan bs) ≡ true
+pub fresh-reads : (bs : List ℕ) → reads (freshScan bs) ≡ true
 unfolding freshScan
 fresh-reads bs = go (ltb (length bs) 16) (prologue bs) (ltb payloadLimit ((header bs) .len)) (ltb (length bs) (16 + (header bs) .len))
   where
@@ -182,7 +183,7 @@ module _ (d : Server) (c : ℕ) (bs : List ℕ) (b : Bytes bs) where
     by-verdict : (v : Verdict) (r : Role) (h : Header) (p : List ℕ) → scan q bs ≡ Scan.whole h p → ofMessage v ≡ true
         → omits ((effect v (Scan.whole h p) r d i c) .reply) ≡ false → Here (effect v (Scan.whole h p) r d i c)
     unfolding effect finish change
-    by-verdict v-more r h p e m o = absurd (true≢false o)
+    by-verdict v-more r h p e m o = absurd (false≢true m)
     by-verdict v-held r h p e m o = absurd (true≢false o)
     by-verdict v-skipped r h p e m o = absurd (false≢true m)
     by-verdict v-ignored r h p e m o = record { shows = (none-owed (Scan.whole h p) e refl, message-shown h p e); tracks = tracks-same (d .rest) owed t (d .rest) _ refl (no-change c owed) }
@@ -298,10 +299,28 @@ only-whole (e ∷ es) d owed t p = go (omits ((step d e) .reply)) refl (λ owed 
     go true o ih = ih owed (subst (λ (x : Server). Tracks (x .rest) owed) (sym (ap (λ x. x .server) (step-omitted d e o))) t)
     go false o ih = let x = called d owed e t (p .0) o in (x .shows, ih _ (x .tracks))
 
+-- and the server that it leaves owes what the lines say
+tracked : (es : List Event) (d : Server) (owed : ℕ → ℕ) → Tracks (d .rest) owed → AllPossible es → Tracks ((final d es) .rest) (owedIn owed (kept (log d es)))
+unfolding log final
+tracked [] d owed t p = t
+tracked (e ∷ es) d owed t p = go (omits ((step d e) .reply)) refl (λ owed t. tracked es ((step d e) .server) owed t (p .1))
+  where
+    go : (k : Bool) → omits ((step d e) .reply) ≡ k
+        → ((owed : ℕ → ℕ) → Tracks ((step d e) .server .rest) owed → Tracks ((final ((step d e) .server) es) .rest) (owedIn owed (kept (log ((step d e) .server) es))))
+        → Tracks ((final ((step d e) .server) es) .rest) (owedIn owed (cond k (kept (log ((step d e) .server) es)) (record { event = shown e (taken ((step d e) .reply)); reply = (step d e) .reply; frames = (step d e) .frames } ∷ kept (log ((step d e) .server) es))))
+    go true o ih = ih owed (subst (λ (x : Server). Tracks (x .rest) owed) (sym (ap (λ x. x .server) (step-omitted d e o))) t)
+    go false o ih = ih _ ((called d owed e t (p .0) o) .tracks)
+
 closed-at : (n j : ℕ) → getD (replicate n closedConnection) j closedConnection ≡ closedConnection
 closed-at zero j = refl
 closed-at (suc n) zero = refl
 closed-at (suc n) (suc j) = closed-at n j
 
+fresh-tracks : (v : ℕ) → Tracks ((fresh v) .rest) (λ c. 0)
+fresh-tracks v j o = ap (λ (x : Connection). x .remainder) (closed-at connectionLimit j)
+
+pub owed-run : (v : ℕ) (es : List Event) → AllPossible es → Tracks ((final (fresh v) es) .rest) (owedIn (λ c. 0) (kept (log (fresh v) es)))
+owed-run v es p = tracked es (fresh v) (λ c. 0) (fresh-tracks v) p
+
 pub taken-whole : TakenWhole
-taken-whole = record { any-run = λ v es p. only-whole es (fresh v) (λ c. 0) (λ j o. ap (λ (x : Connection). x .remainder) (closed-at connectionLimit j)) p }
+taken-whole = record { any-run = λ v es p. only-whole es (fresh v) (λ c. 0) (fresh-tracks v) p }

@@ -3,13 +3,13 @@ use mathlib.Core.Path.{_≡_, refl, sym, ap, _∙_}
 use mathlib.Core.Bool.{Bool, true, false, cond, false≢true}
 use mathlib.Core.List.{List, [], _∷_}
 use mathlib.Core.Logic.{_⊎_, inl, inr}
-use Prim.Native.Nat.{ℕ, zero, suc, _-_}
+use Prim.Native.Nat.{ℕ, zero, suc}
 use native.Mathlib.Omega.{arith}
 use lib.Dec.{eqb}
 use lib.ListN.{getD, set}
 use borrow.Author.Tests.{eq-eqb, ne-eqb}
 use Rattle.wire.specs.declared.Header.{Header}
-use Rattle.model.specs.State.{Server, Rest, Connection, connectionAt, openConnection, closedConnection, withConnection, slotOfNumber, exchangeAt}
+use Rattle.model.specs.State.{Server, Rest, Connection, connectionAt, openConnection, closedConnection, withConnection}
 use Rattle.model.specs.Place.{Role, Role.r-none, Role.r-halfOpen, Role.r-synchronous, Role.r-asynchronous}
 use Rattle.model.specs.Acts
 use Rattle.model.specs.Step.{channels, shutAll, closing}

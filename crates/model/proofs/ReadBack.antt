@@ -1,14 +1,13 @@
 -- What the host saw is read back: each output is a row of frames that fit.
 use mathlib.Core.Path.{_≡_, refl, sym, ap, ap₂, _∙_}
 use mathlib.Core.List.{List, [], _∷_, _++_, map}
-use Prim.Native.Nat.{ℕ}
 use Rattle.wire.specs.Frame.{Frame}
 use Rattle.wire.proofs.ReadFrames.{read-frames}
 use Rattle.model.specs.Lists.{keep}
 use Rattle.model.specs.State.{Server, fresh}
 use Rattle.model.specs.Step.{Line, log}
 use Rattle.model.specs.Agreement.{isLock, lockSent}
-use Rattle.model.specs.Demand3.{Seen, seen, seenEvents}
+use Rattle.model.specs.Demand3.{seen, seenEvents}
 use Rattle.model.specs.SentFits.{LinesFit}
 use Rattle.model.specs.ReadBack.{framesSeen, lockSeen, ReadsBack}
 use Rattle.model.proofs.Demand3.{demand3}

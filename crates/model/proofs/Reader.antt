@@ -1,16 +1,16 @@
 -- The reader of the checks and `decode` are one, proved by their four tests.
 use mathlib.Core.Path.{_≡_, refl, sym, ap, ap₂, subst, _∙_}
 use mathlib.Core.Bool.{Bool, true, false}
-use mathlib.Core.List.{List, _++_}
+use mathlib.Core.List.{List}
 use Prim.Native.Nat.{ℕ, _+_, _≤_, _<_}
 use native.Mathlib.Omega.{arith}
 use lib.Dec.{ltb}
 use lib.ListN.{length, take, drop, length-append, length-take, length-drop}
 use lib.Seq.{take-at}
-use borrow.Author.Tests.{ltb-true, ltb-false, lt-ltb, le-ltb}
+use borrow.Author.Tests.{ltb-true, ltb-false}
 use Rattle.wire.specs.declared.Header.{Header}
 use Rattle.wire.specs.Field.{Bytes}
-use Rattle.wire.specs.Message.{Message, header, headerOf, headerBytes, prologue, payloadOf, messageOf, encode, Decoded, decided, decode}
+use Rattle.wire.specs.Message.{Message, header, headerOf, headerBytes, prologue, messageOf, encode, Decoded, decided, decode}
 use Rattle.wire.specs.RoundTrip.{length-header, encode-decode}
 use Rattle.model.specs.Sizes.{payloadLimit}
 use Rattle.model.specs.Scan.{Scan, sorted, freshScan}

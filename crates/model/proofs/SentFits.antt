@@ -1,6 +1,6 @@
 -- Every frame that is sent fits: connections, what is asked, the vendor number and the status byte stay in range from call to call.
-use mathlib.Core.Path.{_≡_, refl, sym, ap, subst, _∙_}
-use mathlib.Core.Bool.{Bool, true, false, not, _&&_, _||_, cond}
+use mathlib.Core.Path.{_≡_, refl, ap}
+use mathlib.Core.Bool.{Bool, true, false, _||_, cond}
 use mathlib.Core.List.{List, [], _∷_, _++_, map}
 use Prim.Native.Nat.{ℕ, zero, suc, _+_, _*_, _/_, _^_, _≤_, _<_, min}
 use native.Mathlib.Omega.{arith}
@@ -8,7 +8,7 @@ use lib.Dec.{eqb, leb, ltb, lit<}
 use lib.ListN.{getD, length, take, length-take}
 use borrow.Author.Tests.{ltb-true, ltb-false, lt-ltb, leb-false}
 use Rattle.wire.specs.declared.Header.{Header}
-use Rattle.wire.specs.Field.{field, Bytes, length-field}
+use Rattle.wire.specs.Field.{Bytes, length-field}
 use Rattle.wire.specs.Message.{Fits}
 use Rattle.wire.specs.RoundTrip.{decoded-fits}
 use Rattle.wire.specs.Frame.{Frame, frameOf}
@@ -22,16 +22,16 @@ use Rattle.model.specs.Interface.{Event, Event.opening, Event.delivery, 
 use Rattle.model.specs.Scan.{Scan, Scan.empty, Scan.few, Scan.wrong, Scan.skipping, Scan.long, Scan.part, Scan.whole, scan}
 use Rattle.model.specs.Place.{slotOf, entryOf, roleOf, Role, Role.r-none, Role.r-halfOpen, Role.r-synchronous, Role.r-asynchronous}
 use Rattle.model.specs.Locks
-use Rattle.model.specs.Locks.{Answer, LockEvent, candidate, isLive, issued, change, frees, settle}
+use Rattle.model.specs.Locks.{Answer, candidate, isLive, issued, change, frees, settle}
 use Rattle.model.specs.Exchange.{answeredWith, answerNumber, numberAsked, statusByte, availableAt}
 use Rattle.model.specs.Checks.{Verdict, Verdict.v-more, Verdict.v-skipped, Verdict.v-held, Verdict.v-ignored, Verdict.v-closed, Verdict.v-acts, Verdict.v-error, Verdict.v-fatal, verdict}
 use Rattle.model.specs.Acts
 use Rattle.model.specs.Refusals.{causes, refusal}
-use Rattle.model.specs.Step.{Line, effect, received, plan, answered, finish, step, final, log, lockFrame, closing, answerType}
+use Rattle.model.specs.Step.{effect, received, plan, answered, finish, step, log, lockFrame, closing, answerType}
 use Rattle.model.specs.Reader.{messageWith}
 use Rattle.model.specs.Possible.{Possible, AllPossible}
 use Rattle.model.specs.SentFits.{LinesFit, SentFits}
-use Rattle.model.proofs.Basics.{and-l, and-r, both, all-set, all-at}
+use Rattle.model.proofs.Basics.{and-l, and-r, all-set, all-at}
 use Rattle.model.proofs.Invariant.{Inv}
 use Rattle.model.proofs.Events.{inv-fresh}
 use Rattle.model.proofs.Fits.{uncaused, inv-call}

@@ -50,3 +50,4 @@ pub mod LocalityReplies
 pub mod Locality
 pub mod Statements
 pub mod Sending
+pub mod Outcomes

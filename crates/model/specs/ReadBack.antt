@@ -7,7 +7,6 @@ use Rattle.wire.specs.Frame.{Frame}
 use Rattle.wire.specs.ReadFrames.{readFrames}
 use Rattle.model.specs.Lists.{keep}
 use Rattle.model.specs.State.{Server, fresh}
-use Rattle.model.specs.Interface.{Event}
 use Rattle.model.specs.Step.{Line, log}
 use Rattle.model.specs.Agreement.{isLock, toldFrame}
 use Rattle.model.specs.Demand3.{Seen, seenEvents, Calls, modelOf}

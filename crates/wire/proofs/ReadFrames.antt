@@ -7,12 +7,12 @@ use lib.Dec.{lit<}
 use lib.ListN.{length, drop, length-append}
 use lib.Seq.{drop-at, drop-drop}
 use Rattle.wire.specs.Field.{field, Bytes}
-use Rattle.wire.specs.Message.{Message, headerBytes, headerOf, encode, Decoded, Decoded.short, Decoded.wrong, Decoded.whole, decode, Fits}
+use Rattle.wire.specs.Message.{Message, headerBytes, headerOf, encode, Decoded, Decoded.short, Decoded.wrong, Decoded.whole, decode}
 use Rattle.wire.specs.RoundTrip.{length-header, decode-encode, encode-decode}
 use Rattle.wire.specs.declared.Header.{Header}
 use Rattle.wire.specs.Frame.{Frame, frameBytes, bytesOf, length-frame}
 use Rattle.wire.proofs.Bytes.{drop-bytes, bytes-append, bytes-cons, bytes-field}
-use Rattle.wire.specs.ReadFrames.{goesOn, framesIn, readFrames, FrameFits, AllFit}
+use Rattle.wire.specs.ReadFrames.{goesOn, framesIn, readFrames, FrameFits, AllFit, Front, RowsRead}
 
 length-encode : (m : Message) → length (encode m) ≡ 16 + length (m .payload)
 unfolding encode
@@ -45,10 +45,6 @@ pub one-row : (fs gs : List Frame) → AllFit fs → AllFit gs → bytesOf fs �
 one-row fs gs a b e = sym (read-frames fs a) ∙ ap readFrames e ∙ read-frames gs b
 
 -- bytes that are read are the frames read, and what stands behind the last
-pub record Front (fs : List Frame) (bs : List ℕ) : Type 0 where
-  pub behind : List ℕ
-  pub is : bs ≡ bytesOf fs ++ behind
-
 module _ (n c : ℕ) (bs : List ℕ) (b : Bytes bs) (more : (x : List ℕ) → Bytes x → Front (framesIn n x) x) where
   front-by : (d : Decoded) → decode bs ≡ d → Front (goesOn [] (λ m. record { to = c; message = m } ∷ framesIn n (drop (16 + length (m .payload)) bs)) d) (c ∷ bs)
   unfolding bytesOf frameBytes
@@ -93,3 +89,6 @@ pub bytes-row : (fs : List Frame) → AllFit fs → Bytes (bytesOf fs)
 unfolding bytesOf
 bytes-row [] a = λ (i : ℕ). lit< tt
 bytes-row (f ∷ fs) a = bytes-append (frameBytes f) (bytesOf fs) (bytes-frame f (a .0)) (bytes-row fs (a .1))
+
+pub rows-read : RowsRead
+rows-read = record { again = read-frames; one-row = one-row; front = front; bytes = bytes-row }
