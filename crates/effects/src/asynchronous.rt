@@ -26,6 +26,7 @@ use locks::release;
 use locks::request;
 use locks::waiting;
 use remote::RemoteLocal;
+use remote::commanded;
 use state::sizes::Strings;
 use state::sizes::Words;
 use state::tables;
@@ -112,12 +113,12 @@ fn set_flags(w: &mut Words, f: RemoteLocal)
     tables::set_single(w, tables::REMOTE, word_of(f.remote));
 }
 
-// What the code makes of the three flags: read, by value, stored.
+// What the code makes of the three flags: read, changed in place, stored.
 fn set_control(w: &mut Words, code: u8)
     ensures { λ _. ⌜ ((s : List ℕ) → view (memory (now (w .exit)) s) ≡ onRest (view (memory (now (w .entry)) s)) (controlling code)) ⌝ }
 {
     let f = flags_of(w);
-    set_flags(w, f.controlled(code));
+    set_flags(w, commanded(f, code));
 }
 
 // AsyncRemoteLocalControl.
