@@ -17,6 +17,7 @@ use crate::outcome;
 use state::sizes::Words;
 use state::tables;
 use wire::frame;
+use wire::message_id::MessageId;
 use wire::types;
 
 // RMT-delivered (code 1) turns message available off.
@@ -30,12 +31,12 @@ pub fn note_rmt(w: &mut Words, i: usize, code: u8)
     tables::set_exchange(w, i, tables::AVAILABLE, 0);
 }
 
-// What is asked is this message.
-fn note_asked(w: &mut Words, i: usize, code: u8, param: u32)
+// What is asked is this message. The word kept is its number plus 1; 0 is nothing asked.
+fn note_asked(w: &mut Words, i: usize, code: u8, id: MessageId)
     requires { ⌜ i < sessionLimit ⌝ }
-    ensures { λ _. ⌜ ((s : List ℕ) → view (memory (now (w .exit)) s) ≡ onRest (view (memory (now (w .entry)) s)) (withSlot i (ask code param))) ⌝ }
+    ensures { λ _. ⌜ ((s : List ℕ) → view (memory (now (w .exit)) s) ≡ onRest (view (memory (now (w .entry)) s)) (withSlot i (ask code (id .number)))) ⌝ }
 {
-    tables::set_exchange(w, i, tables::ASKED, param as u64 + 1);
+    tables::set_exchange(w, i, tables::ASKED, id.number as u64 + 1);
     note_rmt(w, i, code);
 }
 
@@ -79,11 +80,11 @@ pub fn act_synchronous(
         return acted(session, len, 0);
     }
     if kind == types::DATA_END {
-        note_asked(w, i, code, param);
+        note_asked(w, i, code, MessageId::new(param));
         return acted(session, len, 0);
     }
     if kind == types::TRIGGER {
-        note_asked(w, i, code, param);
+        note_asked(w, i, code, MessageId::new(param));
         return acted(session, len, 0);
     }
     leave_clear(w, i);
