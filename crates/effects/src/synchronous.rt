@@ -13,7 +13,7 @@ ghost use mathlib.Core.List.{List};
 ghost use mathlib.Core.Path.{_≡_};
 ghost use Rattle.model.specs.Sizes.{connectionLimit, outputMinimum, payloadLimit, sessionLimit};
 use crate::Delivery;
-use crate::outcome;
+use crate::answer;
 use state::sizes::Words;
 use state::tables;
 use wire::frame;
@@ -47,19 +47,6 @@ fn leave_clear(w: &mut Words, i: usize)
     tables::set_exchange(w, i, tables::IN_CLEAR, 0);
 }
 
-fn acted(session: u64, len: u64, output: u64) -> Delivery
-    requires { ⌜ len ≤ payloadLimit ⌝ }
-    ensures { λ r. ⌜ r ≡ record { refusal = 0; outcome = 6; session = session; taken = 16 + len; output = output } ⌝ }
-{
-    Delivery {
-        refusal: 0,
-        outcome: outcome::ACTED,
-        session,
-        taken: 16 + len,
-        output,
-    }
-}
-
 // A message of a kind that passed all checks acts.
 pub fn act_synchronous(
     w: &mut Words,
@@ -77,17 +64,17 @@ pub fn act_synchronous(
     let session = tables::entry(w, i, tables::NUMBER);
     if kind == types::DATA {
         note_rmt(w, i, code);
-        return acted(session, len, 0);
+        return answer::acted(session, len, 0);
     }
     if kind == types::DATA_END {
         note_asked(w, i, code, MessageId::new(param));
-        return acted(session, len, 0);
+        return answer::acted(session, len, 0);
     }
     if kind == types::TRIGGER {
         note_asked(w, i, code, MessageId::new(param));
-        return acted(session, len, 0);
+        return answer::acted(session, len, 0);
     }
     leave_clear(w, i);
     frame::put_frame(out, 0, c as u8, types::DEVICE_CLEAR_ACKNOWLEDGE, 0, 0);
-    acted(session, len, 17)
+    answer::acted(session, len, 17)
 }
