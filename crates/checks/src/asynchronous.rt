@@ -1,7 +1,7 @@
 // The checks of a whole message on a session's asynchronous channel.
 ghost use Prim.Native.Nat.{ℕ};
 ghost use Rattle.checks.specs.Asynchronous.{codeWrong, payloadWrong};
-ghost use Rattle.checks.specs.Numbers.{message, verdictOf};
+ghost use Rattle.checks.specs.Numbers.{Numbered, message};
 ghost use Rattle.model.specs.Checks.{asynchronousRules, first};
 ghost use mathlib.Core.List.{List};
 ghost use mathlib.Core.Path.{_≡_};
@@ -50,7 +50,7 @@ fn payload_wrong(kind: u8, code: u8, len: u64) -> bool
 
 // Checks 6, 8 and 10 of a message.
 pub fn asynchronous_verdict(kind: u8, code: u8, len: u64) -> u8
-    ensures { λ r. ⌜ ((p : List ℕ) (param : ℕ) → first (asynchronousRules (message kind code param len) p) ≡ verdictOf r) ⌝ }
+    ensures { λ r. ⌜ ((p : List ℕ) (param : ℕ) → Numbered (first (asynchronousRules (message kind code param len) p)) r) ⌝ }
 {
     // check 6
     if kind == types::FATAL_ERROR {

@@ -1,6 +1,6 @@
 // The checks of a whole message on a connection without a role.
 ghost use Prim.Native.Nat.{ℕ};
-ghost use Rattle.checks.specs.Numbers.{message, verdictOf};
+ghost use Rattle.checks.specs.Numbers.{Numbered, message};
 ghost use Rattle.model.specs.Checks.{first, hislip0, openingRules};
 ghost use Rattle.model.specs.Lists.{all, isNil, same};
 ghost use Rattle.model.specs.State.{at, halfOpen, live, slotOfNumber};
@@ -79,7 +79,7 @@ fn is_half_open(w: &Words, number: u64) -> bool
 
 // Initialize: the sub-address first, then room for one more session.
 fn initialize_verdict(w: &Words, payload: &[u8]) -> u8
-    ensures { λ r. ⌜ ((s : List ℕ) (code param len : ℕ) → first (openingRules (view (memory (now (w .entry)) s)) (message 0 code param len) (now (payload .entry))) ≡ verdictOf r) ⌝ }
+    ensures { λ r. ⌜ ((s : List ℕ) (code param len : ℕ) → Numbered (first (openingRules (view (memory (now (w .entry)) s)) (message 0 code param len) (now (payload .entry)))) r) ⌝ }
 {
     if !is_sub_address(payload) {
         return FATAL_3;
@@ -92,7 +92,7 @@ fn initialize_verdict(w: &Words, payload: &[u8]) -> u8
 
 // Checks 3 and 10 of a message, and whether a session can be opened or joined.
 pub fn opening_verdict(w: &Words, kind: u8, param: u32, len: u64, payload: &[u8]) -> u8
-    ensures { λ r. ⌜ ((s : List ℕ) (code : ℕ) → first (openingRules (view (memory (now (w .entry)) s)) (message kind code param len) (now (payload .entry))) ≡ verdictOf r) ⌝ }
+    ensures { λ r. ⌜ ((s : List ℕ) (code : ℕ) → Numbered (first (openingRules (view (memory (now (w .entry)) s)) (message kind code param len) (now (payload .entry)))) r) ⌝ }
 {
     // check 3: types 0 and 17 pass
     if kind == types::INITIALIZE {

@@ -1,6 +1,6 @@
 // The checks of a whole message on a session's synchronous channel.
 ghost use Prim.Native.Nat.{ℕ, _<_};
-ghost use Rattle.checks.specs.Numbers.{message, verdictOf};
+ghost use Rattle.checks.specs.Numbers.{Numbered, message};
 ghost use Rattle.checks.specs.Synchronous.{commanded, completed};
 ghost use Rattle.model.specs.Checks.{first, synchronousRules};
 ghost use Rattle.model.specs.Locks.{access};
@@ -33,7 +33,7 @@ fn in_clear(w: &Words, i: usize) -> bool
 
 // Check 10 of DeviceClearComplete: no payload, and only in a clear.
 fn complete_verdict(clearing: bool, len: u64) -> u8
-    ensures { λ r. ⌜ completed clearing len ≡ verdictOf r ⌝ }
+    ensures { λ r. ⌜ Numbered (completed clearing len) r ⌝ }
 {
     if len > 0 {
         return ERROR_0;
@@ -47,7 +47,7 @@ fn complete_verdict(clearing: bool, len: u64) -> u8
 // Checks 9 and 10 of Data, DataEND and Trigger (12).
 fn command_verdict(w: &Words, i: usize, kind: u8, code: u8, len: u64) -> u8
     requires { ⌜ i < sessionLimit ⌝ }
-    ensures { λ r. ⌜ ((s : List ℕ) → commanded (access (locksOf (now (w .entry)) s .entries) i) kind code len ≡ verdictOf r) ⌝ }
+    ensures { λ r. ⌜ ((s : List ℕ) → Numbered (commanded (access (locksOf (now (w .entry)) s .entries) i) kind code len) r) ⌝ }
 {
     if !access::has_access(w, i) {
         return HELD;
@@ -67,7 +67,7 @@ fn command_verdict(w: &Words, i: usize, kind: u8, code: u8, len: u64) -> u8
 // Checks 6 to 10 of a message for the session in slot `i`.
 pub fn synchronous_verdict(w: &Words, i: usize, kind: u8, code: u8, len: u64) -> u8
     requires { ⌜ i < sessionLimit ⌝ }
-    ensures { λ r. ⌜ ((s p : List ℕ) (param : ℕ) → first (synchronousRules (view (memory (now (w .entry)) s)) i (message kind code param len) p) ≡ verdictOf r) ⌝ }
+    ensures { λ r. ⌜ ((s p : List ℕ) (param : ℕ) → Numbered (first (synchronousRules (view (memory (now (w .entry)) s)) i (message kind code param len) p)) r) ⌝ }
 {
     // check 6
     if kind == types::FATAL_ERROR {

@@ -1,6 +1,6 @@
 // The verdict by the connection's role.
 ghost use Prim.Native.Nat.{ℕ, _<_};
-ghost use Rattle.checks.specs.Numbers.{message, verdictOf};
+ghost use Rattle.checks.specs.Numbers.{Numbered, message};
 ghost use Rattle.model.specs.Checks.{judged, partly, tooLong};
 ghost use Rattle.model.specs.Place.{Role};
 ghost use Rattle.state.specs.Search.{roleNumber};
@@ -23,7 +23,7 @@ use wire::types;
 
 // Checks 3 and 4: the length is above 1,024.
 pub fn long_verdict(role: u8) -> u8
-    ensures { λ r. ⌜ (r ≡ 5 → ⊥) × ((ro : Role) → roleNumber ro ≡ role → tooLong ro ≡ verdictOf r) ⌝ }
+    ensures { λ r. ⌜ (r ≡ 5 → ⊥) × ((ro : Role) → roleNumber ro ≡ role → Numbered (tooLong ro) r) ⌝ }
 {
     match role {
         NO_ROLE => FATAL_3,
@@ -34,7 +34,7 @@ pub fn long_verdict(role: u8) -> u8
 
 // Checks 3 and 5: the payload is not all here.
 pub fn partial_verdict(role: u8, kind: u8) -> u8
-    ensures { λ r. ⌜ (r ≡ 5 → ⊥) × ((ro : Role) (code param len : ℕ) → roleNumber ro ≡ role → partly ro (message kind code param len) ≡ verdictOf r) ⌝ }
+    ensures { λ r. ⌜ (r ≡ 5 → ⊥) × ((ro : Role) (code param len : ℕ) → roleNumber ro ≡ role → Numbered (partly ro (message kind code param len)) r) ⌝ }
 {
     if role == HALF_OPEN {
         return FATAL_2;
@@ -61,7 +61,7 @@ pub fn whole_verdict(
     payload: &[u8],
 ) -> u8
     requires { ⌜ (role ≡ 2 → i < sessionLimit) ⌝ }
-    ensures { λ r. ⌜ ((s : List ℕ) (ro : Role) → roleNumber ro ≡ role → judged ro (view (memory (now (w .entry)) s)) i (message kind code param len) (now (payload .entry)) ≡ verdictOf r) ⌝ }
+    ensures { λ r. ⌜ ((s : List ℕ) (ro : Role) → roleNumber ro ≡ role → Numbered (judged ro (view (memory (now (w .entry)) s)) i (message kind code param len) (now (payload .entry))) r) ⌝ }
 {
     match role {
         NO_ROLE => opening::opening_verdict(w, kind, param, len, payload),

@@ -15,6 +15,7 @@ use Rattle.model.specs.Lists.{all, tally}
 use Rattle.model.specs.Acts.{holder, AsynchronousKind.k-remoteLocal, AsynchronousKind.k-maximumSize, AsynchronousKind.k-lockInfo, asynchronousRest, asynchronousSaid, asynchronousEvent}
 use Rattle.state.specs.Change.{onRest, onExchange, exchangeWith, entryWith, singleWith}
 use Rattle.state.specs.View.{flag, memory, view, restOf, locksOf}
+use Rattle.effects.specs.declared.Delivery.{Delivery}
 use Rattle.effects.specs.Asynchronous.{DidKind, delivered, did-one}
 use Rattle.effects.specs.Synchronous.{slot-changed}
 
@@ -46,30 +47,30 @@ module _ (d : Server) where
   pub controls : (d′ : Server) (code : ℕ) (x y : RemoteLocal) → x ≡ d .rest .remoteLocal → y ≡ controlled code x → d′ ≡ onRest d (flagging y) → d′ ≡ onRest d (controlling code)
   controls d′ code x y e f v = v ∙ ap (λ (z : RemoteLocal). onRest d (flagging z)) (f ∙ ap (controlled code) e)
 
-module _ (w s w′ out out′ : List ℕ) (i c n : ℕ) (e : entryWith 0 n (at (locksOf w s .entries) i) ≡ at (locksOf w s .entries) i) where
-  pub control-told : (code param len : ℕ) (p : List ℕ) → view (memory w′ s) ≡ onRest (view (memory w s)) (controlling code)
+module _ (w s w′ out out′ : List ℕ) (i c n : ℕ) (e : entryWith 0 n (at (locksOf w s .entries) i) ≡ at (locksOf w s .entries) i) (told : Delivery) where
+  pub control-told : (code param len : ℕ) (p : List ℕ) → told ≡ delivered n len 17 → view (memory w′ s) ≡ onRest (view (memory w s)) (controlling code)
       → out′ ≡ splice out 0 (frameBytes (frameOf c 11 0 0 []))
-      → DidKind k-remoteLocal i c code param len p (delivered n len 17) (memory w s) (memory w′ s) out out′
+      → DidKind k-remoteLocal i c code param len p told (memory w s) (memory w′ s) out out′
   unfolding asynchronousRest asynchronousSaid asynchronousEvent
-  control-told code param len p v o t =
-      did-one (view (memory w s)) i n len 0 (controlling code (restOf w)) (frameOf c 11 0 0 []) (frameOf c 11 0 0 []) (memory w s) (memory w′ s) out out′ e refl refl v o
+  control-told code param len p q v o t =
+      did-one (view (memory w s)) i n len 0 (controlling code (restOf w)) (frameOf c 11 0 0 []) (frameOf c 11 0 0 []) told (memory w s) (memory w′ s) out out′ q e refl refl v o
 
   -- 1,024 in 8 bytes
-  pub size-told : (code param len size : ℕ) (p : List ℕ) → length p ≡ 8 → size ≡ numberAt p 0 8 → view (memory w′ s) ≡ onExchange (view (memory w s)) i (exchangeWith 3 size)
+  pub size-told : (code param len size : ℕ) (p : List ℕ) → told ≡ delivered n len 25 → length p ≡ 8 → size ≡ numberAt p 0 8 → view (memory w′ s) ≡ onExchange (view (memory w s)) i (exchangeWith 3 size)
       → out′ ≡ splice out 0 (frameBytes (frameOf c 16 0 0 (0 ∷ 0 ∷ 0 ∷ 0 ∷ 0 ∷ 0 ∷ 4 ∷ 0 ∷ [])))
-      → DidKind k-maximumSize i c code param len p (delivered n len 25) (memory w s) (memory w′ s) out out′
+      → DidKind k-maximumSize i c code param len p told (memory w s) (memory w′ s) out out′
   unfolding asynchronousRest asynchronousSaid asynchronousEvent field
-  size-told code param len size p l q v o t =
+  size-told code param len size p r l q v o t =
       let d : Server = view (memory w s) in
       let f : Frame = frameOf c 16 0 0 (0 ∷ 0 ∷ 0 ∷ 0 ∷ 0 ∷ 0 ∷ 4 ∷ 0 ∷ []) in
       let z : size ≡ number p = q ∙ ap (λ (x : ℕ). number (take x p)) (sym l) ∙ ap number (take-length p) in
-      did-one d i n len 8 (withExchange (d .rest) i (withClientSize (number p) (exchangeAt (d .rest) i))) f f (memory w s) (memory w′ s) out out′ e refl refl
+      did-one d i n len 8 (withExchange (d .rest) i (withClientSize (number p) (exchangeAt (d .rest) i))) f f told (memory w s) (memory w′ s) out out′ r e refl refl
       (v ∙ ap (λ (x : ℕ). onExchange d i (exchangeWith 3 x)) z ∙ slot-changed d i (withClientSize (number p))) o
 
-  pub info-told : (code param len x y : ℕ) (p : List ℕ) → cond (all noExclusive (locksOf w s .entries)) 0 1 ≡ x → tally holder (locksOf w s .entries) ≡ y
+  pub info-told : (code param len x y : ℕ) (p : List ℕ) → told ≡ delivered n len 17 → cond (all noExclusive (locksOf w s .entries)) 0 1 ≡ x → tally holder (locksOf w s .entries) ≡ y
       → out′ ≡ splice out 0 (frameBytes (frameOf c 25 x y []))
-      → DidKind k-lockInfo i c code param len p (delivered n len 17) (memory w s) (memory w s) out out′
+      → DidKind k-lockInfo i c code param len p told (memory w s) (memory w s) out out′
   unfolding asynchronousRest asynchronousSaid asynchronousEvent
-  info-told code param len x y p q r o t =
-      did-one (view (memory w s)) i n len 0 (restOf w) (frameOf c 25 (cond (all noExclusive (locksOf w s .entries)) 0 1) (tally holder (locksOf w s .entries)) []) (frameOf c 25 x y [])
-      (memory w s) (memory w s) out out′ e (ap₂ (λ (a b : ℕ). frameOf c 25 a b []) q r) refl refl o
+  info-told code param len x y p z q r o t =
+      did-one (view (memory w s)) i n len 0 (restOf w) (frameOf c 25 (cond (all noExclusive (locksOf w s .entries)) 0 1) (tally holder (locksOf w s .entries)) []) (frameOf c 25 x y []) told
+      (memory w s) (memory w s) out out′ z e (ap₂ (λ (a b : ℕ). frameOf c 25 a b []) q r) refl refl o

@@ -18,6 +18,7 @@ use Rattle.state.specs.Grid.{upd-upd}
 use Rattle.state.specs.Change.{onExchange, exchangeWith, entryWith}
 use Rattle.state.specs.View.{Memory, memory, view, restOf, locksOf}
 use Rattle.effects.specs.Did.{Did}
+use Rattle.effects.specs.declared.Delivery.{Delivery}
 use Rattle.effects.specs.Asynchronous.{DidKind, delivered, planWith, did-with, one-length}
 use Rattle.effects.specs.Synchronous.{slot-changed}
 use Rattle.locks.specs.Outcome.{Met}
@@ -77,49 +78,49 @@ pub clear-entered : (i : ℕ) (d d₁ d₂ d₃ : Server) → d₁ ≡ onExchang
     → d₃ ≡ onExchange d i enterClear
 clear-entered i d d₁ d₂ d₃ e₁ e₂ e₃ = rw (e₃, e₂, e₁, upd-upd, upd-upd)
 
-module _ (w s w₁ out out₁ out′ : List ℕ) (i c n a : ℕ) (e : entryWith 0 n (at (locksOf w s .entries) i) ≡ at (locksOf w s .entries) i) (fits : a ≤ length out) where
-  pub clear-told : (w′ : List ℕ) (code param len : ℕ) (p : List ℕ) → Met (change (locksOf w s) (clear i)) (memory w s) (memory w₁ s) out out₁ 0 a
+module _ (w s w₁ out out₁ out′ : List ℕ) (i c n a : ℕ) (e : entryWith 0 n (at (locksOf w s .entries) i) ≡ at (locksOf w s .entries) i) (fits : a ≤ length out) (told : Delivery) where
+  pub clear-told : (w′ : List ℕ) (code param len : ℕ) (p : List ℕ) → told ≡ delivered n len (a + 17) → Met (change (locksOf w s) (clear i)) (memory w s) (memory w₁ s) out out₁ 0 a
       → view (memory w′ s) ≡ onExchange (view (memory w₁ s)) i enterClear
       → out′ ≡ splice out₁ a (frameBytes (frameOf c 23 0 0 []))
-      → DidKind k-deviceClear i c code param len p (delivered n len (a + 17)) (memory w s) (memory w′ s) out out′
+      → DidKind k-deviceClear i c code param len p told (memory w s) (memory w′ s) out out′
   unfolding finish change asynchronousRest asynchronousSaid asynchronousEvent
-  clear-told w′ code param len p x v o t =
+  clear-told w′ code param len p z x v o t =
       let d : Server = view (memory w s) in
       let q : Rest = withExchange (d .rest) i (enterClear (exchangeAt (d .rest) i)) in
       let f : Frame = frameOf c 23 0 0 [] in
       let xs : List Frame = map lockFrame ((change (locksOf w s) (clear i)) .answers) in
       let u : view (memory w′ s) ≡ record { locks = (change (locksOf w s) (clear i)) .locks; rest = q } =
       v ∙ slot-changed (view (memory w₁ s)) i enterClear ∙ (λ j. record { locks = x .locks j; rest = ap (λ (r : Rest). withExchange r i (enterClear (exchangeAt r i))) (x .rest) j }) in
-      did-with d i n len (a + 17) q (f ∷ []) (clear i) (memory w s) (memory w′ s) out out′ (xs ++ (f ∷ [])) e refl u
+      did-with d i n len (a + 17) q (f ∷ []) (clear i) told (memory w s) (memory w′ s) out out′ (xs ++ (f ∷ [])) z e refl u
       (behind xs (f ∷ []) a (x .place) out out₁ out′ fits (x .buffer) (o ∙ ap (splice out₁ a) (sym (bytes-one f))))
       (behind-length xs (f ∷ []) a (x .place) (a + 17) (ap (λ (y : ℕ). a + y) (one-length f 0 refl)))
 
-  pub release-told : (w′ s′ : List ℕ) (code param len r : ℕ) (p : List ℕ) → code ≡ 0 → Met (change (locksOf w s) (release i)) (memory w s) (memory w₁ s) out out₁ 0 a
+  pub release-told : (w′ s′ : List ℕ) (code param len r : ℕ) (p : List ℕ) → told ≡ delivered n len r → code ≡ 0 → Met (change (locksOf w s) (release i)) (memory w s) (memory w₁ s) out out₁ 0 a
       → Met (grantPass (locksOf w₁ s)) (memory w₁ s) (memory w′ s′) out₁ out′ a r
-      → DidKind k-lock i c code param len p (delivered n len r) (memory w s) (memory w′ s′) out out′
+      → DidKind k-lock i c code param len p told (memory w s) (memory w′ s′) out out′
   unfolding finish asynchronousRest asynchronousSaid asynchronousEvent
-  release-told w′ s′ code param len r p z x y t =
+  release-told w′ s′ code param len r p q z x y t =
       let d : Server = view (memory w s) in
       let l : Locks = (change (locksOf w s) (release i)) .locks in
       let xs : List Frame = map lockFrame ((change (locksOf w s) (release i)) .answers) in
       let ys : List Frame = map lockFrame ((grantPass (locksOf w₁ s)) .answers) in
       let u : view (memory w′ s′) ≡ record { locks = (grantPass l) .locks; rest = restOf w } =
       (λ j. record { locks = (y .locks ∙ ap (λ (k : Locks). (grantPass k) .locks) (x .locks)) j; rest = (y .rest ∙ x .rest) j }) in
-      let g : Did (finish d (planWith d i len (restOf w) [] (release i))) (delivered n len r) (memory w s) (memory w′ s′) out out′ =
-      did-with d i n len r (restOf w) [] (release i) (memory w s) (memory w′ s′) out out′ (xs ++ ys) e
+      let g : Did (finish d (planWith d i len (restOf w) [] (release i))) told (memory w s) (memory w′ s′) out out′ =
+      did-with d i n len r (restOf w) [] (release i) told (memory w s) (memory w′ s′) out out′ (xs ++ ys) q e
       (ap (λ (k : Locks). xs ++ map lockFrame ((grantPass k) .answers)) (sym (x .locks))) u
       (behind xs ys a (x .place) out out₁ out′ fits (x .buffer) (y .buffer))
       (behind-length xs ys a (x .place) r (y .place)) in
       rw (eq-eqb code 0 z) g
 
-pub request-told : (w s w′ s′ out out′ : List ℕ) (i c n code param len r : ℕ) (p : List ℕ) → entryWith 0 n (at (locksOf w s .entries) i) ≡ at (locksOf w s .entries) i
+pub request-told : (w s w′ s′ out out′ : List ℕ) (i c n code param len r : ℕ) (p : List ℕ) (told : Delivery) → told ≡ delivered n len r → entryWith 0 n (at (locksOf w s .entries) i) ≡ at (locksOf w s .entries) i
     → (code ≡ 0 → ⊥) → Met (change (locksOf w s) (request i param p)) (memory w s) (memory w′ s′) out out′ 0 r
-    → DidKind k-lock i c code param len p (delivered n len r) (memory w s) (memory w′ s′) out out′
+    → DidKind k-lock i c code param len p told (memory w s) (memory w′ s′) out out′
 unfolding finish asynchronousRest asynchronousSaid asynchronousEvent
-request-told w s w′ s′ out out′ i c n code param len r p e z x t =
+request-told w s w′ s′ out out′ i c n code param len r p told q e z x t =
     let d : Server = view (memory w s) in
     let xs : List Frame = map lockFrame ((change (locksOf w s) (request i param p)) .answers) in
-    let g : Did (finish d (planWith d i len (restOf w) [] (request i param p))) (delivered n len r) (memory w s) (memory w′ s′) out out′ =
-    did-with d i n len r (restOf w) [] (request i param p) (memory w s) (memory w′ s′) out out′ xs e (append-nil xs)
+    let g : Did (finish d (planWith d i len (restOf w) [] (request i param p))) told (memory w s) (memory w′ s′) out out′ =
+    did-with d i n len r (restOf w) [] (request i param p) told (memory w s) (memory w′ s′) out out′ xs q e (append-nil xs)
     (λ j. record { locks = x .locks j; rest = x .rest j }) (x .buffer) (x .place ∙ omega arith) in
     rw (ne-eqb code 0 z) g

@@ -18,6 +18,7 @@ use Rattle.model.specs.Acts.{AsynchronousKind.k-statusQuery, asynchronousRest, 
 use Rattle.state.specs.Change.{onRest, exchangeWith, entryWith, singleWith}
 use Rattle.state.specs.View.{memory, view, restOf, locksOf}
 use Rattle.effects.specs.Closing.{exchanges-held}
+use Rattle.effects.specs.declared.Delivery.{Delivery}
 use Rattle.effects.specs.Asynchronous.{heading, DidKind, delivered, did-one}
 use Rattle.effects.specs.Synchronous.{withSlot}
 
@@ -39,18 +40,18 @@ module _ (r : Rest) (i v a : ℕ) (s : singleWith 1 v r ≡ r) (x : exchangeWith
   pub byte-quiet : (a ≡ 1 → ⊥) → lowStatus v ≡ statusByte (r .status) ((exchangeAt r i) .messageAvailable)
   byte-quiet e = let z : lowStatus v ≡ lowStatus v + 0 = omega arith in z ∙ byte-of 0 (ap (λ (b : Bool). cond b 16 0) (ne-eqb a 1 e))
 
-module _ (w s w′ out out′ : List ℕ) (i c n : ℕ) (few : i < sessionLimit) (e : entryWith 0 n (at (locksOf w s .entries) i) ≡ at (locksOf w s .entries) i) where
-  pub status-told : (code param len b : ℕ) (p : List ℕ) → view (memory w′ s) ≡ onRest (view (memory w s)) (withSlot i (noteRmt code))
+module _ (w s w′ out out′ : List ℕ) (i c n : ℕ) (few : i < sessionLimit) (e : entryWith 0 n (at (locksOf w s .entries) i) ≡ at (locksOf w s .entries) i) (told : Delivery) where
+  pub status-told : (code param len b : ℕ) (p : List ℕ) → told ≡ delivered n len 17 → view (memory w′ s) ≡ onRest (view (memory w s)) (withSlot i (noteRmt code))
       → b ≡ statusByte (restOf w′ .status) ((exchangeAt (restOf w′) i) .messageAvailable)
       → out′ ≡ splice out 0 (frameBytes (frameOf c 22 b 0 []))
-      → DidKind k-statusQuery i c code param len p (delivered n len 17) (memory w s) (memory w′ s) out out′
+      → DidKind k-statusQuery i c code param len p told (memory w s) (memory w′ s) out out′
   unfolding asynchronousRest asynchronousSaid asynchronousEvent availableAt
-  status-told code param len b p v q o t =
+  status-told code param len b p r v q o t =
       let d : Server = view (memory w s) in
       let h : Header = heading t code param len in
       let l : i < length (d .rest .exchanges) = rw (exchanges-held w) few in
       let g : b ≡ statusByte (d .rest .status) (availableAt h (exchangeAt (d .rest) i)) =
       q ∙ ap (λ (y : Server). statusByte (y .rest .status) ((exchangeAt (y .rest) i) .messageAvailable)) v
       ∙ ap (λ (y : Exchange). statusByte (d .rest .status) (y .messageAvailable)) (getD-set-same (d .rest .exchanges) i (noteRmt code (exchangeAt (d .rest) i)) freshExchange l) in
-      did-one d i n len 0 (withExchange (d .rest) i (noteRmt code (exchangeAt (d .rest) i))) (frameOf c 22 (statusByte (d .rest .status) (availableAt h (exchangeAt (d .rest) i))) 0 []) (frameOf c 22 b 0 [])
-      (memory w s) (memory w′ s) out out′ e (ap (λ (y : ℕ). frameOf c 22 y 0 []) (sym g)) refl v o
+      did-one d i n len 0 (withExchange (d .rest) i (noteRmt code (exchangeAt (d .rest) i))) (frameOf c 22 (statusByte (d .rest .status) (availableAt h (exchangeAt (d .rest) i))) 0 []) (frameOf c 22 b 0 []) told
+      (memory w s) (memory w′ s) out out′ r e (ap (λ (y : ℕ). frameOf c 22 y 0 []) (sym g)) refl v o

@@ -18,7 +18,7 @@ ghost use mathlib.Core.List.{List};
 ghost use mathlib.Core.Path.{_≡_};
 ghost use Rattle.model.specs.Sizes.{connectionLimit, outputMinimum, payloadLimit, sessionLimit};
 use crate::Delivery;
-use crate::outcome;
+use crate::answer;
 use crate::synchronous::note_rmt;
 use locks::grant_pass;
 use locks::info;
@@ -26,6 +26,7 @@ use locks::release;
 use locks::request;
 use locks::waiting;
 use remote::RemoteLocal;
+use remote::commanded;
 use state::sizes::Strings;
 use state::sizes::Words;
 use state::tables;
@@ -55,13 +56,7 @@ fn query_status(w: &mut Words, out: &mut [u8], c: u64, i: usize, code: u8, len: 
     note_rmt(w, i, code);
     let b = status_of(w, i);
     frame::put_frame(out, 0, c as u8, types::ASYNC_STATUS_RESPONSE, b, 0);
-    Delivery {
-        refusal: 0,
-        outcome: outcome::ACTED,
-        session: n,
-        taken: 16 + len,
-        output: 17,
-    }
+    answer::acted(n, len, 17)
 }
 
 // AsyncLockInfo.
@@ -73,13 +68,7 @@ fn tell_locks(w: &Words, out: &mut [u8], c: u64, i: usize, len: u64) -> Delivery
     let x = info::exclusive_code(w);
     let y = info::holder_count(w);
     frame::put_frame(out, 0, c as u8, types::ASYNC_LOCK_INFO_RESPONSE, x, y);
-    Delivery {
-        refusal: 0,
-        outcome: outcome::ACTED,
-        session: n,
-        taken: 16 + len,
-        output: 17,
-    }
+    answer::acted(n, len, 17)
 }
 
 // The three flags, read: on where the word is 1.
@@ -112,12 +101,12 @@ fn set_flags(w: &mut Words, f: RemoteLocal)
     tables::set_single(w, tables::REMOTE, word_of(f.remote));
 }
 
-// What the code makes of the three flags: read, by value, stored.
+// What the code makes of the three flags: read, changed in place, stored.
 fn set_control(w: &mut Words, code: u8)
     ensures { λ _. ⌜ ((s : List ℕ) → view (memory (now (w .exit)) s) ≡ onRest (view (memory (now (w .entry)) s)) (controlling code)) ⌝ }
 {
     let f = flags_of(w);
-    set_flags(w, f.controlled(code));
+    set_flags(w, commanded(f, code));
 }
 
 // AsyncRemoteLocalControl.
@@ -128,13 +117,7 @@ fn control(w: &mut Words, out: &mut [u8], c: u64, i: usize, code: u8, len: u64) 
     let n = tables::entry(w, i, tables::NUMBER);
     set_control(w, code);
     frame::put_frame(out, 0, c as u8, types::ASYNC_REMOTE_LOCAL_RESPONSE, 0, 0);
-    Delivery {
-        refusal: 0,
-        outcome: outcome::ACTED,
-        session: n,
-        taken: 16 + len,
-        output: 17,
-    }
+    answer::acted(n, len, 17)
 }
 
 // AsyncMaximumMessageSize: the client's size is noted, and the server's is 1,024.
@@ -155,13 +138,7 @@ fn note_size(w: &mut Words, out: &mut [u8], c: u64, i: usize, len: u64, payload:
         0,
         &bytes,
     );
-    Delivery {
-        refusal: 0,
-        outcome: outcome::ACTED,
-        session: n,
-        taken: 16 + len,
-        output: 25,
-    }
+    answer::acted(n, len, 25)
 }
 
 // In device clear, with nothing asked and no message available.
@@ -190,13 +167,7 @@ fn clear(w: &mut Words, out: &mut [u8], c: u64, i: usize, len: u64) -> Delivery
         0,
         0,
     );
-    Delivery {
-        refusal: 0,
-        outcome: outcome::ACTED,
-        session: n,
-        taken: 16 + len,
-        output: (at + 17) as u64,
-    }
+    answer::acted(n, len, (at + 17) as u64)
 }
 
 // AsyncLock: code 0 releases, and then those that wait are looked at; any other code requests.
@@ -217,22 +188,10 @@ fn lock(
     if code == 0 {
         let at = release::release_lock(w, out, 0, i);
         let end = grant_pass::grant_waiting(w, strings, out, at);
-        return Delivery {
-            refusal: 0,
-            outcome: outcome::ACTED,
-            session: n,
-            taken: 16 + len,
-            output: end as u64,
-        };
+        return answer::acted(n, len, end as u64);
     }
     let end = request::request_lock(w, strings, out, 0, i, param, payload);
-    Delivery {
-        refusal: 0,
-        outcome: outcome::ACTED,
-        session: n,
-        taken: 16 + len,
-        output: end as u64,
-    }
+    answer::acted(n, len, end as u64)
 }
 
 // What a message of the asynchronous lane does, by its type.

@@ -14,6 +14,7 @@ use crate::replies::keep_open;
 use state::sizes::Words;
 use state::tables;
 use wire::frame;
+use wire::message_id::MessageId;
 use wire::types;
 
 // Connection c opens, with nothing to skip.
@@ -32,15 +33,15 @@ pub fn set_status(w: &mut Words, b: u8)
 }
 
 // The number that an answer of slot i carries: that of the message asked, 0 if nothing is asked.
-fn number_asked(w: &Words, i: usize) -> u32
+fn number_asked(w: &Words, i: usize) -> MessageId
     requires { ⌜ i < sessionLimit ⌝ }
-    ensures { λ r. ⌜ answerNumber (exchangeAt (restOf (now (w .entry))) i) ≡ r ⌝ }
+    ensures { λ r. ⌜ answerNumber (exchangeAt (restOf (now (w .entry))) i) ≡ r .number ⌝ }
 {
     let v = tables::exchange(w, i, tables::ASKED);
     if v == 0 {
-        return 0;
+        return MessageId::new(0);
     }
-    ((v - 1) % 4294967296) as u32
+    MessageId::new(((v - 1) % 4294967296) as u32)
 }
 
 // Slot i was sent an answer: message available goes on, and with END nothing is asked any more.
@@ -71,8 +72,8 @@ pub fn send_answer(w: &mut Words, out: &mut [u8], i: usize, end: bool, payload: 
     ensures { λ r. ⌜ ((s : List ℕ) → Answers (view (memory (now (w .entry)) s)) i end (now (payload .entry)) (view (memory (now (w .exit)) s)) (now (out .entry)) (now (out .exit)) r) ⌝ }
 {
     let c = (tables::entry(w, i, tables::SYNCHRONOUS) % 256) as u8;
-    let n = number_asked(w, i);
+    let id = number_asked(w, i);
     note_answer(w, i, end);
-    frame::put_message(out, 0, c, answer_kind(end), 0, n, payload);
+    frame::put_message(out, 0, c, answer_kind(end), 0, id.number, payload);
     17 + payload.len()
 }

@@ -1,4 +1,5 @@
 // What a delivery, a cut and an answer do to the lent memory and the output, once it is decided what is to be done.
+pub mod answer;
 pub mod asynchronous;
 pub mod closing;
 pub mod events;

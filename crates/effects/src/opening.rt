@@ -14,8 +14,8 @@ ghost use mathlib.Core.List.{List};
 ghost use mathlib.Core.Path.{_≡_};
 ghost use Rattle.model.specs.Sizes.{connectionLimit, outputMinimum, payloadLimit, sessionLimit};
 use crate::Delivery;
+use crate::answer;
 use crate::closing::renew_exchange;
-use crate::outcome;
 use crate::session_id;
 use locks::sessions;
 use state::search;
@@ -62,13 +62,7 @@ pub fn initialize(w: &mut Words, out: &mut [u8], c: u64, param: u32, len: u64) -
         0,
         v * 65536 + n as u32,
     );
-    Delivery {
-        refusal: 0,
-        outcome: outcome::ACTED,
-        session: n,
-        taken: 16 + len,
-        output: 17,
-    }
+    answer::acted(n, len, 17)
 }
 
 // AsyncInitialize that acts: the second connection of the session with the number in the parameter.
@@ -80,13 +74,7 @@ pub fn async_initialize(w: &mut Words, out: &mut [u8], c: u64, param: u32, len: 
     let vendor = (tables::single(w, tables::VENDOR) % 65536) as u32;
     sessions::join_slot(w, i, c);
     frame::put_frame(out, 0, c as u8, types::ASYNC_INITIALIZE_RESPONSE, 0, vendor);
-    Delivery {
-        refusal: 0,
-        outcome: outcome::ACTED,
-        session: param as u64,
-        taken: 16 + len,
-        output: 17,
-    }
+    answer::acted(param as u64, len, 17)
 }
 
 // A message that acts on a connection without a role: Initialize by its kind, else AsyncInitialize.

@@ -14,6 +14,7 @@ ghost use mathlib.Core.List.{List, []};
 ghost use mathlib.Core.Path.{_≡_};
 ghost use Rattle.model.specs.Sizes.{connectionLimit, outputMinimum};
 use crate::Delivery;
+use crate::answer;
 use crate::closing;
 use crate::outcome;
 use state::sizes::NO_CONNECTION;
@@ -47,28 +48,16 @@ pub fn send_error(
 {
     keep_open(w, c, left);
     frame::put_frame(out, 0, c as u8, types::ERROR, code, 0);
-    Delivery {
-        refusal: 0,
-        outcome: outcome::ERROR_SENT,
-        session: 0,
-        taken,
-        output: 17,
-    }
+    answer::error_sent(taken)
 }
 
-// So many bytes of the remainder r are skipped.
-pub fn skip(w: &mut Words, c: u64, r: u64, taken: u64) -> Delivery
-    requires { ⌜ (c < connectionLimit) × (taken ≤ r) × (r ≡ (connectionAt (restOf (now w)) c) .remainder) ⌝ }
+// So many bytes of the remainder are skipped.
+pub fn skip(w: &mut Words, c: u64, remainder: u64, taken: u64) -> Delivery
+    requires { ⌜ (c < connectionLimit) × (taken ≤ remainder) × (remainder ≡ (connectionAt (restOf (now w)) c) .remainder) ⌝ }
     ensures { λ r. ⌜ ((s out : List ℕ) → Did (finish (view (memory (now (w .entry)) s)) (skipPlan (view (memory (now (w .entry)) s)) c taken)) r (memory (now (w .entry)) s) (memory (now (w .exit)) s) out out) ⌝ }
 {
-    keep_open(w, c, r - taken);
-    Delivery {
-        refusal: 0,
-        outcome: outcome::SKIPPED,
-        session: 0,
-        taken,
-        output: 0,
-    }
+    keep_open(w, c, remainder - taken);
+    answer::quiet(outcome::SKIPPED, taken)
 }
 
 // The FatalError to each connection of the session in slot i, or to connection c alone; the place behind it.
@@ -114,13 +103,7 @@ pub fn send_fatal(
     let session = number_of(w, i);
     let at = put_fatal(w, out, c, i, code);
     let end = closing::close_place(w, strings, out, at, c, i);
-    Delivery {
-        refusal: 0,
-        outcome: outcome::CLOSED,
-        session,
-        taken: 0,
-        output: end as u64,
-    }
+    answer::closed(session, end as u64)
 }
 
 // The session closes without reply.
@@ -136,11 +119,5 @@ pub fn close_silently(
 {
     let session = number_of(w, i);
     let end = closing::close_place(w, strings, out, 0, c, i);
-    Delivery {
-        refusal: 0,
-        outcome: outcome::CLOSED,
-        session,
-        taken: 0,
-        output: end as u64,
-    }
+    answer::closed(session, end as u64)
 }

@@ -13,10 +13,11 @@ ghost use mathlib.Core.List.{List};
 ghost use mathlib.Core.Path.{_≡_};
 ghost use Rattle.model.specs.Sizes.{connectionLimit, outputMinimum, payloadLimit, sessionLimit};
 use crate::Delivery;
-use crate::outcome;
+use crate::answer;
 use state::sizes::Words;
 use state::tables;
 use wire::frame;
+use wire::message_id::MessageId;
 use wire::types;
 
 // RMT-delivered (code 1) turns message available off.
@@ -30,12 +31,12 @@ pub fn note_rmt(w: &mut Words, i: usize, code: u8)
     tables::set_exchange(w, i, tables::AVAILABLE, 0);
 }
 
-// What is asked is this message.
-fn note_asked(w: &mut Words, i: usize, code: u8, param: u32)
+// What is asked is this message. The word kept is its number plus 1; 0 is nothing asked.
+fn note_asked(w: &mut Words, i: usize, code: u8, id: MessageId)
     requires { ⌜ i < sessionLimit ⌝ }
-    ensures { λ _. ⌜ ((s : List ℕ) → view (memory (now (w .exit)) s) ≡ onRest (view (memory (now (w .entry)) s)) (withSlot i (ask code param))) ⌝ }
+    ensures { λ _. ⌜ ((s : List ℕ) → view (memory (now (w .exit)) s) ≡ onRest (view (memory (now (w .entry)) s)) (withSlot i (ask code (id .number)))) ⌝ }
 {
-    tables::set_exchange(w, i, tables::ASKED, param as u64 + 1);
+    tables::set_exchange(w, i, tables::ASKED, id.number as u64 + 1);
     note_rmt(w, i, code);
 }
 
@@ -44,19 +45,6 @@ fn leave_clear(w: &mut Words, i: usize)
     ensures { λ _. ⌜ ((s : List ℕ) → view (memory (now (w .exit)) s) ≡ onRest (view (memory (now (w .entry)) s)) (withSlot i leaveClear)) ⌝ }
 {
     tables::set_exchange(w, i, tables::IN_CLEAR, 0);
-}
-
-fn acted(session: u64, len: u64, output: u64) -> Delivery
-    requires { ⌜ len ≤ payloadLimit ⌝ }
-    ensures { λ r. ⌜ r ≡ record { refusal = 0; outcome = 6; session = session; taken = 16 + len; output = output } ⌝ }
-{
-    Delivery {
-        refusal: 0,
-        outcome: outcome::ACTED,
-        session,
-        taken: 16 + len,
-        output,
-    }
 }
 
 // A message of a kind that passed all checks acts.
@@ -76,17 +64,17 @@ pub fn act_synchronous(
     let session = tables::entry(w, i, tables::NUMBER);
     if kind == types::DATA {
         note_rmt(w, i, code);
-        return acted(session, len, 0);
+        return answer::acted(session, len, 0);
     }
     if kind == types::DATA_END {
-        note_asked(w, i, code, param);
-        return acted(session, len, 0);
+        note_asked(w, i, code, MessageId::new(param));
+        return answer::acted(session, len, 0);
     }
     if kind == types::TRIGGER {
-        note_asked(w, i, code, param);
-        return acted(session, len, 0);
+        note_asked(w, i, code, MessageId::new(param));
+        return answer::acted(session, len, 0);
     }
     leave_clear(w, i);
     frame::put_frame(out, 0, c as u8, types::DEVICE_CLEAR_ACKNOWLEDGE, 0, 0);
-    acted(session, len, 17)
+    answer::acted(session, len, 17)
 }

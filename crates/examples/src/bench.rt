@@ -6,6 +6,7 @@ use crate::calls;
 use crate::text;
 use state::sizes::Strings;
 use state::sizes::Words;
+use wire::message_id::MessageId;
 
 fn heading(example: &[u8]) {
     text::say(b"\n");
@@ -32,11 +33,11 @@ fn with_a_and_b(words: &mut Words, strings: &mut Strings, example: &[u8]) {
 }
 
 // Data with a payload of so many bytes, all 7.
-fn long_data(words: &mut Words, strings: &mut Strings, what: &[u8], param: u32, count: usize)
+fn long_data(words: &mut Words, strings: &mut Strings, what: &[u8], id: MessageId, count: usize)
     requires { ⌜ count ≤ 1025 ⌝ }
 {
     let mut frame = [7; 1042];
-    wire::frame::put_header(&mut frame, 0, 0, 6, 0, param, count as u64);
+    wire::frame::put_header(&mut frame, 0, 0, 6, 0, id.number, count as u64);
     let end = 17 + count;
     calls::deliver(words, strings, 0, what, &frame[1..end]);
 }
@@ -71,7 +72,8 @@ fn three_releases(words: &mut Words, strings: &mut Strings) {
 }
 
 fn data_of_b(words: &mut Words, strings: &mut Strings) {
-    calls::send(words, strings, 2, b"B's Data", 6, 0, 0xffffff00, b"cal");
+    let id = MessageId::first();
+    calls::send(words, strings, 2, b"B's Data", 6, 0, id.number, b"cal");
 }
 
 pub fn initialize(words: &mut Words, strings: &mut Strings) {
@@ -112,8 +114,9 @@ pub fn wrong_prologue(words: &mut Words, strings: &mut Strings) {
 
 pub fn lengths(words: &mut Words, strings: &mut Strings) {
     with_a(words, strings, b"Length 1,024 accepted, 1,025 Error 4.");
-    long_data(words, strings, b"Data, 1,024", 0xffffff00, 1024);
-    long_data(words, strings, b"Data, 1,025", 0xffffff02, 1025);
+    let id = MessageId::first();
+    long_data(words, strings, b"Data, 1,024", id, 1024);
+    long_data(words, strings, b"Data, 1,025", id.next(), 1025);
     let payload = [7; 1025];
     calls::deliver(words, strings, 0, b"its payload", &payload);
 }
@@ -160,9 +163,10 @@ pub fn deadline(words: &mut Words, strings: &mut Strings) {
 pub fn status(words: &mut Words, strings: &mut Strings) {
     with_a(words, strings, b"Status 41 hex with an answer sent: 51.");
     calls::status(words, strings, 0x41);
-    calls::send(words, strings, 0, b"A asks", 7, 0, 0xffffff00, b"READ?");
+    let id = MessageId::first();
+    calls::send(words, strings, 0, b"A asks", 7, 0, id.number, b"READ?");
     calls::answer(words, strings, 1, b"42");
-    calls::send(words, strings, 1, b"status query", 21, 0, 0xffffff00, b"");
+    calls::send(words, strings, 1, b"status query", 21, 0, id.number, b"");
 }
 
 pub fn other_types(words: &mut Words, strings: &mut Strings) {

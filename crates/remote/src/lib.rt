@@ -70,3 +70,12 @@ pub fn control(flags: &mut RemoteLocal, code: u8)
     let f = *flags;
     *flags = f.controlled(code);
 }
+
+// The same with plain parameters: a copy of the flags is lent. Proved by hand.
+pub fn commanded(flags: RemoteLocal, code: u8) -> RemoteLocal
+    ensures { λ r. ⌜ shown r ≡ controlled code (shown flags) ⌝ }
+{
+    let mut f = flags;
+    control(&mut f, code);
+    f
+}

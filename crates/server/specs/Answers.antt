@@ -1,62 +1,63 @@
 -- An instrument's answer: its refusals in 01's order, from the words that were read, and its frame. Assumes nothing.
-use mathlib.Core.Path.{_≡_, refl, sym, ap, _∙_}
-use mathlib.Core.Bool.{Bool, true, false, not, _||_, cond}
+use mathlib.Core.Path.{_≡_, sym, ap, _∙_}
+use mathlib.Core.Bool.{Bool, true, false, not, _||_}
 use mathlib.Core.List.{List, [], _∷_}
-use Prim.Native.Nat.{ℕ, _+_, _≤_, _<_}
-use lib.Dec.{eqb, ltb}
+use Prim.Native.Nat.{ℕ, _≤_, _<_}
+use lib.Dec.{ltb}
 use lib.ListN.{length, List·getD-eq-default}
 use borrow.Author.Tests.{lt-ltb, le-ltb, eq-eqb, ne-eqb}
-use Rattle.wire.specs.Frame.{bytesOf}
 use Rattle.model.specs.Sizes.{sessionLimit, outputMinimum, payloadLimit}
-use Rattle.model.specs.State.{Server, Entry, Exchange, Asked, Asked.none, Asked.some, at, blank, live, slotOfNumber, exchangeAt}
+use Rattle.model.specs.State.{Server, Entry, Exchange, at, blank, live, slotOfNumber, exchangeAt}
 use Rattle.model.specs.Interface.{Event.answer}
 use Rattle.model.specs.Exchange.{isAsked, mayAnswer}
 use Rattle.model.specs.Refusals.{causes, refusal, firstCause, Cause, smallRoom}
-use Rattle.state.specs.Change.{exchangeWith, onRest}
-use Rattle.state.specs.View.{Memory, memory, view, locksOf, askedOf}
+use Rattle.state.specs.Change.{exchangeWith}
+use Rattle.state.specs.View.{Memory, view, locksOf, askedOf}
 use Rattle.effects.specs.Closing.{sessions-held}
 use Rattle.effects.specs.Events.{Answers, answerFrame, answer-finishes}
 use Rattle.server.specs.declared.Done.{Done}
+use Rattle.server.specs.Causes.{short-room, enough-room}
 use Rattle.server.specs.Events.{Called, taken-call}
 
 module _ (d : Server) (n i : ℕ) (p : List ℕ) (end : Bool) (room : ℕ) (found : slotOfNumber (d .locks .entries) n ≡ i) where
-  -- the causes at the slot that was found
+  -- the causes at the slot that was found, behind the buffer's
   row : List Cause
   row =
-      smallRoom room
-      ∷ record { test = not (live (at (d .locks .entries) i)); number = 8 }
+      record { test = not (live (at (d .locks .entries) i)); number = 8 }
       ∷ record { test = not (mayAnswer (exchangeAt (d .rest) i)); number = 5 }
       ∷ record { test = ltb payloadLimit (length p) || ltb ((exchangeAt (d .rest) i) .clientSize) (length p); number = 6 }
       ∷ []
 
-  at-row : refusal d (answer n p end room) ≡ firstCause row
-  unfolding refusal causes row
+  at-row : causes d (answer n p end room) ≡ smallRoom room ∷ row
+  unfolding causes row
   at-row =
-      ap (λ (j : ℕ). firstCause (smallRoom room ∷ record { test = not (live (at (d .locks .entries) j)); number = 8 } ∷ record { test = not (mayAnswer (exchangeAt (d .rest) j)); number = 5 } ∷ record { test = ltb payloadLimit (length p) || ltb ((exchangeAt (d .rest) j) .clientSize) (length p); number = 6 } ∷ [])) found
+      ap (λ (j : ℕ). smallRoom room ∷ record { test = not (live (at (d .locks .entries) j)); number = 8 } ∷ record { test = not (mayAnswer (exchangeAt (d .rest) j)); number = 5 } ∷ record { test = ltb payloadLimit (length p) || ltb ((exchangeAt (d .rest) j) .clientSize) (length p); number = 6 } ∷ []) found
 
   pub answer-short-room : room < outputMinimum → refusal d (answer n p end room) ≡ 7
-  unfolding row
-  answer-short-room h = at-row ∙ rw (lt-ltb room outputMinimum h)
+  answer-short-room = short-room d (answer n p end room) room row at-row
+
+  then-row : outputMinimum ≤ room → refusal d (answer n p end room) ≡ firstCause row
+  then-row = enough-room d (answer n p end room) room row at-row
 
   pub answer-nobody : outputMinimum ≤ room → live (at (d .locks .entries) i) ≡ false → refusal d (answer n p end room) ≡ 8
   unfolding row
-  answer-nobody h l = at-row ∙ rw (le-ltb room outputMinimum h, l)
+  answer-nobody h l = then-row h ∙ rw l
 
   pub answer-unasked : outputMinimum ≤ room → live (at (d .locks .entries) i) ≡ true → mayAnswer (exchangeAt (d .rest) i) ≡ false → refusal d (answer n p end room) ≡ 5
   unfolding row
-  answer-unasked h l a = at-row ∙ rw (le-ltb room outputMinimum h, l, a)
+  answer-unasked h l a = then-row h ∙ rw (l, a)
 
   pub answer-long : outputMinimum ≤ room → live (at (d .locks .entries) i) ≡ true → mayAnswer (exchangeAt (d .rest) i) ≡ true → payloadLimit < length p → refusal d (answer n p end room) ≡ 6
   unfolding row
-  answer-long h l a q = at-row ∙ rw (le-ltb room outputMinimum h, l, a, lt-ltb payloadLimit (length p) q)
+  answer-long h l a q = then-row h ∙ rw (l, a, lt-ltb payloadLimit (length p) q)
 
   pub answer-over : outputMinimum ≤ room → live (at (d .locks .entries) i) ≡ true → mayAnswer (exchangeAt (d .rest) i) ≡ true → length p ≤ payloadLimit → (exchangeAt (d .rest) i) .clientSize < length p → refusal d (answer n p end room) ≡ 6
   unfolding row
-  answer-over h l a q r = at-row ∙ rw (le-ltb room outputMinimum h, l, a, le-ltb payloadLimit (length p) q, lt-ltb ((exchangeAt (d .rest) i) .clientSize) (length p) r)
+  answer-over h l a q r = then-row h ∙ rw (l, a, le-ltb payloadLimit (length p) q, lt-ltb ((exchangeAt (d .rest) i) .clientSize) (length p) r)
 
   pub answer-taken : outputMinimum ≤ room → live (at (d .locks .entries) i) ≡ true → mayAnswer (exchangeAt (d .rest) i) ≡ true → length p ≤ payloadLimit → length p ≤ (exchangeAt (d .rest) i) .clientSize → refusal d (answer n p end room) ≡ 0
   unfolding row
-  answer-taken h l a q r = at-row ∙ rw (le-ltb room outputMinimum h, l, a, le-ltb payloadLimit (length p) q, le-ltb ((exchangeAt (d .rest) i) .clientSize) (length p) r)
+  answer-taken h l a q r = then-row h ∙ rw (l, a, le-ltb payloadLimit (length p) q, le-ltb ((exchangeAt (d .rest) i) .clientSize) (length p) r)
 
 -- what the words say
 pub not-there : (w s : List ℕ) (i : ℕ) → sessionLimit ≤ i → live (at (locksOf w s .entries) i) ≡ false

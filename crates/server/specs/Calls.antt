@@ -1,20 +1,14 @@
 -- What an exported function ensures: the model's `Post` for its event, and the numbers that it returns. And how the stages of a call
 -- give it: a refusal, or the plan carried out. Assumes nothing.
-use mathlib.Core.Path.{_≡_, refl, sym, ap, subst, _∙_}
-use mathlib.Core.Bool.{Bool, true, false, not, _||_, cond, true≢false}
-use mathlib.Core.List.{List, [], _∷_, _++_, map}
-use Prim.Native.Nat.{ℕ, zero, suc, _+_, _≤_, _<_}
-use native.Mathlib.Omega.{arith}
-use lib.Dec.{leb, ltb}
+use mathlib.Core.Path.{_≡_, refl, sym, ap, subst}
+use mathlib.Core.List.{List, []}
+use Prim.Native.Nat.{ℕ, suc}
 use lib.ListN.{length}
-use borrow.Author.Tests.{lt-ltb, le-ltb, le-leb, lt-leb}
-use Rattle.wire.specs.Frame.{Frame, bytesOf, written}
-use Rattle.wire.specs.Splice.{splice, splice-nil}
-use Rattle.model.specs.Sizes.{connectionLimit, outputMinimum}
+use Rattle.wire.specs.Frame.{bytesOf}
+use Rattle.wire.specs.Splice.{splice-nil}
 use Rattle.model.specs.State.{Server, connectionAt}
-use Rattle.model.specs.Interface.{Event, Event.delivery, Reply, Reply.refused, deliveryAnswer}
-use Rattle.model.specs.Canonical.{omits}
-use Rattle.model.specs.Refusals.{Cause, firstCause, causes, refusal, smallRoom, aboveLimit, notOpen}
+use Rattle.model.specs.Interface.{Event, Event.delivery, Reply.refused, deliveryAnswer}
+use Rattle.model.specs.Refusals.{refusal}
 use Rattle.model.specs.Scan.{scan}
 use Rattle.model.specs.Step.{Result, finish, plan, answered, step, received}
 use Rattle.model.specs.Post.{Post}
@@ -49,24 +43,6 @@ refused-delivery e n r m out q f =
     delivered e r m m out out
     (subst (λ (x : Result). Did x r m m out out) (sym (step-refused (view m) e n q))
     (record { numbers = ap numbersOf f; server = refl; buffer = sym (splice-nil out 0); same-memory = λ z. refl; same-buffer = λ z. refl }))
-
--- the causes of a delivery's refusal, in 01's order
-module _ (d : Server) (c : ℕ) (bs : List ℕ) (room : ℕ) where
-  pub short-room : room < outputMinimum → refusal d (delivery c bs room) ≡ 7
-  unfolding refusal causes
-  short-room h = rw (lt-ltb room outputMinimum h)
-
-  pub no-number : outputMinimum ≤ room → connectionLimit ≤ c → refusal d (delivery c bs room) ≡ 1
-  unfolding refusal causes
-  no-number h l = rw (le-ltb room outputMinimum h, le-leb connectionLimit c l)
-
-  pub not-open : outputMinimum ≤ room → c < connectionLimit → (connectionAt (d .rest) c) .isOpen ≡ false → refusal d (delivery c bs room) ≡ 1
-  unfolding refusal causes
-  not-open h l o = rw (le-ltb room outputMinimum h, lt-leb connectionLimit c l, o)
-
-  pub not-refused : outputMinimum ≤ room → c < connectionLimit → (connectionAt (d .rest) c) .isOpen ≡ true → refusal d (delivery c bs room) ≡ 0
-  unfolding refusal causes
-  not-refused h l o = rw (le-ltb room outputMinimum h, lt-leb connectionLimit c l, o)
 
 pub taken-delivery : (c : ℕ) (bs : List ℕ) (room : ℕ) (r : Delivery) (m m′ : Memory) (out out′ : List ℕ) → refusal (view m) (delivery c bs room) ≡ 0
     → Did (finish (view m) (received (view m) c (scan ((connectionAt (view m .rest) c) .remainder) bs))) r m m′ out out′ → Delivered (delivery c bs room) r m m′ out out′

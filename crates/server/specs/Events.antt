@@ -1,32 +1,29 @@
 -- The calls other than deliveries: what each ensures, its refusals in 01's order, and its plan carried out. Assumes nothing.
-use mathlib.Core.Path.{_≡_, refl, sym, ap, ap₂, subst, _∙_}
-use mathlib.Core.Bool.{Bool, true, false, not, _||_, cond, true≢false}
-use mathlib.Core.List.{List, [], _∷_, _++_, map, append-nil}
-use Prim.Native.Nat.{ℕ, zero, suc, _+_, _≤_, _<_, _^_}
+use mathlib.Core.Path.{_≡_, refl, sym, ap, _∙_}
+use mathlib.Core.Bool.{true, false, true≢false}
+use mathlib.Core.List.{List, [], map, append-nil}
+use Prim.Native.Nat.{ℕ, suc, _+_, _≤_, _<_}
 use native.Mathlib.Nat.{zero-add}
-use native.Mathlib.Omega.{arith}
-use lib.Dec.{leb, ltb}
 use lib.ListN.{length}
 use borrow.Author.Tests.{lt-ltb, le-ltb, le-leb, lt-leb}
 use Rattle.wire.specs.Frame.{Frame, bytesOf, written}
-use Rattle.wire.specs.Splice.{splice, splice-nil}
-use Rattle.model.specs.Sizes.{connectionLimit, outputMinimum, payloadLimit, clockLimit}
-use Rattle.model.specs.State.{Server, Rest, fresh, at, live, slotOfNumber, exchangeAt, connectionAt, openConnection, withConnection, withStatus, withExchange}
-use Rattle.model.specs.Interface.{Event, Event.opening, Event.cut, Event.clock, Event.answer, Event.status, Reply, Reply.refused, Reply.done, DoneAnswer, doneAnswer}
+use Rattle.wire.specs.Splice.{splice-nil}
+use Rattle.model.specs.Sizes.{connectionLimit, outputMinimum, clockLimit}
+use Rattle.model.specs.State.{Server, Rest, fresh, connectionAt, withStatus}
+use Rattle.model.specs.Interface.{Event, Event.opening, Event.cut, Event.clock, Event.status, Reply.refused, Reply.done, DoneAnswer, doneAnswer}
 use Rattle.model.specs.Canonical.{omits}
-use Rattle.model.specs.Exchange.{mayAnswer}
 use Rattle.model.specs.Refusals.{causes, refusal}
 use Rattle.model.specs.Locks.{LockEvent.reading, change, grantPass}
 use Rattle.model.specs.Place.{slotOf}
 use Rattle.model.specs.Step.{Result, finish, plan, answered, step, closing, lockFrame}
 use Rattle.model.specs.Post.{Post}
-use Rattle.state.specs.View.{Memory, memory, view}
+use Rattle.state.specs.View.{Memory, view}
 use Rattle.state.specs.Change.{onRest}
 use Rattle.state.specs.Fresh.{freshWords, freshStrings}
 use Rattle.locks.specs.Outcome.{Met}
 use Rattle.effects.specs.Closing.{Closes, closedServer}
-use Rattle.effects.specs.Events.{Answers, answerFrame, opening-finishes, status-finishes, answer-finishes}
 use Rattle.server.specs.declared.Done.{Done}
+use Rattle.server.specs.Causes.{untimely, enough-room, clock-causes}
 
 abbrev pub doneNumbers : Done → DoneAnswer
 doneNumbers r = record { refusal = r .refusal; output = r .output }
@@ -90,39 +87,15 @@ module _ (d : Server) (c : ℕ) where
   unfolding refusal causes
   open-taken l o = rw (lt-leb connectionLimit c l, o)
 
-module _ (d : Server) (c room : ℕ) where
-  pub cut-short-room : room < outputMinimum → refusal d (cut c room) ≡ 7
-  unfolding refusal causes
-  cut-short-room h = rw (lt-ltb room outputMinimum h)
-
-  pub cut-no-number : outputMinimum ≤ room → connectionLimit ≤ c → refusal d (cut c room) ≡ 1
-  unfolding refusal causes
-  cut-no-number h l = rw (le-ltb room outputMinimum h, le-leb connectionLimit c l)
-
-  pub cut-not-open : outputMinimum ≤ room → c < connectionLimit → (connectionAt (d .rest) c) .isOpen ≡ false → refusal d (cut c room) ≡ 1
-  unfolding refusal causes
-  cut-not-open h l o = rw (le-ltb room outputMinimum h, lt-leb connectionLimit c l, o)
-
-  pub cut-taken : outputMinimum ≤ room → c < connectionLimit → (connectionAt (d .rest) c) .isOpen ≡ true → refusal d (cut c room) ≡ 0
-  unfolding refusal causes
-  cut-taken h l o = rw (le-ltb room outputMinimum h, lt-leb connectionLimit c l, o)
-
 module _ (d : Server) (t room : ℕ) where
-  pub clock-short-room : room < outputMinimum → refusal d (clock t room) ≡ 7
-  unfolding refusal causes
-  clock-short-room h = rw (lt-ltb room outputMinimum h)
-
   pub clock-above : outputMinimum ≤ room → clockLimit < t → refusal d (clock t room) ≡ 4
-  unfolding refusal causes
-  clock-above h l = rw (le-ltb room outputMinimum h, lt-ltb clockLimit t l)
+  clock-above h l = enough-room d (clock t room) room (untimely d t) (clock-causes d room t) h ∙ rw (lt-ltb clockLimit t l)
 
   pub clock-back : outputMinimum ≤ room → t ≤ clockLimit → t < d .locks .clock → refusal d (clock t room) ≡ 3
-  unfolding refusal causes
-  clock-back h l o = rw (le-ltb room outputMinimum h, le-ltb clockLimit t l, lt-ltb t (d .locks .clock) o)
+  clock-back h l o = enough-room d (clock t room) room (untimely d t) (clock-causes d room t) h ∙ rw (le-ltb clockLimit t l, lt-ltb t (d .locks .clock) o)
 
   pub clock-taken : outputMinimum ≤ room → t ≤ clockLimit → d .locks .clock ≤ t → refusal d (clock t room) ≡ 0
-  unfolding refusal causes
-  clock-taken h l o = rw (le-ltb room outputMinimum h, le-ltb clockLimit t l, le-ltb t (d .locks .clock) o)
+  clock-taken h l o = enough-room d (clock t room) room (untimely d t) (clock-causes d room t) h ∙ rw (le-ltb clockLimit t l, le-ltb t (d .locks .clock) o)
 
 -- a cut: the session closes, and those that wait are looked at
 pub cut-finishes : (d : Server) (c room : ℕ) → finish d (plan d (cut c room)) ≡ record { server = record { locks = (grantPass ((closedServer d c (slotOf d c)) .locks)) .locks; rest = closing d c }; reply = done; frames = map lockFrame ((grantPass ((closedServer d c (slotOf d c)) .locks)) .answers) }

@@ -23,6 +23,7 @@ use checks::verdict::HELD;
 use checks::verdict::IGNORED;
 use checks::whole;
 use effects::Delivery;
+use effects::answer;
 use effects::asynchronous;
 use effects::opening;
 use effects::outcome;
@@ -34,18 +35,6 @@ use state::sizes::Strings;
 use state::sizes::Words;
 use state::tables;
 use wire::reading;
-
-fn quiet(outcome: u64, taken: u64) -> Delivery
-    ensures { λ r. ⌜ r ≡ record { refusal = 0; outcome = outcome; session = 0; taken = taken; output = 0 } ⌝ }
-{
-    Delivery {
-        refusal: 0,
-        outcome,
-        session: 0,
-        taken,
-        output: 0,
-    }
-}
 
 // What a verdict other than "acts" does: so many bytes are taken, and so many are left to skip. Callers take the answer into a local: it is
 // written to memory by this call, and a delivery that acts keeps its own in registers.
@@ -72,12 +61,12 @@ fn apply(
         return replies::close_silently(w, strings, out, c, i);
     }
     if v == IGNORED {
-        return quiet(outcome::IGNORED, taken);
+        return answer::quiet(outcome::IGNORED, taken);
     }
     if v == HELD {
-        return quiet(outcome::HELD, 0);
+        return answer::quiet(outcome::HELD, 0);
     }
-    quiet(outcome::MORE_NEEDED, 0)
+    answer::quiet(outcome::MORE_NEEDED, 0)
 }
 
 // A message that passed all checks acts, by the role of its connection.
@@ -117,7 +106,7 @@ fn act(
     if role == search::NO_ROLE {
         return opening::act_opening(w, out, c, kind, param, len);
     }
-    quiet(outcome::ACTED, 16 + len)
+    answer::quiet(outcome::ACTED, 16 + len)
 }
 
 // A whole message: the verdict, and what it does.
@@ -210,14 +199,14 @@ pub fn deliver_open(
     ensures { λ r. ⌜ Did (finish (view (memory (now (w .entry)) (now (strings .entry)))) (received (view (memory (now (w .entry)) (now (strings .entry)))) c (scan ((connectionAt (restOf (now (w .entry))) c) .remainder) (now (bytes .entry))))) r (memory (now (w .entry)) (now (strings .entry))) (memory (now (w .exit)) (now (strings .exit))) (now (out .entry)) (now (out .exit)) ⌝ }
 {
     if bytes.len() == 0 {
-        return quiet(outcome::MORE_NEEDED, 0);
+        return answer::quiet(outcome::MORE_NEEDED, 0);
     }
     let left = tables::connection(w, c as usize, tables::REMAINDER);
     if left > 0 {
         return replies::skip(w, c, left, least(left, bytes.len()));
     }
     if bytes.len() < 16 {
-        return quiet(outcome::MORE_NEEDED, 0);
+        return answer::quiet(outcome::MORE_NEEDED, 0);
     }
     let place = search::place_of(w, c);
     let i = place.slot;

@@ -15,6 +15,7 @@ ghost use Rattle.state.specs.Layout.{STRINGS, WORDS};
 mod deliver;
 
 use effects::Delivery;
+use effects::answer;
 use effects::closing;
 use effects::events;
 use locks::waiting;
@@ -40,18 +41,6 @@ pub struct Done {
     pub output: u64,
 }
 
-fn refuse(n: u64) -> Delivery
-    ensures { λ r. ⌜ r ≡ record { refusal = n; outcome = 0; session = 0; taken = 0; output = 0 } ⌝ }
-{
-    Delivery {
-        refusal: n,
-        outcome: 0,
-        session: 0,
-        taken: 0,
-        output: 0,
-    }
-}
-
 // Unread bytes of a connection are delivered.
 #[no_mangle]
 pub extern "C" fn hislip_deliver(
@@ -64,13 +53,13 @@ pub extern "C" fn hislip_deliver(
     ensures { λ r. ⌜ Delivered (delivery connection (now (bytes .entry)) (length (now (out .entry)))) r (memory (now (words .entry)) (now (strings .entry))) (memory (now (words .exit)) (now (strings .exit))) (now (out .entry)) (now (out .exit)) ⌝ }
 {
     if out.len() < OUTPUT_MINIMUM {
-        return refuse(7);
+        return answer::refuse(7);
     }
     if connection >= CONNECTIONS {
-        return refuse(1);
+        return answer::refuse(1);
     }
     if tables::connection(words, connection as usize, tables::IS_OPEN) != 1 {
-        return refuse(1);
+        return answer::refuse(1);
     }
     deliver::deliver_open(words, strings, out, connection as u64, bytes)
 }

@@ -4,7 +4,8 @@ use native.Mathlib.Omega.{arith}
 use lib.ListN.{length}
 use Rattle.state.specs.View.{memory, view}
 use Rattle.model.specs.Interface.{Event.clock}
-use Rattle.server.specs.Events.{refused-call, clock-call, clock-short-room, clock-above, clock-back, clock-taken}
+use Rattle.server.specs.Causes.{untimely, clock-causes, short-room}
+use Rattle.server.specs.Events.{refused-call, clock-call, clock-above, clock-back, clock-taken}
 use borrow.Author.Needs.{needs}
 use Rattle.server.proofs.hislip_clock.Statement.{statement}
 use Rattle.server.proofs.hislip_clock.Tie as tie
@@ -16,7 +17,7 @@ returns c = let a = c .before .before .before .args in
     let d = view m in
     let out = a .out .now in
     let room = length out in
-    refused-call (clock (a .milliseconds) room) 6 _ m out (clock-short-room d (a .milliseconds) room (c .before .if1 .taken)) (c .told .ensures)
+    refused-call (clock (a .milliseconds) room) 6 _ m out (short-room d (clock (a .milliseconds) room) room (untimely d (a .milliseconds)) (clock-causes d room (a .milliseconds)) (c .before .if1 .taken)) (c .told .ensures)
 
 returns-2 : tie.Need-returns-2
 returns-2 c = let a = c .before .before .before .before .args in

@@ -7,7 +7,8 @@ use borrow.Author.Tests.{eq-eqb, ne-eqb}
 use Rattle.model.specs.State.{Connection}
 use Rattle.state.specs.View.{memory, view}
 use Rattle.model.specs.Interface.{Event.cut}
-use Rattle.server.specs.Events.{refused-call, cut-call, cut-short-room, cut-no-number, cut-not-open, cut-taken}
+use Rattle.server.specs.Causes.{unknown, cut-causes, short-room, no-number, not-open, is-open}
+use Rattle.server.specs.Events.{refused-call, cut-call}
 use borrow.Author.Needs.{needs}
 use Rattle.server.proofs.hislip_cut.Statement.{statement}
 use Rattle.server.proofs.hislip_cut.Tie as tie
@@ -19,7 +20,7 @@ returns c = let a = c .before .before .before .args in
     let d = view m in
     let out = a .out .now in
     let room = length out in
-    refused-call (cut (a .connection) room) 6 _ m out (cut-short-room d (a .connection) room (c .before .if1 .taken)) (c .told .ensures)
+    refused-call (cut (a .connection) room) 6 _ m out (short-room d (cut (a .connection) room) room (unknown d (a .connection)) (cut-causes d room (a .connection)) (c .before .if1 .taken)) (c .told .ensures)
 
 returns-2 : tie.Need-returns-2
 returns-2 c = let a = c .before .before .before .before .args in
@@ -28,7 +29,7 @@ returns-2 c = let a = c .before .before .before .before .args in
     let d = view m in
     let out = a .out .now in
     let room = length out in
-    refused-call (cut (a .connection) room) 0 _ m out (cut-no-number d (a .connection) room (c .before .before .if1 .left) (c .before .if2 .taken)) (c .told2 .ensures)
+    refused-call (cut (a .connection) room) 0 _ m out (no-number d (cut (a .connection) room) room (a .connection) (cut-causes d room (a .connection)) (c .before .before .if1 .left) (c .before .if2 .taken)) (c .told2 .ensures)
 
 returns-3 : tie.Need-returns-3
 returns-3 c = let a = c .before .before .before .before .before .before .before .args in
@@ -37,7 +38,7 @@ returns-3 c = let a = c .before .before .before .before .before .before .before 
     let d = view m in
     let out = a .out .now in
     let room = length out in
-    refused-call (cut (a .connection) room) 0 _ m out (cut-not-open d (a .connection) room (c .before .before .before .before .before .if1 .left) (omega arith) (sym (ap (λ (x : Connection). x .isOpen) (c .before .before .connection .ensures)) ∙ ne-eqb (c .before .before .connection .result) 1 (c .before .if3 .taken))) (c .told3 .ensures)
+    refused-call (cut (a .connection) room) 0 _ m out (not-open d (cut (a .connection) room) room (a .connection) (cut-causes d room (a .connection)) (c .before .before .before .before .before .if1 .left) (omega arith) (sym (ap (λ (x : Connection). x .isOpen) (c .before .before .connection .ensures)) ∙ ne-eqb (c .before .before .connection .result) 1 (c .before .if3 .taken))) (c .told3 .ensures)
 
 returns-4 : tie.Need-returns-4
 returns-4 c = let a = c .before .before .before .before .before .before .before .before .before .before .before .before .before .before .before .args in
@@ -46,7 +47,7 @@ returns-4 c = let a = c .before .before .before .before .before .before .before 
     let d = view m in
     let out = a .out .now in
     let room = length out in
-    cut-call (a .connection) (c .before .before .before .before .before .before .before .place-of .result .slot) room _ m _ out _ (c .before .before .before .close-place .result) (cut-taken d (a .connection) room (c .before .before .before .before .before .before .before .before .before .before .before .before .before .if1 .left) (omega arith) (sym (ap (λ (x : Connection). x .isOpen) (c .before .before .before .before .before .before .before .before .before .before .connection .ensures)) ∙ eq-eqb (c .before .before .before .before .before .before .before .before .before .before .connection .result) 1 (c .before .before .before .before .before .before .before .before .before .if3 .left))) (c .before .before .before .before .before .before .before .place-of .ensures .1 s) (c .before .before .before .close-place .ensures) (c .told4 .ensures)
+    cut-call (a .connection) (c .before .before .before .before .before .before .before .place-of .result .slot) room _ m _ out _ (c .before .before .before .close-place .result) (is-open d (cut (a .connection) room) room (a .connection) (cut-causes d room (a .connection)) (c .before .before .before .before .before .before .before .before .before .before .before .before .before .if1 .left) (omega arith) (sym (ap (λ (x : Connection). x .isOpen) (c .before .before .before .before .before .before .before .before .before .before .connection .ensures)) ∙ eq-eqb (c .before .before .before .before .before .before .before .before .before .before .connection .result) 1 (c .before .before .before .before .before .before .before .before .before .if3 .left))) (c .before .before .before .before .before .before .before .place-of .ensures .1 s) (c .before .before .before .close-place .ensures) (c .told4 .ensures)
 
 pub hislip-cut-spec : {M : Type 1} → statement M
 hislip-cut-spec =

@@ -7,7 +7,8 @@ use borrow.Author.Tests.{eq-eqb, ne-eqb}
 use Rattle.model.specs.Interface.{Event.delivery}
 use Rattle.model.specs.State.{Connection}
 use Rattle.state.specs.View.{memory, view}
-use Rattle.server.specs.Calls.{refused-delivery, taken-delivery, short-room, no-number, not-open, not-refused}
+use Rattle.server.specs.Calls.{refused-delivery, taken-delivery}
+use Rattle.server.specs.Causes.{unknown, delivery-causes, short-room, no-number, not-open, is-open}
 use borrow.Author.Needs.{needs}
 use Rattle.server.proofs.hislip_deliver.Statement.{statement}
 use Rattle.server.proofs.hislip_deliver.Tie as tie
@@ -18,7 +19,8 @@ returns c = let a = c .before .before .before .before .args in
     let d = view m in
     let bs = a .bytes .now in
     let out = a .out .now in
-    refused-delivery (delivery (a .connection) bs (length out)) 6 _ m out (short-room d (a .connection) bs (length out) (c .before .if1 .taken)) (c .refuse .ensures)
+    let e = delivery (a .connection) bs (length out) in
+    refused-delivery e 6 _ m out (short-room d e (length out) (unknown d (a .connection)) (delivery-causes d (length out) (a .connection) bs) (c .before .if1 .taken)) (c .refuse .ensures)
 
 returns-2 : tie.Need-returns-2
 returns-2 c = let a = c .before .before .before .before .before .args in
@@ -26,7 +28,8 @@ returns-2 c = let a = c .before .before .before .before .before .args in
     let d = view m in
     let bs = a .bytes .now in
     let out = a .out .now in
-    refused-delivery (delivery (a .connection) bs (length out)) 0 _ m out (no-number d (a .connection) bs (length out) (c .before .before .if1 .left) (c .before .if2 .taken)) (c .refuse2 .ensures)
+    let e = delivery (a .connection) bs (length out) in
+    refused-delivery e 0 _ m out (no-number d e (length out) (a .connection) (delivery-causes d (length out) (a .connection) bs) (c .before .before .if1 .left) (c .before .if2 .taken)) (c .refuse2 .ensures)
 
 returns-3 : tie.Need-returns-3
 returns-3 c = let a = c .before .before .before .before .before .before .before .before .args in
@@ -34,7 +37,8 @@ returns-3 c = let a = c .before .before .before .before .before .before .before 
     let d = view m in
     let bs = a .bytes .now in
     let out = a .out .now in
-    refused-delivery (delivery (a .connection) bs (length out)) 0 _ m out (not-open d (a .connection) bs (length out) (c .before .before .before .before .before .if1 .left) (omega arith) (sym (ap (λ (x : Connection). x .isOpen) (c .before .before .connection .ensures)) ∙ ne-eqb (c .before .before .connection .result) 1 (c .before .if3 .taken))) (c .refuse3 .ensures)
+    let e = delivery (a .connection) bs (length out) in
+    refused-delivery e 0 _ m out (not-open d e (length out) (a .connection) (delivery-causes d (length out) (a .connection) bs) (c .before .before .before .before .before .if1 .left) (omega arith) (sym (ap (λ (x : Connection). x .isOpen) (c .before .before .connection .ensures)) ∙ ne-eqb (c .before .before .connection .result) 1 (c .before .if3 .taken))) (c .refuse3 .ensures)
 
 returns-4 : tie.Need-returns-4
 returns-4 c = let a = c .before .before .before .before .before .before .before .before .before .before .before .before .before .args in
@@ -42,7 +46,8 @@ returns-4 c = let a = c .before .before .before .before .before .before .before 
     let d = view m in
     let bs = a .bytes .now in
     let out = a .out .now in
-    taken-delivery (a .connection) bs (length out) _ m _ out _ (not-refused d (a .connection) bs (length out) (c .before .before .before .before .before .before .before .before .before .before .if1 .left) (omega arith) (sym (ap (λ (x : Connection). x .isOpen) (c .before .before .before .before .before .before .before .connection .ensures)) ∙ eq-eqb (c .before .before .before .before .before .before .before .connection .result) 1 (c .before .before .before .before .before .before .if3 .left))) (c .before .before .deliver-open .ensures)
+    let e = delivery (a .connection) bs (length out) in
+    taken-delivery (a .connection) bs (length out) _ m _ out _ (is-open d e (length out) (a .connection) (delivery-causes d (length out) (a .connection) bs) (c .before .before .before .before .before .before .before .before .before .before .if1 .left) (omega arith) (sym (ap (λ (x : Connection). x .isOpen) (c .before .before .before .before .before .before .before .connection .ensures)) ∙ eq-eqb (c .before .before .before .before .before .before .before .connection .result) 1 (c .before .before .before .before .before .before .if3 .left))) (c .before .before .deliver-open .ensures)
 
 pub hislip-deliver-spec : {M : Type 1} → statement M
 hislip-deliver-spec =

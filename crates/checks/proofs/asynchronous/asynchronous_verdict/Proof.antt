@@ -1,43 +1,44 @@
 -- `asynchronous::asynchronous_verdict` meets its contract: check after check, in the order of the row of rules.
-use mathlib.Core.Path.{sym, _∙_}
+use mathlib.Core.Path.{refl, sym, _∙_}
 use Rattle.wire.specs.Class.{classOf, asynchronous}
 use Rattle.checks.specs.Classes.{is-vendor, not-vendor, is-unrecognised, not-unrecognised}
 use Rattle.checks.specs.Asynchronous.{async-closed, async-error, async-vendor, async-unrecognised, async-again, async-code, async-payload, async-acts}
+use Rattle.checks.specs.Numbers.{numbered}
 use borrow.Author.Needs.{needs}
 use Rattle.checks.proofs.asynchronous.asynchronous_verdict.Statement.{statement}
 use Rattle.checks.proofs.asynchronous.asynchronous_verdict.Tie as tie
 
 returns : tie.Need-returns
 returns c = let a = c .before .args in
-    λ p n. async-closed (a .kind) (a .code) n (a .len) p (c .if1 .taken)
+    λ p n. numbered _ _ (async-closed (a .kind) (a .code) n (a .len) p (c .if1 .taken)) refl
 
 returns-2 : tie.Need-returns-2
 returns-2 c = let a = c .before .before .args in
-    λ p n. async-error (a .kind) (a .code) n (a .len) p (c .if2 .taken)
+    λ p n. numbered _ _ (async-error (a .kind) (a .code) n (a .len) p (c .if2 .taken)) refl
 
 returns-3 : tie.Need-returns-3
 returns-3 c = let a = c .before .before .before .before .args in
-    λ p n. async-vendor (a .kind) (a .code) n (a .len) p (c .before .before .before .if1 .left) (c .before .before .if2 .left) (is-vendor (classOf asynchronous (a .kind)) (c .before .class-of .result) (c .before .class-of .ensures) (c .if3 .taken))
+    λ p n. numbered _ _ (async-vendor (a .kind) (a .code) n (a .len) p (c .before .before .before .if1 .left) (c .before .before .if2 .left) (is-vendor (classOf asynchronous (a .kind)) (c .before .class-of .result) (c .before .class-of .ensures) (c .if3 .taken))) refl
 
 returns-4 : tie.Need-returns-4
 returns-4 c = let a = c .before .before .before .before .before .args in
-    λ p n. async-unrecognised (a .kind) (a .code) n (a .len) p (c .before .before .before .before .if1 .left) (c .before .before .before .if2 .left) (not-vendor (classOf asynchronous (a .kind)) (c .before .before .class-of .result) (c .before .before .class-of .ensures) (c .before .if3 .left)) (is-unrecognised (classOf asynchronous (a .kind)) (c .before .before .class-of .result) (c .before .before .class-of .ensures) (c .if4 .taken))
+    λ p n. numbered _ _ (async-unrecognised (a .kind) (a .code) n (a .len) p (c .before .before .before .before .if1 .left) (c .before .before .before .if2 .left) (not-vendor (classOf asynchronous (a .kind)) (c .before .before .class-of .result) (c .before .before .class-of .ensures) (c .before .if3 .left)) (is-unrecognised (classOf asynchronous (a .kind)) (c .before .before .class-of .result) (c .before .before .class-of .ensures) (c .if4 .taken))) refl
 
 returns-5 : tie.Need-returns-5
 returns-5 c = let a = c .before .before .before .before .before .before .args in
-    λ p n. async-again (a .kind) (a .code) n (a .len) p (c .before .before .before .before .before .if1 .left) (c .before .before .before .before .if2 .left) (not-vendor (classOf asynchronous (a .kind)) (c .before .before .before .class-of .result) (c .before .before .before .class-of .ensures) (c .before .before .if3 .left)) (not-unrecognised (classOf asynchronous (a .kind)) (c .before .before .before .class-of .result) (c .before .before .before .class-of .ensures) (c .before .if4 .left)) (c .if5 .taken)
+    λ p n. numbered _ _ (async-again (a .kind) (a .code) n (a .len) p (c .before .before .before .before .before .if1 .left) (c .before .before .before .before .if2 .left) (not-vendor (classOf asynchronous (a .kind)) (c .before .before .before .class-of .result) (c .before .before .before .class-of .ensures) (c .before .before .if3 .left)) (not-unrecognised (classOf asynchronous (a .kind)) (c .before .before .before .class-of .result) (c .before .before .before .class-of .ensures) (c .before .if4 .left)) (c .if5 .taken)) refl
 
 returns-6 : tie.Need-returns-6
 returns-6 c = let a = c .before .before .before .before .before .before .before .before .args in
-    λ p n. async-code (a .kind) (a .code) n (a .len) p (c .before .before .before .before .before .before .before .if1 .left) (c .before .before .before .before .before .before .if2 .left) (not-vendor (classOf asynchronous (a .kind)) (c .before .before .before .before .before .class-of .result) (c .before .before .before .before .before .class-of .ensures) (c .before .before .before .before .if3 .left)) (not-unrecognised (classOf asynchronous (a .kind)) (c .before .before .before .before .before .class-of .result) (c .before .before .before .before .before .class-of .ensures) (c .before .before .before .if4 .left)) (c .before .before .if5 .left) (sym (c .before .code-wrong .ensures) ∙ c .if6 .taken)
+    λ p n. numbered _ _ (async-code (a .kind) (a .code) n (a .len) p (c .before .before .before .before .before .before .before .if1 .left) (c .before .before .before .before .before .before .if2 .left) (not-vendor (classOf asynchronous (a .kind)) (c .before .before .before .before .before .class-of .result) (c .before .before .before .before .before .class-of .ensures) (c .before .before .before .before .if3 .left)) (not-unrecognised (classOf asynchronous (a .kind)) (c .before .before .before .before .before .class-of .result) (c .before .before .before .before .before .class-of .ensures) (c .before .before .before .if4 .left)) (c .before .before .if5 .left) (sym (c .before .code-wrong .ensures) ∙ c .if6 .taken)) refl
 
 returns-7 : tie.Need-returns-7
 returns-7 c = let a = c .before .before .before .before .before .before .before .before .before .before .args in
-    λ p n. async-payload (a .kind) (a .code) n (a .len) p (c .before .before .before .before .before .before .before .before .before .if1 .left) (c .before .before .before .before .before .before .before .before .if2 .left) (not-vendor (classOf asynchronous (a .kind)) (c .before .before .before .before .before .before .before .class-of .result) (c .before .before .before .before .before .before .before .class-of .ensures) (c .before .before .before .before .before .before .if3 .left)) (not-unrecognised (classOf asynchronous (a .kind)) (c .before .before .before .before .before .before .before .class-of .result) (c .before .before .before .before .before .before .before .class-of .ensures) (c .before .before .before .before .before .if4 .left)) (c .before .before .before .before .if5 .left) (sym (c .before .before .before .code-wrong .ensures) ∙ c .before .before .if6 .left) (sym (c .before .payload-wrong .ensures) ∙ c .if7 .taken)
+    λ p n. numbered _ _ (async-payload (a .kind) (a .code) n (a .len) p (c .before .before .before .before .before .before .before .before .before .if1 .left) (c .before .before .before .before .before .before .before .before .if2 .left) (not-vendor (classOf asynchronous (a .kind)) (c .before .before .before .before .before .before .before .class-of .result) (c .before .before .before .before .before .before .before .class-of .ensures) (c .before .before .before .before .before .before .if3 .left)) (not-unrecognised (classOf asynchronous (a .kind)) (c .before .before .before .before .before .before .before .class-of .result) (c .before .before .before .before .before .before .before .class-of .ensures) (c .before .before .before .before .before .if4 .left)) (c .before .before .before .before .if5 .left) (sym (c .before .before .before .code-wrong .ensures) ∙ c .before .before .if6 .left) (sym (c .before .payload-wrong .ensures) ∙ c .if7 .taken)) refl
 
 returns-8 : tie.Need-returns-8
 returns-8 c = let a = c .before .before .before .before .before .before .before .before .before .before .args in
-    λ p n. async-acts (a .kind) (a .code) n (a .len) p (c .before .before .before .before .before .before .before .before .before .if1 .left) (c .before .before .before .before .before .before .before .before .if2 .left) (not-vendor (classOf asynchronous (a .kind)) (c .before .before .before .before .before .before .before .class-of .result) (c .before .before .before .before .before .before .before .class-of .ensures) (c .before .before .before .before .before .before .if3 .left)) (not-unrecognised (classOf asynchronous (a .kind)) (c .before .before .before .before .before .before .before .class-of .result) (c .before .before .before .before .before .before .before .class-of .ensures) (c .before .before .before .before .before .if4 .left)) (c .before .before .before .before .if5 .left) (sym (c .before .before .before .code-wrong .ensures) ∙ c .before .before .if6 .left) (sym (c .before .payload-wrong .ensures) ∙ c .if7 .left)
+    λ p n. numbered _ _ (async-acts (a .kind) (a .code) n (a .len) p (c .before .before .before .before .before .before .before .before .before .if1 .left) (c .before .before .before .before .before .before .before .before .if2 .left) (not-vendor (classOf asynchronous (a .kind)) (c .before .before .before .before .before .before .before .class-of .result) (c .before .before .before .before .before .before .before .class-of .ensures) (c .before .before .before .before .before .before .if3 .left)) (not-unrecognised (classOf asynchronous (a .kind)) (c .before .before .before .before .before .before .before .class-of .result) (c .before .before .before .before .before .before .before .class-of .ensures) (c .before .before .before .before .before .if4 .left)) (c .before .before .before .before .if5 .left) (sym (c .before .before .before .code-wrong .ensures) ∙ c .before .before .if6 .left) (sym (c .before .payload-wrong .ensures) ∙ c .if7 .left)) refl
 
 pub asynchronous-verdict-spec : {M : Type 1} → statement M
 asynchronous-verdict-spec =

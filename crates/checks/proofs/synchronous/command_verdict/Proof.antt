@@ -1,5 +1,6 @@
 -- `synchronous::command_verdict` meets its contract: check 9, then check 10.
-use mathlib.Core.Path.{_∙_}
+use mathlib.Core.Path.{refl, _∙_}
+use Rattle.checks.specs.Numbers.{numbered}
 use borrow.Author.Tests.{not-true, not-false}
 use Rattle.checks.specs.Synchronous.{command-held, command-code, command-acts, trigger-payload, trigger-acts}
 use borrow.Author.Needs.{needs}
@@ -8,23 +9,23 @@ use Rattle.checks.proofs.synchronous.command_verdict.Tie as tie
 
 returns : tie.Need-returns
 returns c = let a = c .before .before .args in
-    λ s. command-held _ (a .kind) (a .code) (a .len) (c .before .has-access .ensures s ∙ not-true _ (c .if1 .taken))
+    λ s. numbered _ _ (command-held _ (a .kind) (a .code) (a .len) (c .before .has-access .ensures s ∙ not-true _ (c .if1 .taken))) refl
 
 returns-2 : tie.Need-returns-2
 returns-2 c = let a = c .before .before .before .args in
-    λ s. command-code _ (a .kind) (a .code) (a .len) (c .before .before .has-access .ensures s ∙ not-false _ (c .before .if1 .left)) (c .if2 .taken)
+    λ s. numbered _ _ (command-code _ (a .kind) (a .code) (a .len) (c .before .before .has-access .ensures s ∙ not-false _ (c .before .if1 .left)) (c .if2 .taken)) refl
 
 returns-3 : tie.Need-returns-3
 returns-3 c = let a = c .before .before .before .before .args in
-    λ s. command-acts _ (a .kind) (a .code) (a .len) (c .before .before .before .has-access .ensures s ∙ not-false _ (c .before .before .if1 .left)) (c .before .if2 .left) (c .if3 .taken)
+    λ s. numbered _ _ (command-acts _ (a .kind) (a .code) (a .len) (c .before .before .before .has-access .ensures s ∙ not-false _ (c .before .before .if1 .left)) (c .before .if2 .left) (c .if3 .taken)) refl
 
 returns-4 : tie.Need-returns-4
 returns-4 c = let a = c .before .before .before .before .before .args in
-    λ s. trigger-payload _ (a .kind) (a .code) (a .len) (c .before .before .before .before .has-access .ensures s ∙ not-false _ (c .before .before .before .if1 .left)) (c .before .before .if2 .left) (c .before .if3 .left) (c .if4 .taken)
+    λ s. numbered _ _ (trigger-payload _ (a .kind) (a .code) (a .len) (c .before .before .before .before .has-access .ensures s ∙ not-false _ (c .before .before .before .if1 .left)) (c .before .before .if2 .left) (c .before .if3 .left) (c .if4 .taken)) refl
 
 returns-5 : tie.Need-returns-5
 returns-5 c = let a = c .before .before .before .before .before .args in
-    λ s. trigger-acts _ (a .kind) (a .code) (a .len) (c .before .before .before .before .has-access .ensures s ∙ not-false _ (c .before .before .before .if1 .left)) (c .before .before .if2 .left) (c .before .if3 .left) (c .if4 .left)
+    λ s. numbered _ _ (trigger-acts _ (a .kind) (a .code) (a .len) (c .before .before .before .before .has-access .ensures s ∙ not-false _ (c .before .before .before .if1 .left)) (c .before .before .if2 .left) (c .before .if3 .left) (c .if4 .left)) refl
 
 pub command-verdict-spec : {M : Type 1} → statement M
 command-verdict-spec =

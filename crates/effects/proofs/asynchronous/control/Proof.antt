@@ -6,9 +6,9 @@ use Rattle.effects.proofs.asynchronous.control.Tie as tie
 
 returns : tie.Need-returns
 returns c =
-    let a = c .before .before .before .before .before .before .before .before .before .args in
-    λ s p param. control-told (a .w .now) s _ (a .out .now) _ (a .i) (a .c) (c .before .before .before .before .before .before .entry .result) (c .before .before .before .before .before .before .entry .ensures s)
-    (a .code) param (a .len) p (c .before .before .before .before .set-control .ensures s) (c .before .before .put-frame .ensures)
+    let a = c .before .before .before .before .before .before .before .before .before .before .args in
+    λ s p param. control-told (a .w .now) s _ (a .out .now) _ (a .i) (a .c) (c .before .before .before .before .before .before .before .entry .result) (c .before .before .before .before .before .before .before .entry .ensures s) _
+    (a .code) param (a .len) p (c .acted .ensures) (c .before .before .before .before .before .set-control .ensures s) (c .before .before .before .put-frame .ensures)
 
 pub control-spec : {M : Type 1} → statement M
 control-spec =
@@ -18,6 +18,6 @@ control-spec =
     (λ c κs. search needs)
     (λ c. search needs)
     (λ c κs. search needs)
-    (λ c. search needs)
+    (λ c κs. search needs)
     (λ c. search needs)
     returns)

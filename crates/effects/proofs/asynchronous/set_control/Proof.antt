@@ -10,7 +10,7 @@ returns : tie.Need-returns
 returns c =
     let a = c .before .before .before .before .before .args in
     let f = c .before .before .before .flags-of in
-    let g = c .before .controlled in
+    let g = c .before .commanded in
     λ s. controls (view (memory (a .w .now) s)) _ (a .code) (shown (f .result)) (shown (g .result)) (f .ensures) (g .ensures) (c .set-flags .ensures s)
 
 pub set-control-spec : {M : Type 1} → statement M

@@ -3,8 +3,9 @@ use mathlib.Core.List.{[]}
 use native.Mathlib.Omega.{arith}
 use Rattle.wire.specs.declared.Header.{Header}
 use Rattle.state.specs.View.{memory, restOf, view}
+use Rattle.effects.specs.Did.{numbersOf}
 use Rattle.effects.specs.Opening.{async-initialized}
-use mathlib.Core.Path.{refl}
+use mathlib.Core.Path.{ap}
 use Prim.Native.Nat.{_%_}
 use Rattle.effects.specs.SessionIds.{vendor-read}
 use borrow.Author.Needs.{needs}
@@ -15,11 +16,11 @@ join-slot-requires : tie.Need-join-slot-requires
 join-slot-requires c κs = let p = c .before .before .before .before .before .before .pre .3 [] in let q = c .before .before .before .slot-of-number .ensures .1 [] in omega arith
 
 returns : tie.Need-returns
-returns c = let a = c .before .before .before .before .before .before .before .before .before .before .before .args in
+returns c = let a = c .before .before .before .before .before .before .before .before .before .before .before .before .args in
     let h : Header = record { kind = 17; code = 0; param = a .param; len = a .len } in
-    λ s. async-initialized (view (memory (a .w .now) s)) (a .c) (c .before .before .before .before .before .before .before .before .slot-of-number .result) (c .before .before .before .before .before .before .single .result % 65536) h _ _ _ _ _
-    (c .before .before .before .before .before .before .before .before .slot-of-number .ensures .1 s) (vendor-read (restOf (a .w .now)) (c .before .before .before .before .before .before .single .result) (c .before .before .before .before .before .before .single .ensures)) refl
-    (c .before .before .before .before .join-slot .ensures s .locks) (c .before .before .before .before .join-slot .ensures s .rest) (c .before .before .put-frame .ensures)
+    λ s. async-initialized (view (memory (a .w .now) s)) (a .c) (c .before .before .before .before .before .before .before .before .before .slot-of-number .result) (c .before .before .before .before .before .before .before .single .result % 65536) h _ _ _ _ _
+    (c .before .before .before .before .before .before .before .before .before .slot-of-number .ensures .1 s) (vendor-read (restOf (a .w .now)) (c .before .before .before .before .before .before .before .single .result) (c .before .before .before .before .before .before .before .single .ensures)) (ap numbersOf (c .acted .ensures))
+    (c .before .before .before .before .before .join-slot .ensures s .locks) (c .before .before .before .before .before .join-slot .ensures s .rest) (c .before .before .before .put-frame .ensures)
 
 pub async-initialize-spec : {M : Type 1} → statement M
 async-initialize-spec =
@@ -31,6 +32,6 @@ async-initialize-spec =
     join-slot-requires
     (λ c. search needs)
     (λ c κs. search needs)
-    (λ c. search needs)
+    (λ c κs. search needs)
     (λ c. search needs)
     returns)

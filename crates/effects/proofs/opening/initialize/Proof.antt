@@ -3,8 +3,9 @@ use mathlib.Core.List.{[]}
 use native.Mathlib.Omega.{arith}
 use Rattle.wire.specs.declared.Header.{Header}
 use Rattle.state.specs.View.{memory, view}
+use Rattle.effects.specs.Did.{numbersOf}
 use Rattle.effects.specs.Opening.{initialized}
-use mathlib.Core.Path.{refl}
+use mathlib.Core.Path.{ap}
 use borrow.Author.Needs.{needs}
 use Rattle.effects.proofs.opening.initialize.Statement.{statement}
 use Rattle.effects.proofs.opening.initialize.Tie as tie
@@ -13,11 +14,11 @@ enter-session-requires : tie.Need-enter-session-requires
 enter-session-requires c κs = let p = c .before .before .before .before .before .before .before .pre .3 [] in let q = c .before .before .before .before .slot-of-number .ensures .1 [] in (omega arith, omega arith, omega arith)
 
 returns : tie.Need-returns
-returns c = let a = c .before .before .before .before .before .before .before .before .before .before .before .before .args in
+returns c = let a = c .before .before .before .before .before .before .before .before .before .before .before .before .before .args in
     let h : Header = record { kind = 0; code = 0; param = a .param; len = a .len } in
-    λ s. initialized (view (memory (a .w .now) s)) (a .c) (c .before .before .before .before .before .before .before .before .before .slot-of-number .result) (c .before .before .before .before .before .before .before .next-session-id .result) (c .before .before .before .before .before .before .version .result) h _ _ _ _ _
-    (c .before .before .before .before .before .before .before .before .before .slot-of-number .ensures .1 s) (c .before .before .before .before .before .before .before .next-session-id .ensures .2 s) (c .before .before .before .before .before .before .version .ensures .0) refl
-    (c .before .before .before .before .enter-session .ensures s) (c .before .before .put-frame .ensures)
+    λ s. initialized (view (memory (a .w .now) s)) (a .c) (c .before .before .before .before .before .before .before .before .before .before .slot-of-number .result) (c .before .before .before .before .before .before .before .before .next-session-id .result) (c .before .before .before .before .before .before .before .version .result) h _ _ _ _ _
+    (c .before .before .before .before .before .before .before .before .before .before .slot-of-number .ensures .1 s) (c .before .before .before .before .before .before .before .before .next-session-id .ensures .2 s) (c .before .before .before .before .before .before .before .version .ensures .0) (ap numbersOf (c .acted .ensures))
+    (c .before .before .before .before .before .enter-session .ensures s) (c .before .before .before .put-frame .ensures)
 
 pub initialize-spec : {M : Type 1} → statement M
 initialize-spec =
@@ -32,6 +33,6 @@ initialize-spec =
     (λ c. search needs)
     (λ c. search needs)
     (λ c κs. search needs)
-    (λ c. search needs)
+    (λ c κs. search needs)
     (λ c. search needs)
     returns)

@@ -6,7 +6,7 @@ use Rattle.wire.specs.Frame.{bytesOf}
 use Rattle.model.specs.Interface.{Reply.took, Outcome.skipped}
 use Rattle.model.specs.State.{Rest, openConnection, connectionAt, withConnection}
 use Rattle.state.specs.Change.{onRest}
-use Rattle.effects.specs.Did.{did-plainly}
+use Rattle.effects.specs.Did.{did-plainly, numbersOf}
 use Rattle.effects.specs.Replies.{nothing-said}
 use Rattle.state.specs.View.{memory, view, restOf}
 use borrow.Author.Needs.{needs}
@@ -15,12 +15,12 @@ use Rattle.effects.proofs.replies.skip.Tie as tie
 
 returns : tie.Need-returns
 unfolding bytesOf
-returns c = let a = c .before .before .args in
+returns c = let a = c .before .before .before .args in
     λ s out. did-plainly (view (memory (a .w .now) s)) (took skipped (a .taken) 0) (withConnection (restOf (a .w .now)) (a .c) (openConnection ((connectionAt (restOf (a .w .now)) (a .c)) .remainder - a .taken))) [] _ _ _ _ _
-    refl
-    (c .keep-open .ensures s ∙ ap (λ (x : ℕ). onRest (view (memory (a .w .now) s)) (λ (q : Rest). withConnection q (a .c) (openConnection (x - a .taken)))) (c .before .before .pre .2))
+    (ap numbersOf (c .quiet .ensures))
+    (c .before .keep-open .ensures s ∙ ap (λ (x : ℕ). onRest (view (memory (a .w .now) s)) (λ (q : Rest). withConnection q (a .c) (openConnection (x - a .taken)))) (c .before .before .before .pre .2))
     (nothing-said out)
     refl
 
 pub skip-spec : {M : Type 1} → statement M
-skip-spec = tie.close (tie.spec (λ c. search needs) (λ c κs. search needs) returns)
+skip-spec = tie.close (tie.spec (λ c. search needs) (λ c κs. search needs) (λ c κs. search needs) returns)

@@ -5,8 +5,8 @@ use Rattle.effects.proofs.synchronous.note_asked.Statement.{statement}
 use Rattle.effects.proofs.synchronous.note_asked.Tie as tie
 
 returns : tie.Need-returns
-returns c = let a = c .before .before .before .before .args in λ s. asked-told _ _ _ (a .i) (a .code) (a .param) (search needs) (c .before .before .set-exchange .ensures s) (c .note-rmt .ensures s)
+returns c = let a = c .before .before .before .before .before .args in λ s. asked-told _ _ _ (a .i) (a .code) (a .id .number) (search needs) (c .before .before .set-exchange .ensures s) (c .note-rmt .ensures s)
 
 pub note-asked-spec : {M : Type 1} → statement M
 note-asked-spec =
-    tie.close (tie.spec (λ c. search needs) (λ c κs. search needs) (λ c κs. search needs) returns)
+    tie.close (tie.spec (λ c. search needs) (λ c. search needs) (λ c κs. search needs) (λ c κs. search needs) returns)

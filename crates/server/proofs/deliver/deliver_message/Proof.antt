@@ -32,7 +32,7 @@ returns-2 c =
     let t : prologue bs ≡ true = sym (c .before .before .before .before .before .before .before .before .before .before .has-prologue .ensures) ∙ not-false (c .before .before .before .before .before .before .before .before .before .before .has-prologue .result) (c .before .before .before .before .before .before .before .before .before .if1 .left) in
     let v = c .before .before .before .before .before .before .long-verdict in
     λ ro e. on-scan d (a .c) (a .i) _ _ _ _ _ ro (freshScan bs) (long h) (scan-long bs (p .pre .1) t (omega arith) ∙ ap long (sym eh))
-    (long-done d (a .c) (a .i) _ _ _ _ _ ro h (v .result) (v .ensures .1 ro e) (c .before .before .apply .ensures ro (long h) refl refl))
+    (long-done d (a .c) (a .i) _ _ _ _ _ ro h (v .result) (v .ensures .1 ro e .case) (c .before .before .apply .ensures ro (long h) refl refl))
 
 returns-3 : tie.Need-returns-3
 returns-3 c =
@@ -46,7 +46,7 @@ returns-3 c =
     let t : prologue bs ≡ true = sym (c .before .before .before .before .before .before .before .before .before .before .before .has-prologue .ensures) ∙ not-false (c .before .before .before .before .before .before .before .before .before .before .before .has-prologue .result) (c .before .before .before .before .before .before .before .before .before .before .if1 .left) in
     let v = c .before .before .before .before .before .before .partial-verdict in
     λ ro e. on-scan d (a .c) (a .i) _ _ _ _ _ ro (freshScan bs) (part h) (scan-part bs (p .pre .1) t (omega arith) (omega arith) ∙ ap part (sym eh))
-    (part-done d (a .c) (a .i) _ _ _ _ _ ro h (v .result) (v .ensures .1 ro (h .code) (h .param) (h .len) e) (c .before .before .apply2 .ensures ro (part h) refl refl))
+    (part-done d (a .c) (a .i) _ _ _ _ _ ro h (v .result) (v .ensures .1 ro (h .code) (h .param) (h .len) e .case) (c .before .before .apply2 .ensures ro (part h) refl refl))
 
 deliver-whole-requires : tie.Need-deliver-whole-requires
 deliver-whole-requires c κs = let a = c .before .before .before .before .before .before .before .before .before .before .before .args in

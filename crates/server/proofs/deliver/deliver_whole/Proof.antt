@@ -17,7 +17,7 @@ act-requires : tie.Need-act-requires
 act-requires c κs =
     let q = c .before .before .before .before .before .before .before .before .pre in
     let v = c .before .before .before .before .whole-verdict in
-    (search needs, search needs, q .2, search needs, q .5, λ t ro e. v .ensures t ro e ∙ ap verdictOf (c .before .before .before .if1 .taken))
+    (search needs, search needs, q .2, search needs, q .5, λ t ro e. v .ensures t ro e .case ∙ ap verdictOf (c .before .before .before .if1 .taken))
 
 returns : tie.Need-returns
 returns c =
@@ -26,7 +26,7 @@ returns c =
     let d = view (memory (a .w .now) (a .strings .now)) in
     let h = message (a .kind) (a .code) (a .param) (a .len) in
     λ ro e. acts-done d (a .c) (a .i) h (a .payload .now) ro _ _ _ _ _ (judged ro d (a .i) h (a .payload .now))
-    (v .ensures (a .strings .now) ro e ∙ ap verdictOf (c .before .before .before .before .before .before .if1 .taken)) (c .before .before .act .ensures ro e)
+    (v .ensures (a .strings .now) ro e .case ∙ ap verdictOf (c .before .before .before .before .before .before .if1 .taken)) (c .before .before .act .ensures ro e)
 
 returns-2 : tie.Need-returns-2
 returns-2 c =
@@ -35,7 +35,7 @@ returns-2 c =
     let d = view (memory (a .w .now) (a .strings .now)) in
     let h = message (a .kind) (a .code) (a .param) (a .len) in
     λ ro e. by-verdict d (a .c) (a .i) (whole h (a .payload .now)) ro _ _ _ _ _ (judged ro d (a .i) h (a .payload .now)) (verdictOf (v .result))
-    (v .ensures (a .strings .now) ro e) (c .before .before .apply .ensures ro (whole h (a .payload .now)) refl refl)
+    (v .ensures (a .strings .now) ro e .case) (c .before .before .apply .ensures ro (whole h (a .payload .now)) refl refl)
 
 pub deliver-whole-spec : {M : Type 1} → statement M
 deliver-whole-spec =
