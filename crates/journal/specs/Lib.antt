@@ -1,0 +1,16 @@
+pub mod Backward
+pub mod Bytes
+pub mod Entry
+pub mod Forward
+pub mod Holds
+pub mod Journal
+pub mod Places
+pub mod Reach
+pub mod Run
+pub mod Steps
+pub mod Stopped
+pub mod Stops
+pub mod Torn
+pub mod Walks
+pub mod Writer
+pub mod Written
