@@ -98,33 +98,33 @@ backward-entries (b ∷ rs) (suc k) f h =
 
 -- a closed book
 module _ (bs : List (List ℕ)) where
-  book-length : length (closedJournal bs) ≡ length (entries bs) + 12
+  pub journal-length : length (closedJournal bs) ≡ length (entries bs) + 12
   unfolding closedJournal
-  book-length = length-append (entries bs) (closing (lastOffset bs) (length bs)) ∙ ap (λ (n : ℕ). length (entries bs) + n) (length-closing (lastOffset bs) (length bs))
+  journal-length = length-append (entries bs) (closing (lastOffset bs) (length bs)) ∙ ap (λ (n : ℕ). length (entries bs) + n) (length-closing (lastOffset bs) (length bs))
 
-  book-before : take (length (closedJournal bs) - 12) (closedJournal bs) ≡ entries bs
+  journal-before : take (length (closedJournal bs) - 12) (closedJournal bs) ≡ entries bs
   unfolding closedJournal
-  book-before =
+  journal-before =
       let c : List ℕ = closing (lastOffset bs) (length bs) in
-      take-at (entries bs) c (length (entries bs ++ c) - 12) (omega (arith, book-length))
+      take-at (entries bs) c (length (entries bs ++ c) - 12) (omega (arith, journal-length))
 
-  pub book-closed : closed (closedJournal bs) ≡ true
+  pub journal-closed : closed (closedJournal bs) ≡ true
   unfolding closed closedJournal closing
-  book-closed =
+  journal-closed =
       let c : List ℕ = closing (lastOffset bs) (length bs) in
       let n : ℕ = length (entries bs ++ c) in
       let d : numberAt (entries bs ++ c) (n - 12) 4 ≡ number mark =
-      ap (λ (l : List ℕ). number (take 4 l)) (drop-at (entries bs) c (n - 12) (omega (arith, book-length))) in
-      and-is (le-leb 12 n (omega (arith, book-length))) (eq-eqb (numberAt (entries bs ++ c) (n - 12) 4) (number mark) d)
+      ap (λ (l : List ℕ). number (take 4 l)) (drop-at (entries bs) c (n - 12) (omega (arith, journal-length))) in
+      and-is (le-leb 12 n (omega (arith, journal-length))) (eq-eqb (numberAt (entries bs ++ c) (n - 12) 4) (number mark) d)
 
 -- On a book that our writer closed the backward reader finds all entries, last first: the forward reader's, turned round.
 pub backward-closed : (bs : List (List ℕ)) → AllFine bs → backward (closedJournal bs) ≡ reverse bs
 unfolding backward
 backward-closed bs f =
     let s : List ℕ = closedJournal bs in
-    yes-is (backwardOn (length s) (take (length s - 12) s)) [] (book-closed bs)
-    ∙ ap (backwardOn (length s)) (book-before bs ∙ ap entries (sym (reverse-reverse bs)))
-    ∙ backward-entries (reverse bs) (length s) (fine-reverse bs f) (omega (arith, length-reverse bs, book-length bs, count-entries bs))
+    yes-is (backwardOn (length s) (take (length s - 12) s)) [] (journal-closed bs)
+    ∙ ap (backwardOn (length s)) (journal-before bs ∙ ap entries (sym (reverse-reverse bs)))
+    ∙ backward-entries (reverse bs) (length s) (fine-reverse bs f) (omega (arith, length-reverse bs, journal-length bs, count-entries bs))
 
 pub backward-forward : (bs : List (List ℕ)) → AllFine bs → backward (closedJournal bs) ≡ reverse (forward (closedJournal bs))
 backward-forward bs f = backward-closed bs f ∙ ap reverse (sym (forward-closed bs f))

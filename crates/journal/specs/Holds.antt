@@ -14,6 +14,7 @@ use Rattle.journal.specs.Bytes.{yes-is, no-is}
 use Rattle.journal.specs.Entry.{length-entry, length-closing, short}
 use Rattle.journal.specs.Forward.{count-entries, forward-exact, forward-closed}
 use Rattle.journal.specs.Backward.{entries-last, fine-append, backward-closed}
+use Rattle.journal.specs.Trailer.{last-offset}
 use Rattle.journal.specs.Writer.{Done, place, shut, left, newOf, writing, appendOf, closeOf}
 use Rattle.journal.specs.declared.Kept.the-variants.{Written, NoRoom, Closed}
 
@@ -27,15 +28,6 @@ pub record Holds (bs : List (List ℕ)) (words book : List ℕ) : Type 0 where
   pub begins : take (length (entries bs)) book ≡ entries bs
   pub room : length (entries bs) + 12 ≤ min (length book) reach
   pub fine : AllFine bs
-
-last-from : (bs : List (List ℕ)) (b : List ℕ) (at o : ℕ) → lastFrom at o (bs ++ (b ∷ [])) ≡ at + length (entries bs)
-unfolding lastFrom entries
-last-from [] b at o = omega arith
-last-from (x ∷ bs) b at o =
-    last-from bs b (at + length (entry x)) at ∙ omega (arith, length-append (entry x) (entries bs))
-
-pub last-offset : (bs : List (List ℕ)) (b : List ℕ) → lastOffset (bs ++ (b ∷ [])) ≡ length (entries bs)
-last-offset bs b = last-from bs b 0 0 ∙ omega arith
 
 -- no call changes the length of the book
 pub new-length : (words book : List ℕ) → length (newOf words book .book) ≡ length book

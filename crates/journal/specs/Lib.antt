@@ -1,6 +1,7 @@
 pub mod Backward
 pub mod Bytes
 pub mod Entry
+pub mod Example
 pub mod Forward
 pub mod Holds
 pub mod Journal
@@ -11,6 +12,7 @@ pub mod Steps
 pub mod Stopped
 pub mod Stops
 pub mod Torn
+pub mod Trailer
 pub mod Walks
 pub mod Writer
 pub mod Written

@@ -8,12 +8,14 @@ use lib.Dec.{leb}
 use lib.ListN.{length, take}
 use lib.Seq.{take-take}
 use borrow.Author.Tests.{leb-true, leb-false}
-use Rattle.journal.specs.Journal.{choose, entry, entries, closedJournal, Fine, AllFine, forward, backward, reach, used}
+use Rattle.wire.specs.Field.{numberAt}
+use Rattle.journal.specs.Journal.{choose, entry, entries, lastOffset, closedJournal, Fine, AllFine, forward, backward, reach, used}
 use Rattle.journal.specs.Forward.{forward-closed}
 use Rattle.journal.specs.Backward.{backward-closed}
 use Rattle.journal.specs.Holds.{Holds, new-length, append-length, new-holds, append-holds, append-left-out, IsClosed, close-closes}
 use Rattle.journal.specs.Places.{forwardAt, backwardAt}
 use Rattle.journal.specs.Stopped.{within, stopped}
+use Rattle.journal.specs.Trailer.{says-last, says-count}
 use Rattle.journal.specs.Walks.{walk, forward-all, backward-all, used-short}
 use Rattle.journal.specs.Writer.{Done, place, left, newOf, appendOf, closeOf}
 use Rattle.journal.specs.declared.Kept.the-variants.{Written, NoRoom}
@@ -67,11 +69,14 @@ abbrev pub bytesWritten : Done → List ℕ
 bytesWritten done = take (place (done .words)) (done .book)
 
 -- What the host may count on after a run that kept bs: the closing was written; the bytes written are the closed journal of these
--- entries; the readers, from place to place, find them, the second last first; and had writing stopped after any byte, the forward
--- reader, given just the bytes written, would have found exactly the entries written whole.
+-- entries; its last eight say where the last one begins and how many there are; the readers, from place to place, find them, the second
+-- last first; and had writing stopped after any byte, the forward reader, given just the bytes written, would have found exactly the
+-- entries written whole.
 pub record Journaled (bs : List (List ℕ)) (done : Done) : Type 0 where
   pub answer : done .answer ≡ Written
   pub whole : bytesWritten done ≡ closedJournal bs
+  pub offset : numberAt (bytesWritten done) (length (bytesWritten done) - 8) 4 ≡ lastOffset bs
+  pub count : numberAt (bytesWritten done) (length (bytesWritten done) - 4) 4 ≡ length bs
   pub forwards : walk forwardAt (length (bytesWritten done)) (bytesWritten done) 0 ≡ bs
   pub backwards : walk backwardAt (length (bytesWritten done)) (bytesWritten done) (length (bytesWritten done) - 12) ≡ reverse bs
   pub torn : (k : ℕ) → k ≤ place (done .words) → forward (take k (done .book)) ≡ within k bs
@@ -85,6 +90,8 @@ journaled bs done c =
     record {
       answer = c .answer;
       whole = e;
+      offset = ap (λ (x : List ℕ). numberAt x (length x - 8) 4) e ∙ says-last bs (c .reaches);
+      count = ap (λ (x : List ℕ). numberAt x (length x - 4) 4) e ∙ says-count bs (c .reaches);
       forwards =
           ap (λ (x : List ℕ). walk forwardAt (length x) x 0) e
           ∙ ap (λ (x : List ℕ). walk forwardAt (length x) s 0) (sym u)

@@ -7,7 +7,6 @@ use native.Mathlib.Omega.{arith}
 use lib.Dec.{eqb, leb}
 use lib.ListN.{length, getD, set, take, drop, length-append, length-take}
 use lib.Seq.{drop-at}
-use borrow.Author.Tests.{eq-eqb, ne-eqb}
 use Rattle.wire.specs.Field.{field, length-field}
 use Rattle.wire.specs.Splice.{splice, splice-splice, take-splice}
 use Rattle.crc.specs.Crc.{crcOf}
@@ -105,21 +104,21 @@ module _ (words book : List ℕ) where
 
 -- a call that writes, of n bytes and the closing ones
 module _ (words book : List ℕ) (size : ℕ) (x after : List ℕ) where
-  pub write-closed : (shut words ≡ 0 → ⊥) → Met (writing words book size x after) Closed words book
+  pub write-closed : eqb (shut words) 0 ≡ false → Met (writing words book size x after) Closed words book
   unfolding writing
-  write-closed h = via (no-is _ _ (ne-eqb (shut words) 0 h)) (record { answer = refl; words = refl; book = refl })
+  write-closed h = via (no-is _ _ h) (record { answer = refl; words = refl; book = refl })
 
-  pub write-no-room : (n : ℕ) → n ≡ size → shut words ≡ 0 → leb (n + 12) (left book (place words)) ≡ false → Met (writing words book size x after) NoRoom words book
+  pub write-no-room : (n : ℕ) → n ≡ size → eqb (shut words) 0 ≡ true → leb (n + 12) (left book (place words)) ≡ false → Met (writing words book size x after) NoRoom words book
   unfolding writing
   write-no-room n e h t =
-      via (yes-is _ _ (eq-eqb (shut words) 0 h) ∙ no-is _ _ (ap (λ (k : ℕ). leb (k + 12) (left book (place words))) (sym e) ∙ t))
+      via (yes-is _ _ h ∙ no-is _ _ (ap (λ (k : ℕ). leb (k + 12) (left book (place words))) (sym e) ∙ t))
       (record { answer = refl; words = refl; book = refl })
 
-  pub write-done : (n : ℕ) (w k : List ℕ) → n ≡ size → shut words ≡ 0 → leb (n + 12) (left book (place words)) ≡ true → w ≡ after → k ≡ splice book (place words) x
+  pub write-done : (n : ℕ) (w k : List ℕ) → n ≡ size → eqb (shut words) 0 ≡ true → leb (n + 12) (left book (place words)) ≡ true → w ≡ after → k ≡ splice book (place words) x
       → Met (writing words book size x after) Written w k
   unfolding writing
   write-done n w k e h t p q =
-      via (yes-is _ _ (eq-eqb (shut words) 0 h) ∙ yes-is _ _ (ap (λ (k : ℕ). leb (k + 12) (left book (place words))) (sym e) ∙ t))
+      via (yes-is _ _ h ∙ yes-is _ _ (ap (λ (k : ℕ). leb (k + 12) (left book (place words))) (sym e) ∙ t))
       (record { answer = refl; words = p; book = q })
 
 -- the words behind an entry of n bytes

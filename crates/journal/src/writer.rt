@@ -2,10 +2,10 @@
 // and 0 while the journal is open. Any bits may stand in the words.
 ghost use Prim.Native.Nat.{_+_, _-_, _≤_, _<_, min};
 ghost use Rattle.journal.specs.Journal.{bodyLimit, closing, entry, headed, reach};
-ghost use Rattle.journal.specs.Writer.{Met, appendOf, closeOf, newOf};
+ghost use Rattle.journal.specs.Writer.{Met, appendOf, closeOf, newOf, shut};
 ghost use Rattle.crc.specs.Crc.{crcOf};
 ghost use Rattle.wire.specs.Splice.{splice};
-ghost use lib.Dec.{leb};
+ghost use lib.Dec.{eqb, leb};
 ghost use lib.ListN.{drop, length, take};
 ghost use mathlib.Core.List.{[], _∷_, _++_};
 ghost use mathlib.Core.Path.{_≡_};
@@ -28,6 +28,12 @@ fn set_words(w: &mut [u64; 4], a: u64, b: u64, c: u64, d: u64)
     ensures { λ _. ⌜ now (w .exit) ≡ a ∷ b ∷ c ∷ d ∷ [] ⌝ }
 {
     set_all(w, a, b, c, d);
+}
+
+fn is_open(words: &[u64; 4]) -> bool
+    ensures { λ r. ⌜ r ≡ eqb (shut (now (words .entry))) 0 ⌝ }
+{
+    words[3] == 0
 }
 
 // Do n bytes and a closing trailer fit behind a place?
@@ -99,7 +105,7 @@ pub fn append(words: &mut [u64; 4], book: &mut [u8], a: &[u8], b: &[u8], c: &[u8
     requires { ⌜ length (now a) + length (now b) + length (now c) ≤ bodyLimit ⌝ }
     ensures { λ r. ⌜ Met (appendOf (now (words .entry)) (now (book .entry)) (now (a .entry) ++ now (b .entry) ++ now (c .entry))) r (now (words .exit)) (now (book .exit)) ⌝ }
 {
-    if words[3] != 0 {
+    if !is_open(words) {
         return Kept::Closed;
     }
     let at = words[0];
@@ -117,7 +123,7 @@ pub fn append(words: &mut [u64; 4], book: &mut [u8], a: &[u8], b: &[u8], c: &[u8
 pub fn close(words: &mut [u64; 4], book: &mut [u8]) -> Kept
     ensures { λ r. ⌜ Met (closeOf (now (words .entry)) (now (book .entry))) r (now (words .exit)) (now (book .exit)) ⌝ }
 {
-    if words[3] != 0 {
+    if !is_open(words) {
         return Kept::Closed;
     }
     let at = words[0];

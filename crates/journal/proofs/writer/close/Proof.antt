@@ -3,7 +3,7 @@ use mathlib.Core.Path.{_≡_, refl, sym, _∙_}
 use Prim.Native.Nat.{_+_, _-_, _≤_, min}
 use native.Mathlib.Omega.{arith}
 use lib.ListN.{length}
-use borrow.Author.Tests.{leb-true}
+use borrow.Author.Tests.{leb-true, not-true, not-false}
 use Rattle.journal.specs.Journal.{reach}
 use Rattle.journal.specs.Writer.{place, closeOf}
 use Rattle.journal.specs.Written.{write-closed, write-no-room, write-done}
@@ -13,25 +13,25 @@ use Rattle.journal.proofs.writer.close.Tie as tie
 
 returns : tie.Need-returns
 unfolding closeOf
-returns c = write-closed _ _ _ _ _ (c .if1 .taken)
+returns c = write-closed _ _ _ _ _ (sym (c .before .is-open .ensures) ∙ not-true _ (c .if1 .taken))
 
 put-closing-requires : tie.Need-put-closing-requires
-put-closing-requires c κs = let a = c .before .before .before .before .before .before .before .before .before .args in
+put-closing-requires c κs = let a = c .before .before .before .before .before .before .before .before .before .before .args in
     let h : 0 + 12 ≤ min (length (a .book .now)) reach - place (a .words .now) = leb-true _ _ (sym (c .before .before .fits2 .ensures) ∙ c .before .if2 .taken) in
     omega arith
 
 add-set-words : tie.Need-add-set-words
-add-set-words c = let a = c .before .before .before .before .before .before .before .before .before .before .before .before .before .args in
+add-set-words c = let a = c .before .before .before .before .before .before .before .before .before .before .before .before .before .before .args in
     let h : 0 + 12 ≤ min (length (a .book .now)) reach - place (a .words .now) = leb-true _ _ (sym (c .before .before .before .before .before .before .fits2 .ensures) ∙ c .before .before .before .before .before .if2 .taken) in
     omega arith
 
 returns-2 : tie.Need-returns-2
 unfolding closeOf
-returns-2 c = write-done _ _ _ _ _ _ _ _ refl (c .before .before .before .before .before .before .before .before .before .before .before .if1 .left) (sym (c .before .before .before .before .before .before .before .fits2 .ensures) ∙ c .before .before .before .before .before .before .if2 .taken) (c .set-words .ensures) (c .before .before .before .before .put-closing .ensures)
+returns-2 c = write-done _ _ _ _ _ _ _ _ refl (sym (c .before .before .before .before .before .before .before .before .before .before .before .before .is-open .ensures) ∙ not-false _ (c .before .before .before .before .before .before .before .before .before .before .before .if1 .left)) (sym (c .before .before .before .before .before .before .before .fits2 .ensures) ∙ c .before .before .before .before .before .before .if2 .taken) (c .set-words .ensures) (c .before .before .before .before .put-closing .ensures)
 
 returns-3 : tie.Need-returns-3
 unfolding closeOf
-returns-3 c = write-no-room _ _ _ _ _ _ refl (c .before .before .before .before .before .if1 .left) (sym (c .before .fits2 .ensures) ∙ c .if2 .left)
+returns-3 c = write-no-room _ _ _ _ _ _ refl (sym (c .before .before .before .before .before .before .is-open .ensures) ∙ not-false _ (c .before .before .before .before .before .if1 .left)) (sym (c .before .fits2 .ensures) ∙ c .if2 .left)
 
 pub close-spec : {M : Type 1} → statement M
 close-spec =
