@@ -1,5 +1,5 @@
 -- CRC-32 (02: reflected IEEE, edb88320 hex) from its polynomial, bit by bit. This is all that a reader has to believe. Assumes nothing.
-use mathlib.Core.Bool.{Bool, true, false, cond}
+use mathlib.Core.Bool.{cond}
 use mathlib.Core.List.{List, [], _∷_}
 use Prim.Native.Nat.{ℕ, zero, suc, _/_, _%_}
 use lib.Dec.{eqb}
@@ -27,14 +27,14 @@ feedOf c [] = c
 feedOf c (b ∷ bs) = feedOf (byteStep c b) bs
 
 -- the register begins with every bit set, and at the end every bit is turned
-abbrev pub startOf : ℕ
-startOf = 0xffffffff
+abbrev pub firstRegister : ℕ
+firstRegister = 0xffffffff
 
 abbrev pub finishOf : ℕ → ℕ
 finishOf c = bitXor c 0xffffffff
 
 unfoldable pub crcOf : List ℕ → ℕ
-crcOf bs = finishOf (feedOf startOf bs)
+crcOf bs = finishOf (feedOf firstRegister bs)
 
 -- the values of a rule from a number on, so many
 unfoldable pub tabulate : (ℕ → ℕ) → ℕ → ℕ → List ℕ

@@ -1,5 +1,5 @@
 -- Bytes fed to the register: in parts, a turn of each loop, and the register's width. Assumes nothing.
-use mathlib.Core.Path.{_≡_, refl, sym, ap, _∙_}
+use mathlib.Core.Path.{_≡_, refl, ap, _∙_}
 use mathlib.Core.Logic.{⊎-elim}
 use mathlib.Core.List.{List, [], _∷_, _++_}
 use Prim.Native.Nat.{ℕ, zero, suc, _+_, _-_, _/_, _%_, _^_, _≤_, _<_}
@@ -9,7 +9,7 @@ use lib.Bits.{bitXor, xor-lt}
 use lib.Dec.{lit<}
 use lib.ListN.{length, getD, take, drop, length-drop, drop-of-length-le}
 use lib.Seq.{drop-cons, take-all}
-use Rattle.crc.specs.Crc.{polynomial, bitStep, steps, byteStep, feedOf, startOf, crcOf}
+use Rattle.crc.specs.Crc.{polynomial, bitStep, steps, byteStep, feedOf, crcOf}
 use Rattle.crc.specs.Steps.{bit, bit-zero, bit-one}
 
 -- a run in parts

@@ -7,7 +7,6 @@ use native.Mathlib.Nat.{pow-suc, zero-add, suc-add, add-zero, mul-one, mod-lt}
 use native.Mathlib.Omega.{arith}
 use lib.Arith.{lt-one}
 use lib.Bits.{bitXor, block-half, block-odd, xor-block, xor-lt, xor-zero-r, xor-comm, xor-shr, xor-mod, xor-self, xor-shifted}
-use lib.Dec.{lit<}
 use lib.Pow.{split, pow-pos}
 use Rattle.crc.specs.Crc.{polynomial, bitStep, steps, byteStep}
 use Rattle.crc.specs.Xor.{xor-assoc}

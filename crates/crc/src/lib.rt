@@ -1,6 +1,6 @@
 // CRC-32 as IEEE 802.3 has it, in its reflected form (02: edb88320 hex): the register begins as ffffffff hex and is turned round at
 // the end. Four bytes a step, by a table; what is left of a run, a byte a step.
-ghost use Rattle.crc.specs.Crc.{byteStep, crcOf, feedOf, finishOf, startOf};
+ghost use Rattle.crc.specs.Crc.{byteStep, crcOf, feedOf, finishOf, firstRegister};
 ghost use Rattle.crc.specs.Table.{rowsTable};
 ghost use Prim.Native.Nat.{_<_};
 ghost use mathlib.Core.Path.{_≡_};
@@ -65,7 +65,7 @@ fn feed_by(t: &[u32; 1024], c: u32, bytes: &[u8]) -> u32
 
 // The register before the first byte.
 pub fn start() -> u32
-    ensures { λ r. ⌜ r ≡ startOf ⌝ }
+    ensures { λ r. ⌜ r ≡ firstRegister ⌝ }
 {
     0xffffffff
 }

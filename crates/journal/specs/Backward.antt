@@ -1,16 +1,16 @@
 -- On a closed book the backward reader finds the forward reader's entries, last first. Assumes nothing.
-use mathlib.Core.Path.{_≡_, refl, sym, ap, ap₂, subst, _∙_}
-use mathlib.Core.Bool.{Bool, true, false, _&&_}
+use mathlib.Core.Path.{_≡_, refl, sym, ap, ap₂, _∙_}
+use mathlib.Core.Bool.{true, false}
 use mathlib.Core.List.{List, [], _∷_, _++_, append-assoc, append-nil, reverse, reverse-cons, reverse-reverse}
 use Prim.Native.Nat.{ℕ, zero, suc, _+_, _-_, _≤_, _<_}
 use native.Mathlib.Omega.{arith}
-use lib.Dec.{eqb, leb}
-use lib.ListN.{length, take, drop, length-append, length-drop, length-reverse}
+use lib.Dec.{eqb}
+use lib.ListN.{length, take, drop, length-append, length-reverse}
 use lib.Seq.{take-at, drop-at}
 use borrow.Author.Tests.{le-leb, lt-leb, eq-eqb}
-use Rattle.wire.specs.Field.{field, number, numberAt, Bytes, length-field}
+use Rattle.wire.specs.Field.{field, number, numberAt}
 use Rattle.crc.specs.Crc.{crcOf}
-use Rattle.journal.specs.Journal.{choose, bodyLimit, headed, entry, entries, mark, closing, closedJournal, lastOffset, Fine, AllFine, lengthOf, bodyOf, whole, distanceOf, startOf, ends, backwardOn, closed, backward, forward}
+use Rattle.journal.specs.Journal.{bodyLimit, headed, entry, entries, mark, closing, closedJournal, lastOffset, Fine, AllFine, lengthOf, bodyOf, whole, distanceOf, startOf, ends, backwardOn, closed, backward, forward}
 use Rattle.journal.specs.Bytes.{yes-is, no-is, and-is, and-not}
 use Rattle.journal.specs.Entry.{length-entry, length-closing, number-at, headed-length, says-length, holds-body, whole-entry}
 use Rattle.journal.specs.Forward.{count-entries, forward-closed}

@@ -1,7 +1,6 @@
 -- Two small journals byte for byte, computed from the definitions; docs/JOURNAL.md shows them. Assumes nothing.
 use mathlib.Core.Path.{_≡_, refl}
-use mathlib.Core.List.{List, [], _∷_, _++_}
-use Prim.Native.Nat.{ℕ}
+use mathlib.Core.List.{[], _∷_, _++_}
 use Rattle.wire.specs.Field.{field}
 use Rattle.crc.specs.Crc.{bitStep, steps, byteStep, feedOf, crcOf}
 use Rattle.journal.specs.Journal.{entry, entries, closing, lastFrom, closedJournal}

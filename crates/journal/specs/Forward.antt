@@ -1,14 +1,14 @@
 -- The forward reader finds exactly the entries that were written whole, and ends at the first place that is none. Assumes nothing.
-use mathlib.Core.Path.{_≡_, refl, sym, ap, ap₂, subst, _∙_}
+use mathlib.Core.Path.{_≡_, refl, sym, ap, ap₂, _∙_}
 use mathlib.Core.Bool.{Bool, true, false}
 use mathlib.Core.List.{List, [], _∷_, _++_, append-assoc, append-nil}
 use Prim.Native.Nat.{ℕ, zero, suc, _+_, _-_, _≤_, _<_}
 use native.Mathlib.Omega.{arith}
 use lib.ListN.{length, take, drop, length-append, length-drop, drop-of-length-le}
 use Rattle.wire.specs.Field.{Bytes}
-use Rattle.journal.specs.Journal.{choose, bodyLimit, entry, entries, closing, closedJournal, lastOffset, Fine, AllFine, lengthOf, bodyOf, whole, forwardOn, forward}
+use Rattle.journal.specs.Journal.{choose, entry, entries, closing, closedJournal, lastOffset, Fine, AllFine, lengthOf, bodyOf, whole, forwardOn, forward}
 use Rattle.journal.specs.Bytes.{yes-is, no-is, drop-bytes}
-use Rattle.journal.specs.Entry.{length-entry, says-length, holds-body, behind, whole-entry, Whole, passed, short, entry-again, read-fine, closing-not-whole, part-not-whole, closing-part-not-whole}
+use Rattle.journal.specs.Entry.{length-entry, holds-body, behind, whole-entry, Whole, passed, short, entry-again, read-fine, closing-not-whole, part-not-whole, closing-part-not-whole}
 
 -- where bytes begin with no whole entry, the reader has ended
 pub forward-ends : (k : ℕ) (s : List ℕ) → whole s ≡ false → forwardOn k s ≡ []

@@ -1,19 +1,19 @@
 -- What the writer's calls leave in the book: an open journal holds its entries, and a closed one is whole. Assumes nothing.
 use mathlib.Core.Path.{_≡_, refl, sym, ap, subst, _∙_}
 use mathlib.Core.Bool.{Bool, true, false}
-use mathlib.Core.List.{List, [], _∷_, _++_, append-nil, reverse}
-use Prim.Native.Nat.{ℕ, zero, suc, _+_, _-_, _%_, _^_, _≤_, _<_, min}
+use mathlib.Core.List.{List, [], _∷_, _++_, append-nil}
+use Prim.Native.Nat.{ℕ, _+_, _-_, _%_, _^_, _≤_, _<_, min}
 use native.Mathlib.Nat.{mod-eq-of-lt}
 use native.Mathlib.Omega.{arith}
 use lib.Dec.{eqb, leb}
 use lib.ListN.{length, take, length-append}
 use borrow.Author.Tests.{leb-true, le-leb, lt-leb}
 use Rattle.wire.specs.Splice.{splice, take-splice, length-splice}
-use Rattle.journal.specs.Journal.{choose, entry, entries, closing, lastFrom, lastOffset, closedJournal, Fine, AllFine, forward, backward, reach}
+use Rattle.journal.specs.Journal.{choose, entry, entries, closing, lastFrom, lastOffset, closedJournal, Fine, AllFine, forward, reach}
 use Rattle.journal.specs.Bytes.{yes-is, no-is}
-use Rattle.journal.specs.Entry.{length-entry, length-closing, short}
-use Rattle.journal.specs.Forward.{count-entries, forward-exact, forward-closed}
-use Rattle.journal.specs.Backward.{entries-last, fine-append, backward-closed}
+use Rattle.journal.specs.Entry.{length-closing, short}
+use Rattle.journal.specs.Forward.{count-entries, forward-exact}
+use Rattle.journal.specs.Backward.{entries-last, fine-append}
 use Rattle.journal.specs.Trailer.{last-offset}
 use Rattle.journal.specs.Writer.{Done, place, shut, left, newOf, writing, appendOf, closeOf}
 use Rattle.journal.specs.declared.Kept.the-variants.{Written, NoRoom, Closed}
@@ -102,13 +102,20 @@ append-holds bs words book b o f h =
     o
     h
 
--- one that does not fit leaves all as it was, and so does any call on a closed journal
+-- one that does not fit leaves all as it was
 pub append-left-out : (bs : List (List ℕ)) (words book b : List ℕ) → Holds bs words book → left book (place words) < length (entry b) + 12
     → appendOf words book b ≡ record { answer = NoRoom; words = words; book = book }
 unfolding appendOf writing
 append-left-out bs words book b o h =
     let e : eqb (shut words) 0 ≡ true = ap (λ (w : List ℕ). eqb (shut w) 0) (o .says) in
     yes-is _ _ e ∙ no-is _ _ (lt-leb (length (entry b) + 12) (left book (place words)) h)
+
+-- a closed journal answers "closed" first, and all stays as it was
+pub stays-closed : (words book : List ℕ) → eqb (shut words) 0 ≡ false
+    → ((b : List ℕ) → appendOf words book b ≡ record { answer = Closed; words = words; book = book })
+    × (closeOf words book ≡ record { answer = Closed; words = words; book = book })
+unfolding appendOf closeOf writing
+stays-closed words book h = (λ b. no-is _ _ h, no-is _ _ h)
 
 -- an open journal can always be closed, and the bytes written are then the closed journal of its entries
 pub record IsClosed (bs : List (List ℕ)) (done : Done) : Type 0 where
@@ -139,15 +146,9 @@ now-closed bs book p r fine =
 pub close-closes : (bs : List (List ℕ)) (words book : List ℕ) → Holds bs words book → IsClosed bs (closeOf words book)
 close-closes bs words book o = subst (λ (w : List ℕ). IsClosed bs (closeOf w book)) (sym (o .says)) (now-closed bs book (o .begins) (o .room) (o .fine))
 
--- what both readers find in the bytes written
+-- what the forward reader finds in the bytes of an open journal
 pub read-open : (bs : List (List ℕ)) (words book : List ℕ) → Holds bs words book → forward (take (place words) book) ≡ bs
 read-open bs words book o =
     ap (λ (w : List ℕ). forward (take (place w) book)) (o .says)
     ∙ ap forward (o .begins ∙ sym (append-nil (entries bs)))
     ∙ forward-exact bs [] (o .fine) (short [] (omega arith))
-
-pub read-closed : (bs : List (List ℕ)) (done : Done) → IsClosed bs done
-    → (forward (take (place (done .words)) (done .book)) ≡ bs) × (backward (take (place (done .words)) (done .book)) ≡ reverse bs)
-read-closed bs done c =
-    let e : take (place (done .words)) (done .book) ≡ closedJournal bs = ap (λ (w : List ℕ). take (place w) (done .book)) (c .says) ∙ c .all in
-    (ap forward e ∙ forward-closed bs (c .fine), ap backward e ∙ backward-closed bs (c .fine))

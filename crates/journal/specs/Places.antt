@@ -1,10 +1,9 @@
 -- The readers, a place at a time: what the code answers. Assumes nothing.
-use mathlib.Core.Bool.{Bool}
 use mathlib.Core.List.{List}
 use Prim.Native.Nat.{ℕ, _+_, _-_}
 use lib.Dec.{leb}
 use lib.ListN.{length, take, drop}
-use Rattle.journal.specs.Journal.{choose, lengthOf, whole, distanceOf, startOf, ends, closed, used}
+use Rattle.journal.specs.Journal.{choose, lengthOf, whole, startOf, ends, closed, used}
 use Rattle.journal.specs.declared.Found.{Found}
 
 abbrev pub none : Found

@@ -2,19 +2,19 @@
 -- reader finds does not depend on them. Assumes nothing.
 use mathlib.Core.Path.{_≡_, refl, sym, ap, ap₂, _∙_}
 use mathlib.Core.Bool.{Bool, true, false}
-use mathlib.Core.List.{List, [], _∷_, _++_, append-assoc}
-use Prim.Native.Nat.{ℕ, zero, suc, _+_, _-_, _≤_, _<_, min}
+use mathlib.Core.List.{List, _++_, append-assoc}
+use Prim.Native.Nat.{ℕ, _+_, _-_, _≤_, min}
 use native.Mathlib.Omega.{arith}
 use lib.Dec.{eqb, leb}
 use lib.ListN.{length, take, drop, length-take, take-append-drop}
 use lib.Seq.{take-take, drop-append-le}
 use borrow.Author.Tests.{leb-true}
 use Rattle.wire.specs.Splice.{splice}
-use Rattle.journal.specs.Journal.{choose, entry, closing, lengthOf, whole, closed, reach, used}
+use Rattle.journal.specs.Journal.{choose, entry, closing, reach, used}
 use Rattle.journal.specs.Entry.{length-closing}
 use Rattle.journal.specs.Steps.{length-used}
 use Rattle.journal.specs.Walks.{used-short}
-use Rattle.journal.specs.Places.{none, forwardAt, endingOf, backwardAt}
+use Rattle.journal.specs.Places.{forwardAt, backwardAt}
 use Rattle.journal.specs.Writer.{Done, place, last, count, shut, left, newOf, writing, appendOf, closeOf}
 
 -- the bytes past 2^31

@@ -2,9 +2,9 @@
 use mathlib.Core.Path.{_≡_, refl, sym, ap, subst, _∙_}
 use mathlib.Core.Bool.{Bool, true, false}
 use mathlib.Core.List.{List, [], _∷_, _++_, reverse}
-use Prim.Native.Nat.{ℕ, zero, suc, _+_, _-_, _≤_, _<_, min}
+use Prim.Native.Nat.{ℕ, _+_, _-_, _≤_, _<_, min}
 use native.Mathlib.Omega.{arith}
-use lib.Dec.{leb}
+use lib.Dec.{eqb, leb}
 use lib.ListN.{length, take}
 use lib.Seq.{take-take}
 use borrow.Author.Tests.{leb-true, leb-false}
@@ -12,13 +12,13 @@ use Rattle.wire.specs.Field.{numberAt}
 use Rattle.journal.specs.Journal.{choose, entry, entries, lastOffset, closedJournal, Fine, AllFine, forward, backward, reach, used}
 use Rattle.journal.specs.Forward.{forward-closed}
 use Rattle.journal.specs.Backward.{backward-closed}
-use Rattle.journal.specs.Holds.{Holds, new-length, append-length, new-holds, append-holds, append-left-out, IsClosed, close-closes}
+use Rattle.journal.specs.Holds.{Holds, new-length, append-length, new-holds, append-holds, append-left-out, stays-closed, IsClosed, close-closes}
 use Rattle.journal.specs.Places.{forwardAt, backwardAt}
 use Rattle.journal.specs.Stopped.{within, stopped}
 use Rattle.journal.specs.Trailer.{says-last, says-count}
 use Rattle.journal.specs.Walks.{walk, forward-all, backward-all, used-short}
-use Rattle.journal.specs.Writer.{Done, place, left, newOf, appendOf, closeOf}
-use Rattle.journal.specs.declared.Kept.the-variants.{Written, NoRoom}
+use Rattle.journal.specs.Writer.{Done, place, shut, left, newOf, appendOf, closeOf}
+use Rattle.journal.specs.declared.Kept.the-variants.{Written, NoRoom, Closed}
 
 -- A run: bodies are offered one after the other.
 unfoldable pub offered : Done → List (List ℕ) → Done
@@ -70,8 +70,8 @@ bytesWritten done = take (place (done .words)) (done .book)
 
 -- What the host may count on after a run that kept bs: the closing was written; the bytes written are the closed journal of these
 -- entries; its last eight say where the last one begins and how many there are; the readers, from place to place, find them, the second
--- last first; and had writing stopped after any byte, the forward reader, given just the bytes written, would have found exactly the
--- entries written whole.
+-- last first; had writing stopped after any byte, the forward reader, given just the bytes written, would have found exactly the entries
+-- written whole; and from now on every call answers "closed" and changes nothing.
 pub record Journaled (bs : List (List ℕ)) (done : Done) : Type 0 where
   pub answer : done .answer ≡ Written
   pub whole : bytesWritten done ≡ closedJournal bs
@@ -80,6 +80,8 @@ pub record Journaled (bs : List (List ℕ)) (done : Done) : Type 0 where
   pub forwards : walk forwardAt (length (bytesWritten done)) (bytesWritten done) 0 ≡ bs
   pub backwards : walk backwardAt (length (bytesWritten done)) (bytesWritten done) (length (bytesWritten done) - 12) ≡ reverse bs
   pub torn : (k : ℕ) → k ≤ place (done .words) → forward (take k (done .book)) ≡ within k bs
+  pub appends : (b : List ℕ) → appendOf (done .words) (done .book) b ≡ record { answer = Closed; words = done .words; book = done .book }
+  pub closes : closeOf (done .words) (done .book) ≡ record { answer = Closed; words = done .words; book = done .book }
 
 journaled : (bs : List (List ℕ)) (done : Done) → IsClosed bs done → Journaled bs done
 journaled bs done c =
@@ -87,6 +89,7 @@ journaled bs done c =
     let p : place (done .words) ≡ length s = ap place (c .says) in
     let e : bytesWritten done ≡ s = ap (λ (k : ℕ). take k (done .book)) p ∙ c .all in
     let u : used s ≡ s = used-short s (c .reaches) in
+    let still = stays-closed (done .words) (done .book) (ap (λ (w : List ℕ). eqb (shut w) 0) (c .says)) in
     record {
       answer = c .answer;
       whole = e;
@@ -106,6 +109,8 @@ journaled bs done c =
           ∙ backward-closed bs (c .fine);
       torn = λ k h.
           ap forward (sym (take-take k (length s) (done .book) (omega arith)) ∙ ap (take k) (c .all)) ∙ stopped bs k (c .fine);
+      appends = still .0;
+      closes = still .1;
     }
 
 -- Then the journal is closed.

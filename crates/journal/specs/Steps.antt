@@ -1,7 +1,7 @@
 -- The laws that the readers' code cites: one for each way out. Assumes nothing.
-use mathlib.Core.Path.{_≡_, refl, sym, ap, ap₂, subst, _∙_}
-use mathlib.Core.Bool.{Bool, true, false, _&&_}
-use mathlib.Core.List.{List, [], _∷_, _++_}
+use mathlib.Core.Path.{_≡_, sym, ap, _∙_}
+use mathlib.Core.Bool.{true, false, _&&_}
+use mathlib.Core.List.{List, [], _∷_}
 use Prim.Native.Nat.{ℕ, zero, suc, _+_, _-_, _≤_, _<_, min}
 use native.Mathlib.Nat.{sub-zero}
 use native.Mathlib.Omega.{arith}
@@ -11,7 +11,7 @@ use lib.Seq.{take-all, take-take, take-nil}
 use borrow.Author.Tests.{le-leb, lt-leb, eq-eqb, ne-eqb, leb-true}
 use Rattle.wire.specs.Field.{number, numberAt}
 use Rattle.crc.specs.Crc.{crcOf}
-use Rattle.journal.specs.Journal.{choose, bodyLimit, mark, lengthOf, whole, distanceOf, startOf, ends, closed, reach, used}
+use Rattle.journal.specs.Journal.{bodyLimit, mark, lengthOf, whole, distanceOf, startOf, ends, closed, reach, used}
 use Rattle.journal.specs.Bytes.{yes-is, no-is, and-left, and-is, and-not, not-and}
 use Rattle.journal.specs.Entry.{passed, short, too-long}
 use Rattle.journal.specs.Backward.{too-few}

@@ -3,7 +3,7 @@
 use mathlib.Core.Path.{_≡_, refl, sym, ap, subst, _∙_}
 use mathlib.Core.Bool.{Bool, true, false}
 use mathlib.Core.List.{List, [], _∷_, _++_, append-nil}
-use Prim.Native.Nat.{ℕ, zero, suc, _+_, _-_, _≤_, _<_, min}
+use Prim.Native.Nat.{ℕ, _+_, _-_, _≤_, _<_, min}
 use native.Mathlib.Omega.{arith}
 use lib.Dec.{leb}
 use lib.ListN.{length, take}
@@ -12,7 +12,7 @@ use borrow.Author.Tests.{leb-true, leb-false, le-leb}
 use Rattle.wire.specs.Splice.{splice, take-splice}
 use Rattle.journal.specs.Journal.{choose, entry, entries, closing, lastOffset, Fine, AllFine, forward, reach}
 use Rattle.journal.specs.Bytes.{yes-is}
-use Rattle.journal.specs.Entry.{length-entry, length-closing, short}
+use Rattle.journal.specs.Entry.{length-closing, short}
 use Rattle.journal.specs.Forward.{forward-exact, stopped-in-entry, stopped-in-closing}
 use Rattle.journal.specs.Backward.{entries-last, fine-append}
 use Rattle.journal.specs.Holds.{wordsOf, Holds, appended, fits-then}

@@ -1,9 +1,9 @@
 -- What the closing trailer says is so: the offset is where the last entry begins, and the count is that of the entries. Assumes nothing.
-use mathlib.Core.Path.{_≡_, refl, sym, ap, _∙_}
+use mathlib.Core.Path.{_≡_, sym, ap, _∙_}
 use mathlib.Core.List.{List, [], _∷_, _++_, append-assoc, append-nil}
-use Prim.Native.Nat.{ℕ, zero, suc, _+_, _-_, _^_, _≤_, _<_}
+use Prim.Native.Nat.{ℕ, _+_, _-_, _≤_}
 use native.Mathlib.Omega.{arith}
-use lib.ListN.{length, take, drop, length-append}
+use lib.ListN.{length, drop, length-append}
 use lib.Seq.{drop-at}
 use Rattle.wire.specs.Field.{field, numberAt, length-field}
 use Rattle.journal.specs.Journal.{entry, entries, mark, closing, lastFrom, lastOffset, closedJournal, reach}

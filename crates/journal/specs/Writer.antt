@@ -1,6 +1,5 @@
 -- What the writer does, for any bits in its words. Assumes nothing.
 use mathlib.Core.Path.{_≡_}
-use mathlib.Core.Bool.{Bool}
 use mathlib.Core.List.{List, [], _∷_}
 use Prim.Native.Nat.{ℕ, _+_, _-_, _%_, _^_, min}
 use lib.Dec.{eqb, leb}

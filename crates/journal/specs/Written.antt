@@ -1,20 +1,20 @@
 -- The laws that the writer's code cites. Assumes nothing.
 use mathlib.Core.Path.{_≡_, refl, sym, ap, ap₂, subst, _∙_}
-use mathlib.Core.Bool.{Bool, true, false}
+use mathlib.Core.Bool.{true, false}
 use mathlib.Core.List.{List, [], _∷_, _++_, append-assoc}
-use Prim.Native.Nat.{ℕ, zero, suc, _+_, _-_, _%_, _^_, _≤_, _<_, min}
+use Prim.Native.Nat.{ℕ, _+_, _-_, _%_, _^_, _≤_}
 use native.Mathlib.Omega.{arith}
 use lib.Dec.{eqb, leb}
-use lib.ListN.{length, getD, set, take, drop, length-append, length-take}
+use lib.ListN.{length, set, take, drop, length-append, length-take}
 use lib.Seq.{drop-at}
 use Rattle.wire.specs.Field.{field, length-field}
 use Rattle.wire.specs.Splice.{splice, splice-splice, take-splice}
 use Rattle.crc.specs.Crc.{crcOf}
-use Rattle.journal.specs.Journal.{choose, headed, entry, mark, closing, reach}
+use Rattle.journal.specs.Journal.{headed, entry, mark, closing}
 use Rattle.journal.specs.Bytes.{yes-is, no-is}
 use Rattle.journal.specs.Entry.{headed-length, length-entry}
 use Rattle.journal.specs.Steps.{drop-take}
-use Rattle.journal.specs.Writer.{Done, Met, place, last, count, shut, left, newOf, writing}
+use Rattle.journal.specs.Writer.{Done, Met, place, count, shut, left, newOf, writing}
 use Rattle.journal.specs.declared.Kept.{Kept}
 use Rattle.journal.specs.declared.Kept.the-variants.{Written, NoRoom, Closed}
 

@@ -1,10 +1,8 @@
 -- `crc::feed_by` meets its contract. The invariant: what is left, fed to the register as it is, gives what the whole gives.
 use mathlib.Core.Path.{_≡_, refl, sym, ap, _∙_}
-use mathlib.Core.List.{List}
-use Prim.Native.Nat.{ℕ, _≤_, _-_, _+_}
+use Prim.Native.Nat.{_≤_, _-_}
 use native.Mathlib.Omega.{arith}
-use lib.ListN.{length, drop, length-drop}
-use lib.Seq.{take-all}
+use lib.ListN.{length, drop}
 use Rattle.crc.specs.Crc.{feedOf}
 use Rattle.crc.specs.Feed.{feed-four, up-to-end}
 use borrow.Author.Needs.{needs}

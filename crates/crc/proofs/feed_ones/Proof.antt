@@ -1,6 +1,6 @@
 -- `crc::feed_ones` meets its contract. The invariant: what is left, fed to the register as it is, gives what the whole gives.
 use mathlib.Core.Path.{_≡_, refl, sym, _∙_}
-use Prim.Native.Nat.{ℕ, _≤_, _-_, _+_}
+use Prim.Native.Nat.{_≤_, _-_}
 use native.Mathlib.Omega.{arith}
 use lib.ListN.{length, drop}
 use Rattle.crc.specs.Crc.{feedOf}

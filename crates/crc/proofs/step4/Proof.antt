@@ -1,6 +1,5 @@
 -- `crc::step4` meets its contract: the law of four bytes by the table.
-use mathlib.Core.Path.{_≡_}
-use Prim.Native.Nat.{ℕ, _+_, _*_}
+use Prim.Native.Nat.{_+_, _*_}
 use native.Mathlib.Omega.{arith}
 use Rattle.crc.specs.Table.{four-by-table}
 use borrow.Author.Needs.{needs}

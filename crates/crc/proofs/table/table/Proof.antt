@@ -2,7 +2,6 @@
 use mathlib.Core.Path.{refl}
 use Rattle.crc.specs.Crc.{tabulate, steps, bitStep}
 use Rattle.crc.specs.Table.{rowsTable}
-use borrow.Author.Needs.{needs}
 use Rattle.crc.proofs.table.table.Statement.{statement}
 use Rattle.crc.proofs.table.table.Tie as tie
 

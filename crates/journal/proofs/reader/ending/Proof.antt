@@ -1,9 +1,8 @@
 -- `reader::ending` meets its contract: a law for each way out.
-use mathlib.Core.Path.{_≡_, sym, _∙_}
-use native.Mathlib.Omega.{arith}
+use mathlib.Core.Path.{sym, _∙_}
 use borrow.Author.Tests.{not-true, not-false}
 use Rattle.journal.specs.Journal.{distanceOf}
-use Rattle.journal.specs.Steps.{whole-length, ending-short, ending-far, ending-broken, ending-other, ending-found}
+use Rattle.journal.specs.Steps.{ending-short, ending-far, ending-broken, ending-other, ending-found}
 use borrow.Author.Needs.{needs}
 use Rattle.journal.proofs.reader.ending.Statement.{statement}
 use Rattle.journal.proofs.reader.ending.Tie as tie

@@ -1,5 +1,4 @@
 -- `reader::length_of` meets its contract.
-use mathlib.Core.Path.{_≡_}
 use Rattle.journal.specs.Journal.{lengthOf}
 use borrow.Author.Needs.{needs}
 use Rattle.journal.proofs.reader.length_of.Statement.{statement}

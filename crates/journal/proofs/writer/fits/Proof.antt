@@ -1,5 +1,5 @@
 -- `writer::fits` meets its contract.
-use mathlib.Core.Path.{_≡_, sym, ap}
+use mathlib.Core.Path.{sym, ap}
 use Prim.Native.Nat.{ℕ, _+_, _-_, _<_, min}
 use lib.Dec.{leb}
 use native.Mathlib.Omega.{arith}

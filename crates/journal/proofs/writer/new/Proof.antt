@@ -1,5 +1,5 @@
 -- `writer::new` meets its contract.
-use mathlib.Core.Path.{_≡_, sym, _∙_}
+use mathlib.Core.Path.{sym, _∙_}
 use Rattle.journal.specs.Written.{new-made, new-no-room}
 use borrow.Author.Needs.{needs}
 use Rattle.journal.proofs.writer.new.Statement.{statement}
