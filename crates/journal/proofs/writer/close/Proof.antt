@@ -16,22 +16,32 @@ unfolding closeOf
 returns c = write-closed _ _ _ _ _ (sym (c .before .is-open .ensures) ∙ not-true _ (c .if1 .taken))
 
 put-closing-requires : tie.Need-put-closing-requires
-put-closing-requires c κs = let a = c .before .before .before .before .before .before .before .before .before .before .args in
-    let h : 0 + 12 ≤ min (length (a .book .now)) reach - place (a .words .now) = leb-true _ _ (sym (c .before .before .fits2 .ensures) ∙ c .before .if2 .taken) in
+put-closing-requires c κs = let i = c .before in
+    let t = i .before in
+    let a = t .before .before .before .before .before .before .before .before .args in
+    let h : 0 + 12 ≤ min (length (a .book .now)) reach - place (a .words .now) = leb-true _ _ (sym (t .fits2 .ensures) ∙ i .if2 .taken) in
     omega arith
 
 add-set-words : tie.Need-add-set-words
-add-set-words c = let a = c .before .before .before .before .before .before .before .before .before .before .before .before .before .before .args in
-    let h : 0 + 12 ≤ min (length (a .book .now)) reach - place (a .words .now) = leb-true _ _ (sym (c .before .before .before .before .before .before .fits2 .ensures) ∙ c .before .before .before .before .before .if2 .taken) in
+add-set-words c = let i = c .before .before .before .before .before in
+    let t = i .before in
+    let a = t .before .before .before .before .before .before .before .before .args in
+    let h : 0 + 12 ≤ min (length (a .book .now)) reach - place (a .words .now) = leb-true _ _ (sym (t .fits2 .ensures) ∙ i .if2 .taken) in
     omega arith
 
 returns-2 : tie.Need-returns-2
 unfolding closeOf
-returns-2 c = write-done _ _ _ _ _ _ _ _ refl (sym (c .before .before .before .before .before .before .before .before .before .before .before .before .is-open .ensures) ∙ not-false _ (c .before .before .before .before .before .before .before .before .before .before .before .if1 .left)) (sym (c .before .before .before .before .before .before .before .fits2 .ensures) ∙ c .before .before .before .before .before .before .if2 .taken) (c .set-words .ensures) (c .before .before .before .before .put-closing .ensures)
+returns-2 c = let p = c .before .before .before .before in
+    let i = p .before .before in
+    let t = i .before in
+    let o = t .before .before .before .before in
+    write-done _ _ _ _ _ _ _ _ refl (sym (o .before .is-open .ensures) ∙ not-false _ (o .if1 .left)) (sym (t .fits2 .ensures) ∙ i .if2 .taken) (c .set-words .ensures) (p .put-closing .ensures)
 
 returns-3 : tie.Need-returns-3
 unfolding closeOf
-returns-3 c = write-no-room _ _ _ _ _ _ refl (sym (c .before .before .before .before .before .before .is-open .ensures) ∙ not-false _ (c .before .before .before .before .before .if1 .left)) (sym (c .before .fits2 .ensures) ∙ c .if2 .left)
+returns-3 c = let t = c .before in
+    let o = t .before .before .before .before in
+    write-no-room _ _ _ _ _ _ refl (sym (o .before .is-open .ensures) ∙ not-false _ (o .if1 .left)) (sym (t .fits2 .ensures) ∙ c .if2 .left)
 
 pub close-spec : {M : Type 1} → statement M
 close-spec =
