@@ -1,6 +1,6 @@
 -- What the backward reader finds in any bytes: entries, one before the other from the end on, and what stands before them does not
 -- end with a whole entry. Assumes nothing.
-use mathlib.Core.Path.{_≡_, refl, sym, ap, _∙_}
+use mathlib.Core.Path.{_≡_, refl, sym, ap, subst, _∙_}
 use mathlib.Core.Bool.{Bool, true, false, _&&_}
 use mathlib.Core.List.{List, [], _∷_, _++_, append-assoc, append-nil, reverse, reverse-cons}
 use Prim.Native.Nat.{ℕ, zero, suc, _+_, _-_, _≤_}
@@ -9,8 +9,8 @@ use lib.Dec.{eqb, leb}
 use lib.ListN.{length, take, drop, length-take, length-drop, take-append-drop, drop-of-length-le}
 use borrow.Author.Tests.{leb-true, eqb-true}
 use Rattle.wire.specs.Field.{Bytes}
-use Rattle.journal.specs.Journal.{choose, entry, entries, AllFine, lengthOf, bodyOf, whole, distanceOf, startOf, ends, backwardOn}
-use Rattle.journal.specs.Bytes.{and-left, and-right, take-bytes, drop-bytes}
+use Rattle.journal.specs.Journal.{choose, entry, entries, AllFine, lengthOf, bodyOf, whole, distanceOf, startOf, ends, backwardOn, closed, backward}
+use Rattle.journal.specs.Bytes.{yes-is, no-is, and-left, and-right, take-bytes, drop-bytes}
 use Rattle.journal.specs.Entry.{passed, entry-again, read-fine}
 use Rattle.journal.specs.Backward.{too-few, entries-last}
 
@@ -89,5 +89,17 @@ backward-reads (suc k) s b h =
     let l : length (take (startOf s) s) ≤ k = simp length-take (omega arith) in
     backward-reads k (take (startOf s) s) (take-bytes (startOf s) s b) l)
 
-pub backward-stops : (s : List ℕ) → Bytes s → ReadBack s (backwardOn (length s) s) (restBack (length s) s)
-backward-stops s b = backward-reads (length s) s b (omega arith)
+-- The backward reader finds none unless "BACK" begins the last twelve bytes.
+pub backward-none : (s : List ℕ) → closed s ≡ false → backward s ≡ []
+unfolding backward
+backward-none s e = no-is _ [] e
+
+-- Else, in the bytes before these:
+pub backward-stops : (s : List ℕ) → Bytes s → closed s ≡ true
+    → (let t : List ℕ = take (length s - 12) s in ReadBack t (backward s) (restBack (length s) t))
+unfolding backward
+backward-stops s b c =
+    let t : List ℕ = take (length s - 12) s in
+    let l : length t ≤ length s = simp length-take (omega arith) in
+    subst (λ (x : List (List ℕ)). ReadBack t x (restBack (length s) t)) (sym (yes-is (backwardOn (length s) t) [] c))
+    (backward-reads (length s) t (take-bytes (length s - 12) s b) l)

@@ -12,6 +12,9 @@ pub const BODY_LIMIT: usize = 5000;
 // No byte of a book past these is used (specs: reach).
 const REACH: usize = 2147483648;
 
+// "BACK", which begins the closing trailer (specs: mark).
+pub const MARK: u64 = 0x4241434b;
+
 // How many of a book's bytes may be used.
 pub fn room(len: usize) -> usize
     ensures { λ r. ⌜ r ≡ min len reach ⌝ }
@@ -119,7 +122,7 @@ fn is_closed(s: &[u8]) -> bool
     if s.len() < 12 {
         return false;
     }
-    wire::number::number4(s, s.len() - 12) == 1111573323
+    wire::number::number4(s, s.len() - 12) == MARK
 }
 
 // The entry that ends at a place of a closed book.

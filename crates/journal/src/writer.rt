@@ -84,7 +84,7 @@ fn put_closing(book: &mut [u8], at: usize, last: u64, count: u64)
     requires { ⌜ at + 12 ≤ length (now book) ⌝ }
     ensures { λ _. ⌜ now (book .exit) ≡ splice (now (book .entry)) at (closing last count) ⌝ }
 {
-    number::put4(book, at, 1111573323);
+    number::put4(book, at, reader::MARK);
     number::put4(book, at + 4, last);
     number::put4(book, at + 8, count);
 }
