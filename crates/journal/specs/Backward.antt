@@ -1,4 +1,4 @@
--- On a closed book the backward reader finds the forward reader's entries, last first. Assumes nothing.
+-- On a closed journal the backward reader finds the forward reader's entries, last first. Assumes nothing.
 use mathlib.Core.Path.{_≡_, refl, sym, ap, ap₂, _∙_}
 use mathlib.Core.Bool.{true, false}
 use mathlib.Core.List.{List, [], _∷_, _++_, append-assoc, append-nil, reverse, reverse-cons, reverse-reverse}
@@ -96,7 +96,7 @@ backward-entries (b ∷ rs) (suc k) f h =
     ∙ ap₂ (λ (x : List ℕ) (y : List ℕ). x ∷ backwardOn k y) (last-body p b (f .0)) (before-last p b (f .0))
     ∙ ap (λ (l : List (List ℕ)). b ∷ l) (backward-entries rs k (f .1) (omega arith))
 
--- a closed book
+-- a closed journal
 module _ (bs : List (List ℕ)) where
   pub journal-length : length (closedJournal bs) ≡ length (entries bs) + 12
   unfolding closedJournal
@@ -117,7 +117,7 @@ module _ (bs : List (List ℕ)) where
       ap (λ (l : List ℕ). number (take 4 l)) (drop-at (entries bs) c (n - 12) (omega (arith, journal-length))) in
       and-is (le-leb 12 n (omega (arith, journal-length))) (eq-eqb (numberAt (entries bs ++ c) (n - 12) 4) (number mark) d)
 
--- On a book that our writer closed the backward reader finds all entries, last first: the forward reader's, turned round.
+-- On a journal that our writer closed the backward reader finds all entries, last first: the forward reader's, turned round.
 pub backward-closed : (bs : List (List ℕ)) → AllFine bs → backward (closedJournal bs) ≡ reverse bs
 unfolding backward
 backward-closed bs f =

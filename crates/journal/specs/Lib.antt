@@ -6,10 +6,10 @@ pub mod Forward
 pub mod Holds
 pub mod Journal
 pub mod Places
+pub mod Prefix
 pub mod Reach
 pub mod Run
 pub mod Steps
-pub mod Stopped
 pub mod Stops
 pub mod Torn
 pub mod Trailer

@@ -14,7 +14,7 @@ use Rattle.journal.specs.Forward.{forward-closed}
 use Rattle.journal.specs.Backward.{backward-closed}
 use Rattle.journal.specs.Holds.{Holds, new-length, append-length, new-holds, append-holds, append-left-out, stays-closed, IsClosed, close-closes}
 use Rattle.journal.specs.Places.{forwardAt, backwardAt}
-use Rattle.journal.specs.Stopped.{within, stopped}
+use Rattle.journal.specs.Prefix.{within, stopped}
 use Rattle.journal.specs.Trailer.{says-last, says-count}
 use Rattle.journal.specs.Walks.{walk, forward-all, backward-all, used-short}
 use Rattle.journal.specs.Writer.{Done, place, shut, left, newOf, appendOf, closeOf}

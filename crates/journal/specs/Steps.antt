@@ -128,7 +128,7 @@ module _ (s : List ℕ) (d : ℕ) (e : d ≡ distanceOf s) where
       (eq-eqb (lengthOf (drop (startOf s) s) + 4) (distanceOf s) (omega arith)) in
       (λ i. record { found = 1; body = length s - 8 - e i + 4; len = sym q i; next = length s - 8 - e i }) ∙ sym (yes-is _ none t)
 
--- a closed book
+-- a closed journal
 pub closed-length : (s : List ℕ) → closed s ≡ true → 12 ≤ length s
 unfolding closed
 closed-length s e = leb-true 12 (length s) (and-left (leb 12 (length s)) (eqb (numberAt s (length s - 12) 4) (number mark)) e)

@@ -16,7 +16,7 @@ use Rattle.journal.specs.Entry.{length-closing, short}
 use Rattle.journal.specs.Forward.{forward-exact, stopped-in-entry, stopped-in-closing}
 use Rattle.journal.specs.Backward.{entries-last, fine-append}
 use Rattle.journal.specs.Holds.{wordsOf, Holds, appended, fits-then}
-use Rattle.journal.specs.Stopped.{within}
+use Rattle.journal.specs.Prefix.{within}
 use Rattle.journal.specs.Writer.{Done, place, left, writing, appendOf, closeOf}
 
 -- Writing goes up byte by byte, so what is written after k bytes of x is the book up to there.

@@ -69,7 +69,7 @@ ends-whole s e =
     let q : Bool = whole (drop (startOf s) s) in
     and-right p q (and-left (p && q) (eqb (lengthOf (drop (startOf s) s) + 4) (distanceOf s)) e)
 
--- a turn of the backward walk, in a closed book
+-- a turn of the backward walk, in a closed journal
 module _ (k : ℕ) (book : List ℕ) (place : ℕ) (c : closed (used book) ≡ true) (h : place ≤ length (used book) - 12)
     (ih : (q : ℕ) → q ≤ length (used book) - 12 → walk backwardAt k book q ≡ backwardOn k (take q (used book))) where
   abbrev front : List ℕ

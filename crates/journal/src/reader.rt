@@ -125,7 +125,7 @@ fn is_closed(s: &[u8]) -> bool
     wire::number::number4(s, s.len() - 12) == MARK
 }
 
-// The entry that ends at a place of a closed book.
+// The entry that ends at a place of a closed journal.
 pub fn backward(book: &[u8], at: usize) -> Found
     ensures { λ r. ⌜ r ≡ backwardAt (now (book .entry)) at ⌝ }
 {
