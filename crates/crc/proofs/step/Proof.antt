@@ -1,0 +1,11 @@
+-- `crc::step` meets its contract: the law of one byte by the table.
+use Rattle.crc.specs.Table.{byte-by-table}
+use borrow.Author.Needs.{needs}
+use Rattle.crc.proofs.step.Statement.{statement}
+use Rattle.crc.proofs.step.Tie as tie
+
+returns : tie.Need-returns
+returns c = let a = c .before .args in byte-by-table (a .t .now) (a .c) (a .b) (c .before .pre)
+
+pub step-spec : {M : Type 1} → statement M
+step-spec = tie.close (tie.spec (λ c. search needs) (λ c. search needs) (λ c. search needs) returns)

@@ -1,0 +1,71 @@
+-- Bytes fed to the register: in parts, a turn of each loop, and the register's width. Assumes nothing.
+use mathlib.Core.Path.{_≡_, refl, ap, _∙_}
+use mathlib.Core.Logic.{⊎-elim}
+use mathlib.Core.List.{List, [], _∷_, _++_}
+use Prim.Native.Nat.{ℕ, zero, suc, _+_, _-_, _/_, _%_, _^_, _≤_, _<_}
+use native.Mathlib.Numerals.{add-one}
+use native.Mathlib.Omega.{arith}
+use lib.Bits.{bitXor, xor-lt}
+use lib.Dec.{lit<}
+use lib.ListN.{length, getD, take, drop, length-drop, drop-of-length-le}
+use lib.Seq.{drop-cons, take-all}
+use Rattle.crc.specs.Crc.{polynomial, bitStep, steps, byteStep, feedOf, crcOf}
+use Rattle.crc.specs.Steps.{bit, bit-zero, bit-one}
+
+-- a run in parts
+pub feed-append : (c : ℕ) (a b : List ℕ) → feedOf c (a ++ b) ≡ feedOf (feedOf c a) b
+unfolding feedOf
+feed-append c [] b = refl
+feed-append c (x ∷ a) b = feed-append (byteStep c x) a b
+
+-- a turn of the loop, and its end
+pub feed-next : (x : ℕ) (bs : List ℕ) (i : ℕ) → i < length bs → feedOf x (drop i bs) ≡ feedOf (byteStep x (getD bs i 0)) (drop (i + 1) bs)
+unfolding feedOf
+feed-next x bs i h = rw (add-one, drop-cons bs i 0 h)
+
+pub feed-last : (x : ℕ) (bs : List ℕ) (i : ℕ) → length bs ≤ i → feedOf x (drop i bs) ≡ x
+unfolding feedOf
+feed-last x bs i h = rw (drop-of-length-le bs h)
+
+-- a turn of the loop
+pub feed-four : (x : ℕ) (bs : List ℕ) (i : ℕ) → i + 4 ≤ length bs
+    → feedOf x (drop i bs) ≡ feedOf (byteStep (byteStep (byteStep (byteStep x (getD bs i 0)) (getD bs (i + 1) 0)) (getD bs (i + 2) 0)) (getD bs (i + 3) 0)) (drop (i + 4) bs)
+feed-four x bs i h =
+    let e : i + 1 + 1 ≡ i + 2 = omega arith in
+    let f : i + 2 + 1 ≡ i + 3 = omega arith in
+    let g : i + 3 + 1 ≡ i + 4 = omega arith in
+    feed-next x bs i (omega arith)
+    ∙ feed-next (byteStep x (getD bs i 0)) bs (i + 1) (omega arith)
+    ∙ ap (λ (k : ℕ). feedOf (byteStep (byteStep x (getD bs i 0)) (getD bs (i + 1) 0)) (drop k bs)) e
+    ∙ feed-next (byteStep (byteStep x (getD bs i 0)) (getD bs (i + 1) 0)) bs (i + 2) (omega arith)
+    ∙ ap (λ (k : ℕ). feedOf (byteStep (byteStep (byteStep x (getD bs i 0)) (getD bs (i + 1) 0)) (getD bs (i + 2) 0)) (drop k bs)) f
+    ∙ feed-next (byteStep (byteStep (byteStep x (getD bs i 0)) (getD bs (i + 1) 0)) (getD bs (i + 2) 0)) bs (i + 3) (omega arith)
+    ∙ ap (λ (k : ℕ). feedOf (byteStep (byteStep (byteStep (byteStep x (getD bs i 0)) (getD bs (i + 1) 0)) (getD bs (i + 2) 0)) (getD bs (i + 3) 0)) (drop k bs)) g
+
+-- a part up to the end
+pub up-to-end : (bs : List ℕ) (i : ℕ) → take (length bs - i) (drop i bs) ≡ drop i bs
+up-to-end bs i = take-all (length bs - i) (drop i bs) (simp length-drop (omega arith))
+
+-- the register has 32 bits
+step-lt : (c : ℕ) → c < 2 ^ 32 → bitStep c < 2 ^ 32
+step-lt c h =
+    ⊎-elim
+    (λ (e : c % 2 ≡ 0). rw (bit-zero c e) (omega arith))
+    (λ (e : c % 2 ≡ 1). rw (bit-one c e) (xor-lt 32 (c / 2) polynomial (omega arith) (lit< tt)))
+    (bit c)
+
+steps-lt : (n c : ℕ) → c < 2 ^ 32 → steps n c < 2 ^ 32
+unfolding steps
+steps-lt zero c h = h
+steps-lt (suc n) c h = steps-lt n (bitStep c) (step-lt c h)
+
+pub feed-lt : (c : ℕ) (bs : List ℕ) → c < 2 ^ 32 → ((i : ℕ) → getD bs i 0 < 256) → feedOf c bs < 2 ^ 32
+unfolding feedOf byteStep
+feed-lt c [] h w = h
+feed-lt c (b ∷ bs) h w =
+    let l : b < 256 = w 0 in
+    feed-lt (steps 8 (bitXor c b)) bs (steps-lt 8 (bitXor c b) (xor-lt 32 c b h (omega arith))) (λ i. w (suc i))
+
+pub crc-lt : (bs : List ℕ) → ((i : ℕ) → getD bs i 0 < 256) → crcOf bs < 2 ^ 32
+unfolding crcOf
+crc-lt bs w = xor-lt 32 (feedOf 0xffffffff bs) 0xffffffff (feed-lt 0xffffffff bs (lit< tt) w) (lit< tt)

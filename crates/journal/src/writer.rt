@@ -1,0 +1,138 @@
+// The writer, over a lent book and four lent words: how many bytes are written, the offset of the last entry, the number of entries,
+// and 0 while the journal is open. Any bits may stand in the words.
+ghost use Prim.Native.Nat.{_+_, _-_, _≤_, _<_, min};
+ghost use Rattle.journal.specs.Journal.{bodyLimit, closing, entry, headed, reach};
+ghost use Rattle.journal.specs.Writer.{Met, appendOf, closeOf, newOf, shut};
+ghost use Rattle.crc.specs.Crc.{crcOf};
+ghost use Rattle.wire.specs.Splice.{splice};
+ghost use lib.Dec.{eqb, leb};
+ghost use lib.ListN.{drop, length, take};
+ghost use mathlib.Core.List.{[], _∷_, _++_};
+ghost use mathlib.Core.Path.{_≡_};
+use crate::Kept;
+use crate::reader;
+use wire::frame;
+use wire::number;
+
+fn set_all(w: &mut [u64], a: u64, b: u64, c: u64, d: u64)
+    requires { ⌜ length (now w) ≡ 4 ⌝ }
+    ensures { λ _. ⌜ now (w .exit) ≡ a ∷ b ∷ c ∷ d ∷ [] ⌝ }
+{
+    w[0] = a;
+    w[1] = b;
+    w[2] = c;
+    w[3] = d;
+}
+
+fn set_words(w: &mut [u64; 4], a: u64, b: u64, c: u64, d: u64)
+    ensures { λ _. ⌜ now (w .exit) ≡ a ∷ b ∷ c ∷ d ∷ [] ⌝ }
+{
+    set_all(w, a, b, c, d);
+}
+
+fn is_open(words: &[u64; 4]) -> bool
+    ensures { λ r. ⌜ r ≡ eqb (shut (now (words .entry))) 0 ⌝ }
+{
+    words[3] == 0
+}
+
+// Do n bytes and a closing trailer fit behind a place?
+fn fits(len: usize, at: u64, n: usize) -> bool
+    requires { ⌜ n ≤ 65536 ⌝ }
+    ensures { λ r. ⌜ r ≡ leb (n + 12) (min len reach - at) ⌝ }
+{
+    let m = reader::room(len) as u64;
+    if at > m {
+        return false;
+    }
+    n as u64 + 12 <= m - at
+}
+
+// Length and body, the body in three parts.
+fn put_headed(book: &mut [u8], at: usize, a: &[u8], b: &[u8], c: &[u8])
+    requires { ⌜ (length (now a) + length (now b) + length (now c) ≤ bodyLimit) × (at + 4 + length (now a) + length (now b) + length (now c) ≤ length (now book)) ⌝ }
+    ensures { λ _. ⌜ now (book .exit) ≡ splice (now (book .entry)) at (headed (now (a .entry) ++ now (b .entry) ++ now (c .entry))) ⌝ }
+{
+    let n = a.len() + b.len() + c.len();
+    number::put4(book, at, n as u64);
+    frame::put_bytes(book, at + 4, a);
+    frame::put_bytes(book, at + 4 + a.len(), b);
+    frame::put_bytes(book, at + 4 + a.len() + b.len(), c);
+}
+
+// The sum over a part of the book.
+fn sum_of(book: &[u8], at: usize, e: usize) -> u32
+    requires { ⌜ (at ≤ e) × (e ≤ length (now book)) ⌝ }
+    ensures { λ r. ⌜ r ≡ crcOf (take (e - at) (drop at (now (book .entry)))) ⌝ }
+{
+    crc::crc32(&book[at..e])
+}
+
+// A whole entry. Every byte is written behind those before it.
+fn put_entry(book: &mut [u8], at: usize, a: &[u8], b: &[u8], c: &[u8])
+    requires { ⌜ (length (now a) + length (now b) + length (now c) ≤ bodyLimit) × (at + 12 + length (now a) + length (now b) + length (now c) ≤ length (now book)) ⌝ }
+    ensures { λ _. ⌜ now (book .exit) ≡ splice (now (book .entry)) at (entry (now (a .entry) ++ now (b .entry) ++ now (c .entry))) ⌝ }
+{
+    let n = a.len() + b.len() + c.len();
+    put_headed(book, at, a, b, c);
+    let sum = sum_of(book, at, at + (n + 4));
+    number::put4(book, at + (n + 4), n as u64 + 4);
+    number::put4(book, at + (n + 8), sum as u64);
+}
+
+fn put_closing(book: &mut [u8], at: usize, last: u64, count: u64)
+    requires { ⌜ at + 12 ≤ length (now book) ⌝ }
+    ensures { λ _. ⌜ now (book .exit) ≡ splice (now (book .entry)) at (closing last count) ⌝ }
+{
+    number::put4(book, at, reader::MARK);
+    number::put4(book, at + 4, last);
+    number::put4(book, at + 8, count);
+}
+
+// A new, empty journal, whatever the words were.
+pub fn new(words: &mut [u64; 4], book: &[u8]) -> Kept
+    ensures { λ r. ⌜ Met (newOf (now (words .entry)) (now (book .entry))) r (now (words .exit)) (now (book .entry)) ⌝ }
+{
+    if fits(book.len(), 0, 0) {
+        set_words(words, 0, 0, 0, 0);
+        return Kept::Written;
+    }
+    Kept::NoRoom
+}
+
+// An entry whose body is three parts in a row, so that nobody has to put them together first.
+pub fn append(words: &mut [u64; 4], book: &mut [u8], a: &[u8], b: &[u8], c: &[u8]) -> Kept
+    requires { ⌜ length (now a) + length (now b) + length (now c) ≤ bodyLimit ⌝ }
+    ensures { λ r. ⌜ Met (appendOf (now (words .entry)) (now (book .entry)) (now (a .entry) ++ now (b .entry) ++ now (c .entry))) r (now (words .exit)) (now (book .exit)) ⌝ }
+{
+    if !is_open(words) {
+        return Kept::Closed;
+    }
+    let at = words[0];
+    let n = a.len() + b.len() + c.len() + 12;
+    if fits(book.len(), at, n) {
+        put_entry(book, at as usize, a, b, c);
+        let count = std::num::wrapping_add_u64(words[2], 1);
+        set_words(words, at + n as u64, at, count, 0);
+        return Kept::Written;
+    }
+    Kept::NoRoom
+}
+
+// The closing trailer behind the last entry.
+pub fn close(words: &mut [u64; 4], book: &mut [u8]) -> Kept
+    ensures { λ r. ⌜ Met (closeOf (now (words .entry)) (now (book .entry))) r (now (words .exit)) (now (book .exit)) ⌝ }
+{
+    if !is_open(words) {
+        return Kept::Closed;
+    }
+    let at = words[0];
+    let last = words[1];
+    let count = words[2];
+    if fits(book.len(), at, 0) {
+        put_closing(book, at as usize, last, count);
+        set_words(words, at + 12, last, count, 1);
+        return Kept::Written;
+    }
+    Kept::NoRoom
+}
