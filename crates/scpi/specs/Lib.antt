@@ -1,0 +1,16 @@
+pub mod Bytes
+pub mod Grammar
+pub mod Spelling
+pub mod Cuts
+pub mod Sets
+pub mod Words
+pub mod Walks
+pub mod Whole
+pub mod Automaton
+pub mod Accepting
+pub mod Verdicts
+pub mod Scans
+pub mod Lists
+pub mod Rulings
+pub mod Lines
+pub mod Examples
