@@ -14,7 +14,7 @@ ghost use Rattle.scpi.specs.Spelling.{Spells, Matches};
 ghost use Rattle.scpi.specs.Whole.{PathSays};
 ghost use Rattle.scpi.specs.Words.{part};
 ghost use Rattle.scpi.specs.Sets.{On, Says, Lands};
-ghost use Rattle.scpi.specs.Walks.{Walked, Bracketed};
+ghost use Rattle.scpi.specs.Walks.{Bracketed, ItemAt, Walked, Worded};
 
 // Where a walk came to: a place of the pattern and a set of places of the command, a flag for each.
 struct Walk {
@@ -87,31 +87,52 @@ fn union(a: &[u8; 130], b: &[u8; 130]) -> [u8; 130]
     t
 }
 
-// A row of colon-and-word and brackets, from `at` on; `left` brackets may still be opened.
+// A colon and a word.
+fn match_word(p: &[u8], at: usize, c: &[u8], s: [u8; 130]) -> Walk
+    requires { ⌜ (at < length (now p)) × (length (now c) ≤ 128) ⌝ }
+    ensures { λ r. ⌜ Worded (now (p .entry)) at (now (c .entry)) s (r .at) (r .on) ⌝ }
+{
+    let m = run_end(p, at + 1, 65, 90);
+    let end = run_end(p, m, 97, 122);
+    let t = step(&s, p, at, m, end, c);
+    Walk { at: end, on: t }
+}
+
+// Does an item of a row begin here? `left` brackets may still be opened.
+fn begins_item(p: &[u8], at: usize, left: usize) -> bool
+    ensures { λ r. ⌜ Says r (ItemAt left (now (p .entry)) at) ⌝ }
+{
+    if at >= p.len() {
+        return false;
+    }
+    if p[at] == 58 {
+        return true;
+    }
+    if p[at] != 91 {
+        return false;
+    }
+    if left == 0 {
+        return false;
+    }
+    true
+}
+
+// A row of colon-and-word and brackets, from `at` on, item by item: so only brackets deepen the stack.
 fn match_path(p: &[u8], at: usize, left: usize, c: &[u8], s: [u8; 130]) -> Walk
     requires { ⌜ (left ≤ 8) × (at ≤ length (now p)) × (length (now c) ≤ 128) ⌝ }
     ensures { λ r. ⌜ Walked (8 - left) (now (p .entry)) at (now (c .entry)) s (r .at) (r .on) ⌝ }
 {
-    if at >= p.len() {
-        return Walk { at, on: s };
-    }
-    let b = p[at];
-    if b == 58 {
-        let m = run_end(p, at + 1, 65, 90);
-        let e = run_end(p, m, 97, 122);
-        let t = step(&s, p, at, m, e, c);
-        return match_path(p, e, left, c, t);
-    }
-    if b == 91 {
-        if left == 0 {
-            return Walk { at, on: s };
-        }
-        let w = match_bracket(p, at + 1, left - 1, c, s);
+    let mut w = Walk { at, on: s };
+    while begins_item(p, w.at, left) {
         let i = w.at;
         let t = w.on;
-        return match_path(p, i, left, c, t);
+        if p[i] == 58 {
+            w = match_word(p, i, c, t);
+        } else {
+            w = match_bracket(p, i + 1, left - 1, c, t);
+        }
     }
-    Walk { at, on: s }
+    w
 }
 
 // Behind "[": the row that it holds, kept or dropped, and "]".

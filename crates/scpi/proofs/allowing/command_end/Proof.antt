@@ -1,5 +1,4 @@
 -- `allowing::command_end` meets its contract. The invariant: what was passed, and the command of what is left, are the command.
---
 use mathlib.Core.Path.{_≡_, refl, sym, _∙_}
 use mathlib.Core.List.{_++_}
 use Prim.Native.Nat.{_-_, _≤_}

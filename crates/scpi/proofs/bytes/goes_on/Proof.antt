@@ -1,5 +1,4 @@
 -- `bytes::goes_on` meets its contract. The invariant: comparing what is left, from k and j on, says what the whole comparison says.
---
 use mathlib.Core.Path.{_≡_, refl, sym, _∙_}
 use mathlib.Core.Bool.{false}
 use Prim.Native.Nat.{_-_, _≤_}

@@ -1,5 +1,4 @@
 -- `bytes::is_between` meets its contract: the two tests are those of the definition.
---
 use borrow.Author.Tests.{le-leb, lt-leb}
 use Rattle.scpi.proofs.bytes.is_between.Statement.{statement}
 use Rattle.scpi.proofs.bytes.is_between.Tie as tie

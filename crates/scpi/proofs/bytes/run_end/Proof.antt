@@ -1,5 +1,4 @@
 -- `bytes::run_end` meets its contract. The invariant: what is left of the run, from i on, ends where the whole run does.
---
 use mathlib.Core.Path.{_≡_, refl, sym, _∙_}
 use Prim.Native.Nat.{_+_, _-_, _≤_}
 use lib.ListN.{length, drop}

@@ -1,6 +1,5 @@
 -- The proof of the cycle of calls {bracket, path}: path reading and bracket reading call each other.
 -- A path at n = bytes left + depth left has the measure 2n, and a bracket 2n + 1: behind "[" both have fallen, and a bracket reads its row at the same place and depth.
---
 use mathlib.Core.Path.{subst}
 use Prim.Native.Nat.{_+_, _-_, _*_, _≤_}
 use native.Mathlib.Omega.{arith}

@@ -1,5 +1,4 @@
 -- `checking::check` meets its contract: the reading's answer is the grammar's verdict.
---
 use mathlib.Core.Path.{sym, _∙_}
 use borrow.Author.Needs.{needs}
 use lib.Seq.{length-take-le}

@@ -1,5 +1,4 @@
 -- `checking::finish` meets its contract.
---
 use borrow.Author.Needs.{needs}
 use Rattle.scpi.specs.Scans.{end-good, end-wrong, end-asked, end-more}
 use Rattle.scpi.proofs.checking.finish.Statement.{statement}

@@ -1,5 +1,4 @@
 -- `checking::is_item` meets its contract.
---
 use mathlib.Core.Logic.{inl, inr, ⊎-elim}
 use Rattle.scpi.proofs.checking.is_item.Statement.{statement}
 use Rattle.scpi.proofs.checking.is_item.Tie as tie

@@ -1,5 +1,4 @@
 -- `checking::star` meets its contract.
---
 use native.Mathlib.Omega.{arith}
 use borrow.Author.Needs.{needs}
 use Rattle.scpi.specs.Scans.{star-wrong, star-on}

@@ -1,5 +1,4 @@
 -- `checking::whole` meets its contract.
---
 use mathlib.Core.Path.{subst, _∙_}
 use borrow.Author.Needs.{needs}
 use Rattle.scpi.specs.Scans.{WordRead, PathRead, start-empty, start-star, whole-word-bad, whole-path-bad, whole-end}

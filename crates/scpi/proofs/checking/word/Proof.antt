@@ -1,5 +1,4 @@
 -- `checking::word` meets its contract.
---
 use native.Mathlib.Omega.{arith}
 use borrow.Author.Needs.{needs}
 use Rattle.scpi.specs.Scans.{word-wrong, word-on}

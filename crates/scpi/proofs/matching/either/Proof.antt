@@ -1,5 +1,4 @@
 -- `matching::either` meets its contract.
---
 use mathlib.Core.Path.{refl}
 use mathlib.Core.Logic.{inl, inr, ⊎-elim}
 use Rattle.scpi.proofs.matching.either.Statement.{statement}

@@ -1,5 +1,4 @@
 -- `matching::landing` meets its contract.
---
 use mathlib.Core.Path.{_≡_, refl}
 use mathlib.Core.Logic.{inl, inr, ⊎-elim}
 use Prim.Native.Nat.{ℕ}

@@ -1,5 +1,4 @@
 -- `matching::lands` meets its contract: a spelling of n bytes that ends at j begins at j - n.
---
 use Prim.Native.Nat.{_-_}
 use borrow.Author.Needs.{needs}
 use Rattle.scpi.specs.Words.{part, length-part, lands-early, lands-at, says-starts}

@@ -1,5 +1,4 @@
 -- `matching::match_star` meets its contract.
---
 use mathlib.Core.Path.{sym}
 use borrow.Author.Needs.{needs}
 use Rattle.scpi.specs.Whole.{like-starts}

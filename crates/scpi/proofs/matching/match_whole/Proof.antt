@@ -1,5 +1,4 @@
 -- `matching::match_whole` meets its contract.
---
 use mathlib.Core.Path.{sym, _∙_}
 use borrow.Author.Needs.{needs}
 use borrow.Author.Tests.{not-true}

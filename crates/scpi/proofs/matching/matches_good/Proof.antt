@@ -1,5 +1,4 @@
 -- `matching::matches_good` meets its contract.
---
 use borrow.Author.Needs.{needs}
 use Rattle.scpi.specs.Whole.{says-path, says-star, says-longer, says-empty}
 use Rattle.scpi.proofs.matching.matches_good.Statement.{statement}

@@ -1,5 +1,4 @@
 -- `matching::origin` meets its contract.
---
 use borrow.Author.Needs.{needs}
 use Rattle.scpi.specs.Sets.{origin-on}
 use Rattle.scpi.proofs.matching.origin.Statement.{statement}

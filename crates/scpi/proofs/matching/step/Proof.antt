@@ -1,5 +1,4 @@
 -- `matching::step` meets its contract. The invariant: the flags below j say where a spelling lands.
---
 use mathlib.Core.Path.{_≡_, refl}
 use mathlib.Core.Logic.{_⊎_, ⊎-elim}
 use mathlib.Core.List.{List}

@@ -1,5 +1,4 @@
 -- `matching::union` meets its contract. The invariant: the flags below j are the union's.
---
 use mathlib.Core.Path.{_≡_}
 use mathlib.Core.Logic.{_⊎_, inl, inr, ⊎-elim}
 use mathlib.Core.List.{List}
