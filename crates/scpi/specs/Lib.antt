@@ -13,4 +13,6 @@ pub mod Scans
 pub mod Lists
 pub mod Rulings
 pub mod Lines
+pub mod OneReading
+pub mod Deciding
 pub mod Examples
