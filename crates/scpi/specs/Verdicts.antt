@@ -12,7 +12,7 @@ use borrow.Author.Tests.{leb-true, leb-false}
 use Rattle.scpi.specs.declared.Checked.{Checked}
 use Rattle.scpi.specs.declared.Checked.the-variants.{Good, Bad}
 use Rattle.scpi.specs.Grammar.{Pattern, Viable, longest, GoodPattern, BadAt, BadAt.b-byte, BadAt.b-short, BadAt.b-long}
-use Rattle.scpi.specs.Sets.{lt-or-ge}
+use Rattle.scpi.specs.Answers.{lt-or-ge}
 use Rattle.scpi.specs.Automaton.{kindOf, State, State.a-start, step, accepts, dead, run, scan}
 use Rattle.scpi.specs.Accepting.{Accepted, accepts-pattern, pattern-accepted, viable-alive, alive-viable}
 

@@ -6,7 +6,7 @@ use native.Mathlib.Omega.{arith}
 use lib.ListN.{length}
 use borrow.Author.Needs.{needs}
 use borrow.Author.Tests.{not-true, not-false}
-use Rattle.scpi.specs.Sets.{says-yes, says-no}
+use Rattle.scpi.specs.Answers.{says-yes, says-no}
 use Rattle.scpi.specs.declared.Found.the-variants.{On}
 use Rattle.scpi.specs.Scans.{WordRead, PathRead, BracketRead, path-end, path-stay, path-deep, word-then, word-bad, bracket-then, bracket-bad, opened-out, row-none, row-bad, row-out, row-closed, row-open, shallower, outer, not-deep}
 use Prim.Native.Nat.{ℕ, _<_}
