@@ -1,0 +1,12 @@
+pub mod Spelling
+pub mod Cuts
+pub mod Sets
+pub mod Landing
+pub mod Walks
+pub mod Whole
+pub mod Lists
+pub mod Rulings
+pub mod Lines
+pub mod OneReading
+pub mod Deciding
+pub mod Examples

@@ -1,0 +1,65 @@
+// A list of patterns is a text, one pattern a line. It is judged before it is taken.
+use super::Judged;
+use scpi::Checked;
+use scpi::checking::check;
+ghost use Prim.Native.Nat.{_+_, _≤_};
+ghost use Rattle.commands.specs.Lists.{lineLength, linesOf};
+ghost use Rattle.commands.specs.Rulings.{Ruled, judgedFrom};
+ghost use lib.ListN.{drop, length};
+ghost use mathlib.Core.Path.{_≡_};
+
+// Where the line from `at` on ends: at its newline, or with the text.
+pub fn line_end(s: &[u8], at: usize) -> usize
+    requires { ⌜ at ≤ length (now s) ⌝ }
+    ensures { λ r. ⌜ (r ≡ at + lineLength (drop at (now (s .entry)))) × (r ≤ length (now (s .entry))) ⌝ }
+{
+    let mut i = at;
+    while i < s.len() {
+        if s[i] == 10 {
+            return i;
+        }
+        i += 1;
+    }
+    i
+}
+
+fn line_count(text: &[u8]) -> usize
+    ensures { λ r. ⌜ r ≡ length (linesOf (now (text .entry))) ⌝ }
+{
+    let mut n = 0;
+    let mut at = 0;
+    while at < text.len() {
+        let e = line_end(text, at);
+        n += 1;
+        at = e + 1;
+    }
+    n
+}
+
+// The first bad pattern, of however many.
+fn first_bad(text: &[u8]) -> Judged
+    ensures { λ r. ⌜ r ≡ judgedFrom 0 (linesOf (now (text .entry))) ⌝ }
+{
+    let mut k = 0;
+    let mut at = 0;
+    while at < text.len() {
+        let e = line_end(text, at);
+        let r = check(&text[at..e]);
+        if let Checked::Bad(i) = r {
+            return Judged::BadPattern(k, i);
+        }
+        k += 1;
+        at = e + 1;
+    }
+    Judged::Taken
+}
+
+// Refused as 12 where it is too long, else as 11 where a pattern is bad, or taken.
+pub fn judge(text: &[u8]) -> Judged
+    ensures { λ r. ⌜ Ruled (linesOf (now (text .entry))) r ⌝ }
+{
+    if line_count(text) > 32 {
+        return Judged::TooMany;
+    }
+    first_bad(text)
+}

@@ -1,0 +1,68 @@
+-- `bytes::goes_on` meets its contract. The invariant: comparing what is left, from k and j on, says what the whole comparison says.
+use mathlib.Core.Path.{_≡_, refl, sym, _∙_}
+use mathlib.Core.Bool.{false}
+use Prim.Native.Nat.{_-_, _≤_}
+use lib.ListN.{length, getD, drop}
+use borrow.Author.Needs.{needs}
+use borrow.Author.Tests.{ne-eqb}
+use Rattle.scpi.specs.Bytes.{upper}
+use Rattle.scpi.specs.Words.{starts, part, starts-more, starts-stop, starts-out, starts-end}
+use lib.Dec.{eqb}
+use Rattle.scpi.proofs.bytes.goes_on.Statement.{statement}
+use Rattle.scpi.proofs.bytes.goes_on.Tie as tie
+
+abbrev Inv-loop : tie.InvT-loop
+Inv-loop p a e c i k₀ j₀ k j = (k ≤ e) × (j ≤ length c) × (starts (part k e p) (drop j c) ≡ starts (part a e p) (drop i c))
+
+abbrev μ-loop : tie.MeasureT-loop
+μ-loop p a e c i k₀ j₀ k j = e - k
+
+loop-holds : tie.Need-loop-holds Inv-loop μ-loop
+loop-holds c = (search needs, search needs, refl)
+
+returns : tie.Need-returns Inv-loop μ-loop
+returns c =
+    let l = c .before .before .loop in
+    let a = c .before .before .before .before .before .args in
+    sym (starts-out (a .p .now) (a .c .now) (l .k) (a .e) (l .j) (search needs) (search needs) (search needs)) ∙ l .inv .2
+
+returns-2 : tie.Need-returns-2 Inv-loop μ-loop
+returns-2 c =
+    let r = c .before .before .before in
+    let l = r .before .before .before .before .loop in
+    let a = r .before .before .before .before .before .before .before .args in
+    let n : eqb (upper (getD (a .p .now) (l .k) 0)) (upper (getD (a .c .now) (l .j) 0)) ≡ false = rw (← r .raised .ensures, ← c .before .raised2 .ensures) (ne-eqb _ _ (c .if2 .taken)) in
+    sym (starts-stop (a .p .now) (a .c .now) (l .k) (a .e) (l .j) (search needs) (search needs) (search needs) n) ∙ l .inv .2
+
+loop-again : tie.Need-loop-again Inv-loop μ-loop
+loop-again c =
+    let r = c .before .before .before in
+    let l = r .before .before .before .before .loop in
+    let a = r .before .before .before .before .before .before .before .args in
+    let n : upper (getD (a .p .now) (l .k) 0) ≡ upper (getD (a .c .now) (l .j) 0) = sym (r .raised .ensures) ∙ c .if2 .left ∙ c .before .raised2 .ensures in
+    (search needs, search needs, sym (starts-more (a .p .now) (a .c .now) (l .k) (a .e) (l .j) (search needs) (search needs) (search needs) n) ∙ l .inv .2)
+
+returns-3 : tie.Need-returns-3 Inv-loop μ-loop
+returns-3 c =
+    let l = c .before .loop in
+    let a = c .before .before .before .before .args in
+    sym (starts-end (a .p .now) (drop (l .j) (a .c .now)) (l .k) (a .e) (search needs)) ∙ l .inv .2
+
+pub goes-on-spec : {M : Type 1} → statement M
+goes-on-spec =
+    tie.close
+    (tie.spec
+    Inv-loop
+    μ-loop
+    loop-holds
+    returns
+    (λ c. search needs)
+    (λ c κs. search needs)
+    (λ c. search needs)
+    (λ c κs. search needs)
+    returns-2
+    (λ c. search needs)
+    (λ c. search needs)
+    (λ c. search needs)
+    loop-again
+    returns-3)

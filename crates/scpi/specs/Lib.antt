@@ -1,0 +1,9 @@
+pub mod Bytes
+pub mod Grammar
+pub mod Answers
+pub mod Words
+pub mod Automaton
+pub mod Accepting
+pub mod Verdicts
+pub mod Scans
+pub mod Examples
