@@ -43,3 +43,6 @@ pub use server::Server;
 pub use sizes::{
     CLOCK_MAX, CONNECTIONS, HEADER, LOCK_STRING, OUTPUT, PAYLOAD, SESSIONS, STRING_BYTES, WORDS,
 };
+
+/// The archive that this build links, by its path: for pages of results that name what they are about.
+pub const ARCHIVE: &str = env!("HISLIP_ARCHIVE");
