@@ -12,6 +12,7 @@ help:
 	@echo 'make host-test      the tests of the host kit against the archive'
 	@echo 'make conform        the library beside the reference on five million events; make soak MINUTES=60 for longer'
 	@echo 'make bench          speed beside the reference, to target/speed.md; make bench-docs to docs/SPEED.md'
+	@echo 'make timeline       a list of events with their answers as a picture, one lane a session (LIST=, PICTURE=)'
 	@echo 'make believe        the definitions that a reader must believe, with their lines'
 	@echo 'make evidence       one page of what was built, proved, run and measured, and what was not: target/evidence.md'
 
@@ -19,9 +20,9 @@ help:
 test:
 	bash .ci/run
 
-# What is proved already is not proved again; rt says so, crate by crate.
+# What is proved already is not proved again: nothing at all if no source has changed, else rt says which crates.
 library:
-	$(RT) staticlib server
+	@bash host/build_archive.sh $(ARCHIVE) $(RT) staticlib server
 
 include include/install.mk
 include host/Makefile.inc

@@ -9,7 +9,9 @@ use crate::reach::Reach;
 use crate::soak::Soak;
 use crate::tally::Tally;
 use crate::watch::Side;
-use crate::{bench_examples, cables, hostile, quick, report, selftest, sizes, systematic, wrap};
+use crate::{
+    bench_examples, cables, hostile, listing, quick, report, selftest, sizes, systematic, wrap,
+};
 
 pub const REFERENCE: Side = Side {
     name: "reference",
@@ -37,6 +39,7 @@ conform soak .. --from SEED       beginning with this seed
 conform seed N                    the random list of a seed
 conform examples | systematic | cables | sizes | wrap
                                   one suite, not thinned
+conform list N                    the events of a seed with the library's answers, for `timeline`
 conform selftest                  every wrong server must be found
 conform .. --json                 the result as one JSON object; everything else goes to the error stream
 
@@ -54,6 +57,7 @@ pub fn execute(program: &str, arguments: &[&str]) -> u8 {
             return 0;
         }
         ["selftest"] => return wrong_servers(json),
+        ["list", seed] => return listed(seed),
         _ => {}
     }
     let mut tally = Tally {
@@ -98,6 +102,22 @@ fn suites(arguments: &[&str], tally: &mut Tally) -> Result<Result<(), Failed>, S
         [] => return Err("no command is given".into()),
         _ => return Err(format!("no command `{}`", arguments.join(" "))),
     })
+}
+
+/// Prints the list of a seed with the library's answers.
+fn listed(seed: &str) -> u8 {
+    let listing = number(seed).map(|seed| listing::text(&LIBRARY, seed));
+    match listing {
+        Err(what) => not_understood(&what),
+        Ok(Err(what)) => {
+            eprintln!("conform: {what}");
+            1
+        }
+        Ok(Ok(text)) => {
+            print!("{text}");
+            0
+        }
+    }
 }
 
 fn wrong_servers(json: bool) -> u8 {

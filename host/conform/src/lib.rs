@@ -9,6 +9,7 @@ pub mod demand3;
 pub mod hostile;
 pub mod json;
 pub mod library;
+pub mod listing;
 pub mod messages;
 pub mod numbers;
 pub mod quick;

@@ -1,4 +1,5 @@
-//! The crates as the prover left them: functions, axioms and time, from its logs.
+//! The crates as the prover left them, from its logs: `NAME.out` has the last verdict, `NAME.say` what
+//! was said when the crate was last proved.
 
 use std::fs;
 use std::path::Path;
@@ -14,7 +15,8 @@ struct Proved {
     axioms: usize,
     /// The C functions that are taken as they are, if any.
     assumed: String,
-    seconds: String,
+    /// How long it took, or that nothing has changed since.
+    when: String,
 }
 
 /// The crates of crates.txt, lower ones first.
@@ -32,20 +34,18 @@ fn value<'a>(line: &'a str, name: &str) -> Option<&'a str> {
     words.find_map(|word| word.strip_prefix(name)?.strip_prefix('='))
 }
 
-/// None unless the log's last lines say that the crate is proved.
-fn proved(name: &str, log: &str) -> Option<Proved> {
-    let verdict = log.lines().find(|line| line.starts_with("logic=proved"))?;
+/// None unless both say that the crate is proved.
+fn proved(name: &str, out: &str, say: &str) -> Option<Proved> {
+    let begin = format!("rt: {name} proved (");
+    let when = out.lines().find_map(|line| line.strip_prefix(&begin))?;
+    let verdict = say.lines().find(|line| line.starts_with("logic=proved"))?;
     let number = |what| value(verdict, what).map_or(Some(0), |number| number.parse().ok());
-    let end = log
-        .lines()
-        .last()?
-        .strip_prefix(&format!("rt: {name} proved ("))?;
-    let assumed = log.lines().find_map(|line| line.strip_prefix("axioms "));
+    let assumed = say.lines().find_map(|line| line.strip_prefix("axioms "));
     Some(Proved {
         functions: number("functions")?,
         axioms: number("axioms")?,
         assumed: assumed.unwrap_or_default().to_owned(),
-        seconds: end.trim_end_matches(')').to_owned(),
+        when: when.trim_end_matches(')').to_owned(),
     })
 }
 
@@ -60,7 +60,7 @@ fn row(name: &str, told: &Option<Proved>) -> [String; 4] {
                 name.to_owned(),
                 told.functions.to_string(),
                 assumed,
-                told.seconds.clone(),
+                told.when.clone(),
             ]
         }
         None => [name, "NOT PROVED", "", ""].map(str::to_owned),
@@ -70,8 +70,11 @@ fn row(name: &str, told: &Option<Proved>) -> [String; 4] {
 pub fn section(root: &Path) -> Section {
     let list = fs::read_to_string(root.join("crates.txt")).unwrap_or_default();
     let read = |name: &str| {
-        let log = root.join("target/log").join(name).with_extension("out");
-        proved(name, &fs::read_to_string(log).unwrap_or_default())
+        let log = |end: &str| {
+            let log = root.join("target/log").join(name).with_extension(end);
+            fs::read_to_string(log).unwrap_or_default()
+        };
+        proved(name, &log("out"), &log("say"))
     };
     let crates: Vec<_> = names(&list)
         .into_iter()
@@ -82,12 +85,7 @@ pub fn section(root: &Path) -> Section {
         .flat_map(|(_, told)| told)
         .map(|told| told.functions)
         .sum();
-    let head = [
-        "crate",
-        "functions proved",
-        "axioms",
-        "time of the last proof",
-    ];
+    let head = ["crate", "functions proved", "axioms", "last proof"];
     let rows = crates.iter().map(|(name, told)| row(name, told));
     let body = format!("{}\n{functions} functions in all.\n", table(head, rows));
     let all = !crates.is_empty() && crates.iter().all(|(_, told)| told.is_some());
@@ -98,8 +96,9 @@ pub fn section(root: &Path) -> Section {
 mod tests {
     use super::{names, proved, row, Proved};
 
-    const LOG: &str = "fn a: proved\naxioms libc: libc::write (1 of the 50 declared)\n\
-                       logic=proved functions=43 axioms=1 sum=09\nlinked x\nrt: examples proved (51 s)\n";
+    const OUT: &str = "fn a: proved\nrt: examples proved (51 s)\n";
+    const SAY: &str = "fn a: proved\naxioms libc: libc::write (1 of the 50 declared)\n\
+                       logic=proved functions=43 axioms=1 sum=09\n";
 
     #[test]
     fn crates_by_name() {
@@ -111,27 +110,24 @@ mod tests {
 
     #[test]
     fn a_log_is_read() {
-        let told = proved("examples", LOG).expect("proved");
+        let told = proved("examples", OUT, SAY).expect("proved");
         let expected = Proved {
             functions: 43,
             axioms: 1,
             assumed: "libc: libc::write (1 of the 50 declared)".into(),
-            seconds: "51 s".into(),
+            when: "51 s".into(),
         };
         assert_eq!(told, expected);
-        assert_eq!(
-            proved("examples", &LOG.replace("axioms=1 ", "")).map(|told| told.axioms),
-            Some(0)
-        );
+        let none = proved("examples", OUT, &SAY.replace("axioms=1 ", ""));
+        assert_eq!(none.map(|told| told.axioms), Some(0));
     }
 
     #[test]
     fn what_is_not_proved_is_said_so() {
-        assert_eq!(proved("wire", LOG), None, "another crate's log");
-        assert_eq!(
-            proved("examples", &LOG.replace("=proved", "=refused")),
-            None
-        );
+        assert_eq!(proved("wire", OUT, SAY), None, "another crate's log");
+        let refused = SAY.replace("=proved", "=refused");
+        assert_eq!(proved("examples", OUT, &refused), None);
+        assert_eq!(proved("examples", "rt: examples FAILED", SAY), None);
         assert_eq!(row("wire", &None)[1], "NOT PROVED");
     }
 }

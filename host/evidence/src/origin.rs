@@ -17,7 +17,7 @@ fn logic_sum(log: &str) -> Option<&str> {
 pub fn section(root: &Path) -> Section {
     let unknown = || machine::UNKNOWN.to_owned();
     let printed = |command: &[&str]| machine::printed(root, command).unwrap_or_else(unknown);
-    let log = fs::read_to_string(root.join("target/log/server.out")).unwrap_or_default();
+    let log = fs::read_to_string(root.join("target/log/server.say")).unwrap_or_default();
     let sum = logic_sum(&log).map_or_else(unknown, str::to_owned);
     let rows = [
         ("date", date::now()),

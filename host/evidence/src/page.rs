@@ -2,6 +2,7 @@
 
 use std::path::Path;
 
+use record::text::grouped;
 use record::{believe, machine};
 
 use crate::section::{Section, State};
@@ -36,7 +37,7 @@ fn to_believe(root: &Path) -> Section {
     let title = "To be believed";
     match believe::count(root) {
         Ok((files, sum)) => {
-            let (files, lines, imports) = (files.len(), sum.all, sum.imports);
+            let (files, lines, imports) = (files.len(), grouped(sum.all), sum.imports);
             let body = format!(
                 "{lines} lines of definitions in {files} files, without comments and blank lines; {imports} of \
                  them only name other files. `make believe` lists them.\n"
