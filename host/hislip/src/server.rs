@@ -15,8 +15,9 @@ use crate::sys;
 /// # Panics
 ///
 /// The methods panic if the archive answers what its interface does not have: a refusal above 8, an
-/// outcome above 6, a SessionID of more than 16 bits, or more output than the buffer has. Each is
-/// excluded by proof, so a panic means that another archive is linked. No input makes them panic.
+/// outcome above 6, a SessionID of more than 16 bits, more output than the buffer has, or more words
+/// than can be counted. Each is excluded by proof, so a panic means that another archive is linked. No
+/// input makes them panic.
 #[derive(Clone, Debug)]
 pub struct Server {
     words: Box<[u64]>,
@@ -29,7 +30,7 @@ impl Server {
     ///
     /// # Panics
     ///
-    /// If there is no memory left.
+    /// As [`Server`] says: never, with the proved archive.
     pub fn new(vendor: [u8; 2]) -> Server {
         Server::with_output(vendor, vec![0; OUTPUT])
     }
@@ -39,7 +40,7 @@ impl Server {
     ///
     /// # Panics
     ///
-    /// If there is no memory left.
+    /// As [`Server`] says: never, with the proved archive.
     pub fn with_output(vendor: [u8; 2], out: Vec<u8>) -> Server {
         // SAFETY: both only return a number.
         let (words, strings) = unsafe { (sys::hislip_words(), sys::hislip_string_bytes()) };

@@ -60,11 +60,16 @@ impl Language {
         found
     }
 
+    /// This compiler, every warning an error.
+    pub fn strict(&self, compiler: &str) -> Command {
+        with(compiler, self.standard)
+    }
+
     /// True if a source of this text compiles without a warning, by this compiler.
     pub fn compiles(&self, compiler: &str, name: &str, text: &str) -> bool {
         let source = scratch(&format!("{name}-{compiler}")).with_extension(self.extension);
         fs::write(&source, text).expect("written");
-        let mut command = with(compiler, self.standard);
+        let mut command = self.strict(compiler);
         command.arg("-c").arg(&source);
         command.arg("-o").arg(source.with_extension("o"));
         command.output().expect("a compiler").status.success()

@@ -1,6 +1,9 @@
 //! The headers: every compiler of this machine takes them as C99 and as C++, warns where a host goes
 //! wrong, and their numbers and names are those of the wrapper and of the archive.
 
+use std::fs;
+use std::sync::OnceLock;
+
 use crate::compiler::{root, run, scratch, strict, C99, CPP11};
 use hislip::{type_name, Outcome, Refusal};
 
@@ -61,10 +64,26 @@ fn lines<'a>(text: &'a str, kind: &str) -> Vec<&'a str> {
     text.lines().filter_map(rest).collect()
 }
 
-fn names_in_c() -> String {
-    let source = root().join("host/c/names.c");
-    let archive = [env!("HISLIP_ARCHIVE")];
-    run(strict(), &source, &archive, &scratch("names"))
+/// What host/c/names.c prints; compiled and run once for all tests.
+fn names_in_c() -> &'static str {
+    static TEXT: OnceLock<String> = OnceLock::new();
+    TEXT.get_or_init(|| {
+        let source = root().join("host/c/names.c");
+        let archive = [env!("HISLIP_ARCHIVE")];
+        run(strict(), &source, &archive, &scratch("names"))
+    })
+}
+
+#[test]
+fn a_cpp_program_links_the_archive() {
+    let source = scratch("names").with_extension("cpp");
+    fs::copy(root().join("host/c/names.c"), &source).expect("copied");
+    for compiler in CPP11.compilers() {
+        let program = scratch(&format!("names-{compiler}"));
+        let archive = [env!("HISLIP_ARCHIVE")];
+        let text = run(CPP11.strict(compiler), &source, &archive, &program);
+        assert_eq!(text, names_in_c(), "{compiler}");
+    }
 }
 
 #[test]
@@ -81,23 +100,23 @@ fn sizes_and_version_are_the_wrappers() {
         hislip::OUTPUT as u64,
         hislip::CLOCK_MAX,
     ];
-    assert_eq!(lines(&text, "size"), sizes.map(|size| size.to_string()));
+    assert_eq!(lines(text, "size"), sizes.map(|size| size.to_string()));
     let lent = format!("{} {}", hislip::WORDS, hislip::STRING_BYTES);
-    assert_eq!(lines(&text, "lent"), [lent], "macros and archive");
+    assert_eq!(lines(text, "lent"), [lent], "macros and archive");
     let version = env!("CARGO_PKG_VERSION");
-    assert_eq!(lines(&text, "version"), [format!("{version} {version}")]);
+    assert_eq!(lines(text, "version"), [format!("{version} {version}")]);
 }
 
 #[test]
 fn names_are_the_wrappers() {
     let text = names_in_c();
     let constants: Vec<String> = (0..26).map(|type_: u8| type_.to_string()).collect();
-    assert_eq!(lines(&text, "constant"), constants);
+    assert_eq!(lines(text, "constant"), constants);
     let types = (0..=u8::MAX).map(|number| format!("{number} {}", type_name(number)));
-    assert_eq!(lines(&text, "type"), types.collect::<Vec<_>>());
+    assert_eq!(lines(text, "type"), types.collect::<Vec<_>>());
     let refusals = Refusal::ALL.map(|refusal| format!("{} {}", refusal.number(), refusal.reason()));
-    assert_eq!(lines(&text, "refusal")[1..9], refusals);
-    assert_eq!(lines(&text, "refusal")[9], "9 no refusal has that number");
+    assert_eq!(lines(text, "refusal")[1..9], refusals);
+    assert_eq!(lines(text, "refusal")[9], "9 no refusal has that number");
     let outcomes = [
         Outcome::MoreNeeded,
         Outcome::Skipped,
@@ -110,6 +129,6 @@ fn names_are_the_wrappers() {
     let outcomes = (0..)
         .zip(outcomes)
         .map(|(number, o)| format!("{number} {}", o.name()));
-    assert_eq!(lines(&text, "outcome")[..7], outcomes.collect::<Vec<_>>());
-    assert_eq!(lines(&text, "outcome")[7], "7 no outcome has that number");
+    assert_eq!(lines(text, "outcome")[..7], outcomes.collect::<Vec<_>>());
+    assert_eq!(lines(text, "outcome")[7], "7 no outcome has that number");
 }
