@@ -26,3 +26,4 @@ library:
 
 include include/install.mk
 include host/Makefile.inc
+include host/pages.mk

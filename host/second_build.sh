@@ -14,7 +14,7 @@ trap 'rm -rf "$folder"' EXIT
 
 cp -r Makefile crates crates.txt include "$folder"
 mkdir -p "$folder/host" "$folder/target" "$(dirname "$copy")"
-cp host/Makefile.inc host/build_archive.sh "$folder/host"
+cp host/Makefile.inc host/pages.mk host/build_archive.sh "$folder/host"
 if [ -z "$fresh" ]; then
     cp -r target/rlib target/stamp target/log "$folder/target"
 fi
