@@ -87,7 +87,7 @@ pub fn section(root: &Path) -> Section {
         .sum();
     let head = ["crate", "functions proved", "axioms", "last proof"];
     let rows = crates.iter().map(|(name, told)| row(name, told));
-    let body = format!("{}\n{functions} functions in all.\n", table(head, rows));
+    let body = format!("{}\n{functions} functions in all. A crate without functions has definitions and theorems.\n", table(head, rows));
     let all = !crates.is_empty() && crates.iter().all(|(_, told)| told.is_some());
     Section::when(TITLE, all, body)
 }
