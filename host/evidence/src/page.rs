@@ -10,8 +10,7 @@ use crate::{archive, crates, gate, origin, runs, speed};
 
 /// What no part of the page runs.
 const NEVER: &str = "- random lists for hours: `make soak MINUTES=60`\n\
-                     - every systematic case, not thinned: `conform systematic`\n\
-                     - the tests of the host kit: `make host-test`, which the gate runs\n";
+                     - every systematic case, not thinned: `conform systematic`\n";
 
 pub struct Page {
     sections: Vec<Section>,
