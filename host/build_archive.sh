@@ -8,6 +8,8 @@ archive=$1
 shift
 note=$archive.sum
 
+command -v "$1" >/dev/null || { echo "build_archive.sh: the prover \`$1\` is not on the PATH" >&2; exit 1; }
+
 # One sum over the prover, every source and the archive.
 sum() {
     { "$1" version; find crates crates.txt "$archive" -type f | LC_ALL=C sort | xargs sha256sum; } | sha256sum
