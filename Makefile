@@ -1,11 +1,29 @@
+# `make` alone lists the targets. `rt` is the prover; RT=.. names another command for it.
+RT      ?= rt
+ARCHIVE ?= target/staticlib/libserver.a
+
+.PHONY: help test library
+
+help:
+	@echo 'make gateway        build the proved library and serve it on 127.0.0.1:4880 (PORT=5000 for another port)'
+	@echo 'make test           the gate: prove every crate from nothing, try every must-fail edit, run every test'
+	@echo 'make library        the archive that a host links: $(ARCHIVE), with the headers of include/'
+	@echo 'make install        headers, archive and pkg-config file to PREFIX (/usr/local)'
+	@echo 'make host-test      the tests of the host kit against the archive'
+	@echo 'make conform        the library beside the reference on five million events; make soak MINUTES=60 for longer'
+	@echo 'make bench          speed beside the reference, to target/speed.md; make bench-docs to docs/SPEED.md'
+	@echo 'make timeline       a list of events with their answers as a picture, one lane a session (LIST=, PICTURE=)'
+	@echo 'make believe        the definitions that a reader must believe, with their lines'
+	@echo 'make evidence       one page of what was built, proved, run and measured, and what was not: target/evidence.md'
+
 # `make test` is what the gate runs.
-.PHONY: test
 test:
 	bash .ci/run
 
-# The archive that a host links: target/staticlib/libserver.a, with include/hislip_server.h.
-.PHONY: library
+# What is proved already is not proved again: nothing at all if no source has changed, else rt says which crates.
 library:
-	rt staticlib server
+	@bash host/build_archive.sh $(ARCHIVE) $(RT) staticlib server
 
+include include/install.mk
 include host/Makefile.inc
+include host/pages.mk

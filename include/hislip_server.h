@@ -5,14 +5,16 @@
  * is cut, the clock reads so many milliseconds, the instrument answers a session, the instrument's
  * status byte changes. What is to be sent comes back as frames in the host's output buffer.
  *
+ * LANGUAGE. C99, or C++ (C++11 or later). hislip_names.h has the numbers of this file in words.
+ *
  * MEMORY. The library allocates nothing and keeps nothing between calls but what is in the memory it
- * is lent: hislip_words() words and hislip_string_bytes() bytes, one pair for each server. Both must
+ * is lent: HISLIP_WORDS words and HISLIP_STRING_BYTES bytes, one pair for each server. Both must
  * stay lent, and be written by nobody else, from hislip_new to the last call. Copying both copies
  * the server.
  *
  * WHAT THE HOST OWES. The library checks every number and every byte; it relies on pointers alone:
- *  - `words` points to hislip_words() uint64_t, aligned as uint64_t, and `strings` to
- *    hislip_string_bytes() bytes. In hislip_deliver `bytes` points to `len` bytes, in hislip_answer
+ *  - `words` points to HISLIP_WORDS uint64_t, aligned as uint64_t, and `strings` to
+ *    HISLIP_STRING_BYTES bytes. In hislip_deliver `bytes` points to `len` bytes, in hislip_answer
  *    `payload` to `len` bytes, and in these two, hislip_cut and hislip_clock `out` to `out_len` bytes.
  *    Byte memory needs no alignment.
  *  - NO POINTER IS NULL, NOT EVEN BESIDE A LENGTH OF 0. The proved code takes references, and a
@@ -36,14 +38,15 @@
  *
  * EXAMPLE (host/c/example.c runs it):
  *
- *   static uint64_t words[8192]; static uint8_t strings[32768], out[HISLIP_OUTPUT];
+ *   static uint64_t words[HISLIP_WORDS];
+ *   static uint8_t strings[HISLIP_STRING_BYTES], out[HISLIP_OUTPUT];
  *
  *   static int first_session(void)
  *   {
  *       static const uint8_t initialize[16] = "HS\0\0\1\0AA";
  *       hislip_delivery told;
- *       if (hislip_words() > 8192 || hislip_string_bytes() > 32768)
- *           return 1;
+ *       if (hislip_words() != HISLIP_WORDS || hislip_string_bytes() != HISLIP_STRING_BYTES)
+ *           return 1; // header and archive are not of one version
  *       hislip_new(words, strings, 0x4141);
  *       if (hislip_open(words, strings, 0).refusal != HISLIP_ACCEPTED)
  *           return 1;
@@ -51,7 +54,7 @@
  *       if (told.outcome != HISLIP_ACTED_ON || told.session != 1 || told.taken != 16)
  *           return 1;
  *       for (uint64_t at = 0; at < told.output;) {
- *           uint64_t length = 16 + hislip_payload_length(out + at + 1);
+ *           uint64_t length = HISLIP_HEADER + hislip_payload_length(out + at + 1);
  *           printf("to connection %u: %u bytes, type %u\n", out[at], (unsigned)length, out[at + 3]);
  *           at += 1 + length;
  *       }
@@ -68,20 +71,63 @@
 extern "C" {
 #endif
 
-/* No pointer is null: see WHAT THE HOST OWES. */
+/* The version of this interface. A change of the first number, or below 1.0 of the second, may ask
+ * for changes in the host. */
+#define HISLIP_VERSION_MAJOR 0
+#define HISLIP_VERSION_MINOR 1
+#define HISLIP_VERSION_PATCH 0
+#define HISLIP_VERSION "0.1.0"
+
+/* Compilers that know these words warn; the others pass over them.
+ * HISLIP_NOT_NULL: no pointer is null, see WHAT THE HOST OWES.
+ * HISLIP_USE_RESULT: the answer counts the bytes to be sent, so a host that drops it drops frames. */
 #if defined(__GNUC__)
 #define HISLIP_NOT_NULL __attribute__((nonnull))
+#define HISLIP_USE_RESULT __attribute__((warn_unused_result))
 #else
 #define HISLIP_NOT_NULL
+#define HISLIP_USE_RESULT
 #endif
 
 /* Sizes. */
-#define HISLIP_SESSIONS 16     /* live sessions, half-open ones included */
-#define HISLIP_CONNECTIONS 32  /* connections are numbered 0 to 31       */
-#define HISLIP_PAYLOAD 1024    /* bytes of payload, either way           */
-#define HISLIP_LOCK_STRING 64  /* bytes of a lock string                 */
-#define HISLIP_OUTPUT 2048     /* smallest output buffer                 */
+#define HISLIP_WORDS 235          /* uint64_t to lend as `words`: what hislip_words() tells         */
+#define HISLIP_STRING_BYTES 1088  /* bytes to lend as `strings`: what hislip_string_bytes() tells   */
+#define HISLIP_SESSIONS 16        /* live sessions, half-open ones included                         */
+#define HISLIP_CONNECTIONS 32     /* connections are numbered 0 to 31                               */
+#define HISLIP_HEADER 16          /* bytes of a message before its payload                          */
+#define HISLIP_PAYLOAD 1024       /* bytes of payload, either way                                   */
+#define HISLIP_LOCK_STRING 64     /* bytes of a lock string                                         */
+#define HISLIP_OUTPUT 2048        /* smallest output buffer                                         */
 #define HISLIP_CLOCK_MAX ((uint64_t)1 << 62)
+
+/* Types of messages, byte 2 of a message (IVI-6.1, Table 4). */
+#define HISLIP_TYPE_INITIALIZE 0
+#define HISLIP_TYPE_INITIALIZE_RESPONSE 1
+#define HISLIP_TYPE_FATAL_ERROR 2
+#define HISLIP_TYPE_ERROR 3
+#define HISLIP_TYPE_ASYNC_LOCK 4
+#define HISLIP_TYPE_ASYNC_LOCK_RESPONSE 5
+#define HISLIP_TYPE_DATA 6
+#define HISLIP_TYPE_DATA_END 7
+#define HISLIP_TYPE_DEVICE_CLEAR_COMPLETE 8
+#define HISLIP_TYPE_DEVICE_CLEAR_ACKNOWLEDGE 9
+#define HISLIP_TYPE_ASYNC_REMOTE_LOCAL_CONTROL 10
+#define HISLIP_TYPE_ASYNC_REMOTE_LOCAL_RESPONSE 11
+#define HISLIP_TYPE_TRIGGER 12
+#define HISLIP_TYPE_INTERRUPTED 13
+#define HISLIP_TYPE_ASYNC_INTERRUPTED 14
+#define HISLIP_TYPE_ASYNC_MAXIMUM_MESSAGE_SIZE 15
+#define HISLIP_TYPE_ASYNC_MAXIMUM_MESSAGE_SIZE_RESPONSE 16
+#define HISLIP_TYPE_ASYNC_INITIALIZE 17
+#define HISLIP_TYPE_ASYNC_INITIALIZE_RESPONSE 18
+#define HISLIP_TYPE_ASYNC_DEVICE_CLEAR 19
+#define HISLIP_TYPE_ASYNC_SERVICE_REQUEST 20
+#define HISLIP_TYPE_ASYNC_STATUS_QUERY 21
+#define HISLIP_TYPE_ASYNC_STATUS_RESPONSE 22
+#define HISLIP_TYPE_ASYNC_DEVICE_CLEAR_ACKNOWLEDGE 23
+#define HISLIP_TYPE_ASYNC_LOCK_INFO 24
+#define HISLIP_TYPE_ASYNC_LOCK_INFO_RESPONSE 25
+#define HISLIP_TYPE_VENDOR 128 /* this one and all above it */
 
 /* Refusals, by number and cause. */
 #define HISLIP_ACCEPTED 0
@@ -103,8 +149,8 @@ extern "C" {
 #define HISLIP_ERROR_SENT 4  /* taken; an Error is in the output                                           */
 #define HISLIP_CLOSED 5      /* the session, or the connection without one, is closed: send the output,
                                 close its sockets, drop its unread bytes. Taken is 0                       */
-#define HISLIP_ACTED_ON 6    /* taken; if it is Data, DataEND or Trigger (type 6, 7 or 12 in byte 2 of
-                                `bytes`), pass it to the instrument                                        */
+#define HISLIP_ACTED_ON 6    /* taken; if it is Data, DataEND or Trigger (HISLIP_TYPE_DATA, .._DATA_END or
+                                .._TRIGGER in byte 2 of `bytes`), pass it to the instrument                */
 
 /* The answer to a delivery. `session`: the session's number if the outcome is closed (0 if the
  * connection had none) or acted on, else 0. `taken`: bytes the host drops from the front of the
@@ -118,10 +164,10 @@ typedef struct {
     uint64_t refusal, output;
 } hislip_done;
 
-/* How many uint64_t to lend as `words`. Always the same. */
+/* How many uint64_t to lend as `words`: HISLIP_WORDS, if header and archive are of one version. */
 uint64_t hislip_words(void);
 
-/* How many bytes to lend as `strings`. Always the same. */
+/* How many bytes to lend as `strings`: HISLIP_STRING_BYTES, likewise. */
 uint64_t hislip_string_bytes(void);
 
 /* Makes a fresh server: clock 0, status byte 0, nothing open. `vendor` is the two-letter vendor
@@ -137,20 +183,20 @@ hislip_done hislip_open(uint64_t *words, uint8_t *strings, uint32_t connection);
 /* Unread bytes of a connection: all of them, from the first one not yet taken. At most one message is
  * taken; deliver again while bytes are taken and some are left. Refusals, in this order: 7 (`out_len`
  * under 2,048), 1 (above 31, or not open). Outcomes: all seven. `len` may be 0 (more needed). */
-HISLIP_NOT_NULL
+HISLIP_NOT_NULL HISLIP_USE_RESULT
 hislip_delivery hislip_deliver(uint64_t *words, uint8_t *strings, uint32_t connection,
                                const uint8_t *bytes, size_t len, uint8_t *out, size_t out_len);
 
 /* A connection is cut. Its session, if it has one, closes with both connections, its locks and its
  * waiting request; the output holds the lock answers of others who are now granted. The number may be
  * opened again at once. Refusals, in this order: 7, 1 (above 31, or not open). */
-HISLIP_NOT_NULL
+HISLIP_NOT_NULL HISLIP_USE_RESULT
 hislip_done hislip_cut(uint64_t *words, uint8_t *strings, uint32_t connection,
                        uint8_t *out, size_t out_len);
 
 /* The clock reads so many milliseconds, counted from any start. Lock requests whose time is over are
  * answered. Refusals, in this order: 7, 4 (above 2^62), 3 (below the last reading; equal is fine). */
-HISLIP_NOT_NULL
+HISLIP_NOT_NULL HISLIP_USE_RESULT
 hislip_done hislip_clock(uint64_t *words, uint8_t *strings, uint64_t milliseconds,
                          uint8_t *out, size_t out_len);
 
@@ -158,7 +204,7 @@ hislip_done hislip_clock(uint64_t *words, uint8_t *strings, uint64_t millisecond
  * of the question. `len` may be 0. Refusals, in this order: 7, 8 (no live session of that number),
  * 5 (it has asked nothing: no DataEND or Trigger since the last answer with END, or a device clear
  * came after it), 6 (`len` above 1,024 or above the size the client announced). */
-HISLIP_NOT_NULL
+HISLIP_NOT_NULL HISLIP_USE_RESULT
 hislip_done hislip_answer(uint64_t *words, uint8_t *strings, uint32_t session,
                           const uint8_t *payload, size_t len, uint8_t end,
                           uint8_t *out, size_t out_len);
@@ -172,7 +218,7 @@ void hislip_status(uint64_t *words, uint8_t *strings, uint8_t status);
 static inline uint64_t hislip_payload_length(const uint8_t *message)
 {
     uint64_t length = 0;
-    for (int i = 8; i < 16; i++)
+    for (int i = 8; i < HISLIP_HEADER; i++)
         length = length << 8 | message[i];
     return length;
 }

@@ -6,14 +6,15 @@
 #include "check.h"
 #include "hislip_server.h"
 
-static uint64_t words[8192]; static uint8_t strings[32768], out[HISLIP_OUTPUT];
+static uint64_t words[HISLIP_WORDS];
+static uint8_t strings[HISLIP_STRING_BYTES], out[HISLIP_OUTPUT];
 
 static int first_session(void)
 {
     static const uint8_t initialize[16] = "HS\0\0\1\0AA";
     hislip_delivery told;
-    if (hislip_words() > 8192 || hislip_string_bytes() > 32768)
-        return 1;
+    if (hislip_words() != HISLIP_WORDS || hislip_string_bytes() != HISLIP_STRING_BYTES)
+        return 1; // header and archive are not of one version
     hislip_new(words, strings, 0x4141);
     if (hislip_open(words, strings, 0).refusal != HISLIP_ACCEPTED)
         return 1;
@@ -21,7 +22,7 @@ static int first_session(void)
     if (told.outcome != HISLIP_ACTED_ON || told.session != 1 || told.taken != 16)
         return 1;
     for (uint64_t at = 0; at < told.output;) {
-        uint64_t length = 16 + hislip_payload_length(out + at + 1);
+        uint64_t length = HISLIP_HEADER + hislip_payload_length(out + at + 1);
         printf("to connection %u: %u bytes, type %u\n", out[at], (unsigned)length, out[at + 3]);
         at += 1 + length;
     }
@@ -32,18 +33,18 @@ static int first_session(void)
 static hislip_delivery send(uint32_t connection, uint8_t type, uint8_t code, uint32_t parameter,
                             const char *payload)
 {
-    uint8_t message[24] = {'H', 'S', type, code, (uint8_t)(parameter >> 24),
+    uint8_t message[HISLIP_HEADER + 8] = {'H', 'S', type, code, (uint8_t)(parameter >> 24),
                            (uint8_t)(parameter >> 16), (uint8_t)(parameter >> 8), (uint8_t)parameter};
     size_t length = strlen(payload);
     message[15] = (uint8_t)length;
-    memcpy(message + 16, payload, length);
-    return hislip_deliver(words, strings, connection, message, 16 + length, out, sizeof out);
+    memcpy(message + HISLIP_HEADER, payload, length);
+    return hislip_deliver(words, strings, connection, message, HISLIP_HEADER + length, out, sizeof out);
 }
 
 /* The output is one frame with these fields and no payload. */
 static int one_frame(uint64_t output, uint8_t connection, uint8_t type, uint8_t code, uint32_t parameter)
 {
-    uint8_t frame[17] = {connection, 'H', 'S', type, code, (uint8_t)(parameter >> 24),
+    uint8_t frame[1 + HISLIP_HEADER] = {connection, 'H', 'S', type, code, (uint8_t)(parameter >> 24),
                          (uint8_t)(parameter >> 16), (uint8_t)(parameter >> 8), (uint8_t)parameter};
     return output == sizeof frame && memcmp(out, frame, sizeof frame) == 0;
 }
@@ -52,53 +53,59 @@ static void open_both(void)
 {
     hislip_delivery told;
     hislip_open(words, strings, 1);
-    told = send(1, 17, 0, 1, "");
-    expect("AsyncInitialize is answered with the vendor", one_frame(told.output, 1, 18, 0, 0x4141));
+    told = send(1, HISLIP_TYPE_ASYNC_INITIALIZE, 0, 1, "");
+    expect("AsyncInitialize is answered with the vendor",
+           one_frame(told.output, 1, HISLIP_TYPE_ASYNC_INITIALIZE_RESPONSE, 0, 0x4141));
     hislip_open(words, strings, 2);
-    told = send(2, 0, 0, 0x01005858, "hislip0");
-    expect("the second program gets SessionID 2", one_frame(told.output, 2, 1, 0, 0x01000002));
+    told = send(2, HISLIP_TYPE_INITIALIZE, 0, 0x01005858, "hislip0");
+    expect("the second program gets SessionID 2",
+           one_frame(told.output, 2, HISLIP_TYPE_INITIALIZE_RESPONSE, 0, 0x01000002));
     hislip_open(words, strings, 3);
-    told = send(3, 17, 0, 2, "");
+    told = send(3, HISLIP_TYPE_ASYNC_INITIALIZE, 0, 2, "");
     expect("and its second channel", told.outcome == HISLIP_ACTED_ON && told.session == 2);
 }
 
 static void lock_and_hold(void)
 {
-    hislip_delivery told = send(1, 4, 1, 0, "");
+    hislip_delivery told = send(1, HISLIP_TYPE_ASYNC_LOCK, 1, 0, "");
     hislip_done done;
-    expect("A gets the exclusive lock", one_frame(told.output, 1, 5, 1, 0));
-    told = send(3, 4, 1, 0, "");
-    expect("B does not", one_frame(told.output, 3, 5, 0, 0));
-    told = send(2, 6, 0, 0xffffff00, "x");
+    expect("A gets the exclusive lock",
+           one_frame(told.output, 1, HISLIP_TYPE_ASYNC_LOCK_RESPONSE, 1, 0));
+    told = send(3, HISLIP_TYPE_ASYNC_LOCK, 1, 0, "");
+    expect("B does not", one_frame(told.output, 3, HISLIP_TYPE_ASYNC_LOCK_RESPONSE, 0, 0));
+    told = send(2, HISLIP_TYPE_DATA, 0, 0xffffff00, "x");
     expect("B's Data is held", told.outcome == HISLIP_HELD && told.taken == 0 && told.output == 0);
-    hislip_clock(words, strings, 1000, out, sizeof out);
-    told = send(3, 4, 1, 500, "");
+    done = hislip_clock(words, strings, 1000, out, sizeof out);
+    expect("the clock reads 1,000", done.refusal == HISLIP_ACCEPTED && done.output == 0);
+    told = send(3, HISLIP_TYPE_ASYNC_LOCK, 1, 500, "");
     expect("B waits", told.outcome == HISLIP_ACTED_ON && told.output == 0);
     done = hislip_clock(words, strings, 1499, out, sizeof out);
     expect("still at 1,499", done.refusal == 0 && done.output == 0);
     done = hislip_clock(words, strings, 1500, out, sizeof out);
-    expect("answered 0 at 1,500", one_frame(done.output, 3, 5, 0, 0));
+    expect("answered 0 at 1,500", one_frame(done.output, 3, HISLIP_TYPE_ASYNC_LOCK_RESPONSE, 0, 0));
     done = hislip_clock(words, strings, 1499, out, sizeof out);
     expect("the clock does not go back", done.refusal == HISLIP_REFUSED_CLOCK_BACKWARDS);
 }
 
 static void ask_and_answer(void)
 {
-    hislip_delivery told = send(0, 7, 0, 0xffffff00, "*IDN?");
+    hislip_delivery told = send(0, HISLIP_TYPE_DATA_END, 0, 0xffffff00, "*IDN?");
     hislip_done done;
     expect("A asks", told.outcome == HISLIP_ACTED_ON && told.session == 1 && told.taken == 21);
     done = hislip_answer(words, strings, 1, (const uint8_t *)"", 0, 1, out, sizeof out);
-    expect("the answer carries the question's number", one_frame(done.output, 0, 7, 0, 0xffffff00));
+    expect("the answer carries the question's number",
+           one_frame(done.output, 0, HISLIP_TYPE_DATA_END, 0, 0xffffff00));
     done = hislip_answer(words, strings, 1, (const uint8_t *)"", 0, 1, out, sizeof out);
     expect("and is sent once", done.refusal == HISLIP_REFUSED_NOTHING_ASKED && done.output == 0);
     hislip_status(words, strings, 0x41);
-    told = send(1, 21, 0, 0xffffff00, "");
-    expect("status 41 with an answer sent is 51", one_frame(told.output, 1, 22, 0x51, 0));
+    told = send(1, HISLIP_TYPE_ASYNC_STATUS_QUERY, 0, 0xffffff00, "");
+    expect("status 41 with an answer sent is 51",
+           one_frame(told.output, 1, HISLIP_TYPE_ASYNC_STATUS_RESPONSE, 0x51, 0));
     done = hislip_cut(words, strings, 0, out, sizeof out - 1);
     expect("a buffer of 2,047 is refused", done.refusal == HISLIP_REFUSED_SHORT_BUFFER);
     done = hislip_cut(words, strings, 0, out, sizeof out);
     expect("A's cable drops", done.refusal == HISLIP_ACCEPTED && done.output == 0);
-    told = send(2, 6, 0, 0xffffff00, "x");
+    told = send(2, HISLIP_TYPE_DATA, 0, 0xffffff00, "x");
     expect("and B's Data goes through", told.outcome == HISLIP_ACTED_ON && told.taken == 17);
 }
 

@@ -3,6 +3,7 @@
 use reference::event::frames;
 use reference::{Event, Reply};
 
+use crate::json;
 use crate::watch::Log;
 
 #[derive(Clone, Debug, Default)]
@@ -52,19 +53,39 @@ impl Reach {
         self.most_lock_answers = self.most_lock_answers.max(answers);
     }
 
-    pub fn print(&self) {
-        println!("reached: refusals 1 to 8 {:?}", &self.refusals[1..]);
-        println!(
-            "reached: more needed, skipped, held, ignored, Error, closed, acted on {:?}",
-            self.outcomes
-        );
-        println!("reached: FatalError 1 to 4 {:?}", &self.fatal_errors[1..]);
-        println!("reached: Error 0 to 4 {:?}", self.errors);
-        let answers = self.frames[6] + self.frames[7];
-        println!("reached: {answers} answers of the instrument");
-        println!(
-            "reached: lock answers 0 to 3 {:?}, at most {} in one event",
-            self.lock_answers, self.most_lock_answers
-        );
+    /// Answers of the instrument that were sent.
+    pub fn answers(&self) -> usize {
+        self.frames[6] + self.frames[7]
+    }
+
+    /// In words, a line for each kind.
+    pub fn lines(&self) -> [String; 6] {
+        [
+            format!("reached: refusals 1 to 8 {:?}", &self.refusals[1..]),
+            format!(
+                "reached: more needed, skipped, held, ignored, Error, closed, acted on {:?}",
+                self.outcomes
+            ),
+            format!("reached: FatalError 1 to 4 {:?}", &self.fatal_errors[1..]),
+            format!("reached: Error 0 to 4 {:?}", self.errors),
+            format!("reached: {} answers of the instrument", self.answers()),
+            format!(
+                "reached: lock answers 0 to 3 {:?}, at most {} in one event",
+                self.lock_answers, self.most_lock_answers
+            ),
+        ]
+    }
+
+    /// The counts as JSON: refusals and FatalErrors from 1 on, the others from 0.
+    pub fn json(&self) -> String {
+        json::object(&[
+            ("refusals", json::numbers(&self.refusals[1..])),
+            ("outcomes", json::numbers(&self.outcomes)),
+            ("fatal_errors", json::numbers(&self.fatal_errors[1..])),
+            ("errors", json::numbers(&self.errors)),
+            ("answers", self.answers().to_string()),
+            ("lock_answers", json::numbers(&self.lock_answers)),
+            ("most_lock_answers", self.most_lock_answers.to_string()),
+        ])
     }
 }

@@ -1,6 +1,7 @@
 //! Can the checks fail? Every wrong server must be found, and the right one must not.
 
 use std::panic::{catch_unwind, AssertUnwindSafe};
+use std::time::Instant;
 
 use faults::Fault;
 use reference::Subject;
@@ -8,47 +9,89 @@ use reference::Subject;
 use crate::bout::{run_alone, Failed, Pair};
 use crate::command::REFERENCE;
 use crate::reach::Reach;
+use crate::tally::Tally;
 use crate::watch::{Complaint, Side};
-use crate::{bench_examples, cables, hostile, sizes, systematic, wrap};
+use crate::{bench_examples, cables, hostile, json, sizes, systematic, wrap};
 
 /// Random lists tried on a wrong server before it counts as not found.
 const LISTS: u64 = 300;
 
-/// True if every wrong server was found and the right one was not.
-pub fn check() -> bool {
-    std::panic::set_hook(Box::new(|_| {}));
-    let right = Fault {
-        name: "reference",
-        breaks: "nothing: no check may find it",
-        alone: true,
-        new: |vendor| Box::new(<reference::Server as Subject>::new(vendor)),
-    };
-    let mut good = true;
-    for (how, found) in [("compared", compared(&right)), ("alone", alone(&right))] {
-        good &= found.is_none();
-        report(&right, how, &found);
+/// How the wrong servers fared.
+pub struct Tried {
+    /// Every wrong server was found, and the right one was not.
+    pub good: bool,
+    pub servers: usize,
+    /// Of these, found also without comparing.
+    pub alone: usize,
+    pub seconds: f64,
+}
+
+impl Tried {
+    pub fn json(&self) -> String {
+        json::object(&[
+            ("command", json::text("selftest")),
+            ("good", self.good.to_string()),
+            ("wrong_servers", self.servers.to_string()),
+            ("alone", self.alone.to_string()),
+            ("seconds", format!("{:.3}", self.seconds)),
+        ])
     }
+}
+
+const RIGHT: Fault = Fault {
+    name: "reference",
+    breaks: "nothing: no check may find it",
+    alone: true,
+    new: |vendor| Box::new(<reference::Server as Subject>::new(vendor)),
+};
+
+/// Tries them all. `aside`: what is said goes to the error stream.
+pub fn check(aside: bool) -> Tried {
+    let start = Instant::now();
+    let tally = Tally {
+        aside,
+        ..Tally::default()
+    };
+    std::panic::set_hook(Box::new(|_| {}));
+    let mut good = try_both(&tally, &RIGHT, |found| found.is_none());
     for fault in faults::ALL {
-        let found = compared(fault);
-        good &= found.is_some();
-        report(fault, "compared", &found);
-        if fault.alone {
-            let found = alone(fault);
-            good &= found.is_some();
-            report(fault, "alone", &found);
-        }
+        good &= try_both(&tally, fault, |found| found.is_some());
     }
     let _ = std::panic::take_hook();
-    let count = faults::ALL.len();
     let by_itself = faults::ALL.iter().filter(|fault| fault.alone).count();
-    println!("selftest: {count} wrong servers, {by_itself} of them also without comparing");
-    println!("selftest: {}", if good { "all found" } else { "FAILED" });
+    let tried = Tried {
+        good,
+        servers: faults::ALL.len(),
+        alone: by_itself,
+        seconds: start.elapsed().as_secs_f64(),
+    };
+    tally.say(&format!(
+        "selftest: {} wrong servers, {by_itself} of them also without comparing, {:.1} s",
+        tried.servers, tried.seconds
+    ));
+    let verdict = if good { "all found" } else { "FAILED" };
+    tally.say(&format!("selftest: {verdict}"));
+    tried
+}
+
+/// Compares a server with the reference and, where that can tell, looks at it alone. True if both
+/// come out as they must.
+fn try_both(tally: &Tally, fault: &Fault, must: fn(&Option<String>) -> bool) -> bool {
+    let found = compared(fault);
+    report(tally, fault, "compared", &found);
+    let mut good = must(&found);
+    if fault.alone {
+        let found = alone(fault);
+        report(tally, fault, "alone", &found);
+        good &= must(&found);
+    }
     good
 }
 
-fn report(fault: &Fault, how: &str, found: &Option<String>) {
+fn report(tally: &Tally, fault: &Fault, how: &str, found: &Option<String>) {
     let what = found.as_deref().unwrap_or("not found");
-    println!("{} ({})\n    {how}: {what}", fault.name, fault.breaks);
+    let (name, breaks) = (fault.name, fault.breaks);
+    tally.say(&format!("{name} ({breaks})\n    {how}: {what}"));
 }
 
 fn side(fault: &Fault, see_locks: bool) -> Side {

@@ -4,7 +4,7 @@
 //! events are methods, or values of [`Event`] for [`Server::apply`].
 //!
 //! ```
-//! use hislip::{Outcome, Server};
+//! use hislip::{MessageType, Outcome, Server};
 //!
 //! let mut server = Server::new(*b"AA");
 //! server.open(0)?;
@@ -12,14 +12,37 @@
 //! let delivery = server.deliver(0, initialize)?;
 //! assert_eq!(delivery.outcome, Outcome::ActedOn { session: 1 });
 //! for frame in delivery.frames {
-//!     assert_eq!((frame.connection, frame.kind, frame.parameter), (0, 1, 0x0100_0001));
+//!     assert_eq!(frame.message_type(), Some(MessageType::InitializeResponse));
+//!     assert_eq!((frame.connection, frame.parameter), (0.into(), 0x0100_0001));
 //! }
 //! # Ok::<(), hislip::Refusal>(())
 //! ```
+//!
+//! `examples/` has two whole programs. Memory, threads and what the proofs say of each call are told
+//! in `include/hislip_server.h`.
 
-mod answer;
+#![deny(missing_docs)]
+
+mod event;
+mod frame;
+mod message_type;
+mod numbers;
+mod outcome;
+mod refusal;
 mod server;
+mod sizes;
 pub mod sys;
 
-pub use answer::{Delivery, Frame, Frames, Outcome, Refusal};
-pub use server::{Answer, Event, Server, OUTPUT};
+pub use event::{Answer, Event};
+pub use frame::{Frame, Frames};
+pub use message_type::{type_name, MessageType};
+pub use numbers::{Connection, SessionId};
+pub use outcome::{Delivery, Outcome};
+pub use refusal::Refusal;
+pub use server::Server;
+pub use sizes::{
+    CLOCK_MAX, CONNECTIONS, HEADER, LOCK_STRING, OUTPUT, PAYLOAD, SESSIONS, STRING_BYTES, WORDS,
+};
+
+/// The archive that this build links, by its path: for pages of results that name what they are about.
+pub const ARCHIVE: &str = env!("HISLIP_ARCHIVE");

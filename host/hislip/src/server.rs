@@ -1,15 +1,23 @@
 //! One server and its memory.
 
-use crate::answer::{Delivery, Frames, Outcome, Refusal};
+use crate::frame::Frames;
+use crate::numbers::{Connection, SessionId};
+use crate::outcome::{Delivery, Outcome};
+use crate::refusal::Refusal;
+use crate::sizes::OUTPUT;
 use crate::sys;
-
-/// Smallest output buffer that is not refused.
-pub const OUTPUT: usize = 2048;
 
 /// Owns the words, the strings and the output buffer. A clone is a second server in the same state.
 ///
 /// Every pointer passed on is a slice's and so never null, also of an empty one, as the C interface
 /// wants it.
+///
+/// # Panics
+///
+/// The methods panic if the archive answers what its interface does not have: a refusal above 8, an
+/// outcome above 6, a SessionID of more than 16 bits, more output than the buffer has, or more words
+/// than can be counted. Each is excluded by proof, so a panic means that another archive is linked. No
+/// input makes them panic.
 #[derive(Clone, Debug)]
 pub struct Server {
     words: Box<[u64]>,
@@ -17,54 +25,26 @@ pub struct Server {
     out: Box<[u8]>,
 }
 
-/// What the host tells the server.
-#[derive(Clone, Copy, Debug, PartialEq, Eq)]
-pub enum Event<'a> {
-    Open {
-        connection: u32,
-    },
-    Deliver {
-        connection: u32,
-        bytes: &'a [u8],
-    },
-    Cut {
-        connection: u32,
-    },
-    Clock {
-        milliseconds: u64,
-    },
-    Answer {
-        session: u32,
-        payload: &'a [u8],
-        end: bool,
-    },
-    Status {
-        status: u8,
-    },
-}
-
-/// The answer to an [`Event`] that was not refused.
-#[derive(Clone, Debug)]
-pub enum Answer<'a> {
-    /// An opening or a status change: nothing to send.
-    Done,
-    /// A cut, a clock reading or an instrument's answer.
-    Frames(Frames<'a>),
-    Delivery(Delivery<'a>),
-}
-
 impl Server {
     /// A fresh server of this two-letter vendor, clock 0 and status byte 0.
+    ///
+    /// # Panics
+    ///
+    /// As [`Server`] says: never, with the proved archive.
     pub fn new(vendor: [u8; 2]) -> Server {
         Server::with_output(vendor, vec![0; OUTPUT])
     }
 
     /// The same with an output buffer of the caller's; under [`OUTPUT`] bytes, the events that
     /// may send are refused.
+    ///
+    /// # Panics
+    ///
+    /// As [`Server`] says: never, with the proved archive.
     pub fn with_output(vendor: [u8; 2], out: Vec<u8>) -> Server {
         // SAFETY: both only return a number.
         let (words, strings) = unsafe { (sys::hislip_words(), sys::hislip_string_bytes()) };
-        let length = |number: u64| usize::try_from(number).expect("fits in memory");
+        let length = |number: u64| usize::try_from(number).expect("some hundred");
         let mut server = Server {
             words: vec![0; length(words)].into(),
             strings: vec![0; length(strings)].into(),
@@ -76,16 +56,30 @@ impl Server {
         server
     }
 
-    /// A connection opens.
-    pub fn open(&mut self, connection: u32) -> Result<(), Refusal> {
+    /// A connection opens. Refused: a number above 31, or already open.
+    ///
+    /// # Panics
+    ///
+    /// As [`Server`] says: never, with the proved archive.
+    pub fn open(&mut self, connection: impl Into<Connection>) -> Result<(), Refusal> {
         let (words, strings) = self.memory();
         // SAFETY: the memory is the one `hislip_new` wrote; `&mut self` keeps other calls away.
-        let done = unsafe { sys::hislip_open(words, strings, connection) };
+        let done = unsafe { sys::hislip_open(words, strings, connection.into().number()) };
         Refusal::check(done.refusal)
     }
 
-    /// All unread bytes of a connection; at most one message is taken.
-    pub fn deliver(&mut self, connection: u32, bytes: &[u8]) -> Result<Delivery<'_>, Refusal> {
+    /// All unread bytes of a connection; at most one message is taken. Deliver again while bytes are
+    /// taken and some are left. Refused: a number above 31, or not open.
+    ///
+    /// # Panics
+    ///
+    /// As [`Server`] says: never, with the proved archive.
+    pub fn deliver(
+        &mut self,
+        connection: impl Into<Connection>,
+        bytes: &[u8],
+    ) -> Result<Delivery<'_>, Refusal> {
+        let connection = connection.into().number();
         let (words, strings) = self.memory();
         let (out, out_len) = (self.out.as_mut_ptr(), self.out.len());
         // SAFETY: as for `open`; `bytes` is borrowed apart from `self`, so it overlaps nothing.
@@ -108,8 +102,14 @@ impl Server {
         })
     }
 
-    /// A connection is cut.
-    pub fn cut(&mut self, connection: u32) -> Result<Frames<'_>, Refusal> {
+    /// A connection is cut, and its session closes. The frames are lock answers for others. Refused: a
+    /// number above 31, or not open.
+    ///
+    /// # Panics
+    ///
+    /// As [`Server`] says: never, with the proved archive.
+    pub fn cut(&mut self, connection: impl Into<Connection>) -> Result<Frames<'_>, Refusal> {
+        let connection = connection.into().number();
         let (words, strings) = self.memory();
         let (out, out_len) = (self.out.as_mut_ptr(), self.out.len());
         // SAFETY: as for `open`, and `out` is the server's own.
@@ -117,7 +117,12 @@ impl Server {
         self.sent(done)
     }
 
-    /// The clock reads so many milliseconds.
+    /// The clock reads so many milliseconds. The frames answer lock requests whose time is over.
+    /// Refused: below the last reading, or above [`crate::CLOCK_MAX`].
+    ///
+    /// # Panics
+    ///
+    /// As [`Server`] says: never, with the proved archive.
     pub fn clock(&mut self, milliseconds: u64) -> Result<Frames<'_>, Refusal> {
         let (words, strings) = self.memory();
         let (out, out_len) = (self.out.as_mut_ptr(), self.out.len());
@@ -126,10 +131,15 @@ impl Server {
         self.sent(done)
     }
 
-    /// The instrument answers a session, with or without END.
+    /// The instrument answers a session, with or without END; the frame has the MessageID of the
+    /// question. Refused: no live session of that number, nothing asked, or too long.
+    ///
+    /// # Panics
+    ///
+    /// As [`Server`] says: never, with the proved archive.
     pub fn answer(
         &mut self,
-        session: u32,
+        session: SessionId,
         payload: &[u8],
         end: bool,
     ) -> Result<Frames<'_>, Refusal> {
@@ -141,7 +151,7 @@ impl Server {
             sys::hislip_answer(
                 words,
                 strings,
-                session,
+                session.into(),
                 bytes,
                 len,
                 end.into(),
@@ -152,31 +162,11 @@ impl Server {
         self.sent(done)
     }
 
-    /// The instrument's status byte changes.
+    /// The instrument's status byte changes. Never refused.
     pub fn status(&mut self, status: u8) {
         let (words, strings) = self.memory();
         // SAFETY: as for `open`.
         unsafe { sys::hislip_status(words, strings, status) };
-    }
-
-    pub fn apply(&mut self, event: Event) -> Result<Answer<'_>, Refusal> {
-        match event {
-            Event::Open { connection } => self.open(connection).map(|()| Answer::Done),
-            Event::Deliver { connection, bytes } => {
-                self.deliver(connection, bytes).map(Answer::Delivery)
-            }
-            Event::Cut { connection } => self.cut(connection).map(Answer::Frames),
-            Event::Clock { milliseconds } => self.clock(milliseconds).map(Answer::Frames),
-            Event::Answer {
-                session,
-                payload,
-                end,
-            } => self.answer(session, payload, end).map(Answer::Frames),
-            Event::Status { status } => {
-                self.status(status);
-                Ok(Answer::Done)
-            }
-        }
     }
 
     fn memory(&mut self) -> (*mut u64, *mut u8) {

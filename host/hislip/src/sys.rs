@@ -1,30 +1,45 @@
-//! The C interface, as `include/hislip_server.h` declares it.
+//! The C interface, as `include/hislip_server.h` declares it; what each call does and asks for is
+//! said there.
 
 #![allow(non_camel_case_types)]
 
-/// `refusal` is 0, or 1 to 8 and then every other field is 0.
+/// The answer to a delivery.
 #[repr(C)]
 #[derive(Clone, Copy, Debug, PartialEq, Eq)]
 pub struct hislip_delivery {
+    /// 0, or 1 to 8 and then every other field is 0.
     pub refusal: u64,
+    /// 0 (more needed) to 6 (acted on).
     pub outcome: u64,
+    /// The session's number if closed or acted on; 0 if there is none.
     pub session: u64,
+    /// Bytes taken from the front.
     pub taken: u64,
+    /// Bytes of frames in the buffer.
     pub output: u64,
 }
 
+/// The answer to any other event that has one.
 #[repr(C)]
 #[derive(Clone, Copy, Debug, PartialEq, Eq)]
 pub struct hislip_done {
+    /// 0, or 1 to 8 and then `output` is 0.
     pub refusal: u64,
+    /// Bytes of frames in the buffer.
     pub output: u64,
 }
 
 extern "C" {
+    /// How many words to lend.
     pub fn hislip_words() -> u64;
+    /// How many bytes to lend.
     pub fn hislip_string_bytes() -> u64;
+    /// Writes a fresh server into lent memory.
     pub fn hislip_new(words: *mut u64, strings: *mut u8, vendor: u16);
+    /// A connection opens.
     pub fn hislip_open(words: *mut u64, strings: *mut u8, connection: u32) -> hislip_done;
+    /// Unread bytes of a connection.
+    #[must_use = "the frames in the buffer are to be sent"]
     pub fn hislip_deliver(
         words: *mut u64,
         strings: *mut u8,
@@ -34,6 +49,8 @@ extern "C" {
         out: *mut u8,
         out_len: usize,
     ) -> hislip_delivery;
+    /// A connection is cut.
+    #[must_use = "the frames in the buffer are to be sent"]
     pub fn hislip_cut(
         words: *mut u64,
         strings: *mut u8,
@@ -41,6 +58,8 @@ extern "C" {
         out: *mut u8,
         out_len: usize,
     ) -> hislip_done;
+    /// The clock reads so many milliseconds.
+    #[must_use = "the frames in the buffer are to be sent"]
     pub fn hislip_clock(
         words: *mut u64,
         strings: *mut u8,
@@ -48,6 +67,8 @@ extern "C" {
         out: *mut u8,
         out_len: usize,
     ) -> hislip_done;
+    /// The instrument answers a session.
+    #[must_use = "the frames in the buffer are to be sent"]
     pub fn hislip_answer(
         words: *mut u64,
         strings: *mut u8,
@@ -58,5 +79,6 @@ extern "C" {
         out: *mut u8,
         out_len: usize,
     ) -> hislip_done;
+    /// The instrument's status byte changes.
     pub fn hislip_status(words: *mut u64, strings: *mut u8, status: u8);
 }

@@ -1,15 +1,19 @@
 //! The safe wrapper: typed answers, and nothing that is passed can do harm.
 
-use hislip::{Answer, Event, Frame, Frames, Outcome, Refusal, Server};
+use hislip::{
+    sys, Answer, Connection, Event, Frame, Frames, MessageType, Outcome, Refusal, Server, OUTPUT,
+};
 use reference::compose::message;
 
 /// A server with session 1 on connections 0 and 1.
 fn with_session() -> Server {
     let mut server = Server::new(*b"AA");
     server.open(0).expect("not open");
-    server
-        .deliver(0, &message(0, 0, 0x0100_0000, b"hislip0"))
-        .expect("open");
+    let opened = server.deliver(0, &message(0, 0, 0x0100_0000, b"hislip0"));
+    assert_eq!(
+        opened.expect("open").outcome,
+        Outcome::ActedOn { session: 1 }
+    );
     server.open(1).expect("not open");
     let joined = server.deliver(1, &message(17, 0, 1, b"")).expect("open");
     assert_eq!(joined.outcome, Outcome::ActedOn { session: 1 });
@@ -26,7 +30,7 @@ fn with_session() -> Server {
 #[test]
 fn refusals_have_number_and_cause() {
     let mut server = with_session();
-    server.clock(9).expect("forwards");
+    assert_eq!(server.clock(9).expect("forwards").count(), 0);
     let told: Vec<(u64, String)> = [
         server.open(32).unwrap_err(),
         server.open(0).unwrap_err(),
@@ -50,14 +54,14 @@ fn refusals_have_number_and_cause() {
 #[test]
 fn a_question_and_its_answer() {
     let mut server = with_session();
-    server
-        .deliver(0, &message(7, 0, 0xffff_ff00, b"*IDN?"))
-        .expect("open");
+    let asked = server.deliver(0, &message(7, 0, 0xffff_ff00, b"*IDN?"));
+    assert_eq!(asked.expect("open").taken, 21);
     let too_long = server.answer(1, &[0; 1025], true).unwrap_err();
     assert_eq!(too_long, Refusal::AnswerTooLong);
     let frames: Vec<Frame> = server.answer(1, b"meter", true).expect("asked").collect();
     assert_eq!(frames.len(), 1);
-    assert_eq!((frames[0].connection, frames[0].kind), (0, 7));
+    assert_eq!(frames[0].connection, Connection::new(0));
+    assert_eq!(frames[0].message_type(), Some(MessageType::DataEnd));
     assert_eq!(
         (frames[0].parameter, frames[0].payload),
         (0xffff_ff00, &b"meter"[..])
@@ -71,9 +75,9 @@ fn several_frames_come_in_order() {
     let closed = server.deliver(1, &[0; 16]).expect("open");
     assert_eq!(closed.outcome, Outcome::Closed { session: Some(1) });
     assert_eq!(closed.taken, 0);
-    let to: Vec<(u8, u8, u8)> = closed
+    let to: Vec<(u32, u8, u8)> = closed
         .frames
-        .map(|f| (f.connection, f.kind, f.code))
+        .map(|f| (f.connection.number(), f.kind, f.code))
         .collect();
     assert_eq!(to, [(0, 2, 1), (1, 2, 1)]);
 }
@@ -88,7 +92,7 @@ fn a_connection_without_a_session_closes_without_a_number() {
 
 #[test]
 fn any_output_buffer_is_safe() {
-    for length in [0, 1, 2047] {
+    for length in [0, 1, OUTPUT - 1] {
         let mut server = Server::with_output(*b"AA", vec![0; length]);
         server.open(0).expect("not open");
         assert_eq!(server.deliver(0, b"").unwrap_err(), Refusal::ShortBuffer);
@@ -116,17 +120,16 @@ fn events_as_values() {
         Answer::Delivery(delivery) => delivery.frames.count(),
     };
     let bytes = &message(21, 0, 0, b"")[..];
-    assert_eq!(frames_of(Event::Open { connection: 5 }), 0);
+    let connection = Connection::new(5);
+    assert_eq!(frames_of(Event::Open { connection }), 0);
     assert_eq!(frames_of(Event::Status { status: 3 }), 0);
-    assert_eq!(
-        frames_of(Event::Deliver {
-            connection: 1,
-            bytes
-        }),
-        1
-    );
+    let deliver = Event::Deliver {
+        connection: Connection::new(1),
+        bytes,
+    };
+    assert_eq!(frames_of(deliver), 1);
     assert_eq!(frames_of(Event::Clock { milliseconds: 5 }), 0);
-    assert_eq!(frames_of(Event::Cut { connection: 5 }), 0);
+    assert_eq!(frames_of(Event::Cut { connection }), 0);
     let answer = Event::Answer {
         session: 1,
         payload: b"",
@@ -139,7 +142,7 @@ fn events_as_values() {
 fn a_clone_is_a_second_server() {
     let mut first = with_session();
     let mut second = first.clone();
-    first.cut(0).expect("open");
+    assert_eq!(first.cut(0).expect("open").count(), 0);
     assert_eq!(first.cut(1).unwrap_err(), Refusal::Connection);
     assert_eq!(second.cut(1).expect("still open").count(), 0);
 }
@@ -155,4 +158,23 @@ fn frames_end_at_what_is_no_frame() {
     let mut wrong = whole.clone();
     wrong[9..17].fill(0xff);
     assert_eq!(Frames::new(&wrong).count(), 0, "a length near 2^64");
+}
+
+#[test]
+fn the_sizes_are_those_of_the_archive() {
+    let (words, strings) = unsafe { (sys::hislip_words(), sys::hislip_string_bytes()) };
+    let told = [hislip::WORDS as u64, hislip::STRING_BYTES as u64];
+    assert_eq!([words, strings], told);
+}
+
+#[test]
+fn every_connection_number_can_be_said() {
+    let mut server = Server::new(*b"AA");
+    for connection in Connection::all() {
+        server.open(connection).expect("not open");
+    }
+    for number in [32, 256, u32::MAX] {
+        assert_eq!(server.open(number).unwrap_err(), Refusal::Connection);
+    }
+    assert_eq!(Connection::all().last(), Some(31.into()));
 }

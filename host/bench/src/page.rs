@@ -1,0 +1,113 @@
+//! What was measured, as a Markdown page.
+
+use std::path::Path;
+
+use record::{date, machine, tree};
+
+use crate::timing::{compare, measure, Outcomes, Times, SLICE};
+use crate::workload::Workload;
+
+/// The first cells of the table's head, by which it is found again.
+pub const HEAD: &str = "| workload | events | library min | median | reference min | median | ratio of minima | of medians |";
+
+/// The measured part of a page.
+#[derive(Default)]
+struct Measured {
+    rows: String,
+    checks: String,
+    /// The slowest repetition over the fastest, in percent; the worst of all workloads.
+    slowest: f64,
+    /// The ratios of the two halves of the repetitions apart, in percent; likewise.
+    apart: f64,
+}
+
+impl Measured {
+    fn add(&mut self, workload: &Workload, outcomes: &Outcomes, times: &Times) {
+        self.rows += &row(workload, times);
+        self.checks += &format!("- {}: {}\n", workload.name, describe(outcomes));
+        let spread = times.library.spread().max(times.reference.spread());
+        self.slowest = self.slowest.max(spread);
+        self.apart = self.apart.max(ratios_apart(times));
+    }
+}
+
+/// Where and when, of what: the load stands there twice, from before and after.
+fn origin(load_before: &str) -> String {
+    let commit = tree::commit(&tree::root()).unwrap_or(machine::UNKNOWN.into());
+    let archive = machine::sha256(Path::new(hislip::ARCHIVE)).unwrap_or(machine::UNKNOWN.into());
+    format!(
+        "Measured {}, commit {commit}, archive {archive}, on {}. Load of the last 1, 5 and 15 minutes: \
+         {load_before} before, {} after.",
+        date::now(),
+        machine::cpu(),
+        machine::load()
+    )
+}
+
+/// Compares and measures every workload; says on the error stream how far it is.
+pub fn page(workloads: &[Workload], repetitions: usize) -> Result<String, String> {
+    let load = machine::load();
+    let mut measured = Measured::default();
+    for (place, workload) in (1..).zip(workloads) {
+        eprintln!("bench: {place} of {}, {}", workloads.len(), workload.name);
+        let outcomes = compare(workload)?;
+        measured.add(workload, &outcomes, &measure(workload, repetitions));
+    }
+    Ok(text(&measured, repetitions, &origin(&load)))
+}
+
+fn text(measured: &Measured, repetitions: usize, origin: &str) -> String {
+    let Measured {
+        rows,
+        checks,
+        slowest,
+        apart,
+    } = measured;
+    format!(
+        "# Speed\n\n\
+         The proved library beside the reference, an ordinary Rust server with `&mut self`; nanoseconds \
+         per event, {repetitions} repetitions of each, the two sides taking turns. Both are optimised, and \
+         both pay one call that is not inlined. A minimum is taken slice by slice: of each {SLICE} events \
+         the fastest repetition counts.\n\n\
+         {origin}\n\n\
+         {HEAD}\n|---|---|---|---|---|---|---|---|\n{rows}\n\
+         ![The ratios as a picture](speed.svg)\n\n\
+         Noise: within a workload the slowest repetition took up to {slowest:.0} % longer than the fastest. \
+         The ratio of minima from the first half of the repetitions alone and from the second half differ \
+         by at most {apart:.0} %.\n\n\
+         Buffers: the output buffer is neither cleared nor filled between events, except in the row that \
+         says so, where both sides have 2,048 bytes cleared before each event, within the time taken.\n\n\
+         Before the time is taken every answer and every byte of the buffer is compared on the same \
+         events; all were equal. What the events came to:\n\n{checks}"
+    )
+}
+
+fn row(workload: &Workload, times: &Times) -> String {
+    let minima = (times.library.fastest(), times.reference.fastest());
+    let medians = (times.library.median(), times.reference.median());
+    format!(
+        "| {} | {} | {:.1} | {:.1} | {:.1} | {:.1} | {:.2} | {:.2} |\n",
+        workload.name,
+        workload.steps.len(),
+        minima.0,
+        medians.0,
+        minima.1,
+        medians.1,
+        minima.0 / minima.1,
+        medians.0 / medians.1
+    )
+}
+
+/// How far the ratios of the two halves are apart, in percent.
+fn ratios_apart(times: &Times) -> f64 {
+    let (library, reference) = (times.library.halves(), times.reference.halves());
+    let ratio = |half: usize| library[half] / reference[half];
+    100.0 * (ratio(0) / ratio(1) - 1.0).abs()
+}
+
+fn describe(outcomes: &Outcomes) -> String {
+    let counted = outcomes
+        .iter()
+        .map(|(name, count)| format!("{count} {name}"));
+    counted.collect::<Vec<_>>().join(", ")
+}

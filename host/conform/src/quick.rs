@@ -1,0 +1,36 @@
+//! Every suite, thinned where it is long, and random lists.
+
+use std::time::Instant;
+
+use crate::bout::{Failed, Pair};
+use crate::reach::Reach;
+use crate::tally::Tally;
+use crate::{bench_examples, cables, hostile, sizes, systematic, wrap};
+
+/// Events of random lists.
+const EVENTS: usize = 1_000_000;
+/// Of the systematic cases with an effect, one in so many is looked at more closely.
+const THIN: u64 = 16;
+
+pub fn run(pair: Pair, tally: &mut Tally) -> Result<(), Failed> {
+    tally.suite("bench examples", || bench_examples::check(pair))?;
+    tally.suite("systematic", || systematic::check(pair, THIN))?;
+    tally.suite("cables dropped after every byte", || cables::check(pair))?;
+    tally.suite("answers and strings of every size", || sizes::check(pair))?;
+    tally.suite("SessionID wrap", || wrap::check(pair))?;
+    let start = Instant::now();
+    let mut reach = Reach::default();
+    let (mut events, mut seed) = (0, 0);
+    while events < EVENTS {
+        seed += 1;
+        events += hostile::check(pair, seed, &mut reach)?;
+    }
+    reach.lines().iter().for_each(|line| tally.say(line));
+    tally.add(
+        &format!("seeds 1 to {seed}, demand 3 on each"),
+        events,
+        start,
+    );
+    tally.seeds = Some((1..=seed, reach));
+    Ok(())
+}

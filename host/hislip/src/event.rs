@@ -1,0 +1,87 @@
+//! Events as values, for a host that keeps them or gets them from elsewhere.
+
+use crate::frame::Frames;
+use crate::numbers::{Connection, SessionId};
+use crate::outcome::Delivery;
+use crate::refusal::Refusal;
+use crate::server::Server;
+
+/// What the host tells the server.
+#[derive(Clone, Copy, Debug, PartialEq, Eq)]
+pub enum Event<'a> {
+    /// A connection opens.
+    Open {
+        /// Its number.
+        connection: Connection,
+    },
+    /// Unread bytes of a connection, all of them.
+    Deliver {
+        /// Its number.
+        connection: Connection,
+        /// From the first one not yet taken.
+        bytes: &'a [u8],
+    },
+    /// A connection is cut.
+    Cut {
+        /// Its number.
+        connection: Connection,
+    },
+    /// The clock reads so many milliseconds.
+    Clock {
+        /// Counted from any start.
+        milliseconds: u64,
+    },
+    /// The instrument answers a session.
+    Answer {
+        /// Its number.
+        session: SessionId,
+        /// What the instrument says.
+        payload: &'a [u8],
+        /// With END: the answer is complete.
+        end: bool,
+    },
+    /// The instrument's status byte changes.
+    Status {
+        /// The new one.
+        status: u8,
+    },
+}
+
+/// The answer to an [`Event`] that was not refused.
+#[derive(Clone, Debug)]
+#[must_use = "what is in it is to be sent"]
+pub enum Answer<'a> {
+    /// An opening or a status change: nothing to send.
+    Done,
+    /// A cut, a clock reading or an instrument's answer.
+    Frames(Frames<'a>),
+    /// A delivery.
+    Delivery(Delivery<'a>),
+}
+
+impl Server {
+    /// Any event. A refusal is that of the event's own method.
+    ///
+    /// # Panics
+    ///
+    /// As [`Server`] says: never, with the proved archive.
+    pub fn apply(&mut self, event: Event) -> Result<Answer<'_>, Refusal> {
+        match event {
+            Event::Open { connection } => self.open(connection).map(|()| Answer::Done),
+            Event::Deliver { connection, bytes } => {
+                self.deliver(connection, bytes).map(Answer::Delivery)
+            }
+            Event::Cut { connection } => self.cut(connection).map(Answer::Frames),
+            Event::Clock { milliseconds } => self.clock(milliseconds).map(Answer::Frames),
+            Event::Answer {
+                session,
+                payload,
+                end,
+            } => self.answer(session, payload, end).map(Answer::Frames),
+            Event::Status { status } => {
+                self.status(status);
+                Ok(Answer::Done)
+            }
+        }
+    }
+}

@@ -1,0 +1,134 @@
+//! The headers: every compiler of this machine takes them as C99 and as C++, warns where a host goes
+//! wrong, and their numbers and names are those of the wrapper and of the archive.
+
+use std::fs;
+use std::sync::OnceLock;
+
+use crate::compiler::{root, run, scratch, strict, C99, CPP11};
+use hislip::{type_name, Outcome, Refusal};
+
+#[test]
+fn the_headers_can_be_included_alone_and_twice() {
+    for header in ["hislip_server.h", "hislip_names.h"] {
+        let text = format!("#include \"{header}\"\n#include \"{header}\"\nint twice;\n");
+        for language in [C99, CPP11] {
+            for compiler in language.compilers() {
+                let name = header.replace('.', "_");
+                assert!(language.compiles(compiler, &name, &text), "{compiler}");
+            }
+        }
+    }
+}
+
+/// Each compiler takes the first text and refuses the second, which warns.
+fn warned_of(name: &str, good: &str, bad: &str) {
+    for language in [C99, CPP11] {
+        for compiler in language.compilers() {
+            let wrong = format!("{name}-wrong");
+            assert!(language.compiles(compiler, name, good), "{compiler}");
+            assert!(!language.compiles(compiler, &wrong, bad), "{compiler}");
+        }
+    }
+}
+
+#[test]
+fn a_null_pointer_is_warned_of() {
+    let answer = |payload: &str| {
+        format!(
+            "#include \"hislip_server.h\"\n\
+             hislip_done answer(uint64_t *words, uint8_t *strings, uint8_t *out);\n\
+             hislip_done answer(uint64_t *words, uint8_t *strings, uint8_t *out)\n\
+             {{ return hislip_answer(words, strings, 1, {payload}, 0, 1, out, HISLIP_OUTPUT); }}\n"
+        )
+    };
+    warned_of("null", &answer("(const uint8_t *)\"\""), &answer("NULL"));
+}
+
+#[test]
+fn dropped_output_is_warned_of() {
+    let clock = |keep: &str| {
+        format!(
+            "#include \"hislip_server.h\"\n\
+             uint64_t clock(uint64_t *words, uint8_t *strings, uint8_t *out);\n\
+             uint64_t clock(uint64_t *words, uint8_t *strings, uint8_t *out)\n\
+             {{ hislip_done done = {{1, 1}};\n\
+             {keep} hislip_clock(words, strings, 9, out, HISLIP_OUTPUT); return done.output; }}\n"
+        )
+    };
+    warned_of("dropped", &clock("done ="), &clock(""));
+}
+
+/// What host/c/names.c prints of one kind, behind the kind's word.
+fn lines<'a>(text: &'a str, kind: &str) -> Vec<&'a str> {
+    let rest = |line: &'a str| line.strip_prefix(kind)?.strip_prefix(' ');
+    text.lines().filter_map(rest).collect()
+}
+
+/// What host/c/names.c prints; compiled and run once for all tests.
+fn names_in_c() -> &'static str {
+    static TEXT: OnceLock<String> = OnceLock::new();
+    TEXT.get_or_init(|| {
+        let source = root().join("host/c/names.c");
+        let archive = [env!("HISLIP_ARCHIVE")];
+        run(strict(), &source, &archive, &scratch("names"))
+    })
+}
+
+#[test]
+fn a_cpp_program_links_the_archive() {
+    let source = scratch("names").with_extension("cpp");
+    fs::copy(root().join("host/c/names.c"), &source).expect("copied");
+    for compiler in CPP11.compilers() {
+        let program = scratch(&format!("names-{compiler}"));
+        let archive = [env!("HISLIP_ARCHIVE")];
+        let text = run(CPP11.strict(compiler), &source, &archive, &program);
+        assert_eq!(text, names_in_c(), "{compiler}");
+    }
+}
+
+#[test]
+fn sizes_and_version_are_the_wrappers() {
+    let text = names_in_c();
+    let sizes = [
+        hislip::WORDS as u64,
+        hislip::STRING_BYTES as u64,
+        hislip::SESSIONS as u64,
+        hislip::CONNECTIONS as u64,
+        hislip::HEADER as u64,
+        hislip::PAYLOAD as u64,
+        hislip::LOCK_STRING as u64,
+        hislip::OUTPUT as u64,
+        hislip::CLOCK_MAX,
+    ];
+    assert_eq!(lines(text, "size"), sizes.map(|size| size.to_string()));
+    let lent = format!("{} {}", hislip::WORDS, hislip::STRING_BYTES);
+    assert_eq!(lines(text, "lent"), [lent], "macros and archive");
+    let version = env!("CARGO_PKG_VERSION");
+    assert_eq!(lines(text, "version"), [format!("{version} {version}")]);
+}
+
+#[test]
+fn names_are_the_wrappers() {
+    let text = names_in_c();
+    let constants: Vec<String> = (0..26).map(|type_: u8| type_.to_string()).collect();
+    assert_eq!(lines(text, "constant"), constants);
+    let types = (0..=u8::MAX).map(|number| format!("{number} {}", type_name(number)));
+    assert_eq!(lines(text, "type"), types.collect::<Vec<_>>());
+    let refusals = Refusal::ALL.map(|refusal| format!("{} {}", refusal.number(), refusal.reason()));
+    assert_eq!(lines(text, "refusal")[1..9], refusals);
+    assert_eq!(lines(text, "refusal")[9], "9 no refusal has that number");
+    let outcomes = [
+        Outcome::MoreNeeded,
+        Outcome::Skipped,
+        Outcome::Held,
+        Outcome::Ignored,
+        Outcome::ErrorSent,
+        Outcome::Closed { session: None },
+        Outcome::ActedOn { session: 1 },
+    ];
+    let outcomes = (0..)
+        .zip(outcomes)
+        .map(|(number, o)| format!("{number} {}", o.name()));
+    assert_eq!(lines(text, "outcome")[..7], outcomes.collect::<Vec<_>>());
+    assert_eq!(lines(text, "outcome")[7], "7 no outcome has that number");
+}

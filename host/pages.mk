@@ -1,0 +1,34 @@
+# Pages and pictures of what the host kit and the prover have to tell, for the root Makefile to include
+# behind Makefile.inc, whose names it uses.
+
+.PHONY: bench bench-docs speed-plot believe evidence timeline
+
+# Nanoseconds beside the reference: to target/speed.md, with a picture.
+bench: library
+	$(CARGO) run $(HOST_FLAGS) --profile speed -q -p bench -- --write target/speed.md --plot target/speed.svg
+
+# The same to the page and the picture in docs/, on a machine with nothing else to do.
+bench-docs: library
+	$(CARGO) run $(HOST_FLAGS) --profile speed -q -p bench -- --write docs/SPEED.md --plot docs/speed.svg
+
+# The picture of the table that docs/SPEED.md has, without measuring.
+speed-plot:
+	$(CARGO) run $(HOST_FLAGS) -q -p bench -- --from docs/SPEED.md --plot docs/speed.svg
+
+# The definitions that a reader must believe (docs/believe.txt), with their lines.
+believe:
+	@$(CARGO) run $(HOST_FLAGS) -q -p record --bin believe
+
+# One page of what was built, proved, run and measured, and what was not: target/evidence.md. The
+# archive is built a second time from a copy of the sources; FRESH=1 proves that copy from nothing.
+evidence:
+	$(RT) check
+	$(MAKE) --no-print-directory bench
+	RT=$(RT) bash $(HOST)/second_build.sh $(ARCHIVE) target/second.a $(FRESH)
+	$(CARGO) run $(HOST_FLAGS) --release -q -p evidence -- --second target/second.a --write target/evidence.md
+
+# make timeline LIST=my.txt PICTURE=my.svg: a list of events with their answers, one lane a session.
+LIST    ?= $(HOST)/timeline/lists/three_programs.txt
+PICTURE ?= docs/timeline.svg
+timeline:
+	@$(CARGO) run $(HOST_FLAGS) -q -p timeline -- $(LIST) $(PICTURE)

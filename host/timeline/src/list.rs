@@ -1,0 +1,236 @@
+//! Lists as text, one event a line: the event, `->`, its answer, and behind `|` the frames sent.
+//!
+//! ```text
+//! # vendor AA
+//! open 0                                            -> done
+//! deliver 0 48530000010041410000000000000000        -> acted on, session 1, taken 16 | 0048530100..
+//! deliver 0 4853                                    -> more needed
+//! clock 1000                                        -> done
+//! answer 1 312e30 end                               -> done | 0048530700..
+//! answer 1 - more                                   -> refused 5
+//! cut 0                                             -> done
+//! status 41                                         -> done
+//! ```
+//!
+//! Connections, sessions, milliseconds, counts and refusals are decimal; bytes and the status byte
+//! are hexadecimal, `-` for no bytes. An outcome has its session and its bytes taken behind it where
+//! they are not 0. Spaces more or less do not matter; an empty line and one that begins with `#` are
+//! passed over. The length of the output buffer is not told.
+
+use reference::compose::ROOM;
+use reference::{Event, Reply};
+
+use crate::words::{bytes, hex, number, Reader};
+
+/// One event with its answer and the frames that it sent.
+#[derive(Clone, Debug, PartialEq, Eq)]
+pub struct Entry {
+    /// What the host told.
+    pub event: Event,
+    /// What the server answered.
+    pub reply: Reply,
+    /// The output, a row of frames.
+    pub output: Vec<u8>,
+}
+
+/// Without END.
+const MORE: &str = "more";
+/// With END.
+const END: &str = "end";
+
+fn event_text(event: &Event) -> String {
+    match event {
+        Event::Open { connection } => format!("open {connection}"),
+        Event::Deliver {
+            connection, bytes, ..
+        } => format!("deliver {connection} {}", hex(bytes)),
+        Event::Cut { connection, .. } => format!("cut {connection}"),
+        Event::Clock { milliseconds, .. } => format!("clock {milliseconds}"),
+        Event::Answer {
+            session,
+            payload,
+            end,
+            ..
+        } => {
+            let end = if *end == 0 { MORE } else { END };
+            format!("answer {session} {} {end}", hex(payload))
+        }
+        Event::Status { status } => format!("status {status:02x}"),
+    }
+}
+
+fn reply_text(event: &Event, reply: &Reply) -> String {
+    if reply.refusal != 0 {
+        return format!("refused {}", reply.refusal);
+    }
+    if !matches!(event, Event::Deliver { .. }) {
+        return "done".into();
+    }
+    let mut text = Reply::OUTCOMES[reply.outcome as usize].to_owned();
+    if reply.session != 0 {
+        text += &format!(", session {}", reply.session);
+    }
+    if reply.taken != 0 {
+        text += &format!(", taken {}", reply.taken);
+    }
+    text
+}
+
+/// An entry as a line.
+pub fn line(entry: &Entry) -> String {
+    let event = event_text(&entry.event);
+    let reply = reply_text(&entry.event, &entry.reply);
+    match &entry.output[..] {
+        [] => format!("{event} -> {reply}"),
+        output => format!("{event} -> {reply} | {}", hex(output)),
+    }
+}
+
+fn event(text: &str) -> Result<Event, String> {
+    let mut words = Reader::new(text);
+    let event = match words.next("an event")? {
+        "open" => Event::Open {
+            connection: number(words.next("a connection")?)?,
+        },
+        "deliver" => Event::Deliver {
+            connection: number(words.next("a connection")?)?,
+            bytes: bytes(words.next("bytes")?)?,
+            room: ROOM,
+        },
+        "cut" => Event::Cut {
+            connection: number(words.next("a connection")?)?,
+            room: ROOM,
+        },
+        "clock" => Event::Clock {
+            milliseconds: number(words.next("milliseconds")?)?,
+            room: ROOM,
+        },
+        "answer" => Event::Answer {
+            session: number(words.next("a session")?)?,
+            payload: bytes(words.next("bytes")?)?,
+            end: end(words.next("`end` or `more`")?)?,
+            room: ROOM,
+        },
+        "status" => Event::Status {
+            status: status(words.next("a status byte")?)?,
+        },
+        other => return Err(format!("no event `{other}`")),
+    };
+    words.end()?;
+    Ok(event)
+}
+
+fn end(word: &str) -> Result<u8, String> {
+    match word {
+        END => Ok(1),
+        MORE => Ok(0),
+        _ => Err(format!("`{word}` is neither `{END}` nor `{MORE}`")),
+    }
+}
+
+fn status(word: &str) -> Result<u8, String> {
+    match bytes(word)?[..] {
+        [status] => Ok(status),
+        _ => Err(format!("`{word}` is not one byte")),
+    }
+}
+
+fn reply(text: &str) -> Result<Reply, String> {
+    let mut parts = text.split(',').map(str::trim);
+    let first = parts.next().unwrap_or("");
+    let mut reply = match first.strip_prefix("refused ") {
+        Some(refusal) => Reply::refused(number(refusal)?),
+        None if first == "done" => Reply::done(0),
+        None => {
+            let outcome = Reply::OUTCOMES.iter().position(|name| *name == first);
+            Reply {
+                outcome: outcome.ok_or(format!("no outcome `{first}`"))? as u64,
+                ..Reply::default()
+            }
+        }
+    };
+    for part in parts {
+        match part.split_once(' ') {
+            Some(("session", session)) => reply.session = number(session)?,
+            Some(("taken", taken)) => reply.taken = number(taken)?,
+            _ => return Err(format!("`{part}` is no part of an answer")),
+        }
+    }
+    Ok(reply)
+}
+
+fn entry(line: &str) -> Result<Entry, String> {
+    let (told, answer) = line.split_once("->").ok_or("no answer behind `->`")?;
+    let (answer, output) = match answer.split_once('|') {
+        Some((answer, output)) => (answer, bytes(output.trim())?),
+        None => (answer, Vec::new()),
+    };
+    let mut reply = reply(answer)?;
+    reply.output = output.len() as u64;
+    Ok(Entry {
+        event: event(told)?,
+        reply,
+        output,
+    })
+}
+
+/// Every entry of a text; the error names the line.
+pub fn read(text: &str) -> Result<Vec<Entry>, String> {
+    let told = |line: &&str| !line.trim().is_empty() && !line.trim().starts_with('#');
+    let lines = text.lines().enumerate();
+    let lines = lines.filter(|(_, line)| told(line));
+    let read = |(place, line)| entry(line).map_err(|what| format!("line {}: {what}", place + 1));
+    lines.map(read).collect()
+}
+
+#[cfg(test)]
+mod tests {
+    use super::{line, read};
+
+    const TEXT: &str = "\
+open 0 -> done
+deliver 0 48530000010041410000000000000000 -> acted on, session 1, taken 16 | 00485301000100000100
+deliver 0 - -> more needed
+deliver 0 0102 -> closed, session 1
+clock 1000 -> done
+answer 1 312e30 end -> done | 0048
+answer 1 - more -> refused 5
+cut 31 -> done
+status 41 -> done
+";
+
+    #[test]
+    fn what_is_read_is_written_again() {
+        let entries = read(TEXT).expect("all of it");
+        let lines: Vec<String> = entries.iter().map(line).collect();
+        assert_eq!(lines.join("\n") + "\n", TEXT);
+    }
+
+    #[test]
+    fn comments_and_spaces_do_not_matter() {
+        let entries = read("# vendor AA\n\n  open   3   ->   done  \n").expect("one event");
+        assert_eq!(line(&entries[0]), "open 3 -> done");
+    }
+
+    #[test]
+    fn what_is_wrong_is_named_with_its_line() {
+        let told = |text: &str| read(text).expect_err("wrong");
+        assert_eq!(
+            told("open 0 -> done\nopen 1"),
+            "line 2: no answer behind `->`"
+        );
+        assert_eq!(told("close 0 -> done"), "line 1: no event `close`");
+        assert_eq!(told("open -> done"), "line 1: a connection is missing");
+        assert_eq!(told("open x -> done"), "line 1: `x` is no number");
+        assert_eq!(told("open 1 2 -> done"), "line 1: `2` is too much");
+        assert_eq!(
+            told("deliver 0 4 -> held"),
+            "line 1: `4` is no row of bytes"
+        );
+        assert_eq!(told("deliver 0 - -> kept"), "line 1: no outcome `kept`");
+        assert_eq!(
+            told("answer 1 - yes -> done"),
+            "line 1: `yes` is neither `end` nor `more`"
+        );
+    }
+}
