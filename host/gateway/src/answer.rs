@@ -2,7 +2,7 @@
 
 use hislip::Frames;
 
-use crate::connection::Lane;
+use crate::connection::{Connection, Lane};
 use crate::describe::{self, kept};
 use crate::gateway::{Gateway, Who};
 use crate::instrument::{Done, Fault, Request};
@@ -12,7 +12,7 @@ impl Gateway {
     /// The session's synchronous connection.
     fn synchronous(&self, session: u16) -> Option<usize> {
         let role = Some((session, Lane::Synchronous));
-        let same = |place: &Option<_>| matches!(place, Some(c) if role_of(c) == role);
+        let same = |place: &Option<Connection>| place.as_ref().is_some_and(|c| c.role == role);
         self.connections.iter().position(same)
     }
 
@@ -78,7 +78,7 @@ impl Gateway {
         let Some(answer) = &mut state.answer else {
             return false;
         };
-        if !room.is_some_and(|connection| connection.has_room()) {
+        if !room.is_some_and(Connection::has_room) {
             return false;
         }
         let left = &answer.bytes[answer.sent..];
@@ -124,8 +124,4 @@ impl Gateway {
         self.say(who, || format!("answer lost: {why}"));
         self.ask(session, Request::Dropped(Fault::TooMuchData));
     }
-}
-
-fn role_of(connection: &crate::connection::Connection) -> Option<(u16, Lane)> {
-    connection.role
 }

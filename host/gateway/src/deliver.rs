@@ -61,6 +61,9 @@ impl Gateway {
         let Some(connection) = &self.connections[number] else {
             return false;
         };
+        if connection.unread.is_empty() {
+            return false;
+        }
         let waits = match connection.role {
             Some((session, Lane::Synchronous)) => {
                 let session = self.sessions.get(&session);
@@ -69,7 +72,7 @@ impl Gateway {
             Some((_, Lane::Asynchronous)) => false,
             None => self.sessions.len() >= SESSIONS && self.somebody_hung_up(),
         };
-        !connection.unread.is_empty() && !waits && connection.has_room()
+        !waits && connection.has_room()
     }
 
     /// Shows the unread bytes of one connection; true if that changed anything.

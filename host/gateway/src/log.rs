@@ -78,7 +78,8 @@ impl Log {
 fn write_lines(mut out: impl Write, queue: &Receiver<String>, dropped: &AtomicU64) {
     while let Ok(mut text) = queue.recv() {
         std::thread::sleep(GATHER);
-        let more = queue.try_iter().map(|line| text.push_str(&line)).count() as u64;
+        let more = queue.try_iter().take(WAITING_LINES);
+        let more = more.map(|line| text.push_str(&line)).count() as u64;
         let lost = dropped.swap(0, Ordering::Relaxed);
         if lost > 0 {
             text.push_str(&format!("{} {lost} lines dropped\n", utc::now()));

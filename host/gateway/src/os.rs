@@ -6,6 +6,9 @@ use std::io::{Error, Result};
 use std::net::{TcpListener, TcpStream};
 use std::os::fd::{AsRawFd, RawFd};
 
+#[cfg(not(target_os = "linux"))]
+compile_error!("another system has other numbers");
+
 const SOL_SOCKET: c_int = 1;
 const SO_KEEPALIVE: c_int = 9;
 const IPPROTO_TCP: c_int = 6;

@@ -7,7 +7,7 @@ use std::net::TcpStream;
 use std::time::{Duration, Instant};
 
 use common::client::{bytes, closed, connect, receive, silent, Client};
-use common::{settings, Running};
+use common::{eventually, settings, Running};
 use gateway::instrument::simulated::Simulated;
 use gateway::Settings;
 
@@ -110,4 +110,33 @@ fn ten_seconds_by_default() {
         Settings::default().initialize_within,
         Duration::from_secs(10)
     );
+}
+
+/// The timer of a connection as Linux shows it: 2 is keepalive.
+fn timer(local: u16, remote: u16) -> Option<String> {
+    let table = std::fs::read_to_string("/proc/net/tcp").expect("Linux");
+    let ends = [
+        format!("0100007F:{local:04X}"),
+        format!("0100007F:{remote:04X}"),
+    ];
+    let fields = |line: &str| {
+        line.split_whitespace()
+            .map(String::from)
+            .collect::<Vec<_>>()
+    };
+    let mut lines = table.lines().map(fields);
+    let line = lines.find(|line| line[1..3] == ends)?;
+    Some(line[5][..2].into())
+}
+
+#[test]
+fn a_silent_peer_is_asked_whether_it_is_there() {
+    let gateway = Running::start();
+    let mut a = gateway.open();
+    assert_eq!(a.query("*OPC?"), "1");
+    let port = |stream: &TcpStream| stream.local_addr().expect("bound").port();
+    for stream in [&a.sync, &a.asynchronous] {
+        let asked = || timer(gateway.address.port(), port(stream)).as_deref() == Some("02");
+        assert!(eventually(asked));
+    }
 }

@@ -60,6 +60,16 @@ fn a_port_that_is_taken_is_status_1() {
     assert_eq!(err.lines().count(), 1);
 }
 
+#[test]
+fn a_log_that_cannot_be_written_is_status_1() {
+    let (status, _, err) = run(&["--log", "/nowhere/gateway.log", "--listen", "127.0.0.1:0"]);
+    assert_eq!(status, Some(1));
+    assert!(
+        err.starts_with("gateway: cannot write /nowhere/gateway.log: "),
+        "{err}"
+    );
+}
+
 fn ends_in_order(signal: &str, name: &str) {
     let mut program = Program::start("127.0.0.1:0", &[]);
     let mut a = client(&program);

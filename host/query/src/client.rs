@@ -1,9 +1,9 @@
 //! One session: two connections, message numbers, RMT-delivered, and the transactions.
 
-use std::io::Write;
-use std::net::{TcpStream, ToSocketAddrs};
+use std::net::TcpStream;
 use std::time::Duration;
 
+use crate::channel::{connect, drop_until, receive, send, wait_at_most, Result};
 use crate::message::{bytes, LONGEST};
 use crate::names::*;
 use crate::{Message, Trouble};
@@ -19,8 +19,6 @@ const NO_NUMBER: u32 = 0xffff_ffff;
 const HELLO: u32 = 0x0100_5858;
 /// What a server must take before sizes are exchanged.
 const SMALLEST_SIZE: u64 = 256;
-
-type Result<T> = std::result::Result<T, Trouble>;
 
 pub struct Settings {
     pub to: String,
@@ -43,37 +41,6 @@ pub struct Client {
     rmt_delivered: bool,
     /// AsyncInterrupted came: answers are dropped until Interrupted comes.
     interrupted: bool,
-}
-
-fn connect(to: &str, patience: Duration) -> Result<TcpStream> {
-    let cannot = |why: String| Trouble::CannotConnect { to: to.into(), why };
-    let addresses = to.to_socket_addrs().map_err(|e| cannot(e.to_string()))?;
-    let mut last = cannot("the name has no address".into());
-    for address in addresses {
-        match TcpStream::connect_timeout(&address, patience) {
-            Ok(stream) => {
-                let ready = stream.set_nodelay(true);
-                ready.map_err(|e| cannot(e.to_string()))?;
-                return Ok(stream);
-            }
-            Err(error) => last = cannot(error.to_string()),
-        }
-    }
-    Err(last)
-}
-
-fn send(stream: &mut TcpStream, message: &[u8]) -> Result<()> {
-    let sent = stream.write_all(message);
-    sent.map_err(|error| Trouble::of(error, "room to send"))
-}
-
-/// The next message, which must be of type `kind`.
-fn receive(stream: &mut TcpStream, kind: u8, what: &'static str) -> Result<Message> {
-    let message = Message::read(stream).map_err(|error| Trouble::of(error, what))?;
-    match message.kind == kind {
-        true => Ok(message),
-        false => Err(Trouble::told(message, what)),
-    }
 }
 
 impl Client {
@@ -289,23 +256,5 @@ impl Client {
         (self.next, self.sent) = (FIRST, BEFORE_FIRST);
         (self.rmt_delivered, self.interrupted) = (false, false);
         Ok(())
-    }
-}
-
-fn wait_at_most(stream: &TcpStream, longest: Duration) -> Result<()> {
-    let longest = Some(longest.max(Duration::from_millis(1)));
-    let set = stream.set_read_timeout(longest);
-    set.and(stream.set_write_timeout(longest))
-        .map_err(Trouble::Connection)
-}
-
-fn drop_until(stream: &mut TcpStream, kind: u8, what: &'static str) -> Result<()> {
-    loop {
-        let message = Message::read(stream).map_err(|error| Trouble::of(error, what))?;
-        match message.kind {
-            FATAL_ERROR => return Err(Trouble::told(message, what)),
-            found if found == kind => return Ok(()),
-            _ => {}
-        }
     }
 }

@@ -1,6 +1,7 @@
 //! A HiSLIP client by IVI-6.1's client rules in synchronized mode, and the names of the protocol's
 //! numbers. It needs neither the server library nor anything else outside std.
 
+mod channel;
 mod client;
 pub mod message;
 pub mod names;

@@ -92,8 +92,8 @@ impl RawSocket {
         let is = |command: &[u8], pattern| {
             std::str::from_utf8(command).is_ok_and(|command| spells(command, pattern))
         };
-        let asks_for_errors = matches!(commands[..], [one] if is(one, "SYSTem:ERRor?") || is(one, "SYSTem:ERRor:NEXT?"));
-        if asks_for_errors && !self.errors.is_empty() {
+        let for_errors = |one| is(one, "SYSTem:ERRor?") || is(one, "SYSTem:ERRor:NEXT?");
+        if matches!(commands[..], [one] if for_errors(one)) && !self.errors.is_empty() {
             return Ok(Some(self.errors.next().into_bytes()));
         }
         if commands.iter().any(|command| is(command, "*CLS")) {
