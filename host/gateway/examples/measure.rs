@@ -36,8 +36,11 @@ fn measure(to: &str, pid: Option<&str>) -> Result<(), Trouble> {
     let (mut a, mut b) = (Client::open(&settings)?, Client::open(&settings)?);
     println!("closed loop: {:.0} queries a second", closed_loop(&mut a)?);
     a.lock(b"", 0)?;
-    let (typical, worst) = deadlines(&mut b)?;
-    println!("deadlines: {typical:.2} ms late, at most {worst:.2} ms ({LOCK_WAITS} waits)");
+    let late = deadlines(&mut b)?;
+    let [first, middle, last] = [0, late.len() / 2, late.len() - 1].map(|at| late[at]);
+    println!(
+        "deadlines: {first:.2} to {last:.2} ms late, half under {middle:.2} ({LOCK_WAITS} waits)"
+    );
     if let Some(before) = pid.and_then(processor_seconds) {
         std::thread::sleep(IDLE);
         let used = pid.and_then(processor_seconds).unwrap_or(before) - before;
@@ -56,8 +59,8 @@ fn closed_loop(client: &mut Client) -> Result<f64, Trouble> {
     Ok(f64::from(count) / start.elapsed().as_secs_f64())
 }
 
-/// Median and largest lateness, in milliseconds, as the program sees them.
-fn deadlines(client: &mut Client) -> Result<(f64, f64), Trouble> {
+/// How late each answer came, in milliseconds, as the program sees it; sorted.
+fn deadlines(client: &mut Client) -> Result<Vec<f64>, Trouble> {
     let mut late = Vec::new();
     for _ in 0..LOCK_WAITS {
         let start = Instant::now();
@@ -68,8 +71,7 @@ fn deadlines(client: &mut Client) -> Result<(f64, f64), Trouble> {
         late.push(start.elapsed().as_secs_f64() * 1000.0 - f64::from(LOCK_MS));
     }
     late.sort_by(f64::total_cmp);
-    let worst = late.last().copied().unwrap_or(0.0);
-    Ok((late[late.len() / 2], worst))
+    Ok(late)
 }
 
 fn processor_seconds(pid: &str) -> Option<f64> {

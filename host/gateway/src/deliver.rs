@@ -1,6 +1,7 @@
 //! Bytes that come: shown to the server until it takes them, and acted on as it says.
 
 use hislip::{Frames, Outcome};
+use query::message::HEADER;
 use query::names;
 
 use crate::connection::Lane;
@@ -22,7 +23,7 @@ struct Acted<'a> {
 
 impl<'a> Acted<'a> {
     fn of(message: &'a [u8]) -> Option<Acted<'a>> {
-        let (header, payload) = message.split_first_chunk::<16>()?;
+        let (header, payload) = message.split_first_chunk::<HEADER>()?;
         let [_, _, kind, code, p0, p1, p2, p3, ..] = *header;
         let parameter = u32::from_be_bytes([p0, p1, p2, p3]);
         Some(Acted {
@@ -90,43 +91,43 @@ impl Gateway {
         };
         let outcome = delivery.outcome;
         let output = kept(delivery.frames);
-        let kind = connection.unread.get(2).copied().unwrap_or(0);
+        let head: Vec<u8> = connection.unread.iter().take(HEADER).copied().collect();
         let message = connection.take(delivery.taken);
         let first_time = !std::mem::replace(&mut connection.held, outcome == Outcome::Held);
         match outcome {
             Outcome::MoreNeeded => return false,
             Outcome::Held => {
                 if first_time {
-                    self.say(who, || format!("{} held", names::of_type(kind)));
+                    self.say(who, || format!("{} held", describe::label(&head)));
                 }
                 return false;
             }
             Outcome::Skipped => {}
-            Outcome::Ignored => self.say(who, || format!("{} ignored", names::of_type(kind))),
+            Outcome::Ignored => self.say(who, || format!("{} ignored", describe::label(&head))),
             Outcome::ErrorSent => {
                 self.route(&output);
-                self.say_errors(who, kind, &output);
+                self.say_errors(who, &head, &output);
             }
-            Outcome::Closed { session } => self.closed(number, session, who, kind, &output),
+            Outcome::Closed { session } => self.closed(number, session, &head, &output),
             Outcome::ActedOn { session } => self.acted_on(number, session, &message, &output),
         }
         true
     }
 
     /// The Errors and FatalErrors of an output; the first one's name stands for all.
-    fn say_errors(&self, who: Who, kind: u8, output: &[u8]) {
-        let told = Frames::new(output).find_map(|frame| describe::told(&frame));
-        let name = names::of_type(kind);
+    fn say_errors(&self, who: Who, head: &[u8], output: &[u8]) {
         self.say(who, || {
+            let told = Frames::new(output).find_map(|frame| describe::told(&frame));
             let what = told.unwrap_or_else(|| "session closed by the program".into());
-            format!("{name}: {what}")
+            format!("{}: {what}", describe::label(head))
         });
     }
 
-    fn closed(&mut self, number: usize, session: Option<u16>, who: Who, kind: u8, output: &[u8]) {
+    fn closed(&mut self, number: usize, session: Option<u16>, head: &[u8], output: &[u8]) {
+        let who = self.who(number);
         self.route(output);
         self.close(number, session);
-        self.say_errors(who, kind, output);
+        self.say_errors(who, head, output);
         self.later_answers(Frames::new(output));
     }
 

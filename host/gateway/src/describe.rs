@@ -16,6 +16,20 @@ pub fn text(bytes: &[u8]) -> String {
     }
 }
 
+/// What the first bytes of a delivery are: the message's type, with its MessageID if it has one.
+pub fn label(head: &[u8]) -> String {
+    let [b'H', b'S', kind, _, number @ ..] = head else {
+        return "no HiSLIP header".into();
+    };
+    let name = names::of_type(*kind);
+    match (*kind, number.first_chunk()) {
+        (names::DATA | names::DATA_END | names::TRIGGER, Some(number)) => {
+            format!("{name} {:08x}", u32::from_be_bytes(*number))
+        }
+        _ => name,
+    }
+}
+
 /// A message that the server acted on, and its direct reply.
 pub fn acted_on(kind: u8, code: u8, parameter: u32, payload: &[u8], reply: Option<u8>) -> String {
     let name = names::of_type(kind);

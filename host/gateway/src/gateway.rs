@@ -3,7 +3,7 @@
 
 use std::collections::{BTreeMap, VecDeque};
 use std::net::{SocketAddr, TcpListener, ToSocketAddrs};
-use std::sync::mpsc::{channel, Receiver, RecvTimeoutError, Sender};
+use std::sync::mpsc::{channel, Receiver, Sender};
 use std::time::{Duration, Instant};
 
 use hislip::{Frames, Server};
@@ -159,10 +159,7 @@ impl Gateway {
             return self.queue.recv().ok();
         };
         let left = deadline.saturating_duration_since(Instant::now());
-        match self.queue.recv_timeout(left) {
-            Ok(event) => Some(event),
-            Err(RecvTimeoutError::Timeout | RecvTimeoutError::Disconnected) => None,
-        }
+        self.queue.recv_timeout(left).ok()
     }
 
     /// The first lock request to run out of time, connection to be cut, or newcomer to be seated.

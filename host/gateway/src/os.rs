@@ -14,7 +14,6 @@ const SO_KEEPALIVE: c_int = 9;
 const IPPROTO_TCP: c_int = 6;
 const TCP_KEEPIDLE: c_int = 4;
 const TCP_KEEPINTVL: c_int = 5;
-const TCP_KEEPCNT: c_int = 6;
 const TCP_USER_TIMEOUT: c_int = 18;
 const MSG_DONTWAIT: c_int = 0x40;
 const MSG_NOSIGNAL: c_int = 0x4000;
@@ -25,12 +24,12 @@ const SIG_BLOCK: c_int = 0;
 pub const SIGINT: c_int = 2;
 pub const SIGTERM: c_int = 15;
 
-/// A peer that is silent so long is asked whether it is there, so often, so many times; sent bytes
-/// that nobody acknowledges are given up after as long. A pulled cable is a cut after 25 seconds.
+/// A peer that is silent so long is asked whether it is there, and again so often.
 const KEEPALIVE_IDLE_SECONDS: c_int = 10;
 const KEEPALIVE_STEP_SECONDS: c_int = 5;
-const KEEPALIVE_TRIES: c_int = 3;
-const UNACKNOWLEDGED_MS: c_int = 25_000;
+/// A peer that does not answer that, that does not acknowledge what was sent, or that leaves a full
+/// socket unread so long is given up. IVI-6.1 finds 40 to 120 seconds reasonable.
+const GIVEN_UP_AFTER_MS: c_int = 60_000;
 
 #[repr(C)]
 struct PollFd {
@@ -73,8 +72,7 @@ pub fn keep_alive(stream: &TcpStream) -> Result<()> {
     set(stream, SOL_SOCKET, SO_KEEPALIVE, 1)?;
     set(stream, IPPROTO_TCP, TCP_KEEPIDLE, KEEPALIVE_IDLE_SECONDS)?;
     set(stream, IPPROTO_TCP, TCP_KEEPINTVL, KEEPALIVE_STEP_SECONDS)?;
-    set(stream, IPPROTO_TCP, TCP_KEEPCNT, KEEPALIVE_TRIES)?;
-    set(stream, IPPROTO_TCP, TCP_USER_TIMEOUT, UNACKNOWLEDGED_MS)
+    set(stream, IPPROTO_TCP, TCP_USER_TIMEOUT, GIVEN_UP_AFTER_MS)
 }
 
 /// Writes what the socket takes without waiting; how many bytes that was.

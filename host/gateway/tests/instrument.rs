@@ -56,6 +56,7 @@ fn a_device_clear_ends_a_measurement() {
     let (mut a, mut b) = (gateway.open(), gateway.open());
     let start = Instant::now();
     a.send(7, b"MEAS?");
+    assert!(gateway.logged("MEAS?"));
     b.send(7, b"*IDN?");
     assert!(silent(&mut b.sync), "the instrument is busy");
     a.device_clear();
@@ -70,6 +71,7 @@ fn anothers_device_clear_does_not() {
     let gateway = Running::measuring(Duration::from_millis(300));
     let (mut a, mut b) = (gateway.open(), gateway.open());
     a.send(7, b"MEAS?");
+    assert!(gateway.logged("MEAS?"));
     b.send(7, b"MEAS?");
     b.device_clear();
     assert_eq!(a.answer(), "+1.25000000E+00");

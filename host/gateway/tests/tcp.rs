@@ -82,7 +82,7 @@ fn two_programs_with_locks() {
     assert_eq!(b.lock(b"", 0), 0);
     assert_eq!(b.lock_info(), (1, 1));
     b.send(7, b"READ?");
-    assert!(gateway.logged(" session 2 DataEND held; locks: 1 exclusive"));
+    assert!(gateway.logged(" session 2 DataEND ffffff00 held; locks: 1 exclusive"));
     assert!(silent(&mut b.sync), "held");
     a.send(7, b"VOLT:RANG 100");
     assert_eq!(a.query("READ?"), "+1.25000000E+01");
@@ -124,7 +124,7 @@ fn device_clear() {
     // What was held is cleared too.
     assert_eq!(a.lock(b"", 0), 1);
     b.send(7, b"MEAS:VOLT:DC?");
-    assert!(gateway.logged(" session 2 DataEND held"));
+    assert!(gateway.logged(" session 2 DataEND ffffff00 held"));
     b.device_clear();
     assert_eq!(a.release(), 1);
     assert!(silent(&mut b.sync), "the held question is gone");
@@ -138,6 +138,7 @@ fn a_cable_pulled_in_the_middle_of_a_message() {
     assert_eq!(a.lock(b"cal", 0), 1);
     assert_eq!(a.lock(b"", 0), 1);
     b.request(b"", 60_000);
+    assert!(gateway.logged(" session 2 AsyncLock exclusive, 60000 ms, waits"));
     let command = bytes(7, 0, FIRST, b"VOLT:RANG 1000");
     let cut_after = command.len() - 1;
     a.sync.write_all(&command[..cut_after]).expect("sent");
@@ -182,6 +183,8 @@ fn bytes_that_are_no_message() {
         assert_eq!((fatal.kind, fatal.code), (2, 1));
         assert!(closed(stream));
     }
+    let line = " session 1 no HiSLIP header: FatalError 1 sent: poorly formed message header";
+    assert!(gateway.logged(line));
     assert!(
         b.query("*IDN?").contains("METER"),
         "the other program goes on"

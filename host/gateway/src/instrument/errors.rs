@@ -81,7 +81,7 @@ impl ErrorQueue {
     }
 
     /// The oldest error, taken out, or no error.
-    pub fn next(&mut self) -> String {
+    pub fn take_oldest(&mut self) -> String {
         match self.0.pop_front() {
             Some(fault) => fault.to_string(),
             None => "+0,\"No error\"".into(),

@@ -94,7 +94,7 @@ impl RawSocket {
         };
         let for_errors = |one| is(one, "SYSTem:ERRor?") || is(one, "SYSTem:ERRor:NEXT?");
         if matches!(commands[..], [one] if for_errors(one)) && !self.errors.is_empty() {
-            return Ok(Some(self.errors.next().into_bytes()));
+            return Ok(Some(self.errors.take_oldest().into_bytes()));
         }
         if commands.iter().any(|command| is(command, "*CLS")) {
             self.errors.clear();

@@ -94,7 +94,7 @@ impl Simulated {
         if name.starts_with('*') {
             self.common(&name.to_ascii_uppercase(), patience)
         } else if is(&["SYSTem:ERRor?", "SYSTem:ERRor:NEXT?"]) {
-            text(self.errors.next())
+            text(self.errors.take_oldest())
         } else if is(&["MEASure?", "MEASure:VOLTage?", "MEASure:VOLTage:DC?"]) {
             (self.range, self.samples) = (range(argument)?.unwrap_or(RANGE), 1);
             self.measure(patience)?;
