@@ -117,9 +117,10 @@ fn an_instrument_on_a_raw_socket() {
     a.send(7, b"BLOCK?");
     assert_eq!(
         a.pieces().0,
-        b"#18\n\r\n;\"#\n\n",
-        "a block may hold line feeds"
+        b"#18\n\r\n;\"#\n\r",
+        "a block may hold line ends"
     );
+    assert_eq!(a.query("WINDOWS?"), "1");
     a.send(7, b"LONG?");
     assert_eq!(a.pieces().1, [1024, 1024, 1024, 1024, 904]);
     a.send(12, b"");
@@ -133,6 +134,7 @@ fn an_instrument_on_a_raw_socket() {
         "VOLT 1;DISP \"?\"",
         "ECHO? 7",
         "BLOCK?",
+        "WINDOWS?",
         "LONG?",
         "*TRG",
     ];

@@ -242,6 +242,14 @@ impl Client {
         Ok(())
     }
 
+    /// Tells the server on both channels why this client leaves (6.2).
+    pub fn leave(&mut self, fatal_error: u8) {
+        let message = bytes(FATAL_ERROR, fatal_error, 0, b"");
+        // The connection ends with or without it.
+        let _ = send(&mut self.sync, &message);
+        let _ = send(&mut self.asynchronous, &message);
+    }
+
     /// Device clear, steps 2 to 8: everything but the two acknowledgements is dropped meanwhile.
     pub fn clear(&mut self) -> Result<()> {
         send(

@@ -7,6 +7,8 @@ use query::steps::{parse, Command, HELP};
 use query::{Client, Trouble};
 
 const WRONG_COMMAND_LINE: u8 = 2;
+/// FatalError: poorly formed message header.
+const POORLY_FORMED: u8 = 1;
 
 fn main() -> ExitCode {
     match parse(std::env::args().skip(1)) {
@@ -33,7 +35,11 @@ fn run(command: &Command) -> Result<(), Trouble> {
     let mut client = Client::open(&command.settings)?;
     let mut out = std::io::stdout();
     for step in &command.steps {
-        step.run(&mut client, &mut out)?;
+        let done = step.run(&mut client, &mut out);
+        if let Err(Trouble::Malformed(_)) = done {
+            client.leave(POORLY_FORMED);
+        }
+        done?;
     }
     Ok(())
 }

@@ -8,11 +8,24 @@ use crate::Message;
 
 #[derive(Debug)]
 pub enum Trouble {
-    CannotConnect { to: String, why: String },
-    TimedOut { waiting_for: &'static str },
-    Error { code: u8, text: String },
-    FatalError { code: u8, text: String },
+    CannotConnect {
+        to: String,
+        why: String,
+    },
+    TimedOut {
+        waiting_for: &'static str,
+    },
+    Error {
+        code: u8,
+        text: String,
+    },
+    FatalError {
+        code: u8,
+        text: String,
+    },
     Closed,
+    /// Bytes that are no message.
+    Malformed(String),
     NotGranted(String),
     NotExpected(String),
     Connection(Error),
@@ -26,6 +39,7 @@ impl Trouble {
             ErrorKind::UnexpectedEof | ErrorKind::ConnectionReset | ErrorKind::BrokenPipe => {
                 Trouble::Closed
             }
+            ErrorKind::InvalidData => Trouble::Malformed(error.to_string()),
             _ => Trouble::Connection(error),
         }
     }
@@ -52,7 +66,7 @@ impl Trouble {
             Trouble::TimedOut { .. } => 4,
             Trouble::Error { .. } => 5,
             Trouble::FatalError { .. } => 6,
-            Trouble::Closed | Trouble::Connection(_) => 7,
+            Trouble::Closed | Trouble::Malformed(_) | Trouble::Connection(_) => 7,
         }
     }
 }
@@ -75,6 +89,7 @@ impl fmt::Display for Trouble {
                 write!(f, "FatalError {code}: {name}{}", said(text))
             }
             Trouble::Closed => write!(f, "the server closed the connection"),
+            Trouble::Malformed(what) => write!(f, "the server does not speak HiSLIP: {what}"),
             Trouble::NotGranted(why) => write!(f, "{why}"),
             Trouble::NotExpected(what) => write!(f, "not expected: {what}"),
             Trouble::Connection(error) => write!(f, "connection lost: {error}"),

@@ -177,7 +177,20 @@ fn a_server_that_hangs_up_or_is_none() {
     let (status, _, err) = query(to, &["A?"]);
     assert_eq!(
         (status, &err[..]),
-        (7, "query: connection lost: no HiSLIP header\n")
+        (
+            7,
+            "query: the server does not speak HiSLIP: no HiSLIP header\n"
+        )
     );
     serving.join().expect("no panic");
+}
+
+#[test]
+fn a_server_that_loses_its_way_is_told_so() {
+    let (to, serving) = scripted(vec![b"HT and more, but no header".to_vec()], vec![]);
+    let (status, _, err) = query(to, &["A?"]);
+    assert_eq!(status, 7, "{err}");
+    let heard = serving.join().expect("no panic");
+    let expected = [(7, 0, 0xffff_ff00), (2, 1, 0), (2, 1, 0)];
+    assert_eq!(numbers(&heard), expected, "FatalError 1 on both channels");
 }

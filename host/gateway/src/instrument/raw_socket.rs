@@ -4,7 +4,7 @@
 use std::io::{ErrorKind, Read, Write};
 use std::net::{Shutdown, TcpStream, ToSocketAddrs};
 
-use super::scpi::{asks, commands, spells, Scan};
+use super::scpi::{asks, commands, line, spells, LineEnd};
 use super::{ErrorQueue, Fault, Instrument, Patience, Request, ERROR_AVAILABLE};
 use crate::os;
 
@@ -59,8 +59,7 @@ impl RawSocket {
         stream
             .set_write_timeout(Some(patience.left()?))
             .map_err(wrong)?;
-        let line = [text.trim_ascii_end(), b"\n"].concat();
-        stream.write_all(&line).map_err(wrong)?;
+        stream.write_all(&line(text)).map_err(wrong)?;
         match asks(text) {
             true => read_answer(stream, patience).map(Some),
             false => Ok(None),
@@ -68,7 +67,7 @@ impl RawSocket {
     }
 
     /// The connection is kept only if all went well.
-    fn line(&mut self, text: &[u8], patience: &Patience) -> Answer {
+    fn send(&mut self, text: &[u8], patience: &Patience) -> Answer {
         let kept = self.stream.take().filter(os::is_quiet);
         let done = match kept {
             Some(stream) => Ok(stream),
@@ -99,13 +98,13 @@ impl RawSocket {
         if commands.iter().any(|command| is(command, "*CLS")) {
             self.errors.clear();
         }
-        self.line(text, patience)
+        self.send(text, patience)
     }
 }
 
 /// Bytes up to the line feed that ends the answer, without it.
 fn read_answer(stream: &mut TcpStream, patience: &Patience) -> Result<Vec<u8>, Fault> {
-    let (mut answer, mut scan) = (Vec::new(), Scan::default());
+    let (mut answer, mut line_end) = (Vec::new(), LineEnd::default());
     let mut bytes = vec![0; AT_ONCE];
     loop {
         let left = Some(patience.left()?);
@@ -117,15 +116,15 @@ fn read_answer(stream: &mut TcpStream, patience: &Patience) -> Result<Vec<u8>, F
             Err(error) if error.kind() == ErrorKind::Interrupted => 0,
             Err(error) => return Err(wrong(error)),
         };
-        let ends = |byte: &u8| scan.outside(*byte) && *byte == b'\n';
-        let end = bytes[..count].iter().position(ends);
+        let end = line_end.find(&bytes[..count]);
         answer.extend_from_slice(&bytes[..end.unwrap_or(count)]);
         if let Some(end) = end {
             if end + 1 != count {
                 // More than one answer: the next question gets a new connection.
                 let _ = stream.shutdown(Shutdown::Both);
             }
-            answer.truncate(answer.strip_suffix(b"\r").unwrap_or(&answer).len());
+            let length = answer.len() - usize::from(line_end.after_return);
+            answer.truncate(length);
             return Ok(answer);
         }
         if answer.len() > LONGEST_ANSWER {
@@ -146,7 +145,7 @@ impl Instrument for RawSocket {
     fn perform(&mut self, request: &Request, patience: &Patience) -> Answer {
         match request {
             Request::Message(text) => self.message(text, patience),
-            Request::Trigger => self.line(b"*TRG", patience),
+            Request::Trigger => self.send(b"*TRG", patience),
             Request::Dropped(fault) => {
                 self.errors.push(*fault);
                 Ok(None)

@@ -83,9 +83,39 @@ impl Scan {
     }
 }
 
+/// A message as a line: with a line feed at its end, if there is none yet outside quotes and blocks.
+pub fn line(message: &[u8]) -> Vec<u8> {
+    let mut scan = Scan::default();
+    let outside = message.iter().map(|byte| scan.outside(*byte)).last();
+    let mut line = message.to_vec();
+    if outside != Some(true) || !line.ends_with(b"\n") {
+        line.push(b'\n');
+    }
+    line
+}
+
+/// Finds the line feed that ends an answer, in as many pieces as it comes.
+#[derive(Default)]
+pub struct LineEnd {
+    scan: Scan,
+    /// The last byte was a carriage return outside quotes and blocks: it belongs to the line's end.
+    pub after_return: bool,
+}
+
+impl LineEnd {
+    pub fn find(&mut self, bytes: &[u8]) -> Option<usize> {
+        bytes.iter().position(|byte| {
+            let outside = self.scan.outside(*byte);
+            let ends = outside && *byte == b'\n';
+            self.after_return = outside && (*byte == b'\r' || (ends && self.after_return));
+            ends
+        })
+    }
+}
+
 #[cfg(test)]
 mod tests {
-    use super::{asks, commands, spells, Scan};
+    use super::{asks, commands, line, spells, LineEnd};
 
     #[test]
     fn long_and_short_in_any_case() {
@@ -130,10 +160,26 @@ mod tests {
             b"#2\n",
             b"a#12\n",
         ] {
-            let mut scan = Scan::default();
-            let ends = |byte: &u8| scan.outside(*byte) && *byte == b'\n';
-            let at = answer.iter().position(ends);
+            let at = LineEnd::default().find(answer);
             assert_eq!(at, Some(answer.len() - 1), "{}", answer.escape_ascii());
+        }
+        for (answer, after_return) in [(&b"1\r\n"[..], true), (b"#11\r\n", false), (b"1\n", false)]
+        {
+            let mut end = LineEnd::default();
+            assert!(end.find(answer).is_some() && end.after_return == after_return);
+        }
+    }
+
+    #[test]
+    fn messages_as_lines() {
+        for (message, sent) in [
+            (&b"*IDN?"[..], &b"*IDN?\n"[..]),
+            (b"*IDN?\n", b"*IDN?\n"),
+            (b"W #11\n", b"W #11\n\n"),
+            (b"W #11 ", b"W #11 \n"),
+            (b"", b"\n"),
+        ] {
+            assert_eq!(line(message), sent);
         }
     }
 }

@@ -1,5 +1,6 @@
 //! A small instrument on a raw SCPI socket. It answers `*IDN?`, `ECHO? n` with n, `SLOW? n` with n after
-//! a pause, `BLOCK?` with a block that holds line feeds, `NEVER?` not at all and `BYE?` by hanging up.
+//! a pause, `BLOCK?` with a block that holds line ends, `WINDOWS?` with a
+//! carriage return before the line feed, `NEVER?` not at all and `BYE?` by hanging up.
 //! Every line is kept.
 
 use std::io::{BufRead, BufReader, Write};
@@ -77,7 +78,8 @@ fn serve(mut stream: TcpStream, shared: &Shared) {
                 std::thread::sleep(SLOW);
                 argument.as_bytes().to_vec()
             }
-            "BLOCK?" => b"#18\n\r\n;\"#\n\n".to_vec(),
+            "BLOCK?" => b"#18\n\r\n;\"#\n\r".to_vec(),
+            "WINDOWS?" => b"1\r".to_vec(),
             "LONG?" => vec![b'x'; 5000],
             "BYE?" => {
                 let _ = stream.shutdown(Shutdown::Both);
