@@ -6,7 +6,7 @@ use std::io::Write;
 use std::net::TcpStream;
 use std::time::{Duration, Instant};
 
-use common::client::{bytes, closed, connect, receive, silent, Client};
+use common::client::{bytes, closed, closed_in_order, connect, receive, silent, Client};
 use common::{eventually, settings, Running};
 use gateway::instrument::simulated::Simulated;
 use gateway::Settings;
@@ -23,7 +23,7 @@ fn initialize(gateway: &Running) -> TcpStream {
 fn refused(stream: &mut TcpStream) {
     let told = receive(stream);
     assert_eq!((told.kind, told.code, told.parameter), (2, 4, 0));
-    assert!(closed(stream), "in order, after the FatalError");
+    assert!(closed_in_order(stream));
 }
 
 #[test]

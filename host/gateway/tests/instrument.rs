@@ -159,15 +159,16 @@ fn a_cleared_question_to_a_raw_socket_leaves_no_answer_behind() {
 #[test]
 fn a_question_to_a_raw_socket_that_is_not_answered() {
     let instrument = ScpiServer::start();
-    let gateway = Running::before(instrument.address, Duration::from_millis(150));
+    let gateway = Running::before(instrument.address, SLOW * 3 / 4);
     let mut a = gateway.open();
     a.send(7, b"NEVER?");
     assert!(gateway.logged("instrument: -365,\"Time out error\""));
     assert_eq!(a.status(), 4);
     a.send(7, b"SLOW? 1");
     assert!(eventually(|| gateway.count("-365") >= 2));
-    std::thread::sleep(SLOW);
     assert_eq!(a.query("ECHO? 2"), "2", "not the late 1");
+    std::thread::sleep(SLOW);
+    assert_eq!(a.query("ECHO? 3"), "3", "nor after it has come");
     assert_eq!(a.query("SYST:ERR?"), "-365,\"Time out error\"");
     a.send(7, b"*CLS");
     assert!(gateway.logged("status byte is 00"));

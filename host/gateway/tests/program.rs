@@ -7,7 +7,7 @@ use std::net::{SocketAddr, TcpStream};
 use std::process::Stdio;
 use std::time::Duration;
 
-use common::client::{closed, receive, Client};
+use common::client::{closed_in_order, receive, Client};
 use common::eventually;
 use common::program::{gateway, run, Program};
 
@@ -75,7 +75,9 @@ fn ends_in_order(signal: &str, name: &str) {
     let mut a = client(&program);
     assert_eq!(a.lock(b"", 0), 1);
     program.signal(signal);
-    assert!(closed(&mut a.sync) && closed(&mut a.asynchronous));
+    for stream in [&mut a.sync, &mut a.asynchronous] {
+        assert!(closed_in_order(stream));
+    }
     drop(a);
     assert_eq!(program.ended().and_then(|status| status.code()), Some(0));
     let printed = program.printed();

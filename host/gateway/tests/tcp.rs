@@ -6,7 +6,7 @@ use std::io::Write;
 use std::thread::spawn;
 use std::time::{Duration, Instant};
 
-use common::client::{bytes, closed, receive, silent, Client, FIRST};
+use common::client::{bytes, closed, closed_in_order, receive, silent, Client, FIRST};
 use common::Running;
 
 const RANGE: &str = "+1.00000000E+01";
@@ -178,10 +178,16 @@ fn bytes_that_are_no_message() {
     let gateway = Running::start();
     let (mut a, mut b) = (gateway.open(), gateway.open());
     a.sync.write_all(b"GET / HTTP/1.1\r\n").expect("sent");
+    // It goes on sending after the FatalError was sent: nothing of that is lost by it.
+    a.sync.peek(&mut [0]).expect("the FatalError");
+    for _ in 0..10 {
+        a.sync.write_all(&[0; 5000]).expect("sent");
+        std::thread::sleep(Duration::from_millis(5));
+    }
     for stream in [&mut a.sync, &mut a.asynchronous] {
         let fatal = receive(stream);
         assert_eq!((fatal.kind, fatal.code), (2, 1));
-        assert!(closed(stream));
+        assert!(closed_in_order(stream));
     }
     let line = " session 1 no HiSLIP header: FatalError 1 sent: poorly formed message header";
     assert!(gateway.logged(line));

@@ -79,6 +79,11 @@ pub fn closed(stream: &mut TcpStream) -> bool {
     }
 }
 
+/// The other side has closed in order: the stream ends and is not reset.
+pub fn closed_in_order(stream: &mut TcpStream) -> bool {
+    matches!(stream.read(&mut [0]), Ok(0))
+}
+
 impl Client {
     pub fn open(to: SocketAddr) -> Client {
         Client::of_vendor(to, *b"EX")
