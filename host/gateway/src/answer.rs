@@ -38,14 +38,15 @@ impl Gateway {
             }
             return;
         };
+        let fault = done.answer.as_ref().err().copied();
         if session.question == Some(done.ticket) {
             session.question = None;
-            let answer = done.answer.clone().ok().flatten();
+            let answer = done.answer.ok().flatten();
             session.answer = answer.map(|bytes| Answer { bytes, sent: 0 });
         } else {
             session.backlog = session.backlog.saturating_sub(done.cost);
         }
-        if let Err(fault) = done.answer {
+        if let Some(fault) = fault {
             let who = self.who_of(done.session);
             self.say(who, || format!("instrument: {fault}"));
         }

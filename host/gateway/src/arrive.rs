@@ -67,11 +67,14 @@ impl Gateway {
     }
 
     fn refuse(&mut self, stream: TcpStream, peer: SocketAddr) {
-        self.refusals.tell(stream);
+        let told = self.refusals.tell(stream);
         let (peer, session) = (Some(peer), None);
-        let meaning = names::of_fatal_error(TOO_MANY);
-        self.say(Who { peer, session }, || {
-            format!("FatalError {TOO_MANY} sent: {meaning}")
+        self.say(Who { peer, session }, || match told {
+            true => {
+                let meaning = names::of_fatal_error(TOO_MANY);
+                format!("FatalError {TOO_MANY} sent: {meaning}")
+            }
+            false => "closed: too many programs are being refused".into(),
         });
     }
 

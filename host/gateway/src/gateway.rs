@@ -207,6 +207,7 @@ impl Gateway {
                 self.clock = now;
                 self.route(&output);
                 self.later_answers(Frames::new(&output));
+                self.holders.time_is(now);
             }
             Err(refusal) => self.say(Who::default(), || format!("clock {now}: {refusal}")),
         }

@@ -51,6 +51,13 @@ impl Holders {
         }
     }
 
+    /// The clock reads so much: by now the server has answered every request of that time.
+    pub fn time_is(&mut self, now: u64) {
+        for locks in self.0.values_mut() {
+            locks.waits.take_if(|waits| waits.until <= now);
+        }
+    }
+
     pub fn gone(&mut self, session: u16) {
         self.0.remove(&session);
     }

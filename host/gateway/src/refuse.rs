@@ -19,12 +19,13 @@ const MOST_TOLD: usize = 64;
 pub struct Refusals(Arc<AtomicUsize>);
 
 impl Refusals {
-    /// Tells the program on a thread of its own, so that nobody waits for it.
-    pub fn tell(&self, stream: TcpStream) {
+    /// Tells the program on a thread of its own, so that nobody waits for it; false if it was just
+    /// closed.
+    pub fn tell(&self, stream: TcpStream) -> bool {
         let told = Arc::clone(&self.0);
         if told.fetch_add(1, Ordering::Relaxed) >= MOST_TOLD {
             told.fetch_sub(1, Ordering::Relaxed);
-            return;
+            return false;
         }
         let count = Arc::clone(&told);
         let thread = std::thread::Builder::new().name("refuse".into());
@@ -35,6 +36,7 @@ impl Refusals {
         if started.is_err() {
             told.fetch_sub(1, Ordering::Relaxed);
         }
+        started.is_ok()
     }
 }
 

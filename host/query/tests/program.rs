@@ -22,8 +22,8 @@ impl Running {
             listen: "127.0.0.1:0".into(),
             ..Settings::default()
         };
-        let meter = Box::new(Simulated::new(Duration::ZERO));
-        let gateway = Gateway::new(&settings, meter, Log::default()).expect("a free port");
+        let simulated = Box::new(Simulated::new(Duration::ZERO));
+        let gateway = Gateway::new(&settings, simulated, Log::default()).expect("a free port");
         Running {
             address: gateway.address(),
             stopper: gateway.stopper(),

@@ -242,10 +242,10 @@ impl Instrument for Simulated {
 mod tests {
     use super::*;
 
-    fn ask(meter: &mut Simulated, text: &str) -> String {
+    fn ask(simulated: &mut Simulated, text: &str) -> String {
         let patience = Patience::new(Duration::from_secs(1));
         let request = Request::Message(text.as_bytes().to_vec());
-        match meter.perform(&request, &patience) {
+        match simulated.perform(&request, &patience) {
             Ok(Some(answer)) => String::from_utf8_lossy(&answer).into_owned(),
             Ok(None) => "-".into(),
             Err(fault) => fault.to_string(),
@@ -267,18 +267,21 @@ mod tests {
 
     #[test]
     fn readings_follow_the_range() {
-        let mut meter = Simulated::new(Duration::ZERO);
-        assert_eq!(ask(&mut meter, "MEAS:VOLT:DC?"), "+1.25000000E+00");
-        assert_eq!(ask(&mut meter, "fetc?"), "+1.25000000E+00");
-        assert_eq!(ask(&mut meter, "READ?"), "+1.25000001E+00");
-        assert_eq!(ask(&mut meter, "VOLT:RANG 100;:READ?"), "+1.25000002E+01");
-        assert_eq!(ask(&mut meter, "volt:rang?"), "+1.00000000E+02");
-        assert_eq!(ask(&mut meter, "*RST;FETC?"), Fault::Stale.to_string());
+        let mut simulated = Simulated::new(Duration::ZERO);
+        assert_eq!(ask(&mut simulated, "MEAS:VOLT:DC?"), "+1.25000000E+00");
+        assert_eq!(ask(&mut simulated, "fetc?"), "+1.25000000E+00");
+        assert_eq!(ask(&mut simulated, "READ?"), "+1.25000001E+00");
+        assert_eq!(
+            ask(&mut simulated, "VOLT:RANG 100;:READ?"),
+            "+1.25000002E+01"
+        );
+        assert_eq!(ask(&mut simulated, "volt:rang?"), "+1.00000000E+02");
+        assert_eq!(ask(&mut simulated, "*RST;FETC?"), Fault::Stale.to_string());
     }
 
     #[test]
     fn faults_wait_in_the_queue() {
-        let mut meter = Simulated::new(Duration::ZERO);
+        let mut simulated = Simulated::new(Duration::ZERO);
         for (wrong, number) in [
             ("NONSENSE", "-113"),
             ("VOLT:RANG -1", "-222"),
@@ -290,23 +293,26 @@ mod tests {
             ("SAMP:COUN", "-104"),
             ("FORM REAL,64", "-222"),
         ] {
-            assert!(ask(&mut meter, wrong).starts_with(number), "{wrong}");
-            assert_eq!(ask(&mut meter, "*STB?"), "4");
-            let error = ask(&mut meter, "SYST:ERR?");
+            assert!(ask(&mut simulated, wrong).starts_with(number), "{wrong}");
+            assert_eq!(ask(&mut simulated, "*STB?"), "4");
+            let error = ask(&mut simulated, "SYST:ERR?");
             assert!(error.starts_with(number), "{wrong}: {error}");
-            assert_eq!(ask(&mut meter, "SYSTem:ERRor:NEXT?"), "+0,\"No error\"");
-            assert_eq!(ask(&mut meter, "*STB?"), "0");
+            assert_eq!(ask(&mut simulated, "SYSTem:ERRor:NEXT?"), "+0,\"No error\"");
+            assert_eq!(ask(&mut simulated, "*STB?"), "0");
         }
-        assert_eq!(ask(&mut meter, "VOLT:RANG?"), "+1.00000000E+01");
+        assert_eq!(ask(&mut simulated, "VOLT:RANG?"), "+1.00000000E+01");
     }
 
     #[test]
     fn a_block_of_floats() {
-        let mut meter = Simulated::new(Duration::ZERO);
-        assert_eq!(ask(&mut meter, "FORM REAL;:SAMP:COUN 2;:VOLT:RANG 8"), "-");
+        let mut simulated = Simulated::new(Duration::ZERO);
+        assert_eq!(
+            ask(&mut simulated, "FORM REAL;:SAMP:COUN 2;:VOLT:RANG 8"),
+            "-"
+        );
         let patience = Patience::new(Duration::from_secs(1));
         let request = Request::Message(b"READ?".to_vec());
-        let block = meter.perform(&request, &patience);
+        let block = simulated.perform(&request, &patience);
         let one = 1.0f32.to_be_bytes();
         assert_eq!(block, Ok(Some([&b"#18"[..], &one, &one].concat())));
     }
