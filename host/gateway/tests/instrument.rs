@@ -4,8 +4,8 @@ mod common;
 
 use std::time::{Duration, Instant};
 
-use common::client::silent;
-use common::scpi_server::{ScpiServer, SLOW};
+use common::client::{receive, silent, Client};
+use common::scpi_server::{ScpiServer, FLAKY, SLOW};
 use common::{eventually, settings, Running};
 use gateway::instrument::simulated::Simulated;
 use gateway::Settings;
@@ -35,10 +35,7 @@ fn answers_keep_their_questions_numbers() {
     a.send(7, b"MEAS?");
     let first = a.sent;
     a.send(7, b"*IDN?");
-    let (one, two) = (
-        common::client::receive(&mut a.sync),
-        common::client::receive(&mut a.sync),
-    );
+    let (one, two) = (receive(&mut a.sync), receive(&mut a.sync));
     assert_eq!((one.parameter, &one.payload[..5]), (first, &b"+1.25"[..]));
     assert_eq!(
         (two.parameter, &two.payload[..7]),
@@ -204,4 +201,44 @@ fn an_instrument_that_is_not_there() {
     a.send(7, b"*IDN?");
     assert!(gateway.logged("instrument: -241,\"Hardware missing\""));
     assert_eq!(a.query("SYST:ERR?"), "-241,\"Hardware missing\"");
+}
+
+/// Asks two questions at once, the second of which is surely answered. Each answer that comes must be
+/// that of its MessageID's question. How many came.
+fn ask_twice(client: &mut Client, number: u32) -> usize {
+    client.send(7, format!("FLAKY? {number}").as_bytes());
+    let first = client.sent;
+    client.send(7, format!("ECHO? {number}+").as_bytes());
+    let mut count = 0;
+    loop {
+        let answer = receive(&mut client.sync);
+        let text = String::from_utf8_lossy(&answer.payload).into_owned();
+        count += 1;
+        if answer.parameter == client.sent {
+            assert_eq!(text, format!("{number}+"));
+            return count;
+        }
+        assert_eq!((answer.parameter, text), (first, number.to_string()));
+    }
+}
+
+#[test]
+fn no_answer_is_ever_anothers() {
+    let instrument = ScpiServer::start();
+    let gateway = Running::before(instrument.address, FLAKY * 2 / 3);
+    let clients = [0, 1000, 2000, 3000].map(|from| (from, gateway.open()));
+    let asking = clients.map(|(from, mut client)| {
+        std::thread::spawn(move || {
+            (from..from + 60)
+                .map(|n| ask_twice(&mut client, n))
+                .sum::<usize>()
+        })
+    });
+    let counts = asking.map(|thread| thread.join().expect("every answer is its question's"));
+    // Four in thirty of the first questions are not answered, or more if the machine is slow.
+    let (least, most) = (60 + 40, 60 + 52);
+    assert!(
+        counts.iter().all(|count| (least..=most).contains(count)),
+        "{counts:?}"
+    );
 }

@@ -89,7 +89,7 @@ impl Simulated {
     fn command(&mut self, command: &str, patience: &Patience) -> Answer {
         let end = command.find(|c: char| c.is_ascii_whitespace());
         let (name, argument) = command.split_at(end.unwrap_or(command.len()));
-        let (name, argument) = (name, argument.trim());
+        let argument = argument.trim();
         let is = |patterns: &[&str]| patterns.iter().any(|pattern| spells(name, pattern));
         if name.starts_with('*') {
             self.common(&name.to_ascii_uppercase(), patience)
@@ -168,25 +168,24 @@ impl Simulated {
         Ok(None)
     }
 
-    /// Every command of a message; one that fails does not keep the next from being done.
+    /// The commands of a message up to the first that fails: answers stand in the order of their
+    /// queries, with none left out between them.
     fn message(&mut self, message: &[u8], patience: &Patience) -> Answer {
         let mut answers = Vec::new();
-        let mut first_fault = None;
         for command in commands(message) {
             match self.command(&String::from_utf8_lossy(command), patience) {
                 Ok(answer) => answers.extend(answer),
                 Err(Fault::Cleared) => return Err(Fault::Cleared),
                 Err(fault) => {
                     self.errors.push(fault);
-                    first_fault.get_or_insert(fault);
+                    if answers.is_empty() {
+                        return Err(fault);
+                    }
+                    break;
                 }
             }
         }
-        match (answers.is_empty(), first_fault) {
-            (true, Some(fault)) => Err(fault),
-            (true, None) => Ok(None),
-            _ => Ok(Some(answers.join(&b';'))),
-        }
+        Ok((!answers.is_empty()).then(|| answers.join(&b';')))
     }
 }
 
@@ -277,6 +276,14 @@ mod tests {
         );
         assert_eq!(ask(&mut simulated, "volt:rang?"), "+1.00000000E+02");
         assert_eq!(ask(&mut simulated, "*RST;FETC?"), Fault::Stale.to_string());
+    }
+
+    #[test]
+    fn a_message_ends_at_its_first_fault() {
+        let mut simulated = Simulated::new(Duration::ZERO);
+        assert_eq!(ask(&mut simulated, "*OPC?;BAD?;*TST?"), "1");
+        assert!(ask(&mut simulated, "BAD?;*TST?").starts_with("-113"));
+        assert_eq!(ask(&mut simulated, "*STB?"), "4");
     }
 
     #[test]

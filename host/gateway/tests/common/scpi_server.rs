@@ -1,6 +1,7 @@
 //! A small instrument on a raw SCPI socket. It answers `*IDN?`, `ECHO? n` with n, `SLOW? n` with n after
 //! a pause, `BLOCK?` with a block that holds line ends, `WINDOWS?` with a
-//! carriage return before the line feed, `NEVER?` not at all and `BYE?` by hanging up.
+//! carriage return before the line feed, `FLAKY? n` with n, or late, or by hanging up, `NEVER?` not
+//! at all and `BYE?` by hanging up.
 //! Every line is kept.
 
 use std::io::{BufRead, BufReader, Write};
@@ -11,6 +12,7 @@ use std::thread::spawn;
 use std::time::Duration;
 
 pub const SLOW: Duration = Duration::from_millis(400);
+pub const FLAKY: Duration = Duration::from_millis(300);
 
 #[derive(Default)]
 struct Shared {
@@ -81,6 +83,17 @@ fn serve(mut stream: TcpStream, shared: &Shared) {
             "BLOCK?" => b"#18\n\r\n;\"#\n\r".to_vec(),
             "WINDOWS?" => b"1\r".to_vec(),
             "LONG?" => vec![b'x'; 5000],
+            "FLAKY?" => match argument.parse::<u32>().unwrap_or(0) % 30 {
+                3 | 13 | 23 => {
+                    let _ = stream.shutdown(Shutdown::Both);
+                    return;
+                }
+                7 => {
+                    std::thread::sleep(FLAKY);
+                    argument.as_bytes().to_vec()
+                }
+                _ => argument.as_bytes().to_vec(),
+            },
             "BYE?" => {
                 let _ = stream.shutdown(Shutdown::Both);
                 return;
