@@ -1,10 +1,26 @@
-//! An example host, to read and to try things with; a real gateway brings its own sockets,
-//! instrument and logging. It shows what a host owes the library: unread bytes are kept until they
-//! are taken, outputs go where the frame's connection byte says, closed means close the sockets.
+//! A HiSLIP gateway on the proved server library: sockets, clock and instrument are here, the protocol
+//! is there. One thread reads each socket, one writes each, one works the instrument, and one owns the
+//! server and waits for what the others tell it.
 
-mod holders;
-mod host;
-mod meter;
+mod answer;
+mod arrive;
+mod connection;
+mod deliver;
+mod describe;
+mod event;
+mod gateway;
+pub mod instrument;
+mod listen;
+mod locks;
+mod log;
+pub mod options;
+mod os;
+mod reader;
+mod refuse;
+mod session;
+pub mod signals;
+mod utc;
+mod writer;
 
-pub use host::Host;
-pub use meter::Meter;
+pub use gateway::{Gateway, Settings, Stopper};
+pub use log::Log;

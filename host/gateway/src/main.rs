@@ -1,35 +1,66 @@
-//! `gateway [port]`: serves the simulated meter on 127.0.0.1.
+//! `gateway --help` says how it is used.
 
+use std::fs::OpenOptions;
+use std::io::Write;
 use std::process::ExitCode;
-use std::sync::atomic::AtomicBool;
 
-use gateway::Host;
+use gateway::instrument::raw_socket::RawSocket;
+use gateway::instrument::simulated::Simulated;
+use gateway::instrument::Instrument;
+use gateway::options::{parse, Options, HELP};
+use gateway::signals::Signals;
+use gateway::{Gateway, Log};
 
-/// HiSLIP's own port.
-const PORT: u16 = 4880;
+const WRONG_COMMAND_LINE: u8 = 2;
 
 fn main() -> ExitCode {
-    let arguments: Vec<String> = std::env::args().skip(1).collect();
-    let port = match &arguments[..] {
-        [] => Some(PORT),
-        [port] => port.parse().ok(),
-        _ => None,
-    };
-    let Some(port) = port else {
-        eprintln!("usage: gateway [port]");
-        eprintln!("A port is a number up to 65535, 0 for any free one; without it, {PORT}.");
-        return ExitCode::from(2);
-    };
-    match Host::bind(port, Box::new(|line| println!("{line}"))) {
-        Ok(mut host) => {
-            let address = host.address();
-            println!("example gateway with a simulated meter on {address}; Ctrl-C ends it");
-            host.run(&AtomicBool::new(false));
-            ExitCode::SUCCESS
+    let options = match parse(std::env::args().skip(1)) {
+        Ok(options) => options,
+        Err(wrong) => {
+            let _ = writeln!(
+                std::io::stderr(),
+                "gateway: {wrong}; gateway --help says how"
+            );
+            return ExitCode::from(WRONG_COMMAND_LINE);
         }
-        Err(error) => {
-            eprintln!("gateway: cannot listen on 127.0.0.1:{port}: {error}");
+    };
+    if options.help {
+        let _ = writeln!(std::io::stdout(), "{HELP}");
+        return ExitCode::SUCCESS;
+    }
+    match serve(options) {
+        Ok(()) => ExitCode::SUCCESS,
+        Err(wrong) => {
+            let _ = writeln!(std::io::stderr(), "gateway: {wrong}");
             ExitCode::FAILURE
         }
     }
+}
+
+fn log(options: &Options) -> Result<Log, String> {
+    let mut log = Log::default();
+    if !options.quiet {
+        log.add(std::io::stdout());
+    }
+    if let Some(name) = &options.log {
+        let file = OpenOptions::new().append(true).create(true).open(name);
+        log.add(file.map_err(|error| format!("cannot write {name}: {error}"))?);
+    }
+    Ok(log)
+}
+
+fn serve(options: Options) -> Result<(), String> {
+    let signals = Signals::keep_back();
+    let log = log(&options)?;
+    let instrument: Box<dyn Instrument> = match options.instrument {
+        Some(address) => Box::new(RawSocket::new(address)),
+        None => Box::new(Simulated::new(options.measure)),
+    };
+    let listen = &options.settings.listen;
+    let gateway = Gateway::new(&options.settings, instrument, log)
+        .map_err(|error| format!("cannot listen on {listen}: {error}"))?;
+    let stopping = signals.stop(gateway.stopper());
+    stopping.map_err(|error| format!("cannot start: {error}"))?;
+    gateway.run();
+    Ok(())
 }

@@ -79,23 +79,30 @@ pub fn closed(stream: &mut TcpStream) -> bool {
     }
 }
 
+/// The other side has closed in order: the stream ends and is not reset.
+pub fn closed_in_order(stream: &mut TcpStream) -> bool {
+    matches!(stream.read(&mut [0]), Ok(0))
+}
+
 impl Client {
     pub fn open(to: SocketAddr) -> Client {
+        Client::of_vendor(to, *b"EX")
+    }
+
+    /// Opens a session with a server that names this vendor.
+    pub fn of_vendor(to: SocketAddr, vendor: [u8; 2]) -> Client {
         let mut sync = connect(to);
-        sync.write_all(&bytes(0, 0, 0x0100_5858, b"hislip0"))
-            .expect("sent");
+        let hello = bytes(0, 0, 0x0100_5858, b"hislip0");
+        sync.write_all(&hello).expect("sent");
         let opened = receive(&mut sync);
-        assert_eq!(
-            (opened.kind, opened.code, opened.parameter >> 16),
-            (1, 0, 0x0100)
-        );
+        assert_eq!((opened.kind, opened.code), (1, 0), "{opened:?}");
         let session = opened.parameter as u16;
         let mut asynchronous = connect(to);
-        asynchronous
-            .write_all(&bytes(17, 0, session.into(), b""))
-            .expect("sent");
+        let join = bytes(17, 0, session.into(), b"");
+        asynchronous.write_all(&join).expect("sent");
         let joined = receive(&mut asynchronous);
-        assert_eq!((joined.kind, joined.parameter), (18, 0x4558), "vendor EX");
+        let vendor = u16::from_be_bytes(vendor).into();
+        assert_eq!((joined.kind, joined.parameter), (18, vendor));
         Client {
             sync,
             asynchronous,
@@ -131,6 +138,31 @@ impl Client {
                 return String::from_utf8(text).expect("the meter speaks ASCII");
             }
         }
+    }
+
+    /// A whole answer as bytes, and the payload length of each message it came in.
+    pub fn pieces(&mut self) -> (Vec<u8>, Vec<usize>) {
+        let (mut bytes, mut lengths) = (Vec::new(), Vec::new());
+        loop {
+            let message = receive(&mut self.sync);
+            assert_eq!(message.parameter, self.sent, "{message:?}");
+            lengths.push(message.payload.len());
+            bytes.extend(message.payload);
+            match message.kind {
+                6 => {}
+                7 => break,
+                other => panic!("type {other} in an answer"),
+            }
+        }
+        self.rmt_delivered = true;
+        (bytes, lengths)
+    }
+
+    /// Tells the server the largest payload this client takes; the server's own comes back.
+    pub fn size(&mut self, size: u64) -> u64 {
+        let answer = self.ask(15, 0, 0, &size.to_be_bytes());
+        assert_eq!(answer.kind, 16);
+        u64::from_be_bytes(answer.payload.try_into().expect("eight bytes"))
     }
 
     pub fn query(&mut self, command: &str) -> String {
