@@ -6,7 +6,7 @@ ARCHIVE ?= target/staticlib/libserver.a
 
 help:
 	@echo 'make gateway        build the proved library and serve it on 127.0.0.1:4880 (PORT=5000 for another port)'
-	@echo 'make query          a small HiSLIP client to try it with: make query ARGS=\''"*IDN?"'\'''
+	@echo "make query          a small HiSLIP client to try it with: make query ARGS='\"*IDN?\"'"
 	@echo 'make test           the gate: prove every crate from nothing, try every must-fail edit, run every test'
 	@echo 'make library        the archive that a host links: $(ARCHIVE), with the headers of include/'
 	@echo 'make install        headers, archive and pkg-config file to PREFIX (/usr/local)'
