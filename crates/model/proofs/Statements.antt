@@ -8,11 +8,13 @@ use Rattle.model.proofs.Permitted.{permitted-acts}
 use Rattle.model.proofs.Malformed.{malformed}
 use Rattle.model.proofs.Opening.{sessions-open}
 use Rattle.model.proofs.SessionId.{numbers-issued}
+use Rattle.model.proofs.Sending.{sending}
 use Rattle.model.proofs.GrantingRule.{may-exclusive, exclusive-may, may-shared, shared-may}
 use Rattle.model.proofs.Access.{accessed}
 use Rattle.model.proofs.Canonical.{canonical-history}
 use Rattle.model.proofs.FixedPoint.{fixed-point}
 use Rattle.model.proofs.OnlyWhole.{taken-whole}
+use Rattle.model.proofs.Outcomes.{outcomes-tell}
 use Rattle.model.proofs.Agreement.{agreement}
 use Rattle.model.proofs.Deciding.{deciding, run-decides}
 use Rattle.model.proofs.Closing.{closings}
@@ -39,6 +41,7 @@ statements =
         malformed = malformed;
         openings = sessions-open;
         session-ids = numbers-issued;
+        sends = sending;
         exclusive-rule = λ es i. (may-exclusive es i, exclusive-may es i);
         shared-rule = λ es i x k. (may-shared es i x k, shared-may es i x k);
         access = accessed;
@@ -47,6 +50,7 @@ statements =
         canonical-history = λ d es. canonical-history es d;
         fixed-point = fixed-point;
         taken-whole = taken-whole;
+        outcomes-tell = outcomes-tell;
         lock-model = agreement;
         decides = run-decides;
         decides-next = deciding;

@@ -20,11 +20,13 @@ use Rattle.model.specs.Permitted.{PermittedActs}
 use Rattle.model.specs.Malformed.{Malformed}
 use Rattle.model.specs.Opening.{Opening}
 use Rattle.model.specs.SessionId.{NumbersIssued}
+use Rattle.model.specs.Sending.{Sending}
 use Rattle.model.specs.Granting.{MayExclusive, MayShared}
 use Rattle.model.specs.Access.{Access}
 use Rattle.model.specs.Canonical.{Canonical}
 use Rattle.model.specs.FixedPoint.{FixedPoint}
 use Rattle.model.specs.OnlyWhole.{TakenWhole}
+use Rattle.model.specs.Outcomes.{OutcomesTell}
 use Rattle.model.specs.LockModel.{freshModel}
 use Rattle.model.specs.Agreement.{Agreement}
 use Rattle.model.specs.Deciding.{Deciding, EachDecides}
@@ -61,6 +63,8 @@ pub record Demand2 : Type 0 where
   -- a session opens and is joined, with these replies, and gets the first free SessionID
   pub openings : (v : ℕ) (es : List Event) → Opening v es
   pub session-ids : NumbersIssued
+  -- every other message that acts: the whole of what it sends
+  pub sends : (v : ℕ) (es : List Event) → Sending v es
   -- "Locks are granted exactly when the rules allow"
   pub exclusive-rule : (es : List Entry) (i : ℕ) → (mayGrant es i [] ≡ true) ↔ MayExclusive es i
   pub shared-rule : (es : List Entry) (i x : ℕ) (k : List ℕ) → (mayGrant es i (x ∷ k) ≡ true) ↔ MayShared es i (x ∷ k)
@@ -73,6 +77,8 @@ pub record Demand3Parts : Type 1 where
   pub canonical-history : (d : Server) (es : List Event) → Canonical d es
   pub fixed-point : (d : Server) (es : List Event) → FixedPoint d es
   pub taken-whole : TakenWhole
+  -- and what is not taken: more needed, held and closed, by the bytes shown
+  pub outcomes-tell : OutcomesTell
   -- "Who holds which lock, who waits in what order, and every lock answer sent are exactly as document 01's ledger has them"
   pub lock-model : (v : ℕ) (es : List Event) → Agreement (fresh v) freshModel es
   -- 01: "By exactly its holders .. the desk grants, gives access and answers AsyncLockInfo", at every call of a list, and at the next one
