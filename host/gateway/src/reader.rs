@@ -54,8 +54,8 @@ impl Incoming {
     /// Waits at most so long for the end of the stream.
     pub fn wait_for_end(&self, longest: Duration) {
         let state = self.state();
-        let ended = |state: &mut State| !state.ended;
-        drop(self.changed.wait_timeout_while(state, longest, ended));
+        let goes_on = |state: &mut State| !state.ended;
+        drop(self.changed.wait_timeout_while(state, longest, goes_on));
     }
 
     /// Waits until reading may go on; false if the stream ended meanwhile.

@@ -3,6 +3,7 @@
 
 use std::io::{ErrorKind, Write};
 use std::net::{Shutdown, TcpStream};
+use std::sync::atomic::{AtomicUsize, Ordering};
 use std::sync::mpsc::Sender;
 use std::sync::{Condvar, Mutex, MutexGuard, PoisonError};
 use std::time::Duration;
@@ -14,6 +15,10 @@ use crate::reader::Incoming;
 /// Unwritten bytes above which the connection's own bytes, and the rest of its answers, must wait. What
 /// the server sends meanwhile for others' doing is at most one lock answer and one FatalError.
 const UNWRITTEN: usize = 16 * 1024;
+/// Closed connections that are waited for at the same time; further ones are shut down at once.
+const MOST_LINGERING: usize = 64;
+static LINGERING: AtomicUsize = AtomicUsize::new(0);
+
 /// How long a closed connection has to take its last bytes and to close its own side.
 pub const LINGER: Duration = Duration::from_secs(2);
 
@@ -105,7 +110,10 @@ impl Outgoing {
             }
         }
         let _ = stream.shutdown(Shutdown::Write);
-        incoming.wait_for_end(LINGER);
+        if LINGERING.fetch_add(1, Ordering::Relaxed) < MOST_LINGERING {
+            incoming.wait_for_end(LINGER);
+        }
+        LINGERING.fetch_sub(1, Ordering::Relaxed);
         let _ = stream.shutdown(Shutdown::Both);
     }
 

@@ -2,11 +2,12 @@
 
 mod common;
 
-use std::io::Write;
+use std::io::{Read, Write};
 use std::net::TcpStream;
 use std::time::{Duration, Instant};
 
 use common::client::{bytes, closed, closed_in_order, connect, receive, silent, Client};
+use common::program::Program;
 use common::{eventually, settings, Running};
 use gateway::instrument::simulated::Simulated;
 use gateway::Settings;
@@ -139,4 +140,36 @@ fn a_silent_peer_is_asked_whether_it_is_there() {
         let asked = || timer(gateway.address.port(), port(stream)).as_deref() == Some("02");
         assert!(eventually(asked));
     }
+}
+
+#[test]
+fn a_flood_of_connections_is_bounded() {
+    let program = Program::start("127.0.0.1:0", &[]);
+    let address = program.address.parse().expect("an address");
+    let mut first = Client::open(address);
+    let flood: Vec<TcpStream> = (0..400)
+        .map(|_| {
+            let mut stream = connect(address);
+            stream.write_all(&[0; 16]).expect("sent");
+            stream
+        })
+        .collect();
+    assert_eq!(first.query("*OPC?"), "1");
+    let threads = std::fs::read_dir(format!("/proc/{}/task", program.child.id()));
+    // Two for each of 32 connections and of 64 that linger, 64 refusals, and the gateway's own.
+    let most = 2 * (32 + 64) + 64 + 16;
+    let count = threads.expect("a live process").count();
+    assert!(count <= most, "{count} threads");
+    drop(flood);
+    assert!(eventually(|| matches!(opens(address), Some(true))));
+}
+
+/// Whether a session can be opened; None if the connection fails.
+fn opens(address: std::net::SocketAddr) -> Option<bool> {
+    let mut stream = TcpStream::connect(address).ok()?;
+    let hello = bytes(0, 0, 0x0100_5858, b"hislip0");
+    stream.write_all(&hello).ok()?;
+    let mut header = [0; 16];
+    stream.read_exact(&mut header).ok()?;
+    Some(header[2] == 1)
 }

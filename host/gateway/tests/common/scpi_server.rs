@@ -64,6 +64,38 @@ impl ScpiServer {
     }
 }
 
+enum Reaction {
+    Answer(Vec<u8>),
+    Silence,
+    HangUp,
+}
+
+fn reaction(line: &str) -> Reaction {
+    let (name, argument) = line.split_once(' ').unwrap_or((line, ""));
+    let echo = Reaction::Answer(argument.as_bytes().to_vec());
+    let flaky = argument.parse::<u32>().unwrap_or(0) % 30;
+    match name {
+        "*IDN?" => Reaction::Answer(b"TEST,SCPI SERVER,1,2".to_vec()),
+        "ECHO?" => echo,
+        "SLOW?" => {
+            std::thread::sleep(SLOW);
+            echo
+        }
+        "BLOCK?" => Reaction::Answer(b"#18\n\r\n;\"#\n\r".to_vec()),
+        "WINDOWS?" => Reaction::Answer(b"1\r".to_vec()),
+        "LONG?" => Reaction::Answer(vec![b'x'; 5000]),
+        "FLAKY?" if matches!(flaky, 3 | 13 | 23) => Reaction::HangUp,
+        "FLAKY?" => {
+            if flaky == 7 {
+                std::thread::sleep(FLAKY);
+            }
+            echo
+        }
+        "BYE?" => Reaction::HangUp,
+        _ => Reaction::Silence,
+    }
+}
+
 fn serve(mut stream: TcpStream, shared: &Shared) {
     let lines = BufReader::new(stream.try_clone().expect("a socket")).lines();
     for line in lines.map_while(Result::ok) {
@@ -72,36 +104,18 @@ fn serve(mut stream: TcpStream, shared: &Shared) {
             .lock()
             .expect("not poisoned")
             .push(line.clone());
-        let (name, argument) = line.split_once(' ').unwrap_or((&line, ""));
-        let answer = match name {
-            "*IDN?" => b"TEST,SCPI SERVER,1,2".to_vec(),
-            "ECHO?" => argument.as_bytes().to_vec(),
-            "SLOW?" => {
-                std::thread::sleep(SLOW);
-                argument.as_bytes().to_vec()
-            }
-            "BLOCK?" => b"#18\n\r\n;\"#\n\r".to_vec(),
-            "WINDOWS?" => b"1\r".to_vec(),
-            "LONG?" => vec![b'x'; 5000],
-            "FLAKY?" => match argument.parse::<u32>().unwrap_or(0) % 30 {
-                3 | 13 | 23 => {
-                    let _ = stream.shutdown(Shutdown::Both);
+        match reaction(&line) {
+            Reaction::Answer(answer) => {
+                let sent = stream.write_all(&[&answer[..], b"\n"].concat());
+                if sent.is_err() {
                     return;
                 }
-                7 => {
-                    std::thread::sleep(FLAKY);
-                    argument.as_bytes().to_vec()
-                }
-                _ => argument.as_bytes().to_vec(),
-            },
-            "BYE?" => {
+            }
+            Reaction::Silence => {}
+            Reaction::HangUp => {
                 let _ = stream.shutdown(Shutdown::Both);
                 return;
             }
-            _ => continue,
-        };
-        if stream.write_all(&[&answer[..], b"\n"].concat()).is_err() {
-            return;
         }
     }
 }
