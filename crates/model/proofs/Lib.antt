@@ -41,5 +41,6 @@ pub mod Reached
 pub mod SentFits
 pub mod ReadBack
 pub mod Owed
+pub mod Shapes
 pub mod OnlyWhole
 pub mod Outcomes
