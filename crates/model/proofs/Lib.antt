@@ -41,6 +41,7 @@ pub mod Reached
 pub mod SentFits
 pub mod ReadBack
 pub mod Owed
+pub mod Shapes
 pub mod OnlyWhole
 pub mod Deciding
 pub mod Forms

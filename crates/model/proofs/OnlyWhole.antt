@@ -15,6 +15,7 @@ use Rattle.wire.specs.Message.{Message, header, headerBytes, prologue, encode, 
 use Rattle.wire.specs.Frame.{Frame, frameOf}
 use Rattle.wire.proofs.Bytes.{take-bytes}
 use Rattle.wire.proofs.Sixteen.{header-bytes}
+use Rattle.wire.proofs.ReadFrames.{length-encode}
 use Rattle.model.specs.Sizes.{payloadLimit, connectionLimit, noConnection}
 use Rattle.model.specs.MessageTypes.{FatalError}
 use Rattle.model.specs.State.{Server, Entry, at, live, blank, Connection, closedConnection, connectionAt, fresh}
@@ -36,50 +37,10 @@ use Rattle.model.proofs.Place.{no-role, place-sound}
 use Rattle.model.proofs.Fits.{uncaused}
 use Rattle.model.proofs.Scanning.{scan-cut, whole-cut, header-cut}
 use Rattle.model.proofs.Canonical.{step-omitted}
-use Rattle.model.proofs.Reader.{alike, taken-is}
+use Rattle.model.proofs.Reader.{never, alike, taken-is}
+use Rattle.model.proofs.Shapes.{reads, fresh-scan, skip-shape, bytes-take}
 use Rattle.model.proofs.Codes.{ofMessage, judged-of}
 use Rattle.model.proofs.Owed.{Tracks, tracks-store, tracks-same, tracks-closing, here, elsewhere, no-change, acts-connections}
-
-pub never : {A : Type 0} → _≡_ {A = ℕ} 0 1 → A
-never z = absurd (omega arith)
-
--- a header or a message is looked at only where nothing is to skip
-abbrev pub reads : Scan → Bool
-reads empty = false
-reads (skipping k) = false
-reads few = true
-reads wrong = true
-reads (long h) = true
-reads (part h) = true
-reads (whole h p) = true
-
-pub fresh-scan : (r : ℕ) (bs : List ℕ) (s : Scan) → scan r bs ≡ s → reads s ≡ true → (r ≡ 0) × (freshScan bs ≡ s)
-unfolding scan
-fresh-scan r [] s e q = absurd (false≢true (ap reads e ∙ q))
-fresh-scan zero (b ∷ bs) s e q = (refl, e)
-fresh-scan (suc r) (b ∷ bs) s e q = absurd (false≢true (ap reads e ∙ q))
-
-pub fresh-reads : (bs : List ℕ) → reads (freshScan bs) ≡ true
-unfolding freshScan
-fresh-reads bs = go (ltb (length bs) 16) (prologue bs) (ltb payloadLimit ((header bs) .len)) (ltb (length bs) (16 + (header bs) .len))
-  where
-    go : (a b c d : Bool) → reads (sorted a b c d bs (header bs)) ≡ true
-    go true b c d = refl
-    go false false c d = refl
-    go false true true d = refl
-    go false true false true = refl
-    go false true false false = refl
-
-skip-shape : (r : ℕ) (bs : List ℕ) (k : ℕ) → scan r bs ≡ Scan.skipping k → (1 ≤ k) × (k ≤ r) × (k ≤ length bs)
-unfolding scan
-skip-shape r [] k e = never cc
-skip-shape zero (b ∷ bs) k e = absurd (true≢false (sym (fresh-reads (b ∷ bs)) ∙ ap reads e))
-skip-shape (suc r) (b ∷ bs) k e = let q = ap size e in (omega arith, omega arith, omega arith)
-
--- what a delivery that takes k bytes shows
-bytes-take : (k : ℕ) (bs : List ℕ) → 1 ≤ k → bytes k bs ≡ take k bs
-bytes-take zero bs l = absurd (omega arith)
-bytes-take (suc k) bs l = refl
 
 -- a session's number, where there is none
 no-session : (d : Server) (c : ℕ) → roleOf (d .locks .entries) c ≡ r-none → (at (d .locks .entries) (slotOf d c)) .number ≡ 0
@@ -107,7 +68,7 @@ module _ (d : Server) (c : ℕ) (bs : List ℕ) (b : Bytes bs) where
       let m : Message = messageWith h p in
       let cut = ((alike x) .whole h p) .0 (whole-cut q bs h p e) in
       let t : x ≡ encode m = taken-is bs h p b f in
-      let l : 16 + h .len ≡ length x = ap (λ (z : Header). 16 + z .len) (sym (w .head)) ∙ sym (Rattle.model.proofs.Reader.length-encode m) ∙ ap (λ (z : List ℕ). length z) (sym t) in
+      let l : 16 + h .len ≡ length x = ap (λ (z : Header). 16 + z .len) (sym (w .head)) ∙ sym (length-encode m) ∙ ap (λ (z : List ℕ). length z) (sym t) in
       subst (λ (z : List ℕ). ShowsMessage z (16 + h .len)) (sym (bytes-take (16 + h .len) bs (omega arith)))
       (record { message = m; reads = cut .decodes; shows = t; within = w .within; taken = l })
 

@@ -20,9 +20,10 @@ use Rattle.model.specs.Reader.{messageWith}
 use Rattle.model.specs.Outcomes.{established, BeginsWhole, Tells, OutcomesTell}
 use Rattle.model.proofs.Basics.{not-off}
 use Rattle.model.proofs.Fits.{uncaused}
-use Rattle.model.proofs.Reader.{alike}
+use Rattle.model.proofs.Reader.{never, alike}
+use Rattle.model.proofs.Shapes.{reads, fresh-scan, fresh-reads}
 use Rattle.model.proofs.Codes.{ofMessage, judged-of}
-use Rattle.model.proofs.OnlyWhole.{reads, fresh-scan, fresh-reads, never, owed-run}
+use Rattle.model.proofs.OnlyWhole.{owed-run}
 
 shows-none : (r : ℕ) (bs : List ℕ) → scan r bs ≡ Scan.empty → bs ≡ []
 unfolding scan

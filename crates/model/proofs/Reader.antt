@@ -11,12 +11,13 @@ use borrow.Author.Tests.{ltb-true, ltb-false}
 use Rattle.wire.specs.declared.Header.{Header}
 use Rattle.wire.specs.Field.{Bytes}
 use Rattle.wire.specs.Message.{Message, header, headerOf, headerBytes, prologue, messageOf, encode, Decoded, decided, decode}
-use Rattle.wire.specs.RoundTrip.{length-header, encode-decode}
+use Rattle.wire.specs.RoundTrip.{encode-decode}
+use Rattle.wire.proofs.ReadFrames.{length-encode}
 use Rattle.model.specs.Sizes.{payloadLimit}
 use Rattle.model.specs.Scan.{Scan, sorted, freshScan}
 use Rattle.model.specs.Reader.{messageWith, ReadsWhole, ReadsPart, ReadsLong, SameReading, OneReader}
 
-never : {A : Type 0} → _≡_ {A = ℕ} 0 1 → A
+pub never : {A : Type 0} → _≡_ {A = ℕ} 0 1 → A
 never z = absurd (omega arith)
 
 module _ (bs : List ℕ) where
@@ -103,10 +104,6 @@ module _ (bs : List ℕ) where
   pub alike : SameReading bs (freshScan bs) (decode bs)
   unfolding freshScan decode
   alike = by-tests (ltb (length bs) 16) (prologue bs) (ltb payloadLimit (h₀ .len)) (ltb (length bs) (16 + h₀ .len)) refl refl refl refl
-
-pub length-encode : (m : Message) → length (encode m) ≡ 16 + length (m .payload)
-unfolding encode
-length-encode m = length-append (headerBytes (headerOf m)) (m .payload) ∙ ap (λ (k : ℕ). k + length (m .payload)) (length-header (headerOf m))
 
 -- what is taken of bytes is the message as the wire writes it
 pub taken-is : (bs : List ℕ) (h : Header) (p : List ℕ) → Bytes bs → freshScan bs ≡ Scan.whole h p → take (16 + h .len) bs ≡ encode (messageWith h p)

@@ -14,7 +14,7 @@ use Rattle.wire.specs.Frame.{Frame, frameBytes, bytesOf, length-frame}
 use Rattle.wire.proofs.Bytes.{drop-bytes, bytes-append, bytes-cons, bytes-field}
 use Rattle.wire.specs.ReadFrames.{goesOn, framesIn, readFrames, FrameFits, AllFit, Front, RowsRead}
 
-length-encode : (m : Message) → length (encode m) ≡ 16 + length (m .payload)
+pub length-encode : (m : Message) → length (encode m) ≡ 16 + length (m .payload)
 unfolding encode
 length-encode m = length-append (headerBytes (headerOf m)) (m .payload) ∙ ap (λ (k : ℕ). k + length (m .payload)) (length-header (headerOf m))
 
