@@ -1,4 +1,5 @@
-// A list of patterns is a text, one pattern a line. It is judged before it is taken.
+// A list of patterns is a text, one pattern a line; it is judged before it is taken. A server may keep the text as it is, with its length: nothing
+// has to be moved into rows, the definitions are the same ones, and a text that is taken has at most 4,128 bytes, 32 lines of 129.
 use super::Judged;
 use scpi::Checked;
 use scpi::checking::check;
