@@ -19,6 +19,16 @@ use Rattle.state.specs.Bits.{bit}
 use Rattle.state.specs.Layout.{LOCKS, CLOCK, VENDOR, STATUS, LAST, ENABLE, LOCKOUT, REMOTE, HOLDER, SHARERS, KEY, COUNT, ENTRIES, ENTRY, EXCHANGES, EXCHANGE, CONNECTIONS, CONNECTION, REQUESTS, REQUEST, QUEUE, WORDS}
 use Rattle.state.specs.View.{Memory, memory, word, flag, keyOf, entryAt, entriesOf, slotAt, requestAt, waitingOf, locksOf, askedOf, exchangeFrom, exchangeOf, connectionFrom, connectionOf, entryFrom, restFrom, restOf, view}
 
+-- the word of a field, in the row of a slot or of a connection
+abbrev pub exchangeWord : List ℕ → ℕ → ℕ → ℕ
+exchangeWord w i f = word w (EXCHANGES + i * EXCHANGE + f)
+
+abbrev pub connectionWord : List ℕ → ℕ → ℕ → ℕ
+connectionWord w i f = word w (CONNECTIONS + i * CONNECTION + f)
+
+abbrev pub entryWord : List ℕ → ℕ → ℕ → ℕ
+entryWord w i f = word w (ENTRIES + i * ENTRY + f)
+
 -- a field of a row, by its place
 abbrev pub exchangeWith : ℕ → ℕ → Exchange → Exchange
 exchangeWith zero v x = record { inClear = flag v; asked = x .asked; messageAvailable = x .messageAvailable; clientSize = x .clientSize }

@@ -1,9 +1,9 @@
 // The tables of the state, and its single values: one way to read and one to store a field, which is named by its place in the row.
-// Reading: the word that is read, stored again, would change nothing. Storing: the row changes in that field, and nothing else does.
+// Reading: the word at its place; stored again it would change nothing. Storing: the row changes in that field, and nothing else does.
 ghost use Prim.Native.Nat.{ℕ, _*_, _+_, _<_, _^_};
 ghost use Rattle.model.specs.State.{at, connectionAt, exchangeAt};
-ghost use Rattle.state.specs.Change.{connectionWith, entryWith, exchangeWith, onConnection, onEntry, onExchange, onRest, singleWith, withClock};
-ghost use Rattle.state.specs.View.{locksOf, memory, restOf, view};
+ghost use Rattle.state.specs.Change.{connectionWith, connectionWord, entryWith, entryWord, exchangeWith, exchangeWord, onConnection, onEntry, onExchange, onRest, singleWith, withClock};
+ghost use Rattle.state.specs.View.{locksOf, memory, restOf, view, word};
 ghost use lib.ListN.{length};
 ghost use mathlib.Core.List.{List};
 ghost use mathlib.Core.Path.{_≡_};
@@ -56,7 +56,7 @@ pub const REMOTE: usize = 5;
 // What a session has asked and been sent.
 pub fn exchange(w: &Words, i: usize, f: usize) -> u64
     requires { ⌜ (i < sessionLimit) × (f < 4) ⌝ }
-    ensures { λ r. ⌜ exchangeWith f r (exchangeAt (restOf (now (w .entry))) i) ≡ exchangeAt (restOf (now (w .entry))) i ⌝ }
+    ensures { λ r. ⌜ (exchangeWith f r (exchangeAt (restOf (now (w .entry))) i) ≡ exchangeAt (restOf (now (w .entry))) i) × (r ≡ exchangeWord (now (w .entry)) i f) ⌝ }
 {
     w[EXCHANGES + i * EXCHANGE + f]
 }
@@ -71,7 +71,7 @@ pub fn set_exchange(w: &mut Words, i: usize, f: usize, v: u64)
 // A connection.
 pub fn connection(w: &Words, i: usize, f: usize) -> u64
     requires { ⌜ (i < connectionLimit) × (f < 2) ⌝ }
-    ensures { λ r. ⌜ connectionWith f r (connectionAt (restOf (now (w .entry))) i) ≡ connectionAt (restOf (now (w .entry))) i ⌝ }
+    ensures { λ r. ⌜ (connectionWith f r (connectionAt (restOf (now (w .entry))) i) ≡ connectionAt (restOf (now (w .entry))) i) × (r ≡ connectionWord (now (w .entry)) i f) ⌝ }
 {
     w[CONNECTIONS + i * CONNECTION + f]
 }
@@ -86,7 +86,7 @@ pub fn set_connection(w: &mut Words, i: usize, f: usize, v: u64)
 // A slot of the table of sessions.
 pub fn entry(w: &Words, i: usize, f: usize) -> u64
     requires { ⌜ (i < sessionLimit) × (f < 3) ⌝ }
-    ensures { λ r. ⌜ ((s : List ℕ) → entryWith f r (at (locksOf (now (w .entry)) s .entries) i) ≡ at (locksOf (now (w .entry)) s .entries) i) ⌝ }
+    ensures { λ r. ⌜ ((s : List ℕ) → entryWith f r (at (locksOf (now (w .entry)) s .entries) i) ≡ at (locksOf (now (w .entry)) s .entries) i) × (r ≡ entryWord (now (w .entry)) i f) ⌝ }
 {
     w[ENTRIES + i * ENTRY + f]
 }
@@ -101,7 +101,7 @@ pub fn set_entry(w: &mut Words, i: usize, f: usize, v: u64)
 // A single value; its place is its word.
 pub fn single(w: &Words, f: usize) -> u64
     requires { ⌜ f < 6 ⌝ }
-    ensures { λ r. ⌜ singleWith f r (restOf (now (w .entry))) ≡ restOf (now (w .entry)) ⌝ }
+    ensures { λ r. ⌜ (singleWith f r (restOf (now (w .entry))) ≡ restOf (now (w .entry))) × (r ≡ word (now (w .entry)) f) ⌝ }
 {
     w[f]
 }

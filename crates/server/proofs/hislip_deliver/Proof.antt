@@ -38,7 +38,7 @@ returns-3 c = let a = c .before .before .before .before .before .before .before 
     let bs = a .bytes .now in
     let out = a .out .now in
     let e = delivery (a .connection) bs (length out) in
-    refused-delivery e 0 _ m out (not-open d e (length out) (a .connection) (delivery-causes d (length out) (a .connection) bs) (c .before .before .before .before .before .if1 .left) (omega arith) (sym (ap (λ (x : Connection). x .isOpen) (c .before .before .connection .ensures)) ∙ ne-eqb (c .before .before .connection .result) 1 (c .before .if3 .taken))) (c .refuse3 .ensures)
+    refused-delivery e 0 _ m out (not-open d e (length out) (a .connection) (delivery-causes d (length out) (a .connection) bs) (c .before .before .before .before .before .if1 .left) (omega arith) (sym (ap (λ (x : Connection). x .isOpen) (c .before .before .connection .ensures .0)) ∙ ne-eqb (c .before .before .connection .result) 1 (c .before .if3 .taken))) (c .refuse3 .ensures)
 
 returns-4 : tie.Need-returns-4
 returns-4 c = let a = c .before .before .before .before .before .before .before .before .before .before .before .before .before .args in
@@ -47,7 +47,7 @@ returns-4 c = let a = c .before .before .before .before .before .before .before 
     let bs = a .bytes .now in
     let out = a .out .now in
     let e = delivery (a .connection) bs (length out) in
-    taken-delivery (a .connection) bs (length out) _ m _ out _ (is-open d e (length out) (a .connection) (delivery-causes d (length out) (a .connection) bs) (c .before .before .before .before .before .before .before .before .before .before .if1 .left) (omega arith) (sym (ap (λ (x : Connection). x .isOpen) (c .before .before .before .before .before .before .before .connection .ensures)) ∙ eq-eqb (c .before .before .before .before .before .before .before .connection .result) 1 (c .before .before .before .before .before .before .if3 .left))) (c .before .before .deliver-open .ensures)
+    taken-delivery (a .connection) bs (length out) _ m _ out _ (is-open d e (length out) (a .connection) (delivery-causes d (length out) (a .connection) bs) (c .before .before .before .before .before .before .before .before .before .before .if1 .left) (omega arith) (sym (ap (λ (x : Connection). x .isOpen) (c .before .before .before .before .before .before .before .connection .ensures .0)) ∙ eq-eqb (c .before .before .before .before .before .before .before .connection .result) 1 (c .before .before .before .before .before .before .if3 .left))) (c .before .before .deliver-open .ensures)
 
 pub hislip-deliver-spec : {M : Type 1} → statement M
 hislip-deliver-spec =

@@ -16,7 +16,7 @@ returns : tie.Need-returns
 returns c =
     let a = c .before .before .before .before .before .before .before .before .before .before .before .before .before .before .before .args in
     let l = clear-short (a .w .now) [] _ _ (a .i) (a .out .now) _ _ (c .before .before .before .before .before .before .before .before .before .clear-request .ensures []) in
-    λ s p code param. clear-told (a .w .now) s _ (a .out .now) _ _ (a .i) (a .c) (c .before .before .before .before .before .before .before .before .before .before .before .before .entry .result) (c .before .before .before .before .before .before .before .before .before .clear-request .result) (c .before .before .before .before .before .before .before .before .before .before .before .before .entry .ensures s) (omega arith) _
+    λ s p code param. clear-told (a .w .now) s _ (a .out .now) _ _ (a .i) (a .c) (c .before .before .before .before .before .before .before .before .before .before .before .before .entry .result) (c .before .before .before .before .before .before .before .before .before .clear-request .result) (c .before .before .before .before .before .before .before .before .before .before .before .before .entry .ensures .0 s) (omega arith) _
     _ code param (a .len) p (c .acted .ensures) (c .before .before .before .before .before .before .before .before .before .clear-request .ensures s) (c .before .before .before .before .before .enter-clear .ensures s) (c .before .before .before .put-frame .ensures)
 
 pub clear-spec : {M : Type 1} → statement M

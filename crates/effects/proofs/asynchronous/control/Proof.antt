@@ -7,7 +7,7 @@ use Rattle.effects.proofs.asynchronous.control.Tie as tie
 returns : tie.Need-returns
 returns c =
     let a = c .before .before .before .before .before .before .before .before .before .before .args in
-    λ s p param. control-told (a .w .now) s _ (a .out .now) _ (a .i) (a .c) (c .before .before .before .before .before .before .before .entry .result) (c .before .before .before .before .before .before .before .entry .ensures s) _
+    λ s p param. control-told (a .w .now) s _ (a .out .now) _ (a .i) (a .c) (c .before .before .before .before .before .before .before .entry .result) (c .before .before .before .before .before .before .before .entry .ensures .0 s) _
     (a .code) param (a .len) p (c .acted .ensures) (c .before .before .before .before .before .set-control .ensures s) (c .before .before .before .put-frame .ensures)
 
 pub control-spec : {M : Type 1} → statement M

@@ -11,7 +11,7 @@ returns c =
     let e = c .before .before .single in
     let l = c .before .single2 in
     let m = c .single3 in
-    flags-read (restOf (a .w .now)) (e .result) (l .result) (m .result) (e .ensures) (l .ensures) (m .ensures)
+    flags-read (restOf (a .w .now)) (e .result) (l .result) (m .result) (e .ensures .0) (l .ensures .0) (m .ensures .0)
 
 pub flags-of-spec : {M : Type 1} → statement M
 flags-of-spec =

@@ -12,14 +12,14 @@ returns : tie.Need-returns
 returns c =
     let a = c .before .before .before .before .before .before .before .before .before .before .before .before .before .before .before .before .before .args in
     let l = release-short _ _ _ (a .i) (a .out .now) _ _ (c .before .before .before .before .before .before .before .before .before .release-lock .ensures (a .strings .now)) in
-    λ k. release-told (a .w .now) (a .strings .now) _ (a .out .now) _ _ (a .i) k (c .before .before .before .before .before .before .before .before .before .before .before .before .before .entry .result) (c .before .before .before .before .before .before .before .before .before .release-lock .result) (c .before .before .before .before .before .before .before .before .before .before .before .before .before .entry .ensures (a .strings .now)) (omega arith) _
+    λ k. release-told (a .w .now) (a .strings .now) _ (a .out .now) _ _ (a .i) k (c .before .before .before .before .before .before .before .before .before .before .before .before .before .entry .result) (c .before .before .before .before .before .before .before .before .before .release-lock .result) (c .before .before .before .before .before .before .before .before .before .before .before .before .before .entry .ensures .0 (a .strings .now)) (omega arith) _
     _ _ (a .code) (a .param) (a .len) (c .before .before .before .grant-waiting .result) (a .payload .now) (c .acted .ensures) (c .before .before .before .before .before .before .before .before .before .before .before .before .if1 .taken) (c .before .before .before .before .before .before .before .before .before .release-lock .ensures (a .strings .now)) (c .before .before .before .grant-waiting .ensures)
 
 returns-2 : tie.Need-returns-2
 returns-2 c =
     let a = c .before .before .before .before .before .before .before .before .before .before .before .before .args in
     λ k. request-told (a .w .now) (a .strings .now) _ _ (a .out .now) _ (a .i) k (c .before .before .before .before .before .before .before .before .entry .result) (a .code) (a .param) (a .len) (c .before .before .before .request-lock .result) (a .payload .now) _ (c .acted2 .ensures)
-    (c .before .before .before .before .before .before .before .before .entry .ensures (a .strings .now)) (c .before .before .before .before .before .before .before .if1 .left) (c .before .before .before .request-lock .ensures)
+    (c .before .before .before .before .before .before .before .before .entry .ensures .0 (a .strings .now)) (c .before .before .before .before .before .before .before .if1 .left) (c .before .before .before .request-lock .ensures)
 
 pub lock-spec : {M : Type 1} → statement M
 lock-spec =

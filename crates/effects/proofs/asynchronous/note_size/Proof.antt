@@ -7,7 +7,7 @@ use Rattle.effects.proofs.asynchronous.note_size.Tie as tie
 returns : tie.Need-returns
 returns c =
     let a = c .before .before .before .before .before .before .before .before .before .before .before .before .before .args in
-    λ s code param. size-told (a .w .now) s _ (a .out .now) _ (a .i) (a .c) (c .before .before .before .before .before .before .before .before .before .entry .result) (c .before .before .before .before .before .before .before .before .before .entry .ensures s) _
+    λ s code param. size-told (a .w .now) s _ (a .out .now) _ (a .i) (a .c) (c .before .before .before .before .before .before .before .before .before .entry .result) (c .before .before .before .before .before .before .before .before .before .entry .ensures .0 s) _
     code param (a .len) (c .before .before .before .before .before .before .before .before .number8 .result) (a .payload .now) (c .acted .ensures) (search needs) (c .before .before .before .before .before .before .before .before .number8 .ensures) (c .before .before .before .before .before .before .set-exchange .ensures s) (c .before .before .before .put-message .ensures)
 
 pub note-size-spec : {M : Type 1} → statement M

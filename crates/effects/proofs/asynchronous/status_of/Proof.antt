@@ -6,10 +6,10 @@ use Rattle.effects.proofs.asynchronous.status_of.Statement.{statement}
 use Rattle.effects.proofs.asynchronous.status_of.Tie as tie
 
 returns : tie.Need-returns
-returns c = let a = c .before .before .before .args in byte-available (restOf (a .w .now)) (a .i) (c .before .before .single .result) (c .before .exchange .result) (c .before .before .single .ensures) (c .before .exchange .ensures) (c .if1 .taken)
+returns c = let a = c .before .before .before .args in byte-available (restOf (a .w .now)) (a .i) (c .before .before .single .result) (c .before .exchange .result) (c .before .before .single .ensures .0) (c .before .exchange .ensures .0) (c .if1 .taken)
 
 returns-2 : tie.Need-returns-2
-returns-2 c = let a = c .before .before .before .args in byte-quiet (restOf (a .w .now)) (a .i) (c .before .before .single .result) (c .before .exchange .result) (c .before .before .single .ensures) (c .before .exchange .ensures) (c .if1 .left)
+returns-2 c = let a = c .before .before .before .args in byte-quiet (restOf (a .w .now)) (a .i) (c .before .before .single .result) (c .before .exchange .result) (c .before .before .single .ensures .0) (c .before .exchange .ensures .0) (c .if1 .left)
 
 pub status-of-spec : {M : Type 1} → statement M
 status-of-spec =

@@ -19,7 +19,7 @@ returns : tie.Need-returns
 returns c = let a = c .before .before .before .before .before .before .before .before .before .before .before .before .args in
     let h : Header = record { kind = 17; code = 0; param = a .param; len = a .len } in
     λ s. async-initialized (view (memory (a .w .now) s)) (a .c) (c .before .before .before .before .before .before .before .before .before .slot-of-number .result) (c .before .before .before .before .before .before .before .single .result % 65536) h _ _ _ _ _
-    (c .before .before .before .before .before .before .before .before .before .slot-of-number .ensures .1 s) (vendor-read (restOf (a .w .now)) (c .before .before .before .before .before .before .before .single .result) (c .before .before .before .before .before .before .before .single .ensures)) (ap numbersOf (c .acted .ensures))
+    (c .before .before .before .before .before .before .before .before .before .slot-of-number .ensures .1 s) (vendor-read (restOf (a .w .now)) (c .before .before .before .before .before .before .before .single .result) (c .before .before .before .before .before .before .before .single .ensures .0)) (ap numbersOf (c .acted .ensures))
     (c .before .before .before .before .before .join-slot .ensures s .locks) (c .before .before .before .before .before .join-slot .ensures s .rest) (c .before .before .before .put-frame .ensures)
 
 pub async-initialize-spec : {M : Type 1} → statement M

@@ -11,7 +11,7 @@ returns : tie.Need-returns
 returns c = let a = c .before .args in λ s. number-past (a .w .now) s (a .i) (search needs)
 
 returns-2 : tie.Need-returns-2
-returns-2 c = let a = c .before .before .args in λ s. number-read (at (locksOf (a .w .now) s .entries) (a .i)) (c .entry .result) (c .entry .ensures s)
+returns-2 c = let a = c .before .before .args in λ s. number-read (at (locksOf (a .w .now) s .entries) (a .i)) (c .entry .result) (c .entry .ensures .0 s)
 
 pub number-of-spec : {M : Type 1} → statement M
 number-of-spec = tie.close (tie.spec returns (λ c κs. search needs) returns-2)

@@ -19,7 +19,7 @@ abbrev μ-loop : tie.MeasureT-loop
 μ-loop w last k₀ k = 16 - k
 
 loop-holds : tie.Need-loop-holds Inv-loop μ-loop
-loop-holds c = (omega arith, λ s. tries-start (locksOf (c .before .args .w .now) s .entries) (restOf (c .before .args .w .now) .lastIssued) (c .single .result % 65536) (last-read (restOf (c .before .args .w .now)) (c .single .result) (c .single .ensures)))
+loop-holds c = (omega arith, λ s. tries-start (locksOf (c .before .args .w .now) s .entries) (restOf (c .before .args .w .now) .lastIssued) (c .single .result % 65536) (last-read (restOf (c .before .args .w .now)) (c .single .result) (c .single .ensures .0)))
 
 returns : tie.Need-returns Inv-loop μ-loop
 returns c = let a = c .before .before .before .before .before .args in let l = c .before .before .before .loop in let last = c .before .before .before .before .single .result % 65536 in let es : List ℕ → List Entry = (λ s. locksOf (a .w .now) s .entries) in (omega arith, omega arith, λ s. l .inv .1 s ∙ tries-hit (es s) last (l .k) (omega arith) (live-missed (a .w .now) s (tried last (l .k)) _ (c .before .slot-of-number .ensures .1 s) (omega arith)))

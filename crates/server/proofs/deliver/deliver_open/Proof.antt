@@ -32,7 +32,7 @@ skip-requires c κs = let a = c .before .before .before .before .before .before 
     let d = view (memory (a .w .now) s) in
     let es = locksOf (a .w .now) s .entries in
     let left = (connectionAt (restOf (a .w .now)) (a .c)) .remainder in
-    let er : c .before .before .before .connection .result ≡ left = ap (λ (x : Connection). x .remainder) (c .before .before .before .connection .ensures) in
+    let er : c .before .before .before .connection .result ≡ left = ap (λ (x : Connection). x .remainder) (c .before .before .before .connection .ensures .0) in
     (search needs, omega (arith, c .least .ensures), er)
 
 returns-2 : tie.Need-returns-2
@@ -42,7 +42,7 @@ returns-2 c = let a = c .before .before .before .before .before .before .before 
     let d = view (memory (a .w .now) s) in
     let es = locksOf (a .w .now) s .entries in
     let left = (connectionAt (restOf (a .w .now)) (a .c)) .remainder in
-    let er : c .before .before .before .before .connection .result ≡ left = ap (λ (x : Connection). x .remainder) (c .before .before .before .before .connection .ensures) in
+    let er : c .before .before .before .before .connection .result ≡ left = ap (λ (x : Connection). x .remainder) (c .before .before .before .before .connection .ensures .0) in
     let em : min left (length bs) ≡ c .before .least .result = ap (λ (x : ℕ). min x (length bs)) (sym er) ∙ sym (c .before .least .ensures) in
     received-as d (a .c) (slotIn es (a .c)) _ _ _ _ _ (scan left bs) refl (on-scan d (a .c) (slotIn es (a .c)) _ _ _ _ _ (roleOf es (a .c)) (scan left bs) (skipping (c .before .least .result)) (scan-skips left bs (omega arith) (omega arith) ∙ ap skipping em) (skip-done d (a .c) (slotIn es (a .c)) _ _ _ _ _ (roleOf es (a .c)) (c .before .least .result) (c .skip .ensures s (a .out .now))))
 
@@ -53,7 +53,7 @@ returns-3 c = let a = c .before .before .before .before .before .before .before 
     let d = view (memory (a .w .now) s) in
     let es = locksOf (a .w .now) s .entries in
     let left = (connectionAt (restOf (a .w .now)) (a .c)) .remainder in
-    let er : c .before .before .before .connection .result ≡ left = ap (λ (x : Connection). x .remainder) (c .before .before .before .connection .ensures) in
+    let er : c .before .before .before .connection .result ≡ left = ap (λ (x : Connection). x .remainder) (c .before .before .before .connection .ensures .0) in
     received-as d (a .c) (slotIn es (a .c)) _ _ _ _ _ (scan left bs) refl (on-scan d (a .c) (slotIn es (a .c)) _ _ _ _ _ (roleOf es (a .c)) (scan left bs) few (scan-fresh left bs (omega arith) (omega arith) ∙ scan-few bs (c .before .if3 .taken)) (few-done d (a .c) (slotIn es (a .c)) _ _ _ _ _ (roleOf es (a .c)) (did-nothing (took more-needed 0 0) _ _ _ (ap numbersOf (c .quiet2 .ensures)))))
 
 deliver-message-requires : tie.Need-deliver-message-requires
@@ -72,7 +72,7 @@ returns-4 c = let a = c .before .before .before .before .before .before .before 
     let d = view (memory (a .w .now) s) in
     let es = locksOf (a .w .now) s .entries in
     let left = (connectionAt (restOf (a .w .now)) (a .c)) .remainder in
-    let er : c .before .before .before .before .before .before .before .before .before .before .connection .result ≡ left = ap (λ (x : Connection). x .remainder) (c .before .before .before .before .before .before .before .before .before .before .connection .ensures) in
+    let er : c .before .before .before .before .before .before .before .before .before .before .connection .result ≡ left = ap (λ (x : Connection). x .remainder) (c .before .before .before .before .before .before .before .before .before .before .connection .ensures .0) in
     let p = c .before .before .before .before .before .before .place-of in
     received-as d (a .c) (p .result .slot) _ _ _ _ _ (scan left bs) (p .ensures .1 s) (on-scan d (a .c) (p .result .slot) _ _ _ _ _ (roleOf es (a .c)) (scan left bs) (freshScan bs) (scan-fresh left bs (omega arith) (omega arith)) (c .before .before .deliver-message .ensures (roleOf es (a .c)) (p .ensures .2 s)))
 

@@ -10,13 +10,13 @@ use Rattle.state.proofs.search.has_connection.Statement.{statement}
 use Rattle.state.proofs.search.has_connection.Tie as tie
 
 returns : tie.Need-returns
-returns c = let a = c .before .before .args in λ s. let e = at (locksOf (a .w .now) s .entries) (a .i) in not-live (a .c) e (number-read e (c .before .entry .result) (c .before .entry .ensures s) ∙ c .if1 .taken)
+returns c = let a = c .before .before .args in λ s. let e = at (locksOf (a .w .now) s .entries) (a .i) in not-live (a .c) e (number-read e (c .before .entry .result) (c .before .entry .ensures .0 s) ∙ c .if1 .taken)
 
 returns-2 : tie.Need-returns-2
-returns-2 c = let a = c .before .before .before .before .args in λ s. let e = at (locksOf (a .w .now) s .entries) (a .i) in on-synchronous (a .c) e (λ q. c .before .before .if1 .left (sym (number-read e (c .before .before .before .entry .result) (c .before .before .before .entry .ensures s)) ∙ q)) (synchronous-read e (c .before .entry2 .result) (c .before .entry2 .ensures s) ∙ c .if2 .taken)
+returns-2 c = let a = c .before .before .before .before .args in λ s. let e = at (locksOf (a .w .now) s .entries) (a .i) in on-synchronous (a .c) e (λ q. c .before .before .if1 .left (sym (number-read e (c .before .before .before .entry .result) (c .before .before .before .entry .ensures .0 s)) ∙ q)) (synchronous-read e (c .before .entry2 .result) (c .before .entry2 .ensures .0 s) ∙ c .if2 .taken)
 
 returns-3 : tie.Need-returns-3
-returns-3 c = let a = c .before .before .before .before .before .args in λ s. let e = at (locksOf (a .w .now) s .entries) (a .i) in on-asynchronous (a .c) e (λ q. c .before .before .before .if1 .left (sym (number-read e (c .before .before .before .before .entry .result) (c .before .before .before .before .entry .ensures s)) ∙ q)) (λ q. c .before .if2 .left (sym (synchronous-read e (c .before .before .entry2 .result) (c .before .before .entry2 .ensures s)) ∙ q)) ∙ ap (λ (x : ℕ). eqb x (a .c)) (asynchronous-read e (c .entry3 .result) (c .entry3 .ensures s))
+returns-3 c = let a = c .before .before .before .before .before .args in λ s. let e = at (locksOf (a .w .now) s .entries) (a .i) in on-asynchronous (a .c) e (λ q. c .before .before .before .if1 .left (sym (number-read e (c .before .before .before .before .entry .result) (c .before .before .before .before .entry .ensures .0 s)) ∙ q)) (λ q. c .before .if2 .left (sym (synchronous-read e (c .before .before .entry2 .result) (c .before .before .entry2 .ensures .0 s)) ∙ q)) ∙ ap (λ (x : ℕ). eqb x (a .c)) (asynchronous-read e (c .entry3 .result) (c .entry3 .ensures .0 s))
 
 pub has-connection-spec : {M : Type 1} → statement M
 has-connection-spec =
