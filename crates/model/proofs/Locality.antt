@@ -1,11 +1,11 @@
 -- Locality, proved: on any server, of any call, and so of each call of any list.
 use mathlib.Core.Path.{_≡_, refl, sym, ap, ap₂, subst, _∙_}
-use mathlib.Core.Bool.{Bool, true, false, not, _&&_, _||_, cond, true≢false, false≢true}
-use mathlib.Core.List.{List, [], _∷_, _++_, map}
+use mathlib.Core.Bool.{Bool, true, false, _||_, cond, true≢false}
+use mathlib.Core.List.{List, [], _∷_, _++_}
 use mathlib.Core.Logic.{_⊎_, inl, inr}
 use Prim.Native.Nat.{ℕ, zero, suc, _+_}
 use native.Mathlib.Omega.{arith}
-use lib.Dec.{eqb, ltb}
+use lib.Dec.{eqb}
 use lib.ListN.{take, drop}
 use borrow.Author.Tests.{eqb-true}
 use Rattle.wire.specs.declared.Header.{Header}
@@ -13,22 +13,21 @@ use Rattle.wire.specs.Message.{Message, header, messageOf}
 use Rattle.wire.specs.Frame.{Frame, frameOf}
 use Rattle.wire.specs.Class.{one-of, synchronous, asynchronous}
 use Rattle.model.specs.Sizes.{noConnection}
-use Rattle.model.specs.MessageTypes.{FatalError}
-use Rattle.model.specs.State.{Server, Rest, Entry, at, live, halfOpen, blank, slotOfNumber, connectionAt, exchangeAt, Asked, Asked.none, Asked.some}
+use Rattle.model.specs.State.{Server, Entry, at, live, halfOpen, blank, slotOfNumber, connectionAt, exchangeAt, Asked, Asked.none, Asked.some}
 use Rattle.model.specs.Interface.{Event, Event.opening, Event.delivery, Event.cut, Event.clock, Event.answer, Event.status, Outcome.acted, Outcome.closed, Reply, Reply.done, Reply.took}
 use Rattle.model.specs.Scan.{Scan, Scan.empty, Scan.few, Scan.wrong, Scan.skipping, Scan.long, Scan.part, Scan.whole, scan, size, leftover}
 use Rattle.model.specs.Place.{slotIn, slotOf, roleOf, roleBy, onConnection, entryOf, Role, Role.r-none, Role.r-halfOpen, Role.r-synchronous, Role.r-asynchronous}
 use Rattle.model.specs.Locks
-use Rattle.model.specs.Locks.{Answer, LockEvent, change, grantPass, passOver}
+use Rattle.model.specs.Locks.{LockEvent, change, grantPass, passOver}
 use Rattle.model.specs.Exchange.{answerNumber, numberAsked}
 use Rattle.model.specs.Checks
 use Rattle.model.specs.Checks.{Verdict, Verdict.v-more, Verdict.v-skipped, Verdict.v-held, Verdict.v-ignored, Verdict.v-closed, Verdict.v-acts, Verdict.v-error, Verdict.v-fatal, verdict, judged, either}
 use Rattle.model.specs.Acts
 use Rattle.model.specs.Acts.{Plan}
 use Rattle.model.specs.Refusals.{causes, refusal}
-use Rattle.model.specs.Step.{effect, received, plan, answered, finish, step, final, log, lockFrame, channels, closing, answerType}
-use Rattle.model.specs.Happening.{Heard, Heard.silence, Heard.with-code, Action, Happening, Happening.unmoved, Happening.disconnected, Happening.message-acted, heard, happened}
-use Rattle.model.specs.LocalityReplies.{saidTo, fatalTo, askedNumber, sessionSaid}
+use Rattle.model.specs.Step.{effect, received, plan, answered, finish, step, final, log, channels, closing, answerType}
+use Rattle.model.specs.Happening.{Heard, Heard.silence, Heard.with-code, Happening, Happening.unmoved, Happening.disconnected, Happening.message-acted, heard, happened}
+use Rattle.model.specs.LocalityReplies.{saidTo, askedNumber}
 use Rattle.model.specs.LocalityRows.{isSilence, Single, singly, clock-row, status-row, vendor-row, issued-row, enable-row, lockout-row, remote-row}
 use Rattle.model.specs.Locality.{atCall, Local, clientsFatalError, Locality, EachLocal, overLog, LocalRun}
 use Rattle.model.proofs.Basics.{and-l, and-r, or→, not-off}
@@ -42,7 +41,7 @@ use Rattle.model.proofs.LocalityParts.{assemble}
 use Rattle.model.proofs.LocalityRest.{rest-unmoved, rest-clock, rest-status, rest-answer, rest-opening, rest-skipped, rest-error, scan-error, rest-closing}
 use Rattle.model.proofs.LocalityLocks.{locks-unmoved, locks-opening, locks-skipped, locks-error, locks-status, locks-answer, locks-clock, locks-closing, freed, stay, pass-frames, refused-frames}
 use Rattle.model.proofs.LocalitySilence.{fatal-heard, none-heard, closes-silently}
-use Rattle.model.proofs.LocalityMessages.{action, num, LocalBy, synchronously, asynchronously, local-synchronous, local-asynchronous, issuedNow, local-0, local-17}
+use Rattle.model.proofs.LocalityMessages.{num, synchronously, asynchronously, local-synchronous, local-asynchronous, issuedNow, local-0, local-17}
 
 -- the asynchronous channel's connection is its session's second
 pub second-is : (es : List Entry) (c : ℕ) → roleOf es c ≡ r-asynchronous → (at es (slotIn es c)) .asynchronous ≡ c

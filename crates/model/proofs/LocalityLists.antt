@@ -1,18 +1,16 @@
 -- Lists that a call changes at one place, and the rows of a record read off the rows of its fields.
 use mathlib.Core.Path.{_≡_, refl, sym, ap, _∙_}
-use mathlib.Core.Bool.{Bool, true, false, not, _&&_, _||_, cond}
+use mathlib.Core.Bool.{Bool, true, false, _||_, cond}
 use mathlib.Core.List.{List, [], _∷_}
 use mathlib.Core.Logic.{_⊎_, inl, inr}
 use Prim.Native.Nat.{ℕ, _<_}
-use native.Mathlib.Omega.{arith}
 use lib.Dec.{eqb}
 use lib.ListN.{getD, set, length, length-set}
 use lib.Seq.{getD-set-same, getD-set-other}
 use borrow.Author.Tests.{eqb-true, eq-eqb, ne-eqb}
-use Rattle.model.specs.Lists.{isNil, all}
 use Rattle.model.specs.State.{Entry, Waiting, Exchange, at, blank, slotOfNumber}
 use Rattle.model.specs.Place.{slotIn}
-use Rattle.model.specs.Locks.{give, grant}
+use Rattle.model.specs.Locks.{give}
 use Rattle.model.specs.Closing.{OldestFirst, OldestFirst.pass-end, OldestFirst.pass-grant, OldestFirst.pass-wait}
 use Rattle.model.specs.Happening.{Action, Happening, Happening.unmoved, Happening.connected, Happening.disconnected, Happening.skipped-over, Happening.errored, Happening.message-acted, Happening.clock-read, Happening.status-set, Happening.answer-sent}
 use Rattle.model.specs.LocalityRows.{Row, inSlot, slotActed, clear-row, asked-row, available-row, size-row, number-row, synchronous-row, asynchronous-row, exclusive-row, shared-row}

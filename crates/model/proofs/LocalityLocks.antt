@@ -1,22 +1,22 @@
 -- Locality of the locks: what each lock event and its look leave of the slots and of the requests, and what they answer.
-use mathlib.Core.Path.{_≡_, refl, sym, ap, ap₂, _∙_}
-use mathlib.Core.Bool.{Bool, true, false, not, _&&_, _||_, cond}
-use mathlib.Core.List.{List, [], _∷_, _++_, map}
-use Prim.Native.Nat.{ℕ, _+_}
+use mathlib.Core.Path.{_≡_, refl, sym, ap, _∙_}
+use mathlib.Core.Bool.{Bool, true, false, not, cond}
+use mathlib.Core.List.{List, [], _∷_, map}
+use Prim.Native.Nat.{ℕ}
 use lib.Dec.{eqb}
-use lib.ListN.{set, length, length-set}
+use lib.ListN.{set, length-set}
 use Rattle.wire.specs.Frame.{Frame}
-use Rattle.model.specs.Lists.{isNil, keep}
+use Rattle.model.specs.Lists.{keep}
 use Rattle.model.specs.State.{Server, Locks, Entry, Waiting, at, blank, slotOfNumber}
-use Rattle.model.specs.Place.{slotIn, slotOf}
+use Rattle.model.specs.Place.{slotOf}
 use Rattle.model.specs.Locks
-use Rattle.model.specs.Locks.{Answer, give, tell, refuse, unexpired, elsewhere, passOver}
+use Rattle.model.specs.Locks.{tell, refuse, unexpired, elsewhere, passOver}
 use Rattle.model.specs.Step.{lockFrame}
-use Rattle.model.specs.Happening.{Heard, Heard.with-code, Action, Happening, Happening.unmoved, Happening.connected, Happening.disconnected, Happening.skipped-over, Happening.errored, Happening.message-acted, Happening.clock-read, Happening.status-set, Happening.answer-sent}
-use Rattle.model.specs.LocalityRows.{Row, kindOf}
+use Rattle.model.specs.Happening.{Heard, Action, Happening.unmoved, Happening.connected, Happening.disconnected, Happening.skipped-over, Happening.errored, Happening.message-acted, Happening.clock-read, Happening.status-set, Happening.answer-sent}
+use Rattle.model.specs.LocalityRows.{kindOf}
 use Rattle.model.specs.LocalityReplies.{answerTo}
-use Rattle.model.proofs.Closing.{told, Found, pass-looks}
-use Rattle.model.proofs.LocalityLists.{set-at, same-both, Rowed, row-message, row-kept, entryRow}
+use Rattle.model.proofs.Closing.{told, pass-looks}
+use Rattle.model.proofs.LocalityLists.{set-at, same-both, row-message, row-kept, entryRow}
 use Rattle.model.proofs.LocalityParts.{LocksPart}
 
 -- calls that leave the locks

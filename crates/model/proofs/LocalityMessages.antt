@@ -1,36 +1,34 @@
 -- Locality of a message that acted, type by type.
-use mathlib.Core.Path.{_≡_, refl, sym, ap, ap₂, subst, _∙_}
-use mathlib.Core.Bool.{Bool, true, false, not, _&&_, _||_, cond, true≢false}
+use mathlib.Core.Path.{_≡_, refl, ap, ap₂, _∙_}
+use mathlib.Core.Bool.{Bool, true, false, not, _&&_, _||_, cond}
 use mathlib.Core.List.{List, [], _∷_, _++_, map}
-use Prim.Native.Nat.{ℕ, zero, suc, _+_, _*_, _-_, _/_, _%_}
+use Prim.Native.Nat.{ℕ, suc, _+_}
 use native.Mathlib.Omega.{arith}
 use lib.Dec.{eqb, ltb}
 use lib.ListN.{set, length}
-use borrow.Author.Tests.{eqb-true}
 use Rattle.wire.specs.Field.{field, number}
 use Rattle.wire.specs.declared.Header.{Header}
 use Rattle.wire.specs.Frame.{Frame, frameOf}
 use Rattle.wire.specs.Class.{one-of}
 use Rattle.model.specs.Sizes.{stringLimit, sessionLimit}
 use Rattle.model.specs.Lists.{isNil, all, tally}
-use Rattle.model.specs.State.{Server, Entry, Waiting, Exchange, Asked, Asked.some, at, blank, exchangeAt, slotOfNumber, withExchange}
-use Rattle.model.specs.Interface.{Outcome, Outcome.acted, Reply, Reply.took}
-use Rattle.model.specs.Place.{slotIn, slotOf, roleOf, Role.r-asynchronous}
+use Rattle.model.specs.State.{Server, Entry, Exchange, Asked, Asked.some, at, blank, exchangeAt, slotOfNumber, withExchange}
+use Rattle.model.specs.Interface.{Outcome.acted, Reply.took}
+use Rattle.model.specs.Place.{slotOf}
 use Rattle.model.specs.Locks
-use Rattle.model.specs.Locks.{LockEvent, give, noExclusive, noShared, passOver, grantPass, change}
+use Rattle.model.specs.Locks.{LockEvent, give, noExclusive, noShared, grantPass, change}
 use Rattle.model.specs.Exchange
 use Rattle.model.specs.Exchange.{statusByte, availableAt}
 use Rattle.model.specs.Acts
 use Rattle.model.specs.Acts.{Plan, holder}
 use Rattle.model.specs.Step.{Result, finish, lockFrame}
 use Rattle.model.specs.Happening.{Heard, Heard.silence, Heard.with-code, Action, Happening.message-acted, heard}
-use Rattle.model.specs.LocalityRows.{Row, available-row}
-use Rattle.model.specs.LocalityReplies.{with16, holdsAny, answerTo, sessionSaid}
+use Rattle.model.specs.LocalityReplies.{with16, holdsAny}
 use Rattle.model.specs.Locality.{Local}
 use Rattle.model.proofs.ReadOff.{each-of}
 use Rattle.model.proofs.Closing.{pass-looks}
-use Rattle.model.proofs.LocalityLists.{row-message, row-kept, exchangeRow, entryRow}
-use Rattle.model.proofs.LocalityParts.{LocksPart, assemble}
+use Rattle.model.proofs.LocalityLists.{row-message, row-kept, entryRow}
+use Rattle.model.proofs.LocalityParts.{assemble}
 use Rattle.model.proofs.LocalityRest.{rest-touched, rest-kept, rest-flags, rest-enter}
 use Rattle.model.proofs.LocalityLocks.{locks-kept, locks-enter, locks-join, locks-clear, pass-frames, refused-frames}
 

@@ -1,16 +1,15 @@
 -- The parts of a call's locality, and the whole put together from them.
-use mathlib.Core.Path.{_≡_, refl, sym, ap, _∙_}
-use mathlib.Core.Bool.{Bool, true, false, _||_, cond}
-use mathlib.Core.List.{List, [], _∷_, _++_, map}
+use mathlib.Core.Path.{_≡_, refl, ap, _∙_}
+use mathlib.Core.List.{List, _++_, map}
 use Prim.Native.Nat.{ℕ, _<_}
 use lib.ListN.{getD, length}
-use Rattle.model.specs.State.{Server, Locks, Rest, Entry, Waiting, Exchange, Connection, RemoteLocal, at, blank, freshExchange, closedConnection, exchangeAt, connectionAt}
+use Rattle.model.specs.State.{Server, Locks, Rest, Entry, Waiting, Exchange, Connection, RemoteLocal, at, blank, freshExchange, closedConnection, connectionAt}
 use Rattle.model.specs.Interface.{Outcome, Reply.took}
 use Rattle.model.specs.Step.{Result}
 use Rattle.model.specs.Happening.{Happening}
-use Rattle.model.specs.LocalityRows.{Row, inSlot, clear-row, asked-row, available-row, size-row, number-row, synchronous-row, asynchronous-row, exclusive-row, shared-row, requestsLeft, looksAfter, open-row, remainder-row, singly, clock-row, status-row, vendor-row, issued-row, enable-row, lockout-row, remote-row}
+use Rattle.model.specs.LocalityRows.{clear-row, asked-row, available-row, size-row, requestsLeft, looksAfter, open-row, remainder-row, singly, clock-row, status-row, vendor-row, issued-row, enable-row, lockout-row, remote-row}
 use Rattle.model.specs.LocalityReplies.{direct, answeredFirst, answerTo, sessionSaid}
-use Rattle.model.specs.Locality.{entryDue, givenExclusive, givenShared, Look, Local}
+use Rattle.model.specs.Locality.{entryDue, Look, Local}
 use Rattle.model.proofs.LocalityLists.{Rowed, project, exchangeRow, entryRow, due-entry, lookedAt, look-sized, look-each}
 
 abbrev pub connectionDue : List Entry → Happening → ℕ → Connection → Connection

@@ -1,30 +1,28 @@
 -- Locality of all but the locks: what each kind of call leaves of the exchanges, the connections and the single fields.
 use mathlib.Core.Path.{_≡_, refl, sym, ap, _∙_}
-use mathlib.Core.Bool.{Bool, true, false, not, _&&_, _||_, cond, true≢false, false≢true}
+use mathlib.Core.Bool.{Bool, true, false, _&&_, _||_, cond, true≢false}
 use mathlib.Core.List.{List, [], _∷_}
 use mathlib.Core.Logic.{_⊎_, inl, inr}
 use Prim.Native.Nat.{ℕ, zero, suc, _+_, _-_, _<_, _≤_}
 use native.Mathlib.Omega.{arith}
 use lib.Dec.{eqb, ltb}
 use lib.ListN.{getD, set, length, length-set}
-use borrow.Author.Tests.{eqb-true, eq-eqb, ne-eqb, ltb-false}
-use Rattle.wire.specs.declared.Header.{Header}
-use Rattle.wire.specs.Message.{Message, header, prologue}
-use Rattle.wire.specs.Field.{number}
+use borrow.Author.Tests.{eqb-true, eq-eqb, ltb-false}
+use Rattle.wire.specs.Message.{header, prologue}
 use Rattle.wire.specs.Class.{one-of}
 use Rattle.model.specs.Sizes.{noConnection, payloadLimit}
-use Rattle.model.specs.State.{Server, Rest, Entry, Exchange, Connection, RemoteLocal, at, live, blank, freshExchange, closedConnection, openConnection, exchangeAt, connectionAt, slotOfNumber, withConnections, withConnection, withExchange, withRemoteLocal, withSession, withStatus}
-use Rattle.model.specs.Place.{slotIn, slotOf, entryOf, onConnection}
-use Rattle.model.specs.Scan.{Scan, Scan.empty, Scan.few, Scan.wrong, Scan.skipping, Scan.long, Scan.part, Scan.whole, sorted, freshScan, scan, size, leftover}
+use Rattle.model.specs.State.{Server, Entry, Exchange, Connection, RemoteLocal, at, live, blank, freshExchange, closedConnection, openConnection, exchangeAt, connectionAt, slotOfNumber, withConnection, withExchange, withRemoteLocal, withSession, withStatus}
+use Rattle.model.specs.Place.{slotOf, entryOf, onConnection}
+use Rattle.model.specs.Scan.{Scan, Scan.skipping, Scan.part, sorted, freshScan, scan, size, leftover}
 use Rattle.model.specs.Exchange
 use Rattle.model.specs.Exchange.{controlled}
 use Rattle.model.specs.Step.{channels, shutAll, closing}
 use Rattle.model.specs.Happening.{Heard, Action, Happening, Happening.unmoved, Happening.connected, Happening.disconnected, Happening.skipped-over, Happening.errored, Happening.message-acted, Happening.clock-read, Happening.status-set, Happening.answer-sent}
-use Rattle.model.specs.LocalityRows.{Row, kindOf, slotActed, concerns, connectionsOf, Single, singly, status-row, vendor-row, issued-row, enable-row, lockout-row, remote-row}
-use Rattle.model.proofs.Basics.{and-l, or→, or-of, or-r}
+use Rattle.model.specs.LocalityRows.{kindOf, concerns, connectionsOf, Single, singly, status-row, vendor-row, issued-row, enable-row, lockout-row, remote-row}
+use Rattle.model.proofs.Basics.{or→, or-of, or-r}
 use Rattle.model.proofs.Place.{place-sound}
-use Rattle.model.proofs.LocalityLists.{set-at, touch, Rowed, row-message, row-kept, exchangeRow}
-use Rattle.model.proofs.LocalityParts.{connectionDue, Places, Singles, RestPart}
+use Rattle.model.proofs.LocalityLists.{set-at, touch, row-message, row-kept, exchangeRow}
+use Rattle.model.proofs.LocalityParts.{Singles, RestPart}
 
 -- what stands once changes by messages, clock readings and status changes alone
 abbrev Still : Happening → Type 0

@@ -1,6 +1,6 @@
 -- A delivery that closes sends FatalError, but for a client's own FatalError on an established session.
 use mathlib.Core.Path.{_≡_, refl, sym, ap, _∙_}
-use mathlib.Core.Bool.{Bool, true, false, not, _&&_, cond, true≢false, false≢true}
+use mathlib.Core.Bool.{Bool, true, false, not, _&&_, cond, false≢true}
 use mathlib.Core.List.{List, [], _∷_, _++_, map}
 use Prim.Native.Nat.{ℕ, zero, suc, _+_}
 use native.Mathlib.Omega.{arith}
@@ -12,17 +12,17 @@ use Rattle.wire.specs.Frame.{Frame, frameOf}
 use Rattle.model.specs.Sizes.{noConnection, payloadLimit}
 use Rattle.model.specs.MessageTypes.{FatalError}
 use Rattle.model.specs.Lists.{all}
-use Rattle.model.specs.State.{Server, Entry, at, live, connectionAt}
-use Rattle.model.specs.Interface.{Event, Event.delivery, Outcome.closed, Reply.took}
-use Rattle.model.specs.Scan.{Scan, Scan.empty, Scan.few, Scan.wrong, Scan.skipping, Scan.long, Scan.part, Scan.whole, sorted, freshScan, scan, size}
-use Rattle.model.specs.Place.{slotOf, slotIn, roleOf, roleBy, entryOf, Role, Role.r-none, Role.r-halfOpen, Role.r-synchronous, Role.r-asynchronous}
+use Rattle.model.specs.State.{Server, Entry, live, connectionAt}
+use Rattle.model.specs.Interface.{Event.delivery, Outcome.closed, Reply.took}
+use Rattle.model.specs.Scan.{Scan, Scan.empty, Scan.few, Scan.wrong, Scan.skipping, Scan.long, Scan.part, Scan.whole, sorted, freshScan, scan}
+use Rattle.model.specs.Place.{slotOf, roleOf, roleBy, entryOf, Role, Role.r-none, Role.r-halfOpen, Role.r-synchronous, Role.r-asynchronous}
 use Rattle.model.specs.Locks.{Answer, change, grantPass, passOver}
 use Rattle.model.specs.Checks
 use Rattle.model.specs.Checks.{Verdict, Verdict.v-more, Verdict.v-skipped, Verdict.v-held, Verdict.v-ignored, Verdict.v-closed, Verdict.v-acts, Verdict.v-error, Verdict.v-fatal, Rule, first, verdict, judged, either}
 use Rattle.model.specs.Acts
 use Rattle.model.specs.Refusals.{refusal}
 use Rattle.model.specs.Step.{effect, received, plan, answered, finish, step, lockFrame}
-use Rattle.model.specs.Happening.{Heard, Heard.silence, Heard.with-code, heard}
+use Rattle.model.specs.Happening.{Heard.silence, Heard.with-code, heard}
 use Rattle.model.specs.LocalityRows.{isSilence}
 use Rattle.model.specs.Locality.{clientsFatalError}
 use Rattle.model.proofs.Basics.{and-l, and-r, not-of, and-true}

@@ -1,12 +1,11 @@
 -- The table of locality leaves nothing free: two outcomes of one call that both meet it are one.
 use mathlib.Core.Path.{_≡_, refl, sym, ap, ap₂, _∙_}
-use mathlib.Core.Bool.{Bool, true, false, cond}
+use mathlib.Core.Bool.{Bool, true, false}
 use mathlib.Core.List.{List, [], _∷_, _++_, map}
-use Prim.Native.Nat.{ℕ, zero, suc, _<_}
+use Prim.Native.Nat.{ℕ, suc, _<_}
 use native.Mathlib.Omega.{arith}
 use lib.ListN.{getD, length}
-use Rattle.wire.specs.Frame.{Frame}
-use Rattle.model.specs.State.{Server, Locks, Rest, Entry, Waiting, Exchange, Connection, RemoteLocal, at, blank, freshExchange, closedConnection, exchangeAt, connectionAt}
+use Rattle.model.specs.State.{Server, Entry, Waiting, at, blank, freshExchange, closedConnection}
 use Rattle.model.specs.Locks.{mayGrant, after, passOver}
 use Rattle.model.specs.Step.{Result}
 use Rattle.model.specs.Closing.{OldestFirst, OldestFirst.pass-end, OldestFirst.pass-grant, OldestFirst.pass-wait}

@@ -9,7 +9,7 @@ use Rattle.model.specs.Lists.{isNil, any, keep, tally}
 use Rattle.model.specs.State.{Server, Entry, Waiting, Asked, Asked.none, Asked.some, at, live, slotOfNumber, exchangeAt}
 use Rattle.model.specs.Place.{slotIn}
 use Rattle.model.specs.Happening.{Heard, Heard.silence, Heard.with-code, Action, Happening, Happening.unmoved, Happening.connected, Happening.disconnected, Happening.skipped-over, Happening.errored, Happening.message-acted, Happening.clock-read, Happening.status-set, Happening.answer-sent}
-use Rattle.model.specs.LocalityRows.{kindOf, slotActed, Row, available-row, requestsOf, reachedBy, connectionsOf}
+use Rattle.model.specs.LocalityRows.{kindOf, slotActed, available-row, requestsOf, reachedBy, connectionsOf}
 
 -- a message to a connection with a type, code and parameter and no payload
 abbrev pub plainTo : ℕ → ℕ → ℕ → ℕ → Frame
