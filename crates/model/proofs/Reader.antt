@@ -5,12 +5,12 @@ use mathlib.Core.List.{List}
 use Prim.Native.Nat.{ℕ, _+_, _≤_, _<_}
 use native.Mathlib.Omega.{arith}
 use lib.Dec.{ltb}
-use lib.ListN.{length, take, drop, length-append, length-take, length-drop}
+use lib.ListN.{length, take, drop, length-take, length-drop}
 use lib.Seq.{take-at}
 use borrow.Author.Tests.{ltb-true, ltb-false}
 use Rattle.wire.specs.declared.Header.{Header}
 use Rattle.wire.specs.Field.{Bytes}
-use Rattle.wire.specs.Message.{Message, header, headerOf, headerBytes, prologue, messageOf, encode, Decoded, decided, decode}
+use Rattle.wire.specs.Message.{Message, header, headerOf, prologue, messageOf, encode, Decoded, decided, decode}
 use Rattle.wire.specs.RoundTrip.{encode-decode}
 use Rattle.wire.proofs.ReadFrames.{length-encode}
 use Rattle.model.specs.Sizes.{payloadLimit}
