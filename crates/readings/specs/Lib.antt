@@ -4,5 +4,6 @@ pub mod Watch
 pub mod Record
 pub mod Block
 pub mod Payload
+pub mod Some
 pub mod Request
 pub mod Examples
