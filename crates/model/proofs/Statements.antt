@@ -25,6 +25,7 @@ use Rattle.model.proofs.Tied.{tie}
 use Rattle.model.proofs.Isolation.{isolated}
 use Rattle.model.proofs.IsolationRun.{isolation-run}
 use Rattle.model.proofs.Locality.{local-run}
+use Rattle.model.proofs.LocalityTable.{nothing-free}
 use Rattle.model.proofs.Fewer.{fewer-never-hurts}
 use Rattle.model.proofs.Fits.{found-run, inv-run}
 use Rattle.model.proofs.OneString.{one-string}
@@ -65,6 +66,7 @@ statements =
         isolated = isolated;
         isolation = isolation-run;
         locality = local-run;
+        nothing-free = nothing-free;
         fewer-locks = fewer-never-hurts;
         found = found-run;
         one-string = one-string;

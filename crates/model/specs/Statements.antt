@@ -38,7 +38,7 @@ use Rattle.model.specs.Tie.{Tie}
 use Rattle.model.specs.Isolation.{Isolated}
 use Rattle.model.specs.IsolationRun.{IsolationRun}
 use Rattle.model.specs.Fewer.{FewerNeverHurts}
-use Rattle.model.specs.Locality.{LocalRun}
+use Rattle.model.specs.Locality.{LocalRun, NothingFree}
 use Rattle.model.specs.OneString.{OneStringRun}
 use Rattle.model.specs.AlwaysRoom.{AlwaysRoom}
 
@@ -104,6 +104,8 @@ pub record Beyond : Type 0 where
   pub isolation : (v : ℕ) (es : List Event) (j : ℕ) → IsolationRun v es j
   -- which call changes which field, and to what
   pub locality : (d : Server) (es : List Event) → LocalRun d es
+  -- and that table leaves nothing free: what happened decides the whole server after the call, and every frame
+  pub nothing-free : NothingFree
   -- where others hold fewer locks nobody is worse off
   pub fewer-locks : FewerNeverHurts
   -- the session that has a connection is the one that is found
