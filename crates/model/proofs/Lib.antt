@@ -59,3 +59,4 @@ pub mod Statements
 pub mod Sending
 pub mod LocalityTable
 pub mod Outcomes
+pub mod Missing
