@@ -74,9 +74,9 @@ extern "C" {
 /* The version of this interface. A change of the first number, or below 1.0 of the second, may ask
  * for changes in the host. */
 #define HISLIP_VERSION_MAJOR 0
-#define HISLIP_VERSION_MINOR 1
+#define HISLIP_VERSION_MINOR 2
 #define HISLIP_VERSION_PATCH 0
-#define HISLIP_VERSION "0.1.0"
+#define HISLIP_VERSION "0.2.0"
 
 /* Compilers that know these words warn; the others pass over them.
  * HISLIP_NOT_NULL: no pointer is null, see WHAT THE HOST OWES.
@@ -154,9 +154,11 @@ extern "C" {
 
 /* The answer to a delivery. `session`: the session's number if the outcome is closed (0 if the
  * connection had none) or acted on, else 0. `taken`: bytes the host drops from the front of the
- * unread ones. `output`: bytes of frames in `out`. */
+ * unread ones. `output`: bytes of frames in `out`. `missing`: with more needed, how many bytes: 16
+ * less what is here, the rest of the payload, or, with no bytes given, the remainder to skip if there
+ * is one; with any other outcome 0. */
 typedef struct {
-    uint64_t refusal, outcome, session, taken, output;
+    uint64_t refusal, outcome, session, taken, output, missing;
 } hislip_delivery;
 
 /* The answer to any other event that has one. An opening's `output` is 0. */

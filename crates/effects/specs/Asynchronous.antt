@@ -49,7 +49,7 @@ kind-last t n₁ n₂ n₃ n₄ n₅ = rw (ne-eqb t 4 n₁, ne-eqb t 10 n₂, ne
 
 -- what is returned: of session n, with so many bytes of payload taken and so many bytes written
 abbrev pub delivered : ℕ → ℕ → ℕ → Delivery
-delivered n len size = record { refusal = 0; outcome = 6; session = n; taken = 16 + len; output = size }
+delivered n len size = record { refusal = 0; outcome = 6; session = n; taken = 16 + len; output = size; missing = 0 }
 
 -- a plan of this lane: all but the locks, what is said, the lock event
 abbrev pub planWith : Server → ℕ → ℕ → Rest → List Frame → LockEvent → Plan
@@ -64,7 +64,7 @@ pub did-with : (d : Server) (i n len size : ℕ) (q : Rest) (fs : List Frame) (v
 unfolding finish
 did-with d i n len size q fs v told m m′ out out′ xs t e f y b z =
     record {
-      numbers = ap numbersOf t ∙ (λ j. record { refusal = 0; outcome = 6; session = ap (λ (x : Entry). x .number) e j; taken = 16 + len; output = (z ∙ ap (λ (x : List Frame). length (bytesOf x)) (sym f)) j });
+      numbers = ap numbersOf t ∙ (λ j. record { refusal = 0; outcome = 6; session = ap (λ (x : Entry). x .number) e j; taken = 16 + len; output = (z ∙ ap (λ (x : List Frame). length (bytesOf x)) (sym f)) j; missing = 0 });
       server = y;
       buffer = b ∙ ap (written out) (sym f);
       same-memory = λ y. absurd (true≢false (sym y));

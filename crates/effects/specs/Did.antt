@@ -17,28 +17,32 @@ use Rattle.state.specs.View.{Memory, view}
 use Rattle.effects.specs.declared.Delivery.{Delivery}
 
 abbrev pub numbersOf : Delivery → DeliveryAnswer
-numbersOf r = record { refusal = r .refusal; outcome = r .outcome; session = r .session; taken = r .taken; output = r .output }
+numbersOf r = record { refusal = r .refusal; outcome = r .outcome; session = r .session; taken = r .taken; output = r .output; missing = r .missing }
 
--- x is the model's result, r what is returned, m and m′ the memory before and after
-pub record Did (x : Result) (r : Delivery) (m m′ : Memory) (out out′ : List ℕ) : Type 0 where
-  pub numbers : numbersOf r ≡ deliveryAnswer (x .reply) (length (bytesOf (x .frames)))
+-- k bytes are missing, x is the model's result, r what is returned, m and m′ the memory before and after
+pub record DidWith (k : ℕ) (x : Result) (r : Delivery) (m m′ : Memory) (out out′ : List ℕ) : Type 0 where
+  pub numbers : numbersOf r ≡ deliveryAnswer (x .reply) (length (bytesOf (x .frames))) k
   pub server : view m′ ≡ x .server
   pub buffer : out′ ≡ written out (x .frames)
   pub same-memory : omits (x .reply) ≡ true → m′ ≡ m
   pub same-buffer : omits (x .reply) ≡ true → out′ ≡ out
+
+-- nothing is missing
+abbrev pub Did : Result → Delivery → Memory → Memory → List ℕ → List ℕ → Type 0
+Did x r m m′ out out′ = DidWith 0 x r m m′ out out′
 
 -- a plan that is no lock event
 abbrev pub plainly : Reply → Rest → List Frame → Plan
 plainly y q fs = record { reply = y; rest = q; said = fs; event = nothing }
 
 pub did-plainly : (d : Server) (y : Reply) (q : Rest) (fs : List Frame) (r : Delivery) (m m′ : Memory) (out out′ : List ℕ)
-    → numbersOf r ≡ deliveryAnswer y (length (bytesOf fs)) → view m′ ≡ record { locks = d .locks; rest = q } → out′ ≡ written out fs → omits y ≡ false
+    → numbersOf r ≡ deliveryAnswer y (length (bytesOf fs)) 0 → view m′ ≡ record { locks = d .locks; rest = q } → out′ ≡ written out fs → omits y ≡ false
     → Did (finish d (plainly y q fs)) r m m′ out out′
 unfolding finish change
 did-plainly d y q fs r m m′ out out′ n v b o =
     let e : fs ++ [] ≡ fs = append-nil fs in
     record {
-      numbers = n ∙ ap (λ (x : List Frame). deliveryAnswer y (length (bytesOf x))) (sym e);
+      numbers = n ∙ ap (λ (x : List Frame). deliveryAnswer y (length (bytesOf x)) 0) (sym e);
       server = v;
       buffer = b ∙ ap (written out) (sym e);
       same-memory = λ z. absurd (true≢false (sym z ∙ o));
@@ -46,7 +50,7 @@ did-plainly d y q fs r m m′ out out′ n v b o =
     }
 
 -- nothing is changed and nothing is sent: more needed, held
-pub did-nothing : (y : Reply) (r : Delivery) (m : Memory) (out : List ℕ) → numbersOf r ≡ deliveryAnswer y 0 → Did (finish (view m) (idle (view m) y)) r m m out out
+pub did-nothing : (k : ℕ) (y : Reply) (r : Delivery) (m : Memory) (out : List ℕ) → numbersOf r ≡ deliveryAnswer y 0 k → DidWith k (finish (view m) (idle (view m) y)) r m m out out
 unfolding finish change bytesOf
-did-nothing y r m out n =
+did-nothing k y r m out n =
     record { numbers = n; server = refl; buffer = sym (splice-nil out 0); same-memory = λ z. refl; same-buffer = λ z. refl }

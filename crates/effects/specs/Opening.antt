@@ -46,7 +46,7 @@ finish-quietly d y q fs e a f =
 
 pub did-quietly : (d : Server) (y : Reply) (q : Rest) (fs : List Frame) (e : LockEvent) (r : Delivery) (m m′ : Memory) (out out′ : List ℕ)
     → (change (d .locks) e) .answers ≡ [] → frees e ≡ false
-    → numbersOf r ≡ deliveryAnswer y (length (bytesOf fs)) → view m′ ≡ changed d e q → out′ ≡ written out fs → omits y ≡ false
+    → numbersOf r ≡ deliveryAnswer y (length (bytesOf fs)) 0 → view m′ ≡ changed d e q → out′ ≡ written out fs → omits y ≡ false
     → Did (finish d (planned y q fs e)) r m m′ out out′
 did-quietly d y q fs e r m m′ out out′ a f n v b o =
     subst (λ (z : Result). Did z r m m′ out out′) (sym (finish-quietly d y q fs e a f))
@@ -61,7 +61,7 @@ did-quietly d y q fs e r m m′ out out′ a f n v b o =
 -- a message that acts, of session n, with k bytes taken and one frame without payload sent
 pub did-with-frame : (d : Server) (k n : ℕ) (q : Rest) (c t code p : ℕ) (e : LockEvent) (r : Delivery) (m m′ : Memory) (out out′ : List ℕ)
     → (change (d .locks) e) .answers ≡ [] → frees e ≡ false
-    → numbersOf r ≡ record { refusal = 0; outcome = 6; session = n; taken = k; output = 17 }
+    → numbersOf r ≡ record { refusal = 0; outcome = 6; session = n; taken = k; output = 17; missing = 0 }
     → view m′ ≡ changed d e q
     → out′ ≡ splice out 0 (frameBytes (frameOf c t code p []))
     → Did (finish d (planned (took acted k n) q (frameOf c t code p [] ∷ []) e)) r m m′ out out′
@@ -69,7 +69,7 @@ did-with-frame d k n q c t code p e r m m′ out out′ a f g v b =
     let x : Frame = frameOf c t code p [] in
     let l : length (bytesOf (x ∷ [])) ≡ 17 = ap length (bytes-one x) ∙ length-frame x in
     did-quietly d (took acted k n) q (x ∷ []) e r m m′ out out′ a f
-    (g ∙ ap (deliveryAnswer (took acted k n)) (sym l)) v (b ∙ ap (splice out 0) (sym (bytes-one x))) refl
+    (g ∙ ap (λ (z : ℕ). deliveryAnswer (took acted k n) z 0) (sym l)) v (b ∙ ap (splice out 0) (sym (bytes-one x))) refl
 
 -- a session's slot, exchange and number are stored
 pub session-entered : (d d₁ d₂ d₃ : Server) (l : Locks) (i n : ℕ) → n < 65536 → d₁ .locks ≡ l → d₁ .rest ≡ d .rest
@@ -86,7 +86,7 @@ session-entered d d₁ d₂ d₃ l i n h p q e₂ e₃ =
 -- Initialize: from the slot and the number that were found
 pub initialized : (d : Server) (c i n v : ℕ) (h : Header) (r : Delivery) (m m′ : Memory) (out out′ : List ℕ)
     → slotOfNumber (d .locks .entries) 0 ≡ i → issued sessionLimit 0 (d .locks .entries) (d .rest .lastIssued) ≡ n → v ≡ min (h .param / 65536) protocolVersion
-    → numbersOf r ≡ record { refusal = 0; outcome = 6; session = n; taken = 16 + h .len; output = 17 }
+    → numbersOf r ≡ record { refusal = 0; outcome = 6; session = n; taken = 16 + h .len; output = 17; missing = 0 }
     → view m′ ≡ changed d (enter i n c) (withSession (d .rest) i n)
     → out′ ≡ splice out 0 (frameBytes (frameOf c InitializeResponse 0 (v * 65536 + n) []))
     → Did (finish d (opens true d c h)) r m m′ out out′
@@ -101,7 +101,7 @@ initialized d c i n v h r m m′ out out′ e f g x s b =
 -- AsyncInitialize: from the slot that was found and the vendor number that was read
 pub async-initialized : (d : Server) (c i v : ℕ) (h : Header) (r : Delivery) (m m′ : Memory) (out out′ : List ℕ)
     → slotOfNumber (d .locks .entries) (h .param) ≡ i → d .rest .vendor ≡ v
-    → numbersOf r ≡ record { refusal = 0; outcome = 6; session = h .param; taken = 16 + h .len; output = 17 }
+    → numbersOf r ≡ record { refusal = 0; outcome = 6; session = h .param; taken = 16 + h .len; output = 17; missing = 0 }
     → view m′ .locks ≡ (change (d .locks) (join i c)) .locks → view m′ .rest ≡ d .rest
     → out′ ≡ splice out 0 (frameBytes (frameOf c AsyncInitializeResponse 0 v []))
     → Did (finish d (opens false d c h)) r m m′ out out′

@@ -65,7 +65,7 @@ one-frame out out′ f e = e ∙ ap (splice out 0) (sym (bytes-one f))
 -- a closing: what is said first, then the answers of the grant pass
 pub did-closing : (d : Server) (c i : ℕ) (fs : List Frame) (r : Delivery) (m m′ : Memory) (out out₁ out′ : List ℕ) (at′ end : ℕ)
     → out₁ ≡ splice out 0 (bytesOf fs) → at′ ≡ length (bytesOf fs) → length (bytesOf fs) ≤ length out → Closes d c i m′ out₁ out′ at′ end
-    → numbersOf r ≡ deliveryAnswer (took closed 0 ((at (d .locks .entries) i) .number)) end
+    → numbersOf r ≡ deliveryAnswer (took closed 0 ((at (d .locks .entries) i) .number)) end 0
     → Did (finish d (closePlan d c i fs)) r m m′ out out′
 unfolding finish change
 did-closing d c i fs r m m′ out out₁ out′ at′ end b a room p n =
@@ -75,7 +75,7 @@ did-closing d c i fs r m m′ out out₁ out′ at′ end b a room p n =
     let l : end ≡ length (bytesOf (fs ++ gs)) = p .place ∙ ap (λ (x : ℕ). x + length (bytesOf gs)) a ∙ sym (ap length e ∙ length-append (bytesOf fs) (bytesOf gs)) in
     let q : 0 + length (bytesOf fs) ≤ length out = omega arith in
     record {
-      numbers = n ∙ ap (deliveryAnswer (took closed 0 ((at (d .locks .entries) i) .number))) l;
+      numbers = n ∙ ap (λ (x : ℕ). deliveryAnswer (took closed 0 ((at (d .locks .entries) i) .number)) x 0) l;
       server = p .server;
       buffer = p .buffer ∙ ap₂ (λ (x : List ℕ) (y : ℕ). splice x y (bytesOf gs)) b (a ∙ sym z) ∙ splice-splice out 0 (bytesOf fs) q (bytesOf gs) ∙ ap (splice out 0) (sym e);
       same-memory = λ y. absurd (true≢false (sym y));

@@ -89,9 +89,9 @@ module _ (d : Server) (i c : ℕ) (h : Header) (p : List ℕ) where
 
 -- a message acts: from its plan, its numbers, its stores and its frames
 pub did-act : (d : Server) (i k : ℕ) (g : Exchange → Exchange) (fs : List Frame.Frame) (x : Plan) (session output : ℕ) (r : Delivery) (m m′ : Memory) (out out′ : List ℕ)
-    → x ≡ actPlan d i k g fs → r ≡ record { refusal = 0; outcome = 6; session = session; taken = k; output = output } → (at (d .locks .entries) i) .number ≡ session
+    → x ≡ actPlan d i k g fs → r ≡ record { refusal = 0; outcome = 6; session = session; taken = k; output = output; missing = 0 } → (at (d .locks .entries) i) .number ≡ session
     → output ≡ length (Frame.bytesOf fs) → view m′ ≡ onRest d (withSlot i g) → out′ ≡ Frame.written out fs → Did (finish d x) r m m′ out out′
 did-act d i k g fs x session output r m m′ out out′ e q n l v b =
     subst (λ (y : Plan). Did (finish d y) r m m′ out out′) (sym e)
     (did-plainly d (took acted k ((at (d .locks .entries) i) .number)) (withSlot i g (d .rest)) fs r m m′ out out′
-    (ap numbersOf q ∙ ap₂ (λ (y z : ℕ). record { refusal = 0; outcome = 6; session = y; taken = k; output = z }) (sym n) l) v b refl)
+    (ap numbersOf q ∙ ap₂ (λ (y z : ℕ). record { refusal = 0; outcome = 6; session = y; taken = k; output = z; missing = 0 }) (sym n) l) v b refl)

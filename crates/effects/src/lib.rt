@@ -10,7 +10,7 @@ pub mod session_id;
 pub mod synchronous;
 
 // What a delivery answers the host: the refusal (0: none); the outcome; the session's number; the bytes taken; how many bytes of the output
-// hold frames.
+// hold frames; how many bytes are missing, if more are needed.
 #[repr(C)]
 pub struct Delivery {
     pub refusal: u64,
@@ -18,4 +18,5 @@ pub struct Delivery {
     pub session: u64,
     pub taken: u64,
     pub output: u64,
+    pub missing: u64,
 }

@@ -60,3 +60,4 @@ pub mod Statements
 pub mod Sending
 pub mod LocalityTable
 pub mod Outcomes
+pub mod Missing

@@ -313,8 +313,11 @@ flags-kept = refl
 pub outcomes-hold : map outcomeNumber (more-needed ∷ skipped ∷ held ∷ ignored ∷ error-sent ∷ closed ∷ acted ∷ []) ≡ 0 ∷ 1 ∷ 2 ∷ 3 ∷ 4 ∷ 5 ∷ 6 ∷ []
 outcomes-hold = refl
 
-pub answers-hold : deliveryAnswer (refused 7) 0 ∷ deliveryAnswer (took acted 19 2) 17 ∷ []
-    ≡ record { refusal = 7; outcome = 0; session = 0; taken = 0; output = 0 } ∷ record { refusal = 0; outcome = 6; session = 2; taken = 19; output = 17 } ∷ []
+pub answers-hold : deliveryAnswer (refused 7) 0 0 ∷ deliveryAnswer (took acted 19 2) 17 0 ∷ deliveryAnswer (took more-needed 0 0) 0 9 ∷ []
+    ≡ record { refusal = 7; outcome = 0; session = 0; taken = 0; output = 0; missing = 0 }
+    ∷ record { refusal = 0; outcome = 6; session = 2; taken = 19; output = 17; missing = 0 }
+    ∷ record { refusal = 0; outcome = 0; session = 0; taken = 0; output = 0; missing = 9 }
+    ∷ []
 answers-hold = refl
 
 pub done-hold : doneAnswer (refused 3) 0 ∷ doneAnswer done 34 ∷ [] ≡ record { refusal = 3; output = 0 } ∷ record { refusal = 0; output = 34 } ∷ []

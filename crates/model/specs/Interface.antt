@@ -72,18 +72,20 @@ bufferTooSmall = 7
 abbrev pub noSuchSession : ℕ
 noSuchSession = 8
 
--- what hislip_deliver returns, from the reply and the bytes written: on a refusal every other number is 0
+-- what hislip_deliver returns, from the reply, the bytes written and the bytes missing (specs/Missing.antt): on a refusal every other
+-- number is 0
 pub record DeliveryAnswer : Type 0 where
   pub refusal : ℕ
   pub outcome : ℕ
   pub session : ℕ
   pub taken : ℕ
   pub output : ℕ
+  pub missing : ℕ
 
-abbrev pub deliveryAnswer : Reply → ℕ → DeliveryAnswer
-deliveryAnswer (refused n) output = record { refusal = n; outcome = 0; session = 0; taken = 0; output = 0 }
-deliveryAnswer done output = record { refusal = 0; outcome = 0; session = 0; taken = 0; output = output }
-deliveryAnswer (took o k n) output = record { refusal = 0; outcome = outcomeNumber o; session = n; taken = k; output = output }
+abbrev pub deliveryAnswer : Reply → ℕ → ℕ → DeliveryAnswer
+deliveryAnswer (refused n) output missing = record { refusal = n; outcome = 0; session = 0; taken = 0; output = 0; missing = 0 }
+deliveryAnswer done output missing = record { refusal = 0; outcome = 0; session = 0; taken = 0; output = output; missing = 0 }
+deliveryAnswer (took o k n) output missing = record { refusal = 0; outcome = outcomeNumber o; session = n; taken = k; output = output; missing = missing }
 
 -- what the other calls return
 pub record DoneAnswer : Type 0 where

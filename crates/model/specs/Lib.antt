@@ -51,3 +51,4 @@ pub mod Locality
 pub mod Statements
 pub mod Sending
 pub mod Outcomes
+pub mod Missing

@@ -27,6 +27,7 @@ use Rattle.model.specs.Canonical.{Canonical}
 use Rattle.model.specs.FixedPoint.{FixedPoint}
 use Rattle.model.specs.OnlyWhole.{TakenWhole}
 use Rattle.model.specs.Outcomes.{OutcomesTell}
+use Rattle.model.specs.Missing.{TellsMissing}
 use Rattle.model.specs.LockModel.{freshModel}
 use Rattle.model.specs.Agreement.{Agreement}
 use Rattle.model.specs.Deciding.{Deciding, EachDecides}
@@ -70,6 +71,8 @@ pub record Demand2 : Type 0 where
   pub shared-rule : (es : List Entry) (i x : ℕ) (k : List ℕ) → (mayGrant es i (x ∷ k) ≡ true) ↔ MayShared es i (x ∷ k)
   -- "While a program lacks access, its data and triggers of permitted size are held, neither acted on nor lost"
   pub access : (d : Server) (c : ℕ) (bs : List ℕ) (room : ℕ) → Access d c bs room
+  -- 02, Q-4: "With "more needed" the answer tells how many bytes are missing", and that many are enough
+  pub missing : (d : Server) (c : ℕ) (bs : List ℕ) (room : ℕ) → TellsMissing d c bs room
 
 -- Demand 3, part by part, and whole (`calls`) for any list of calls that each meet the contract `Post`
 pub record Demand3Parts : Type 1 where

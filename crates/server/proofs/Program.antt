@@ -66,19 +66,19 @@ abbrev tells : DeliveryAnswer → Reply
 tells a = refusedOr (a .refusal) (took (outcomeOf (a .outcome)) (a .taken) (a .session))
 
 -- an accepted delivery's numbers, a refused one's
-told-took : (y : Reply) → Took y → (n : ℕ) (r : Delivery) → numbersOf r ≡ deliveryAnswer y n → Tells r y n
-told-took (refused z) t n r e = absurd t
-told-took done t n r e = absurd t
-told-took (took o k s) t n r e = (ap tells e ∙ ap (λ (x : Outcome). took x k s) (outcome-of o), ap (λ (a : DeliveryAnswer). a .output) e)
+told-took : (y : Reply) → Took y → (n l : ℕ) (r : Delivery) → numbersOf r ≡ deliveryAnswer y n l → Tells r y n
+told-took (refused z) t n l r e = absurd t
+told-took done t n l r e = absurd t
+told-took (took o k s) t n l r e = (ap tells e ∙ ap (λ (x : Outcome). took x k s) (outcome-of o), ap (λ (a : DeliveryAnswer). a .output) e)
 
-told-delivery : (d : Server) (c : ℕ) (bs : List ℕ) (room : ℕ) (r : Delivery) → numbersOf r ≡ deliveryAnswer ((step d (delivery c bs room)) .reply) (length (bytesOf ((step d (delivery c bs room)) .frames)))
+told-delivery : (d : Server) (c : ℕ) (bs : List ℕ) (room l : ℕ) (r : Delivery) → numbersOf r ≡ deliveryAnswer ((step d (delivery c bs room)) .reply) (length (bytesOf ((step d (delivery c bs room)) .frames))) l
     → Tells r ((step d (delivery c bs room)) .reply) (length (bytesOf ((step d (delivery c bs room)) .frames)))
 unfolding step answered plan received finish bytesOf
-told-delivery d c bs room r e = go (refusal d (delivery c bs room)) e
+told-delivery d c bs room l r e = go (refusal d (delivery c bs room)) e
   where
-    go : (z : ℕ) → numbersOf r ≡ deliveryAnswer ((answered z d (delivery c bs room)) .reply) (length (bytesOf ((answered z d (delivery c bs room)) .frames)))
+    go : (z : ℕ) → numbersOf r ≡ deliveryAnswer ((answered z d (delivery c bs room)) .reply) (length (bytesOf ((answered z d (delivery c bs room)) .frames))) l
         → Tells r ((answered z d (delivery c bs room)) .reply) (length (bytesOf ((answered z d (delivery c bs room)) .frames)))
-    go zero e = told-took _ (effect-took _ _ _ d _ c) _ r e
+    go zero e = told-took _ (effect-took _ _ _ d _ c) _ l r e
     go (suc z) e = (ap tells e, ap (λ (a : DeliveryAnswer). a .output) e)
 
 -- the same of the other calls: done, or refused
@@ -120,7 +120,7 @@ module _ (e : Event) (m m′ : Memory) (out out′ : List ℕ) where
 delivery-post : (c : ℕ) (bs : List ℕ) (room : ℕ) (m m′ : Memory) (out out′ : List ℕ) (r : Delivery) → Delivered (delivery c bs room) r m m′ out out′
     → Post view (delivery c bs room) m m′ out out′ (deliveryReply r) (r .output)
 delivery-post c bs room m m′ out out′ r p =
-    let t = told-delivery (view m) c bs room r (p .numbers) in
+    let t = told-delivery (view m) c bs room _ r (p .numbers) in
     retold (delivery c bs room) m m′ out out′ (deliveryReply r) (r .output) (t .0) (t .1) (p .post)
 
 -- a run is a list of calls

@@ -135,7 +135,7 @@ pub acts-as : (d : Server) (i c : ℕ) (h : Header) (p : List ℕ) (r : Delivery
 acts-as d i c h p r m m′ out out′ ro ro′ e q = subst (λ (x : Role). Did (finish d (acts x d i c h p)) r m m′ out out′) (sym e) q
 
 -- the connection of a half-open session never gets here; the definition says this
-pub half-acts : (m : Memory) (i c : ℕ) (h : Header) (p out : List ℕ) (r : Delivery) → r ≡ record { refusal = 0; outcome = 6; session = 0; taken = 16 + h .len; output = 0 }
+pub half-acts : (m : Memory) (i c : ℕ) (h : Header) (p out : List ℕ) (r : Delivery) → r ≡ record { refusal = 0; outcome = 6; session = 0; taken = 16 + h .len; output = 0; missing = 0 }
     → Did (finish (view m) (acts r-halfOpen (view m) i c h p)) r m m out out
 unfolding acts bytesOf
 half-acts m i c h p out r e = did-plainly (view m) (took acted (16 + h .len) 0) (view m .rest) [] r m m out out (ap numbersOf e) refl (nothing-said out) refl

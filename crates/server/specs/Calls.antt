@@ -8,19 +8,20 @@ use Rattle.wire.specs.Frame.{bytesOf}
 use Rattle.wire.specs.Splice.{splice-nil}
 use Rattle.model.specs.State.{Server, connectionAt}
 use Rattle.model.specs.Interface.{Event, Event.delivery, Reply.refused, deliveryAnswer}
+use Rattle.model.specs.Missing.{ifMore, lackingIn, missing}
 use Rattle.model.specs.Refusals.{refusal}
 use Rattle.model.specs.Scan.{scan}
 use Rattle.model.specs.Step.{Result, finish, plan, answered, step, received}
 use Rattle.model.specs.Post.{Post}
 use Rattle.state.specs.View.{Memory, view}
 use Rattle.effects.specs.declared.Delivery.{Delivery}
-use Rattle.effects.specs.Did.{Did, numbersOf}
+use Rattle.effects.specs.Did.{DidWith, numbersOf}
 
 pub record Delivered (e : Event) (r : Delivery) (m m′ : Memory) (out out′ : List ℕ) : Type 0 where
-  pub numbers : numbersOf r ≡ deliveryAnswer ((step (view m) e) .reply) (length (bytesOf ((step (view m) e) .frames)))
+  pub numbers : numbersOf r ≡ deliveryAnswer ((step (view m) e) .reply) (length (bytesOf ((step (view m) e) .frames))) (missing (view m) e)
   pub post : Post view e m m′ out out′ ((step (view m) e) .reply) (length (bytesOf ((step (view m) e) .frames)))
 
-delivered : (e : Event) (r : Delivery) (m m′ : Memory) (out out′ : List ℕ) → Did (step (view m) e) r m m′ out out′ → Delivered e r m m′ out out′
+delivered : (e : Event) (r : Delivery) (m m′ : Memory) (out out′ : List ℕ) → DidWith (missing (view m) e) (step (view m) e) r m m′ out out′ → Delivered e r m m′ out out′
 delivered e r m m′ out out′ p =
     record {
       numbers = p .numbers;
@@ -36,16 +37,18 @@ step-taken : (d : Server) (e : Event) → refusal d e ≡ 0 → step d e ≡ fin
 unfolding step answered
 step-taken d e q = ap (λ (k : ℕ). answered k d e) q
 
-pub refused-delivery : (e : Event) (n : ℕ) (r : Delivery) (m : Memory) (out : List ℕ) → refusal (view m) e ≡ suc n → r ≡ record { refusal = suc n; outcome = 0; session = 0; taken = 0; output = 0 }
+pub refused-delivery : (e : Event) (n : ℕ) (r : Delivery) (m : Memory) (out : List ℕ) → refusal (view m) e ≡ suc n → r ≡ record { refusal = suc n; outcome = 0; session = 0; taken = 0; output = 0; missing = 0 }
     → Delivered e r m m out out
 unfolding bytesOf
 refused-delivery e n r m out q f =
     delivered e r m m out out
-    (subst (λ (x : Result). Did x r m m out out) (sym (step-refused (view m) e n q))
+    (subst (λ (x : Result). DidWith (ifMore (x .reply) (lackingIn (view m) e)) x r m m out out) (sym (step-refused (view m) e n q))
     (record { numbers = ap numbersOf f; server = refl; buffer = sym (splice-nil out 0); same-memory = λ z. refl; same-buffer = λ z. refl }))
 
 pub taken-delivery : (c : ℕ) (bs : List ℕ) (room : ℕ) (r : Delivery) (m m′ : Memory) (out out′ : List ℕ) → refusal (view m) (delivery c bs room) ≡ 0
-    → Did (finish (view m) (received (view m) c (scan ((connectionAt (view m .rest) c) .remainder) bs))) r m m′ out out′ → Delivered (delivery c bs room) r m m′ out out′
+    → DidWith (ifMore ((finish (view m) (received (view m) c (scan ((connectionAt (view m .rest) c) .remainder) bs))) .reply) (lackingIn (view m) (delivery c bs room)))
+    (finish (view m) (received (view m) c (scan ((connectionAt (view m .rest) c) .remainder) bs))) r m m′ out out′
+    → Delivered (delivery c bs room) r m m′ out out′
 unfolding plan
 taken-delivery c bs room r m m′ out out′ q p =
-    delivered (delivery c bs room) r m m′ out out′ (subst (λ (x : Result). Did x r m m′ out out′) (sym (step-taken (view m) (delivery c bs room) q)) p)
+    delivered (delivery c bs room) r m m′ out out′ (subst (λ (x : Result). DidWith (ifMore (x .reply) (lackingIn (view m) (delivery c bs room))) x r m m′ out out′) (sym (step-taken (view m) (delivery c bs room) q)) p)

@@ -12,15 +12,17 @@ use Rattle.wire.specs.declared.Header.{Header}
 use Rattle.wire.specs.Message.{header, prologue, payloadOf}
 use Rattle.model.specs.Sizes.{payloadLimit}
 use Rattle.model.specs.State.{Server, connectionAt}
-use Rattle.model.specs.Interface.{Reply.took, Outcome.more-needed}
+use Rattle.model.specs.Interface.{Outcome.more-needed, Outcome.skipped, Outcome.held, Outcome.ignored, Outcome.error-sent, Outcome.closed, Outcome.acted, Reply, Reply.refused, Reply.done, Reply.took}
 use Rattle.model.specs.Scan.{Scan, Scan.empty, Scan.few, Scan.wrong, Scan.skipping, Scan.long, Scan.part, Scan.whole, sorted, freshScan, scan}
-use Rattle.model.specs.Place.{Role, roleOf, slotOf}
-use Rattle.model.specs.Checks.{verdict, judged, partly, tooLong}
+use Rattle.model.specs.Missing.{ifMore, lacking}
+use Rattle.model.specs.MessageTypes.{Initialize, AsyncInitialize}
+use Rattle.model.specs.Place.{Role, Role.r-none, Role.r-halfOpen, Role.r-synchronous, Role.r-asynchronous, roleOf, slotOf}
+use Rattle.model.specs.Checks.{Verdict, Verdict.v-more, Verdict.v-fatal, either, verdict, judged, partly, tooLong}
 use Rattle.model.specs.Step.{finish, effect, idle, channels, received}
 use Rattle.state.specs.View.{Memory, view}
-use Rattle.checks.specs.Numbers.{verdictOf}
+use Rattle.checks.specs.Numbers.{Numbered, verdictNumber, verdictOf}
 use Rattle.effects.specs.declared.Delivery.{Delivery}
-use Rattle.effects.specs.Did.{Did}
+use Rattle.effects.specs.Did.{Did, DidWith}
 use Rattle.effects.specs.Replies.{skipPlan, closePlan, fatals}
 use Rattle.server.specs.Verdicts.{by-verdict}
 
@@ -66,46 +68,108 @@ pub scan-few : (bs : List ℕ) → length bs < 16 → freshScan bs ≡ few
 unfolding freshScan
 scan-few bs h = ap (λ (x : Bool). sorted x (prologue bs) (ltb payloadLimit (header bs .len)) (ltb (length bs) (16 + header bs .len)) bs (header bs)) (lt-ltb (length bs) 16 h)
 
--- what is done by the scan and by the role
-module _ (d : Server) (c i : ℕ) (r : Delivery) (m m′ : Memory) (out out′ : List ℕ) where
+-- nothing is missing but with more needed
+none-missing : (y : Reply) → ifMore y 0 ≡ 0
+none-missing (refused n) = refl
+none-missing done = refl
+none-missing (took more-needed k n) = refl
+none-missing (took skipped k n) = refl
+none-missing (took held k n) = refl
+none-missing (took ignored k n) = refl
+none-missing (took error-sent k n) = refl
+none-missing (took closed k n) = refl
+none-missing (took acted k n) = refl
+
+-- what is done by the scan and by the role, with so many bytes to skip and so many here
+module _ (d : Server) (c i : ℕ) (r : Delivery) (m m′ : Memory) (out out′ : List ℕ) (left here : ℕ) where
   abbrev pub DidOn : Role → Scan → Type 0
-  DidOn ro s = Did (finish d (effect (verdict ro d i s) s ro d i c)) r m m′ out out′
+  DidOn ro s =
+      DidWith (ifMore ((finish d (effect (verdict ro d i s) s ro d i c)) .reply) (lacking left here s)) (finish d (effect (verdict ro d i s) s ro d i c)) r m m′ out out′
 
   pub on-scan : (ro : Role) (s s′ : Scan) → s ≡ s′ → DidOn ro s′ → DidOn ro s
   on-scan ro s s′ e q = subst (λ (x : Scan). DidOn ro x) (sym e) q
 
+  -- nothing is missing
+  whole-told : (ro : Role) (s : Scan) → lacking left here s ≡ 0 → Did (finish d (effect (verdict ro d i s) s ro d i c)) r m m′ out out′ → DidOn ro s
+  whole-told ro s e q =
+      let y : Reply = (finish d (effect (verdict ro d i s) s ro d i c)) .reply in
+      subst (λ (k : ℕ). DidWith k (finish d (effect (verdict ro d i s) s ro d i c)) r m m′ out out′) (sym (ap (ifMore y) e ∙ none-missing y)) q
+
   pub wrong-done : (ro : Role) → Did (finish d (closePlan d c i (fatals 1 (channels d c)))) r m m′ out out′ → DidOn ro wrong
   unfolding verdict effect
-  wrong-done ro q = q
+  wrong-done ro q = whole-told ro wrong refl q
 
-  pub few-done : (ro : Role) → Did (finish d (idle d (took more-needed 0 0))) r m m′ out out′ → DidOn ro few
-  unfolding verdict effect
-  few-done ro q = q
-
-  pub empty-done : (ro : Role) → Did (finish d (idle d (took more-needed 0 0))) r m m′ out out′ → DidOn ro empty
-  unfolding verdict effect
+  -- no bytes
+  pub empty-done : (ro : Role) → DidWith (lacking left here empty) (finish d (idle d (took more-needed 0 0))) r m m′ out out′ → DidOn ro empty
+  unfolding verdict effect finish
   empty-done ro q = q
+
+  pub few-done : (ro : Role) → DidWith (16 - here) (finish d (idle d (took more-needed 0 0))) r m m′ out out′ → DidOn ro few
+  unfolding verdict effect finish
+  few-done ro q = q
 
   pub skip-done : (ro : Role) (k : ℕ) → Did (finish d (skipPlan d c k)) r m m′ out out′ → DidOn ro (skipping k)
   unfolding verdict effect
-  skip-done ro k q = q
+  skip-done ro k q = whole-told ro (skipping k) refl q
 
   pub whole-done : (ro : Role) (h : Header) (p : List ℕ) → Did (finish d (effect (judged ro d i h p) (whole h p) ro d i c)) r m m′ out out′ → DidOn ro (whole h p)
   unfolding verdict
-  whole-done ro h p q = q
+  whole-done ro h p q = whole-told ro (whole h p) refl q
 
   -- a header alone: the verdict that was found by number
   pub long-done : (ro : Role) (h : Header) (v : ℕ) → tooLong ro ≡ verdictOf v → Did (finish d (effect (verdictOf v) (long h) ro d i c)) r m m′ out out′ → DidOn ro (long h)
   unfolding verdict
-  long-done ro h v e q = by-verdict d c i (long h) ro r m m′ out out′ (tooLong ro) (verdictOf v) e q
+  long-done ro h v e q = whole-told ro (long h) refl (by-verdict d c i (long h) ro r m m′ out out′ (tooLong ro) (verdictOf v) e q)
 
-  pub part-done : (ro : Role) (h : Header) (v : ℕ) → partly ro h ≡ verdictOf v → Did (finish d (effect (verdictOf v) (part h) ro d i c)) r m m′ out out′ → DidOn ro (part h)
+  -- the payload not all here: more needed, or FatalError
+  abbrev part-by : (v : Verdict) (h : Header) (ro : Role) → Type 0
+  part-by v h ro = DidWith (ifMore ((finish d (effect v (part h) ro d i c)) .reply) (16 + h .len - here)) (finish d (effect v (part h) ro d i c)) r m m′ out out′
+
+  pub part-more : (ro : Role) (h : Header) → partly ro h ≡ v-more → DidWith (16 + h .len - here) (finish d (idle d (took more-needed 0 0))) r m m′ out out′ → DidOn ro (part h)
+  unfolding verdict effect finish
+  part-more ro h e q = subst (λ (v : Verdict). part-by v h ro) (sym e) q
+
+  fatal-by : (v : Verdict) (h : Header) (ro : Role) (n : ℕ) → v ≡ v-fatal n → Did (finish d (effect v (part h) ro d i c)) r m m′ out out′ → part-by v h ro
+  unfolding effect finish
+  fatal-by v h ro n e q =
+      subst (λ (v : Verdict). part-by v h ro) (sym e) (subst (λ (v : Verdict). Did (finish d (effect v (part h) ro d i c)) r m m′ out out′) e q)
+
+  pub part-done : (ro : Role) (h : Header) (v : ℕ) → Numbered (partly ro h) v → (v ≡ 0 → ⊥) → Did (finish d (effect (verdictOf v) (part h) ro d i c)) r m m′ out out′ → DidOn ro (part h)
   unfolding verdict
-  part-done ro h v e q = by-verdict d c i (part h) ro r m m′ out out′ (partly ro h) (verdictOf v) e q
+  part-done ro h v e o q = go ro e (by-verdict d c i (part h) ro r m m′ out out′ (partly ro h) (verdictOf v) (e .case) q)
+    where
+      go : (ro : Role) → Numbered (partly ro h) v → Did (finish d (effect (partly ro h) (part h) ro d i c)) r m m′ out out′ → part-by (partly ro h) h ro
+      go r-none e q = opening (either Initialize AsyncInitialize (h .kind)) (e .number) q
+        where
+          opening : (b : Bool) → v ≡ verdictNumber (cond b v-more (v-fatal 3)) → Did (finish d (effect (cond b v-more (v-fatal 3)) (part h) r-none d i c)) r m m′ out out′
+              → part-by (cond b v-more (v-fatal 3)) h r-none
+          opening true n q = absurd (o n)
+          opening false n q = fatal-by (v-fatal 3) h r-none 3 refl q
+      go r-halfOpen e q = fatal-by (v-fatal 2) h r-halfOpen 2 refl q
+      go r-synchronous e q = absurd (o (e .number))
+      go r-asynchronous e q = absurd (o (e .number))
+
+-- fewer than sixteen bytes and nothing to skip: none, or some
+pub short-done : (d : Server) (c i : ℕ) (r : Delivery) (m m′ : Memory) (out out′ : List ℕ) (left : ℕ) (bs : List ℕ) (ro : Role) → left ≡ 0 → length bs < 16
+    → DidWith (16 - length bs) (finish d (idle d (took more-needed 0 0))) r m m′ out out′ → DidOn d c i r m m′ out out′ left (length bs) ro (scan left bs)
+short-done d c i r m m′ out out′ left bs ro e l q = subst (λ (x : ℕ). DidOn d c i r m m′ out out′ x (length bs) ro (scan x bs)) (sym e) (go bs l q)
+  where
+    go : (bs : List ℕ) → length bs < 16 → DidWith (16 - length bs) (finish d (idle d (took more-needed 0 0))) r m m′ out out′
+        → DidOn d c i r m m′ out out′ 0 (length bs) ro (scan 0 bs)
+    go [] l q = on-scan d c i r m m′ out out′ 0 0 ro (scan 0 []) empty (scan-empty 0 [] refl) (empty-done d c i r m m′ out out′ 0 0 ro q)
+    go (b ∷ bs) l q =
+        on-scan d c i r m m′ out out′ 0 (length (b ∷ bs)) ro (scan 0 (b ∷ bs)) few (scan-fresh 0 (b ∷ bs) (omega arith) refl ∙ scan-few (b ∷ bs) l) (few-done d c i r m m′ out out′ 0 (length (b ∷ bs)) ro q)
+
+-- no bytes, and some to skip
+pub skip-none : (d : Server) (c i : ℕ) (r : Delivery) (m m′ : Memory) (out out′ : List ℕ) (left here : ℕ) (ro : Role) → 0 < left
+    → DidWith left (finish d (idle d (took more-needed 0 0))) r m m′ out out′ → DidOn d c i r m m′ out out′ left here ro empty
+skip-none d c i r m m′ out out′ zero here ro l q = absurd (not-suc-le-zero l)
+skip-none d c i r m m′ out out′ (suc left) here ro l q = empty-done d c i r m m′ out out′ (suc left) here ro q
 
 -- the place of the connection is the one that was found
-pub received-as : (d : Server) (c i : ℕ) (r : Delivery) (m m′ : Memory) (out out′ : List ℕ) (s : Scan) → slotOf d c ≡ i → DidOn d c i r m m′ out out′ (roleOf (d .locks .entries) c) s
-    → Did (finish d (received d c s)) r m m′ out out′
+pub received-as : (d : Server) (c i : ℕ) (r : Delivery) (m m′ : Memory) (out out′ : List ℕ) (left here : ℕ) (s : Scan) → slotOf d c ≡ i
+    → DidOn d c i r m m′ out out′ left here (roleOf (d .locks .entries) c) s
+    → DidWith (ifMore ((finish d (received d c s)) .reply) (lacking left here s)) (finish d (received d c s)) r m m′ out out′
 unfolding received
-received-as d c i r m m′ out out′ s e q =
-    subst (λ (j : ℕ). DidOn d c j r m m′ out out′ (roleOf (d .locks .entries) c) s) (sym e) q
+received-as d c i r m m′ out out′ left here s e q =
+    subst (λ (j : ℕ). DidOn d c j r m m′ out out′ left here (roleOf (d .locks .entries) c) s) (sym e) q

@@ -1,10 +1,11 @@
 // A delivery, stage by stage as the model has it: scan, verdict, effect.
 ghost use Prim.Native.Nat.{ℕ, _+_, _<_, _≤_, min};
 ghost use Rattle.checks.specs.Numbers.{message, verdictOf};
-ghost use Rattle.effects.specs.Did.{Did};
+ghost use Rattle.effects.specs.Did.{Did, DidWith};
 ghost use Rattle.model.specs.Acts.{acts};
 ghost use Rattle.model.specs.Checks.{Verdict.v-acts, judged};
 ghost use Rattle.model.specs.Place.{Role, slotIn};
+ghost use Rattle.model.specs.Missing.{ifMore, lacking};
 ghost use Rattle.model.specs.Scan.{Scan, Scan.whole, freshScan, leftover, scan, size};
 ghost use Rattle.model.specs.State.{connectionAt};
 ghost use Rattle.server.specs.Scanning.{DidOn};
@@ -21,6 +22,7 @@ use checks::verdict::ERROR_0;
 use checks::verdict::FATAL_0;
 use checks::verdict::HELD;
 use checks::verdict::IGNORED;
+use checks::verdict::MORE;
 use checks::whole;
 use effects::Delivery;
 use effects::answer;
@@ -37,7 +39,8 @@ use state::tables;
 use wire::reading;
 
 // What a verdict other than "acts" does: so many bytes are taken, and so many are left to skip. Callers take the answer into a local: it is
-// written to memory by this call, and a delivery that acts keeps its own in registers.
+// written to memory by this call, and a delivery that acts keeps its own in registers. (Where more is needed the callers tell it
+// themselves, with what is missing.)
 fn apply(
     w: &mut Words,
     strings: &mut Strings,
@@ -66,7 +69,7 @@ fn apply(
     if v == HELD {
         return answer::quiet(outcome::HELD, 0);
     }
-    answer::quiet(outcome::MORE_NEEDED, 0)
+    answer::more_needed(0)
 }
 
 // A message that passed all checks acts, by the role of its connection.
@@ -145,7 +148,7 @@ fn deliver_message(
     bytes: &[u8],
 ) -> Delivery
     requires { ⌜ (c < connectionLimit) × (16 ≤ length (now bytes)) × (outputMinimum ≤ length (now out)) × ((s : List ℕ) → slotIn (locksOf (now w) s .entries) c ≡ i) × ((role ≡ 0 → ⊥) → i < sessionLimit) ⌝ }
-    ensures { λ r. ⌜ ((ro : Role) → roleNumber ro ≡ role → DidOn (view (memory (now (w .entry)) (now (strings .entry)))) c i r (memory (now (w .entry)) (now (strings .entry))) (memory (now (w .exit)) (now (strings .exit))) (now (out .entry)) (now (out .exit)) ro (freshScan (now (bytes .entry)))) ⌝ }
+    ensures { λ r. ⌜ ((ro : Role) → roleNumber ro ≡ role → DidOn (view (memory (now (w .entry)) (now (strings .entry)))) c i r (memory (now (w .entry)) (now (strings .entry))) (memory (now (w .exit)) (now (strings .exit))) (now (out .entry)) (now (out .exit)) 0 (length (now (bytes .entry))) ro (freshScan (now (bytes .entry)))) ⌝ }
 {
     if !reading::has_prologue(bytes) {
         return replies::send_fatal(w, strings, out, c, i, 1);
@@ -160,6 +163,9 @@ fn deliver_message(
     let end = 16 + len as usize;
     if bytes.len() < end {
         let v = whole::partial_verdict(role, h.kind);
+        if v == MORE {
+            return answer::more_needed((end - bytes.len()) as u64);
+        }
         let told = apply(w, strings, out, c, i, v, 0, 0);
         return told;
     }
@@ -196,17 +202,17 @@ pub fn deliver_open(
     bytes: &[u8],
 ) -> Delivery
     requires { ⌜ (c < connectionLimit) × (outputMinimum ≤ length (now out)) ⌝ }
-    ensures { λ r. ⌜ Did (finish (view (memory (now (w .entry)) (now (strings .entry)))) (received (view (memory (now (w .entry)) (now (strings .entry)))) c (scan ((connectionAt (restOf (now (w .entry))) c) .remainder) (now (bytes .entry))))) r (memory (now (w .entry)) (now (strings .entry))) (memory (now (w .exit)) (now (strings .exit))) (now (out .entry)) (now (out .exit)) ⌝ }
+    ensures { λ r. ⌜ DidWith (ifMore ((finish (view (memory (now (w .entry)) (now (strings .entry)))) (received (view (memory (now (w .entry)) (now (strings .entry)))) c (scan ((connectionAt (restOf (now (w .entry))) c) .remainder) (now (bytes .entry))))) .reply) (lacking ((connectionAt (restOf (now (w .entry))) c) .remainder) (length (now (bytes .entry))) (scan ((connectionAt (restOf (now (w .entry))) c) .remainder) (now (bytes .entry))))) (finish (view (memory (now (w .entry)) (now (strings .entry)))) (received (view (memory (now (w .entry)) (now (strings .entry)))) c (scan ((connectionAt (restOf (now (w .entry))) c) .remainder) (now (bytes .entry))))) r (memory (now (w .entry)) (now (strings .entry))) (memory (now (w .exit)) (now (strings .exit))) (now (out .entry)) (now (out .exit)) ⌝ }
 {
-    if bytes.len() == 0 {
-        return answer::quiet(outcome::MORE_NEEDED, 0);
-    }
     let left = tables::connection(w, c as usize, tables::REMAINDER);
     if left > 0 {
+        if bytes.len() == 0 {
+            return answer::more_needed(left);
+        }
         return replies::skip(w, c, left, least(left, bytes.len()));
     }
     if bytes.len() < 16 {
-        return answer::quiet(outcome::MORE_NEEDED, 0);
+        return answer::more_needed((16 - bytes.len()) as u64);
     }
     let place = search::place_of(w, c);
     let i = place.slot;

@@ -111,6 +111,7 @@ fn numbers(told: Result<Delivery, Refusal>) -> hislip_delivery {
         session: delivery.session.into(),
         taken: delivery.taken as u64,
         output: delivery.output as u64,
+        missing: delivery.missing,
     };
     let refused = |refusal: Refusal| hislip_delivery {
         refusal: refusal as u64,
@@ -118,6 +119,7 @@ fn numbers(told: Result<Delivery, Refusal>) -> hislip_delivery {
         session: 0,
         taken: 0,
         output: 0,
+        missing: 0,
     };
     told.map_or_else(refused, accepted)
 }

@@ -55,6 +55,7 @@ fn one<C: Contender>(
                 session: 0,
                 taken: 0,
                 output: done.output,
+                missing: 0,
             }
         }
     }

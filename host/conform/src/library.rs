@@ -65,6 +65,7 @@ impl Subject for Library {
             session: delivery.session,
             taken: delivery.taken,
             output: delivery.output,
+            missing: delivery.missing,
         }
     }
 

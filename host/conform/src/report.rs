@@ -25,8 +25,10 @@ pub fn describe_reply(event: &Event, reply: &Reply) -> String {
         return format!("done, {output} bytes of output");
     }
     let outcome = Reply::OUTCOMES.get(reply.outcome as usize).unwrap_or(&"?");
-    let (session, taken) = (reply.session, reply.taken);
-    format!("{outcome}, session {session}, {taken} taken, {output} bytes of output")
+    let (session, taken, missing) = (reply.session, reply.taken, reply.missing);
+    format!(
+        "{outcome}, session {session}, {taken} taken, {output} bytes of output, {missing} missing"
+    )
 }
 
 pub fn describe_event(event: &Event) -> String {

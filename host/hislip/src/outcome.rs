@@ -85,6 +85,9 @@ pub struct Delivery<'a> {
     pub outcome: Outcome,
     /// So many bytes the host drops from the front of the unread ones.
     pub taken: usize,
+    /// With [`Outcome::MoreNeeded`], how many bytes are missing: 16 less what is here, the rest of the
+    /// payload, or, with no bytes given, the remainder to skip if there is one. Else 0.
+    pub missing: u64,
     /// What to send, in this order.
     pub frames: Frames<'a>,
 }

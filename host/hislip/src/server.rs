@@ -98,6 +98,7 @@ impl Server {
         Ok(Delivery {
             outcome: Outcome::of(done.outcome, done.session),
             taken: done.taken as usize,
+            missing: done.missing,
             frames: self.frames(done.output),
         })
     }

@@ -17,6 +17,8 @@ pub struct hislip_delivery {
     pub taken: u64,
     /// Bytes of frames in the buffer.
     pub output: u64,
+    /// With more needed, the bytes missing; else 0.
+    pub missing: u64,
 }
 
 /// The answer to any other event that has one.

@@ -105,10 +105,8 @@ fn any_output_buffer_is_safe() {
     }
     let mut server = Server::with_output(*b"AA", vec![0; 5000]);
     server.open(0).expect("not open");
-    assert_eq!(
-        server.deliver(0, b"").expect("open").outcome,
-        Outcome::MoreNeeded
-    );
+    let waits = server.deliver(0, b"HS").expect("open");
+    assert_eq!((waits.outcome, waits.missing), (Outcome::MoreNeeded, 14));
 }
 
 #[test]

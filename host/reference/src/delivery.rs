@@ -38,17 +38,22 @@ impl Server {
 
     /// Checks 1 and 2, then by the connection's role.
     fn check(&mut self, connection: u8, bytes: &[u8], frames: &mut Frames) -> Delivery {
-        if bytes.is_empty() {
-            return Delivery::MORE_NEEDED;
-        }
         let here = &mut self.connections[usize::from(connection)];
+        if bytes.is_empty() {
+            let missing = if here.skip > 0 {
+                here.skip
+            } else {
+                HEADER as u64
+            };
+            return Delivery::more_needed(missing);
+        }
         if here.skip > 0 {
             let taken = here.skip.min(bytes.len() as u64);
             here.skip -= taken;
             return Delivery::of(Outcome::Skipped, 0, taken as usize);
         }
         let Some(first) = bytes.first_chunk::<HEADER>() else {
-            return Delivery::MORE_NEEDED;
+            return Delivery::more_needed((HEADER - bytes.len()) as u64);
         };
         let Some(header) = Header::read(first) else {
             return self.fatal(connection, fatal::BAD_HEADER, frames);
@@ -82,7 +87,7 @@ impl Server {
         }
         let size = HEADER + header.length as usize;
         let Some(payload) = bytes.get(HEADER..size) else {
-            return Delivery::MORE_NEEDED;
+            return Delivery::more_needed((size - bytes.len()) as u64);
         };
         let started = if header.kind == kind::INITIALIZE {
             self.initialize(connection, header.parameter, payload, frames)
@@ -114,7 +119,7 @@ impl Server {
             return Delivery::of(Outcome::ErrorSent, 0, HEADER);
         }
         let Some(payload) = bytes.get(HEADER..HEADER + header.length as usize) else {
-            return Delivery::MORE_NEEDED;
+            return Delivery::more_needed(HEADER as u64 + header.length - bytes.len() as u64);
         };
         let message = Message {
             connection,

@@ -45,7 +45,7 @@ impl Event {
 }
 
 /// The answer in 01's numbers: refusal 0 is none, outcomes count from 0 (more needed) to 6 (acted
-/// on), `output` counts the bytes of frames.
+/// on), `output` counts the bytes of frames, `missing` those that more needed asks for.
 #[derive(Clone, Copy, Debug, Default, PartialEq, Eq)]
 pub struct Reply {
     pub refusal: u64,
@@ -53,6 +53,7 @@ pub struct Reply {
     pub session: u64,
     pub taken: u64,
     pub output: u64,
+    pub missing: u64,
 }
 
 impl Reply {

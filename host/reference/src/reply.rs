@@ -25,17 +25,18 @@ pub enum Outcome {
     ActedOn = 6,
 }
 
-/// An accepted delivery: `session` is 0 unless it closed one or was acted on.
+/// An accepted delivery: `session` is 0 unless it closed one or was acted on, `missing` 0 unless more is
+/// needed.
 #[derive(Clone, Copy, Debug, PartialEq, Eq)]
 pub struct Delivery {
     pub outcome: Outcome,
     pub session: u16,
     pub taken: usize,
     pub output: usize,
+    pub missing: u64,
 }
 
 impl Delivery {
-    pub const MORE_NEEDED: Delivery = Delivery::of(Outcome::MoreNeeded, 0, 0);
     pub const HELD: Delivery = Delivery::of(Outcome::Held, 0, 0);
 
     pub const fn of(outcome: Outcome, session: u16, taken: usize) -> Delivery {
@@ -44,6 +45,15 @@ impl Delivery {
             session,
             taken,
             output: 0,
+            missing: 0,
+        }
+    }
+
+    /// So many bytes are missing.
+    pub const fn more_needed(missing: u64) -> Delivery {
+        Delivery {
+            missing,
+            ..Delivery::of(Outcome::MoreNeeded, 0, 0)
         }
     }
 }

@@ -97,6 +97,7 @@ macro_rules! subject_of {
                         session: u64::from(delivery.session),
                         taken: delivery.taken as u64,
                         output: delivery.output as u64,
+                        missing: delivery.missing,
                     },
                     Err(refusal) => $crate::Reply::refused(refusal as u64),
                 }

@@ -73,6 +73,9 @@ fn reply_text(event: &Event, reply: &Reply) -> String {
     if reply.taken != 0 {
         text += &format!(", taken {}", reply.taken);
     }
+    if reply.missing != 0 {
+        text += &format!(", missing {}", reply.missing);
+    }
     text
 }
 
@@ -153,6 +156,7 @@ fn reply(text: &str) -> Result<Reply, String> {
         match part.split_once(' ') {
             Some(("session", session)) => reply.session = number(session)?,
             Some(("taken", taken)) => reply.taken = number(taken)?,
+            Some(("missing", missing)) => reply.missing = number(missing)?,
             _ => return Err(format!("`{part}` is no part of an answer")),
         }
     }

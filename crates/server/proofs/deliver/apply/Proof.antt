@@ -37,13 +37,13 @@ returns-4 c =
 returns-5 : tie.Need-returns-5
 returns-5 c =
     let a = c .before .before .before .before .before .before .before .args in
-    λ ro x e f. held-done (view (memory (a .w .now) (a .strings .now))) (a .c) (a .i) x ro _ _ _ _ _ (a .v) (c .before .if5 .taken) (did-nothing (took held 0 0) _ _ _ (ap numbersOf (c .quiet2 .ensures)))
+    λ ro x e f. held-done (view (memory (a .w .now) (a .strings .now))) (a .c) (a .i) x ro _ _ _ _ _ (a .v) (c .before .if5 .taken) (did-nothing 0 (took held 0 0) _ _ _ (ap numbersOf (c .quiet2 .ensures)))
 
 returns-6 : tie.Need-returns-6
 returns-6 c =
     let p = c .before .before .before .before .before .before .before in
     let a = p .args in
-    λ ro x e f. more-done (view (memory (a .w .now) (a .strings .now))) (a .c) (a .i) x ro _ _ _ _ _ (a .v) (omega arith) (c .before .if5 .left) (c .before .before .if4 .left) (c .before .before .before .if3 .left) (p .pre .3) (did-nothing (took more-needed 0 0) _ _ _ (ap numbersOf (c .quiet3 .ensures)))
+    λ ro x e f. more-done (view (memory (a .w .now) (a .strings .now))) (a .c) (a .i) x ro _ _ _ _ _ (a .v) (omega arith) (c .before .if5 .left) (c .before .before .if4 .left) (c .before .before .before .if3 .left) (p .pre .3) (did-nothing 0 (took more-needed 0 0) _ _ _ (ap numbersOf (c .more-needed .ensures)))
 
 pub apply-spec : {M : Type 1} → statement M
 apply-spec =

@@ -1,72 +1,87 @@
--- `deliver::deliver_open` meets its contract: no bytes, a remainder, too few bytes, a message.
+-- `deliver::deliver_open` meets its contract: a remainder, with bytes or without, too few bytes, a message.
 use mathlib.Core.Path.{_≡_, refl, sym, ap, _∙_}
 use mathlib.Core.List.{List}
-use Prim.Native.Nat.{ℕ, min}
+use Prim.Native.Nat.{ℕ, _-_, min}
 use native.Mathlib.Omega.{arith}
 use lib.ListN.{length}
-use Rattle.model.specs.Interface.{Reply.took, Outcome.more-needed}
+use Rattle.model.specs.Interface.{Reply.took, Outcome.more-needed, deliveryAnswer}
 use Rattle.model.specs.Place.{roleOf, slotIn}
-use Rattle.model.specs.Scan.{Scan.empty, Scan.few, Scan.skipping, freshScan, scan}
+use Rattle.model.specs.Scan.{Scan.empty, Scan.skipping, freshScan, scan}
 use Rattle.model.specs.State.{Connection, connectionAt}
 use Rattle.state.specs.View.{locksOf, memory, restOf, view}
 use Rattle.effects.specs.Did.{did-nothing, numbersOf}
 use Rattle.server.specs.Acting.{role-slot}
-use Rattle.server.specs.Scanning.{received-as, on-scan, scan-empty, scan-skips, scan-fresh, scan-few, empty-done, few-done, skip-done}
+use Rattle.server.specs.Scanning.{received-as, on-scan, scan-empty, scan-skips, scan-fresh, skip-none, short-done, skip-done}
 use borrow.Author.Needs.{needs}
 use Rattle.server.proofs.deliver.deliver_open.Statement.{statement}
 use Rattle.server.proofs.deliver.deliver_open.Tie as tie
 
 returns : tie.Need-returns
-returns c = let a = c .before .before .before .before .args in
-    let s = a .strings .now in
-    let bs = a .bytes .now in
-    let d = view (memory (a .w .now) s) in
-    let es = locksOf (a .w .now) s .entries in
-    let left = (connectionAt (restOf (a .w .now)) (a .c)) .remainder in
-    received-as d (a .c) (slotIn es (a .c)) _ _ _ _ _ (scan left bs) refl (on-scan d (a .c) (slotIn es (a .c)) _ _ _ _ _ (roleOf es (a .c)) (scan left bs) empty (scan-empty left bs (c .before .if1 .taken)) (empty-done d (a .c) (slotIn es (a .c)) _ _ _ _ _ (roleOf es (a .c)) (did-nothing (took more-needed 0 0) _ _ _ (ap numbersOf (c .quiet .ensures)))))
-
-skip-requires : tie.Need-skip-requires
-skip-requires c κs = let a = c .before .before .before .before .before .before .before .before .args in
+returns c =
+    let a = c .before .before .before .before .before .before .before .args in
     let s = a .strings .now in
     let bs = a .bytes .now in
     let d = view (memory (a .w .now) s) in
     let es = locksOf (a .w .now) s .entries in
     let left = (connectionAt (restOf (a .w .now)) (a .c)) .remainder in
     let er : c .before .before .before .connection .result ≡ left = ap (λ (x : Connection). x .remainder) (c .before .before .before .connection .ensures .0) in
-    (search needs, omega (arith, c .least .ensures), er)
+    received-as d (a .c) (slotIn es (a .c)) _ _ _ _ _ left (length bs) (scan left bs) refl
+    (on-scan d (a .c) (slotIn es (a .c)) _ _ _ _ _ left (length bs) (roleOf es (a .c)) (scan left bs) empty (scan-empty left bs (c .before .if2 .taken))
+    (skip-none d (a .c) (slotIn es (a .c)) _ _ _ _ _ left (length bs) (roleOf es (a .c)) (omega arith)
+    (did-nothing left (took more-needed 0 0) _ _ _ (ap numbersOf (c .more-needed .ensures) ∙ ap (deliveryAnswer (took more-needed 0 0) 0) er))))
 
-returns-2 : tie.Need-returns-2
-returns-2 c = let a = c .before .before .before .before .before .before .before .before .before .args in
+skip-requires : tie.Need-skip-requires
+skip-requires c κs =
+    let a = c .before .before .before .before .before .before .before .before .args in
     let s = a .strings .now in
     let bs = a .bytes .now in
     let d = view (memory (a .w .now) s) in
     let es = locksOf (a .w .now) s .entries in
     let left = (connectionAt (restOf (a .w .now)) (a .c)) .remainder in
     let er : c .before .before .before .before .connection .result ≡ left = ap (λ (x : Connection). x .remainder) (c .before .before .before .before .connection .ensures .0) in
+    (search needs, omega (arith, c .least .ensures), er)
+
+returns-2 : tie.Need-returns-2
+returns-2 c =
+    let a = c .before .before .before .before .before .before .before .before .before .args in
+    let s = a .strings .now in
+    let bs = a .bytes .now in
+    let d = view (memory (a .w .now) s) in
+    let es = locksOf (a .w .now) s .entries in
+    let left = (connectionAt (restOf (a .w .now)) (a .c)) .remainder in
+    let er : c .before .before .before .before .before .connection .result ≡ left = ap (λ (x : Connection). x .remainder) (c .before .before .before .before .before .connection .ensures .0) in
     let em : min left (length bs) ≡ c .before .least .result = ap (λ (x : ℕ). min x (length bs)) (sym er) ∙ sym (c .before .least .ensures) in
-    received-as d (a .c) (slotIn es (a .c)) _ _ _ _ _ (scan left bs) refl (on-scan d (a .c) (slotIn es (a .c)) _ _ _ _ _ (roleOf es (a .c)) (scan left bs) (skipping (c .before .least .result)) (scan-skips left bs (omega arith) (omega arith) ∙ ap skipping em) (skip-done d (a .c) (slotIn es (a .c)) _ _ _ _ _ (roleOf es (a .c)) (c .before .least .result) (c .skip .ensures s (a .out .now))))
+    received-as d (a .c) (slotIn es (a .c)) _ _ _ _ _ left (length bs) (scan left bs) refl
+    (on-scan d (a .c) (slotIn es (a .c)) _ _ _ _ _ left (length bs) (roleOf es (a .c)) (scan left bs) (skipping (c .before .least .result)) (scan-skips left bs (omega arith) (omega arith) ∙ ap skipping em)
+    (skip-done d (a .c) (slotIn es (a .c)) _ _ _ _ _ left (length bs) (roleOf es (a .c)) (c .before .least .result) (c .skip .ensures s (a .out .now))))
 
 returns-3 : tie.Need-returns-3
-returns-3 c = let a = c .before .before .before .before .before .before .before .before .args in
+returns-3 c =
+    let a = c .before .before .before .before .before .before .before .args in
     let s = a .strings .now in
     let bs = a .bytes .now in
     let d = view (memory (a .w .now) s) in
     let es = locksOf (a .w .now) s .entries in
     let left = (connectionAt (restOf (a .w .now)) (a .c)) .remainder in
     let er : c .before .before .before .connection .result ≡ left = ap (λ (x : Connection). x .remainder) (c .before .before .before .connection .ensures .0) in
-    received-as d (a .c) (slotIn es (a .c)) _ _ _ _ _ (scan left bs) refl (on-scan d (a .c) (slotIn es (a .c)) _ _ _ _ _ (roleOf es (a .c)) (scan left bs) few (scan-fresh left bs (omega arith) (omega arith) ∙ scan-few bs (c .before .if3 .taken)) (few-done d (a .c) (slotIn es (a .c)) _ _ _ _ _ (roleOf es (a .c)) (did-nothing (took more-needed 0 0) _ _ _ (ap numbersOf (c .quiet2 .ensures)))))
+    received-as d (a .c) (slotIn es (a .c)) _ _ _ _ _ left (length bs) (scan left bs) refl
+    (short-done d (a .c) (slotIn es (a .c)) _ _ _ _ _ left bs (roleOf es (a .c)) (omega arith) (c .before .if3 .taken)
+    (did-nothing (16 - length bs) (took more-needed 0 0) _ _ _ (ap numbersOf (c .more-needed2 .ensures))))
 
 deliver-message-requires : tie.Need-deliver-message-requires
-deliver-message-requires c κs = let a = c .before .before .before .before .before .before .before .before .before .before .before .before .args in
+deliver-message-requires c κs =
+    let a = c .before .before .before .before .before .before .before .before .before .before .before .args in
     let s = a .strings .now in
     let bs = a .bytes .now in
     let d = view (memory (a .w .now) s) in
     let es = locksOf (a .w .now) s .entries in
     let left = (connectionAt (restOf (a .w .now)) (a .c)) .remainder in
-    let p = c .before .before .before .place-of in (search needs, search needs, search needs, λ t. p .ensures .1 t, λ o. role-slot (a .w .now) s (a .c) (p .result .slot) (p .result .role) (p .ensures .1 s) (p .ensures .2 s) o)
+    let p = c .before .before .before .place-of in
+    (search needs, search needs, search needs, λ t. p .ensures .1 t, λ o. role-slot (a .w .now) s (a .c) (p .result .slot) (p .result .role) (p .ensures .1 s) (p .ensures .2 s) o)
 
 returns-4 : tie.Need-returns-4
-returns-4 c = let a = c .before .before .before .before .before .before .before .before .before .before .before .before .before .before .before .args in
+returns-4 c =
+    let a = c .before .before .before .before .before .before .before .before .before .before .before .before .before .before .args in
     let s = a .strings .now in
     let bs = a .bytes .now in
     let d = view (memory (a .w .now) s) in
@@ -74,18 +89,22 @@ returns-4 c = let a = c .before .before .before .before .before .before .before 
     let left = (connectionAt (restOf (a .w .now)) (a .c)) .remainder in
     let er : c .before .before .before .before .before .before .before .before .before .before .connection .result ≡ left = ap (λ (x : Connection). x .remainder) (c .before .before .before .before .before .before .before .before .before .before .connection .ensures .0) in
     let p = c .before .before .before .before .before .before .place-of in
-    received-as d (a .c) (p .result .slot) _ _ _ _ _ (scan left bs) (p .ensures .1 s) (on-scan d (a .c) (p .result .slot) _ _ _ _ _ (roleOf es (a .c)) (scan left bs) (freshScan bs) (scan-fresh left bs (omega arith) (omega arith)) (c .before .before .deliver-message .ensures (roleOf es (a .c)) (p .ensures .2 s)))
+    let z : left ≡ 0 = omega arith in
+    received-as d (a .c) (p .result .slot) _ _ _ _ _ left (length bs) (scan left bs) (p .ensures .1 s)
+    (on-scan d (a .c) (p .result .slot) _ _ _ _ _ left (length bs) (roleOf es (a .c)) (scan left bs) (freshScan bs) (scan-fresh left bs (omega arith) z)
+    (rw z (c .before .before .deliver-message .ensures (roleOf es (a .c)) (p .ensures .2 s))))
 
 pub deliver-open-spec : {M : Type 1} → statement M
 deliver-open-spec =
     tie.close
     (tie.spec
     (λ c κs. search needs)
-    returns
     (λ c κs. search needs)
+    returns
     (λ c κs. search needs)
     skip-requires
     returns-2
+    (λ c. search needs)
     (λ c κs. search needs)
     returns-3
     (λ c κs. search needs)
