@@ -2,6 +2,8 @@
 
 use std::collections::VecDeque;
 
+use super::ERROR_AVAILABLE;
+
 const LONGEST_QUEUE: usize = 20;
 
 #[derive(Clone, Copy, Debug, PartialEq, Eq)]
@@ -63,6 +65,14 @@ impl std::fmt::Display for Fault {
 pub struct ErrorQueue(VecDeque<Fault>);
 
 impl ErrorQueue {
+    /// The status byte: whether an error waits to be read.
+    pub fn status(&self) -> u8 {
+        match self.is_empty() {
+            true => 0,
+            false => ERROR_AVAILABLE,
+        }
+    }
+
     /// A full queue's last place says that errors were lost.
     pub fn push(&mut self, fault: Fault) {
         if self.0.len() < LONGEST_QUEUE {

@@ -5,7 +5,7 @@ use std::io::{ErrorKind, Read, Write};
 use std::net::{Shutdown, TcpStream, ToSocketAddrs};
 
 use super::scpi::{asks, commands, line, spells, LineEnd};
-use super::{ErrorQueue, Fault, Instrument, Patience, Request, ERROR_AVAILABLE};
+use super::{ErrorQueue, Fault, Instrument, Patience, Request};
 use crate::os;
 
 pub const PORT: u16 = 5025;
@@ -154,9 +154,6 @@ impl Instrument for RawSocket {
     }
 
     fn status(&self) -> u8 {
-        match self.errors.is_empty() {
-            true => 0,
-            false => ERROR_AVAILABLE,
-        }
+        self.errors.status()
     }
 }

@@ -4,7 +4,7 @@
 use std::time::Duration;
 
 use super::scpi::{commands, spells};
-use super::{block, ErrorQueue, Fault, Instrument, Patience, Request, ERROR_AVAILABLE};
+use super::{block, ErrorQueue, Fault, Instrument, Patience, Request};
 
 const IDENTITY: &str = "EXAMPLE,SIMULATED METER,0,1.0";
 const RANGE: f64 = 10.0;
@@ -230,10 +230,7 @@ impl Instrument for Simulated {
     }
 
     fn status(&self) -> u8 {
-        match self.errors.is_empty() {
-            true => 0,
-            false => ERROR_AVAILABLE,
-        }
+        self.errors.status()
     }
 }
 
