@@ -1,11 +1,13 @@
 #!/usr/bin/env bash
-# build_archive.sh ARCHIVE COMMAND..: runs the command that proves the library and writes the archive,
-# unless the archive is there and neither it, nor a source, nor the prover has changed since.
+# build_archive.sh ARCHIVE PROVED COMMAND..: runs the command that proves the library and writes PROVED,
+# and copies that to ARCHIVE; nothing if the archive is there and neither it, nor a source, nor the
+# prover has changed since.
 set -euo pipefail
 cd "$(dirname "$0")/.."
 
 archive=$1
-shift
+proved=$2
+shift 2
 note=$archive.sum
 
 command -v "$1" >/dev/null || { echo "build_archive.sh: the prover \`$1\` is not on the PATH" >&2; exit 1; }
@@ -20,4 +22,5 @@ if [ -f "$archive" ] && [ -f "$note" ] && [ "$(sum "$1")" = "$(cat "$note")" ]; 
     exit
 fi
 "$@"
+cp "$proved" "$archive"
 sum "$1" >"$note"

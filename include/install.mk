@@ -1,4 +1,4 @@
-# `make install PREFIX=/opt/bench`: the headers, the archive as libhislip.a and a pkg-config file.
+# `make install PREFIX=/opt/bench`: the headers, the archive and a pkg-config file.
 # DESTDIR, before PREFIX, is for packages. `make uninstall` takes the same files away again.
 
 PREFIX  ?= /usr/local
@@ -22,7 +22,7 @@ install-files:
 	@test -f $(ARCHIVE) || { echo "make: $(ARCHIVE) is missing: run make library" >&2; exit 1; }
 	mkdir -p $(INSTALL_HEADERS) $(INSTALL_ARCHIVE) $(INSTALL_PC)
 	install -m 644 $(HEADERS:%=include/%) $(INSTALL_HEADERS)
-	install -m 644 $(ARCHIVE) $(INSTALL_ARCHIVE)/libhislip.a
+	install -m 644 $(ARCHIVE) $(INSTALL_ARCHIVE)
 	version=$$($(VERSION_OF) include/hislip_server.h) && \
 	sed -e 's|@PREFIX@|$(PREFIX)|' -e "s|@VERSION@|$$version|" include/hislip.pc.in >$(INSTALL_PC)/hislip.pc
 
