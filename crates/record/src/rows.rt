@@ -1,0 +1,81 @@
+// Rows of bytes in a body: a length in 4 bytes, then the bytes.
+ghost use Prim.Native.Nat.{_≤_};
+ghost use Rattle.record.specs.Layout.{getRow, getRows};
+ghost use Rattle.record.specs.Parts.{Ends, Spans};
+ghost use Rattle.journal.specs.Journal.{bodyLimit};
+ghost use lib.ListN.{drop, length};
+use journal::reader::BODY_LIMIT;
+use wire::number;
+
+// A row of bytes in a body: `found` 0: none. Else where it begins, its length, and the place behind it.
+pub struct Span {
+    pub found: u64,
+    pub begin: usize,
+    pub len: usize,
+    pub next: usize,
+}
+
+pub fn row_at(s: &[u8], at: usize, most: usize) -> Span
+    requires { ⌜ at ≤ length (now s) ⌝ }
+    ensures { λ r. ⌜ Spans r (now (s .entry)) at (getRow most (drop at (now (s .entry)))) ⌝ }
+{
+    if s.len() - at < 4 {
+        return Span {
+            found: 0,
+            begin: at,
+            len: 0,
+            next: at,
+        };
+    }
+    let n = number::number4(s, at) as usize;
+    if n > most {
+        return Span {
+            found: 0,
+            begin: at,
+            len: 0,
+            next: at,
+        };
+    }
+    if s.len() - at - 4 < n {
+        return Span {
+            found: 0,
+            begin: at,
+            len: 0,
+            next: at,
+        };
+    }
+    Span {
+        found: 1,
+        begin: at + 4,
+        len: n,
+        next: at + 4 + n,
+    }
+}
+
+// Several rows one behind the other: only where they end.
+pub fn rows_at(s: &[u8], at: usize, n: u64) -> Span
+    requires { ⌜ at ≤ length (now s) ⌝ }
+    ensures { λ r. ⌜ Ends r (now (s .entry)) at (getRows bodyLimit n (drop at (now (s .entry)))) ⌝ }
+{
+    let mut i = 0;
+    let mut e = at;
+    while i < n {
+        let t = row_at(s, e, BODY_LIMIT);
+        if t.found != 1 {
+            return Span {
+                found: 0,
+                begin: at,
+                len: 0,
+                next: at,
+            };
+        }
+        e = t.next;
+        i += 1;
+    }
+    Span {
+        found: 1,
+        begin: at,
+        len: 0,
+        next: e,
+    }
+}
