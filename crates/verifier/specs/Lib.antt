@@ -1,0 +1,9 @@
+pub mod Judge
+pub mod Feed
+pub mod Pieces
+pub mod Right
+pub mod Places
+pub mod Verdict
+pub mod Framing
+pub mod Whole
+pub mod Examples
