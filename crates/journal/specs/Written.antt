@@ -43,28 +43,31 @@ closing-written l at o n h =
     ∙ ap (λ (x : List ℕ). splice x (at + 8) (field 4 n)) (next l at mark (at + 4) (field 4 o) refl (omega arith))
     ∙ next l at (mark ++ field 4 o) (at + 8) (field 4 n) (omega arith) (omega arith)
 
-module _ (a b c : List ℕ) where
+module _ (a b c d : List ℕ) where
   abbrev pub body : List ℕ
-  body = a ++ b ++ c
+  body = a ++ b ++ c ++ d
 
-  pub body-length : length body ≡ length a + length b + length c
+  pub body-length : length body ≡ length a + length b + length c + length d
   body-length = simp length-append
 
-  pub entry-size : length a + length b + length c + 12 ≡ length (entry body)
+  pub entry-size : length a + length b + length c + length d + 12 ≡ length (entry body)
   entry-size = omega (arith, length-entry body, body-length)
 
-  pub headed-written : (l : List ℕ) (at : ℕ) → at + 4 + length a + length b + length c ≤ length l
-      → splice (splice (splice (splice l at (field 4 (length a + length b + length c))) (at + 4) a) (at + 4 + length a) b) (at + 4 + length a + length b) c
+  -- the length, then part behind part
+  pub headed-written : (l : List ℕ) (at : ℕ) → at + 4 + length a + length b + length c + length d ≤ length l
+      → splice (splice (splice (splice (splice l at (field 4 (length a + length b + length c + length d))) (at + 4) a) (at + 4 + length a) b) (at + 4 + length a + length b) c) (at + 4 + length a + length b + length c) d
       ≡ splice l at (headed body)
   headed-written l at h =
       let f : List ℕ = field 4 (length body) in
       let e : length f ≡ 4 = length-field 4 (length body) in
       let e₁ : length (f ++ a) ≡ 4 + length a = simp (length-append, length-field) in
       let e₂ : length (f ++ a ++ b) ≡ 4 + length a + length b = simp (length-append, length-field) in
-      ap (λ (n : ℕ). splice (splice (splice (splice l at (field 4 n)) (at + 4) a) (at + 4 + length a) b) (at + 4 + length a + length b) c) (sym body-length)
-      ∙ ap (λ (x : List ℕ). splice (splice x (at + 4 + length a) b) (at + 4 + length a + length b) c) (next l at f (at + 4) a (omega arith) (omega arith))
-      ∙ ap (λ (x : List ℕ). splice x (at + 4 + length a + length b) c) (next l at (f ++ a) (at + 4 + length a) b (omega arith) (omega arith))
-      ∙ next l at (f ++ a ++ b) (at + 4 + length a + length b) c (omega arith) (omega arith)
+      let e₃ : length (f ++ a ++ b ++ c) ≡ 4 + length a + length b + length c = simp (length-append, length-field) in
+      ap (λ (n : ℕ). splice (splice (splice (splice (splice l at (field 4 n)) (at + 4) a) (at + 4 + length a) b) (at + 4 + length a + length b) c) (at + 4 + length a + length b + length c) d) (sym body-length)
+      ∙ ap (λ (x : List ℕ). splice (splice (splice x (at + 4 + length a) b) (at + 4 + length a + length b) c) (at + 4 + length a + length b + length c) d) (next l at f (at + 4) a (omega arith) (omega arith))
+      ∙ ap (λ (x : List ℕ). splice (splice x (at + 4 + length a + length b) c) (at + 4 + length a + length b + length c) d) (next l at (f ++ a) (at + 4 + length a) b (omega arith) (omega arith))
+      ∙ ap (λ (x : List ℕ). splice x (at + 4 + length a + length b + length c) d) (next l at (f ++ a ++ b) (at + 4 + length a + length b) c (omega arith) (omega arith))
+      ∙ next l at (f ++ a ++ b ++ c) (at + 4 + length a + length b + length c) d (omega arith) (omega arith)
       ∙ ap (splice l at) (simp append-assoc)
 
 -- the sum is taken of what was just written

@@ -48,16 +48,17 @@ fn fits(len: usize, at: u64, n: usize) -> bool
     n as u64 + 12 <= m - at
 }
 
-// Length and body, the body in three parts.
-fn put_headed(book: &mut [u8], at: usize, a: &[u8], b: &[u8], c: &[u8])
-    requires { ⌜ (length (now a) + length (now b) + length (now c) ≤ bodyLimit) × (at + 4 + length (now a) + length (now b) + length (now c) ≤ length (now book)) ⌝ }
-    ensures { λ _. ⌜ now (book .exit) ≡ splice (now (book .entry)) at (headed (now (a .entry) ++ now (b .entry) ++ now (c .entry))) ⌝ }
+// Length and body, the body in four parts.
+fn put_headed(book: &mut [u8], at: usize, a: &[u8], b: &[u8], c: &[u8], d: &[u8])
+    requires { ⌜ (length (now a) + length (now b) + length (now c) + length (now d) ≤ bodyLimit) × (at + 4 + length (now a) + length (now b) + length (now c) + length (now d) ≤ length (now book)) ⌝ }
+    ensures { λ _. ⌜ now (book .exit) ≡ splice (now (book .entry)) at (headed (now (a .entry) ++ now (b .entry) ++ now (c .entry) ++ now (d .entry))) ⌝ }
 {
-    let n = a.len() + b.len() + c.len();
+    let n = a.len() + b.len() + c.len() + d.len();
     number::put4(book, at, n as u64);
     frame::put_bytes(book, at + 4, a);
     frame::put_bytes(book, at + 4 + a.len(), b);
     frame::put_bytes(book, at + 4 + a.len() + b.len(), c);
+    frame::put_bytes(book, at + 4 + a.len() + b.len() + c.len(), d);
 }
 
 // The sum over a part of the book.
@@ -69,12 +70,12 @@ fn sum_of(book: &[u8], at: usize, e: usize) -> u32
 }
 
 // A whole entry. Every byte is written behind those before it.
-fn put_entry(book: &mut [u8], at: usize, a: &[u8], b: &[u8], c: &[u8])
-    requires { ⌜ (length (now a) + length (now b) + length (now c) ≤ bodyLimit) × (at + 12 + length (now a) + length (now b) + length (now c) ≤ length (now book)) ⌝ }
-    ensures { λ _. ⌜ now (book .exit) ≡ splice (now (book .entry)) at (entry (now (a .entry) ++ now (b .entry) ++ now (c .entry))) ⌝ }
+fn put_entry(book: &mut [u8], at: usize, a: &[u8], b: &[u8], c: &[u8], d: &[u8])
+    requires { ⌜ (length (now a) + length (now b) + length (now c) + length (now d) ≤ bodyLimit) × (at + 12 + length (now a) + length (now b) + length (now c) + length (now d) ≤ length (now book)) ⌝ }
+    ensures { λ _. ⌜ now (book .exit) ≡ splice (now (book .entry)) at (entry (now (a .entry) ++ now (b .entry) ++ now (c .entry) ++ now (d .entry))) ⌝ }
 {
-    let n = a.len() + b.len() + c.len();
-    put_headed(book, at, a, b, c);
+    let n = a.len() + b.len() + c.len() + d.len();
+    put_headed(book, at, a, b, c, d);
     let sum = sum_of(book, at, at + (n + 4));
     number::put4(book, at + (n + 4), n as u64 + 4);
     number::put4(book, at + (n + 8), sum as u64);
@@ -100,18 +101,18 @@ pub fn new(words: &mut [u64; 4], book: &[u8]) -> Kept
     Kept::NoRoom
 }
 
-// An entry whose body is three parts in a row, so that nobody has to put them together first.
-pub fn append(words: &mut [u64; 4], book: &mut [u8], a: &[u8], b: &[u8], c: &[u8]) -> Kept
-    requires { ⌜ length (now a) + length (now b) + length (now c) ≤ bodyLimit ⌝ }
-    ensures { λ r. ⌜ Met (appendOf (now (words .entry)) (now (book .entry)) (now (a .entry) ++ now (b .entry) ++ now (c .entry))) r (now (words .exit)) (now (book .exit)) ⌝ }
+// An entry whose body is four parts in a row, so that nobody has to put them together first.
+pub fn append(words: &mut [u64; 4], book: &mut [u8], a: &[u8], b: &[u8], c: &[u8], d: &[u8]) -> Kept
+    requires { ⌜ length (now a) + length (now b) + length (now c) + length (now d) ≤ bodyLimit ⌝ }
+    ensures { λ r. ⌜ Met (appendOf (now (words .entry)) (now (book .entry)) (now (a .entry) ++ now (b .entry) ++ now (c .entry) ++ now (d .entry))) r (now (words .exit)) (now (book .exit)) ⌝ }
 {
     if !is_open(words) {
         return Kept::Closed;
     }
     let at = words[0];
-    let n = a.len() + b.len() + c.len() + 12;
+    let n = a.len() + b.len() + c.len() + d.len() + 12;
     if fits(book.len(), at, n) {
-        put_entry(book, at as usize, a, b, c);
+        put_entry(book, at as usize, a, b, c, d);
         let count = std::num::wrapping_add_u64(words[2], 1);
         set_words(words, at + n as u64, at, count, 0);
         return Kept::Written;

@@ -19,15 +19,15 @@ returns c = write-closed _ _ _ _ _ (sym (c .before .is-open .ensures) ∙ not-tr
 put-entry-requires : tie.Need-put-entry-requires
 put-entry-requires c κs = let i = c .before in
     let t = i .before in
-    let a = t .before .before .before .before .before .before .before .before .before .args in
-    let h : length (a .a .now) + length (a .b .now) + length (a .c .now) + 12 + 12 ≤ min (length (a .book .now)) reach - place (a .words .now) = leb-true _ _ (sym (t .fits2 .ensures) ∙ i .if2 .taken) in
+    let a = t .before .before .before .before .before .before .before .before .before .before .args in
+    let h : length (a .a .now) + length (a .b .now) + length (a .c .now) + length (a .d .now) + 12 + 12 ≤ min (length (a .book .now)) reach - place (a .words .now) = leb-true _ _ (sym (t .fits2 .ensures) ∙ i .if2 .taken) in
     (search needs, omega arith)
 
 add-set-words : tie.Need-add-set-words
 add-set-words c = let i = c .before .before .before .before .before .before .before in
     let t = i .before in
-    let a = t .before .before .before .before .before .before .before .before .before .args in
-    let h : length (a .a .now) + length (a .b .now) + length (a .c .now) + 12 + 12 ≤ min (length (a .book .now)) reach - place (a .words .now) = leb-true _ _ (sym (t .fits2 .ensures) ∙ i .if2 .taken) in
+    let a = t .before .before .before .before .before .before .before .before .before .before .args in
+    let h : length (a .a .now) + length (a .b .now) + length (a .c .now) + length (a .d .now) + 12 + 12 ≤ min (length (a .book .now)) reach - place (a .words .now) = leb-true _ _ (sym (t .fits2 .ensures) ∙ i .if2 .taken) in
     omega arith
 
 returns-2 : tie.Need-returns-2
@@ -37,9 +37,9 @@ returns-2 c = let p = c .before .before .before .before .before .before in
     let t = i .before in
     let o = t .before .before in
     let q = o .before in
-    let a = q .before .before .before .before .before .before .args in
-    let n = entry-size (a .a .now) (a .b .now) (a .c .now) in
-    write-done (a .words .now) _ _ (entry (a .a .now ++ a .b .now ++ a .c .now)) _ _ _ _ n
+    let a = q .before .before .before .before .before .before .before .args in
+    let n = entry-size (a .a .now) (a .b .now) (a .c .now) (a .d .now) in
+    write-done (a .words .now) _ _ (entry (a .a .now ++ a .b .now ++ a .c .now ++ a .d .now)) _ _ _ _ n
     (sym (q .is-open .ensures) ∙ not-false _ (o .if1 .left))
     (sym (t .fits2 .ensures) ∙ i .if2 .taken)
     (words-then (a .words .now) _ _ _ n (rw (← c .before .before .wrapping-add-u64 .ensures) (c .set-words .ensures)))
@@ -50,8 +50,8 @@ unfolding appendOf
 returns-3 c = let t = c .before in
     let o = t .before .before in
     let q = o .before in
-    let a = q .before .before .before .before .before .before .args in
-    write-no-room (a .words .now) _ _ _ _ _ (entry-size (a .a .now) (a .b .now) (a .c .now)) (sym (q .is-open .ensures) ∙ not-false _ (o .if1 .left)) (sym (t .fits2 .ensures) ∙ c .if2 .left)
+    let a = q .before .before .before .before .before .before .before .args in
+    write-no-room (a .words .now) _ _ _ _ _ (entry-size (a .a .now) (a .b .now) (a .c .now) (a .d .now)) (sym (q .is-open .ensures) ∙ not-false _ (o .if1 .left)) (sym (t .fits2 .ensures) ∙ c .if2 .left)
 
 pub append-spec : {M : Type 1} → statement M
 append-spec =
@@ -59,6 +59,7 @@ append-spec =
     (tie.spec
     (λ c. search needs)
     returns
+    (λ c. search needs)
     (λ c. search needs)
     (λ c. search needs)
     (λ c. search needs)
