@@ -38,9 +38,9 @@ use state::sizes::Words;
 use state::tables;
 use wire::reading;
 
-// What a verdict other than "acts" does: so many bytes are taken, and so many are left to skip. Callers take the answer into a local: it is
-// written to memory by this call, and a delivery that acts keeps its own in registers. (Where more is needed the callers tell it
-// themselves, with what is missing.)
+// What a verdict other than "acts" and "held" does: so many bytes are taken, and so many are left to skip. Callers take the answer into a
+// local: it is written to memory by this call, and a delivery that acts keeps its own in registers. (Held, and more needed with what is
+// missing, the callers tell themselves.)
 fn apply(
     w: &mut Words,
     strings: &mut Strings,
@@ -51,7 +51,7 @@ fn apply(
     taken: u64,
     left: u64,
 ) -> Delivery
-    requires { ⌜ (c < connectionLimit) × (outputMinimum ≤ length (now out)) × ((s : List ℕ) → slotIn (locksOf (now w) s .entries) c ≡ i) × (v ≡ 5 → ⊥) ⌝ }
+    requires { ⌜ (c < connectionLimit) × (outputMinimum ≤ length (now out)) × ((s : List ℕ) → slotIn (locksOf (now w) s .entries) c ≡ i) × (v ≡ 5 → ⊥) × (v ≡ 2 → ⊥) ⌝ }
     ensures { λ r. ⌜ ((ro : Role) (x : Scan) → size x ≡ taken → leftover x ≡ left → Did (finish (view (memory (now (w .entry)) (now (strings .entry)))) (effect (verdictOf v) x ro (view (memory (now (w .entry)) (now (strings .entry)))) i c)) r (memory (now (w .entry)) (now (strings .entry))) (memory (now (w .exit)) (now (strings .exit))) (now (out .entry)) (now (out .exit))) ⌝ }
 {
     if v >= FATAL_0 {
@@ -65,9 +65,6 @@ fn apply(
     }
     if v == IGNORED {
         return answer::quiet(outcome::IGNORED, taken);
-    }
-    if v == HELD {
-        return answer::quiet(outcome::HELD, 0);
     }
     answer::more_needed(0)
 }
@@ -132,6 +129,9 @@ fn deliver_whole(
     let v = whole::whole_verdict(w, role, i, kind, code, param, len, payload);
     if v == ACTS {
         return act(w, strings, out, c, i, role, kind, code, param, len, payload);
+    }
+    if v == HELD {
+        return answer::quiet(outcome::HELD, 0);
     }
     let told = apply(w, strings, out, c, i, v, 16 + len, 0);
     told

@@ -5,7 +5,9 @@ use Rattle.checks.specs.Numbers.{message, verdictOf}
 use Rattle.model.specs.Checks.{judged}
 use Rattle.model.specs.Scan.{Scan.whole}
 use Rattle.state.specs.View.{memory, view}
-use Rattle.server.specs.Verdicts.{acts-done, by-verdict}
+use Rattle.effects.specs.Did.{did-nothing, numbersOf}
+use Rattle.model.specs.Interface.{Reply.took, Outcome.held}
+use Rattle.server.specs.Verdicts.{acts-done, by-verdict, held-done}
 use borrow.Author.Needs.{needs}
 use Rattle.server.proofs.deliver.deliver_whole.Statement.{statement}
 use Rattle.server.proofs.deliver.deliver_whole.Tie as tie
@@ -30,8 +32,18 @@ returns c =
 
 returns-2 : tie.Need-returns-2
 returns-2 c =
-    let a = c .before .before .before .before .before .before .before .before .before .before .before .args in
-    let v = c .before .before .before .before .before .before .before .whole-verdict in
+    let a = c .before .before .before .before .before .before .before .args in
+    let v = c .before .before .before .whole-verdict in
+    let d = view (memory (a .w .now) (a .strings .now)) in
+    let h = message (a .kind) (a .code) (a .param) (a .len) in
+    let x = whole h (a .payload .now) in
+    λ ro e. by-verdict d (a .c) (a .i) x ro _ _ _ _ _ (judged ro d (a .i) h (a .payload .now)) (verdictOf (v .result)) (v .ensures (a .strings .now) ro e .case)
+    (held-done d (a .c) (a .i) x ro _ _ _ _ _ (v .result) (c .before .if2 .taken) (did-nothing 0 (took held 0 0) _ _ _ (ap numbersOf (c .quiet .ensures))))
+
+returns-3 : tie.Need-returns-3
+returns-3 c =
+    let a = c .before .before .before .before .before .before .before .before .before .before .before .before .args in
+    let v = c .before .before .before .before .before .before .before .before .whole-verdict in
     let d = view (memory (a .w .now) (a .strings .now)) in
     let h = message (a .kind) (a .code) (a .param) (a .len) in
     λ ro e. by-verdict d (a .c) (a .i) (whole h (a .payload .now)) ro _ _ _ _ _ (judged ro d (a .i) h (a .payload .now)) (verdictOf (v .result))
@@ -45,7 +57,9 @@ deliver-whole-spec =
     act-requires
     (λ c. search needs)
     returns
+    (λ c κs. search needs)
+    returns-2
     (λ c. search needs)
     (λ c κs. search needs)
     (λ c. search needs)
-    returns-2)
+    returns-3)
