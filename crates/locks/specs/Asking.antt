@@ -12,9 +12,10 @@ use Rattle.model.specs.Lists.{all}
 use Rattle.model.specs.State.{Entry, Waiting, Locks, Server, at, blank}
 use Rattle.model.specs.Locks.{LockResult, LockEvent.request, noShared, mayGrant, give, holds, tell, withEntries, withWaiting, unanswered, elsewhere, noPlace, Ruling, Ruling.invalid, ruling, respond, change}
 use Rattle.state.specs.Grid.{upd, upd-set}
-use Rattle.state.specs.Queue.{noRequest}
-use Rattle.state.specs.View.{Memory, view}
-use Rattle.locks.specs.Outcome.{Met, ends, ends-nil, met, met-is, told}
+use Rattle.state.specs.Queue.{noRequest, onWaiting, count-is}
+use Rattle.state.specs.Requests.{countOf}
+use Rattle.state.specs.View.{Memory, memory, locksOf, view}
+use Rattle.locks.specs.Outcome.{Met, ends, ends-nil, met, told}
 use Rattle.locks.specs.Waiting.{next}
 
 -- answered 3: that kind is held, a request waits, or the string is too long
@@ -149,10 +150,14 @@ met-none x l m m′ out at e v =
     (ap (λ (d : Server). d .rest) v)
     (sym (ap (λ (y : LockResult). ends (y .answers) out at) e ∙ ends-nil out at))
 
--- a request whose string was laid before it is decided
-pub laid : (m m₁ m′ : Memory) (i t : ℕ) (k k₁ : List ℕ) (out out′ : List ℕ) (at r : ℕ) → unable (view m .locks) i k ≡ false → view m₁ ≡ view m → k₁ ≡ k
-    → Met (decided (view m₁ .locks) i t k₁) m₁ m′ out out′ at r → Met (change (view m .locks) (request i t k)) m m′ out out′ at r
-laid m m₁ m′ i t k k₁ out out′ at r u v e p =
-    let x : decided (view m₁ .locks) i t k₁ ≡ change (view m .locks) (request i t k) = ap₂ (λ (d : Server) (y : List ℕ). decided (d .locks) i t y) v e ∙ sym (request-decided (view m .locks) i k t u) in
-    let q : Met (change (view m .locks) (request i t k)) m₁ m′ out out′ at r = met-is (decided (view m₁ .locks) i t k₁) (change (view m .locks) (request i t k)) m₁ m′ out out′ at r x p in
-    record { locks = q .locks; rest = q .rest ∙ ap (λ (d : Server). d .rest) v; buffer = q .buffer; place = q .place }
+-- a request that waits, its string laid before it is queued: there is still a place
+pub room-laid : (w s w₁ s₁ : List ℕ) → view (memory w₁ s₁) ≡ view (memory w s) → length (locksOf w s .waiting) < sessionLimit → countOf w₁ < sessionLimit
+room-laid w s w₁ s₁ v h = omega (arith, h, ap (λ (d : Server). length (d .locks .waiting)) v, count-is w₁ s₁)
+
+pub waits-laid : (m m₁ : Memory) (d′ : Server) (i t n : ℕ) (k k₁ : List ℕ) → view m₁ ≡ view m → k₁ ≡ k → n ≡ view m₁ .locks .clock
+    → d′ ≡ onWaiting (view m₁) (λ (x : List Waiting). x ++ (record { slot = i; deadline = n + t; string = k₁ } ∷ []))
+    → d′ ≡ onWaiting (view m) (λ (x : List Waiting). x ++ (record { slot = i; deadline = view m .locks .clock + t; string = k } ∷ []))
+waits-laid m m₁ d′ i t n k k₁ v e c q =
+    q
+    ∙ ap₂ (λ (y : ℕ) (z : List ℕ). onWaiting (view m₁) (λ (x : List Waiting). x ++ (record { slot = i; deadline = y + t; string = z } ∷ []))) c e
+    ∙ ap (λ (d : Server). onWaiting d (λ (x : List Waiting). x ++ (record { slot = i; deadline = d .locks .clock + t; string = k } ∷ []))) v

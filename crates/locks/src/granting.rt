@@ -13,6 +13,7 @@ ghost use Rattle.state.specs.Layout.{STRINGS};
 use crate::answers::put_answer;
 use state::holders;
 use state::requests;
+use state::sharing;
 use state::sizes::Strings;
 use state::sizes::Words;
 
@@ -44,6 +45,38 @@ pub fn may_grant(w: &Words, strings: &Strings, i: usize) -> bool
     requests::has_key(w, strings, i)
 }
 
+// May slot i be granted what a string that is laid nowhere asks for?
+pub fn may_give(w: &Words, strings: &Strings, i: usize, string: &[u8]) -> bool
+    requires { ⌜ i < sessionLimit ⌝ }
+    ensures { λ r. ⌜ mayGrant (locksOf (now (w .entry)) (now (strings .entry)) .entries) i (now (string .entry)) ≡ r ⌝ }
+{
+    if !holders::no_other_exclusive(w, i) {
+        return false;
+    }
+    if string.len() == 0 {
+        if holders::no_other_shares(w, i) {
+            return true;
+        }
+        return holders::is_sharing(w, i);
+    }
+    if holders::nobody_shares(w) {
+        return true;
+    }
+    requests::is_key(w, strings, string)
+}
+
+// Slot i gets what the string asks for.
+pub fn give_asked(w: &mut Words, strings: &mut Strings, i: usize, string: &[u8])
+    requires { ⌜ (i < sessionLimit) × (length (now string) ≤ stringLimit) × (mayGrant (locksOf (now w) (now strings) .entries) i (now string) ≡ true) ⌝ }
+    ensures { λ _. ⌜ view (memory (now (w .exit)) (now (strings .exit))) ≡ onEntry (view (memory (now (w .entry)) (now (strings .entry)))) i (give (now (string .entry))) ⌝ }
+{
+    if string.len() == 0 {
+        holders::give_exclusive(w, i);
+        return;
+    }
+    sharing::give_key(w, strings, i, string);
+}
+
 // Slot i gets the lock that its request asks for.
 pub fn grant(w: &mut Words, strings: &mut Strings, i: usize)
     requires { ⌜ (i < sessionLimit) × (mayGrant (locksOf (now w) (now strings) .entries) i (stringAt (now w) (now strings) i) ≡ true) ⌝ }
@@ -54,7 +87,7 @@ pub fn grant(w: &mut Words, strings: &mut Strings, i: usize)
         holders::give_exclusive(w, i);
         return;
     }
-    holders::give_shared(w, strings, i, n);
+    sharing::give_shared(w, strings, i, n);
 }
 
 // Slot i gets the lock that its request asks for, and is told (1).

@@ -6,14 +6,14 @@ ghost use Rattle.model.specs.Lists.{all};
 ghost use Rattle.model.specs.Locks.LockEvent.{request};
 ghost use Rattle.model.specs.Locks.{change, elsewhere, holds, noPlace};
 ghost use Rattle.model.specs.State.{at};
-ghost use Rattle.state.specs.Requests.{stringAt};
-ghost use Rattle.state.specs.View.{locksOf, memory};
+ghost use Rattle.state.specs.Queue.{onWaiting};
+ghost use Rattle.state.specs.View.{locksOf, memory, view};
 ghost use lib.Dec.{eqb};
 ghost use lib.ListN.{length};
 ghost use mathlib.Core.Bool.{_||_, true};
-ghost use mathlib.Core.List.{List};
+ghost use mathlib.Core.List.{List, [], _++_, _∷_};
 ghost use mathlib.Core.Path.{_≡_};
-ghost use Rattle.model.specs.Sizes.{sessionLimit};
+ghost use Rattle.model.specs.Sizes.{sessionLimit, stringLimit};
 use crate::answers::put_answer;
 use crate::granting;
 use state::holders;
@@ -74,7 +74,17 @@ fn cannot_wait(w: &Words, timeout: u32) -> bool
     requests::waiting_count(w) >= SESSION_LIMIT
 }
 
-// The request of slot i, its string laid: 1 if it may be granted, 0 if it cannot wait, else it waits until the clock and the timeout.
+// The request of slot i waits until the clock and the timeout: only now its string is laid into its place.
+fn wait(w: &mut Words, strings: &mut Strings, i: usize, timeout: u32, string: &[u8])
+    requires { ⌜ (i < sessionLimit) × (length (now string) ≤ stringLimit) × (length (locksOf (now w) (now strings) .waiting) < sessionLimit) × (all (elsewhere i) (locksOf (now w) (now strings) .waiting) ≡ true) ⌝ }
+    ensures { λ _. ⌜ view (memory (now (w .exit)) (now (strings .exit))) ≡ onWaiting (view (memory (now (w .entry)) (now (strings .entry)))) (λ x. x ++ (record { slot = i; deadline = locksOf (now (w .entry)) (now (strings .entry)) .clock + timeout; string = now (string .entry) } ∷ [])) ⌝ }
+{
+    requests::lay_request(w, strings, i, string);
+    let t = tables::clock(w) + timeout as u64;
+    requests::queue_request(w, i, t);
+}
+
+// The request of slot i, decided as it stands in the input: 1 if it may be granted, 0 if it cannot wait, else it waits.
 fn decide(
     w: &mut Words,
     strings: &mut Strings,
@@ -82,18 +92,20 @@ fn decide(
     at: usize,
     i: usize,
     timeout: u32,
+    string: &[u8],
 ) -> usize
-    requires { ⌜ (i < sessionLimit) × (at + 17 ≤ length (now out)) × (all (elsewhere i) (locksOf (now w) (now strings) .waiting) ≡ true) ⌝ }
-    ensures { λ r. ⌜ Met (decided (locksOf (now (w .entry)) (now (strings .entry))) i timeout (stringAt (now (w .entry)) (now (strings .entry)) i)) (memory (now (w .entry)) (now (strings .entry))) (memory (now (w .exit)) (now (strings .exit))) (now (out .entry)) (now (out .exit)) at r ⌝ }
+    requires { ⌜ (i < sessionLimit) × (at + 17 ≤ length (now out)) × (length (now string) ≤ stringLimit) × (all (elsewhere i) (locksOf (now w) (now strings) .waiting) ≡ true) ⌝ }
+    ensures { λ r. ⌜ Met (decided (locksOf (now (w .entry)) (now (strings .entry))) i timeout (now (string .entry))) (memory (now (w .entry)) (now (strings .entry))) (memory (now (w .exit)) (now (strings .exit))) (now (out .entry)) (now (out .exit)) at r ⌝ }
 {
-    if granting::may_grant(w, strings, i) {
-        return granting::grant_and_answer(w, strings, out, at, i);
+    if granting::may_give(w, strings, i, string) {
+        let r = put_answer(w, out, at, i, 1);
+        granting::give_asked(w, strings, i, string);
+        return r;
     }
     if cannot_wait(w, timeout) {
         return put_answer(w, out, at, i, 0);
     }
-    let t = tables::clock(w) + timeout as u64;
-    requests::queue_request(w, i, t);
+    wait(w, strings, i, timeout, string);
     at
 }
 
@@ -113,6 +125,5 @@ pub fn request_lock(
     if is_invalid(w, i, string.len()) {
         return put_answer(w, out, at, i, 3);
     }
-    requests::lay_request(w, strings, i, string);
-    decide(w, strings, out, at, i, timeout)
+    decide(w, strings, out, at, i, timeout, string)
 }

@@ -7,19 +7,16 @@ use Prim.Native.Nat.{ℕ, zero, suc, _+_, _*_, _-_, _%_, _^_, _≤_, _<_}
 use native.Mathlib.Nat.{zero-add}
 use native.Mathlib.Omega.{arith}
 use lib.Dec.{eqb}
-use lib.ListN.{length, getD, set, take, drop, length-set}
-use lib.Seq.{take-take, take-append-seam}
-use borrow.Author.Tests.{eq-eqb, ne-eqb, eqb-true}
-use Rattle.wire.specs.Splice.{splice}
-use Rattle.model.specs.Sizes.{sessionLimit, stringLimit}
+use lib.ListN.{length, getD, set}
+use borrow.Author.Tests.{eq-eqb, ne-eqb}
+use Rattle.model.specs.Sizes.{sessionLimit}
 use Rattle.model.specs.State.{Entry, at}
 use Rattle.model.specs.Locks.{give, withoutExclusive, withoutShared}
 use Rattle.state.specs.Grid.{upd}
 use Rattle.state.specs.Bits.{bit, without, with-bit, without-same, without-other, with-same, with-other}
-use Rattle.state.specs.Layout.{LOCKS, CLOCK, HOLDER, SHARERS, KEY, ENTRIES, ENTRY, WORDS, STRINGS}
+use Rattle.state.specs.Layout.{LOCKS, CLOCK, HOLDER, SHARERS, KEY, ENTRIES, ENTRY, WORDS}
 use Rattle.state.specs.View.{Memory, memory, word, keyOf, entryFrom, entryAt, entriesOf, waitingOf, locksOf, view}
 use Rattle.state.specs.Change.{onEntry, off, here, key-off, waiting-off, rest-off, entries-change}
-use Rattle.state.specs.Requests.{part-behind, waiting-strings}
 
 -- slot j with another exclusive holder, with another set of sharers
 module _ (w key : List ℕ) (j : ℕ) (long : length w ≡ WORDS) where
@@ -141,7 +138,7 @@ module _ (w s : List ℕ) (i : ℕ) (h : i < sessionLimit) (long : length w ≡ 
   -- another set of sharers, which differs in i alone
   sharers-stored : (v : ℕ) (g : Entry → Entry)
       → entryFrom (λ (k : ℕ). word w (ENTRIES + i * ENTRY + k)) ((entryAt w (keyOf w s) i) .exclusive) (cond (eqb (bit v i) 1) (keyOf w s) []) ≡ g (entryAt w (keyOf w s) i)
-      → ((j : ℕ) → (j ≡ i → ⊥) → bit v j ≡ bit (word w SHARERS) j)
+      → ((j : ℕ) → j < sessionLimit → (j ≡ i → ⊥) → bit v j ≡ bit (word w SHARERS) j)
       → view (memory (set w SHARERS v) s) ≡ onEntry (view (memory w s)) i g
   sharers-stored v g f o =
       let key : List ℕ = keyOf w s in
@@ -150,7 +147,7 @@ module _ (w s : List ℕ) (i : ℕ) (h : i < sessionLimit) (long : length w ≡ 
       (entry-sharers w key i long v ∙ f)
       (λ j l n.
       entry-sharers w key j long v
-      ∙ ap (λ (x : ℕ). entryFrom (λ (k : ℕ). word w (ENTRIES + j * ENTRY + k)) ((entryAt w key j) .exclusive) (cond (eqb x 1) key [])) (o j n)
+      ∙ ap (λ (x : ℕ). entryFrom (λ (k : ℕ). word w (ENTRIES + j * ENTRY + k)) ((entryAt w key j) .exclusive) (cond (eqb x 1) key [])) (o j l n)
       ∙ entry-as w key j long ((entryAt w key j) .exclusive) (cond (eqb (bit (word w SHARERS) j) 1) key []) refl (shared-of w key j)))
 
   -- the shared lock is freed, held or not
@@ -159,85 +156,21 @@ module _ (w s : List ℕ) (i : ℕ) (h : i < sessionLimit) (long : length w ≡ 
       sharers-stored (without (word w SHARERS) i) withoutShared
       (ap (λ (x : Bool). entryFrom (λ (k : ℕ). word w (ENTRIES + i * ENTRY + k)) ((entryAt w (keyOf w s) i) .exclusive) (cond x (keyOf w s) [])) (ne-eqb (bit (without (word w SHARERS) i) i) 1 (let z : bit (without (word w SHARERS) i) i ≡ 0 = without-same (word w SHARERS) i in omega arith))
       ∙ as-unshared w (keyOf w s) i)
-      (λ j n. without-other (word w SHARERS) i j n)
+      (λ j l n. without-other (word w SHARERS) i j n)
 
--- the shared lock is granted with a string that fits: the string is laid down as the shared one, and slot i joins those that share
-module _ (w s : List ℕ) (i x : ℕ) (xs : List ℕ) (h : i < sessionLimit) (small : length xs < stringLimit) (long : length w ≡ WORDS) (room : length s ≡ STRINGS)
-    (fits : (j : ℕ) → j < sessionLimit → bit (word w SHARERS) j ≡ 1 → keyOf w s ≡ x ∷ xs) where
-  abbrev pub keyed : List ℕ
-  keyed = set w KEY (length xs)
+  -- slot i joins those that share, with their string, which is never empty
+  as-joined : (k : List ℕ) → 0 < length k
+      → entryFrom (λ (g : ℕ). word w (ENTRIES + i * ENTRY + g)) ((entryAt w (keyOf w s) i) .exclusive) k ≡ give k (entryAt w (keyOf w s) i)
+  as-joined [] p = absurd (omega arith)
+  as-joined (x ∷ k) p = as-shared w (keyOf w s) i x k
 
-  abbrev pub lettered : List ℕ
-  lettered = splice s 0 (x ∷ xs)
+  some-key : 0 < length (keyOf w s)
+  unfolding keyOf
+  some-key = omega arith
 
-  inside : 0 + length (x ∷ xs) ≤ length s
-  inside = omega arith
-
-  keyed-length : length keyed ≡ WORDS
-  keyed-length = length-set w KEY (length xs) ∙ long
-
-  new-key : (w′ : List ℕ) → word w′ KEY ≡ length xs → keyOf w′ lettered ≡ x ∷ xs
-  unfolding keyOf splice
-  new-key w′ e =
-      ap (λ (n : ℕ). x ∷ take n (take (stringLimit - 1) (xs ++ drop (0 + length (x ∷ xs)) s))) e
-      ∙ ap (λ (l : List ℕ). x ∷ l) (take-take (length xs) (stringLimit - 1) (xs ++ drop (0 + length (x ∷ xs)) s) (omega arith) ∙ take-append-seam xs (drop (0 + length (x ∷ xs)) s))
-
-  -- with another key, slot j is the same if it does not share, or the key is the same
-  same-entry : (j : ℕ) → j < sessionLimit → entryAt w (x ∷ xs) j ≡ entryAt w (keyOf w s) j
-  unfolding entryAt
-  same-entry j l = ap (entryFrom (λ (k : ℕ). word w (ENTRIES + j * ENTRY + k)) (eqb (word w HOLDER) (j + 1))) (by (eqb (bit (word w SHARERS) j) 1) refl)
-    where
-      by : (b : Bool) → eqb (bit (word w SHARERS) j) 1 ≡ b → cond b (x ∷ xs) [] ≡ cond b (keyOf w s) []
-      by true e = sym (fits j l (eqb-true (bit (word w SHARERS) j) 1 e))
-      by false e = refl
-
-  abbrev pub joined : List ℕ
-  joined = set keyed SHARERS (with-bit sessionLimit (word w SHARERS) i)
-
-  entry-joined : (j : ℕ) → j < sessionLimit → entryAt joined (x ∷ xs) j
-      ≡ entryFrom (λ (k : ℕ). word w (ENTRIES + j * ENTRY + k)) ((entryAt w (keyOf w s) j) .exclusive) (cond (eqb (bit (with-bit sessionLimit (word w SHARERS) i) j) 1) (x ∷ xs) [])
-  unfolding entryAt
-  entry-joined j l =
-      let v : ℕ = with-bit sessionLimit (word w SHARERS) i in
-      let t : (g : ℕ) → (g ≡ SHARERS → ⊥) → (g ≡ KEY → ⊥) → word joined g ≡ word w g = (λ g p q. off keyed SHARERS v g p ∙ off w KEY (length xs) g q) in
-      λ k. record {
-        number = t (ENTRIES + j * ENTRY + 0) (omega arith) (omega arith) k;
-        synchronous = t (ENTRIES + j * ENTRY + 1) (omega arith) (omega arith) k % 256;
-        asynchronous = t (ENTRIES + j * ENTRY + 2) (omega arith) (omega arith) k % 256;
-        exclusive = eqb (t HOLDER (omega arith) (omega arith) k) (j + 1);
-        shared = cond (eqb (bit (here keyed SHARERS v (omega (arith, keyed-length)) k) j) 1) (x ∷ xs) [];
-      }
-
-  entry-other : (j : ℕ) → j < sessionLimit → (j ≡ i → ⊥) → entryAt joined (x ∷ xs) j ≡ entryAt w (keyOf w s) j
-  unfolding entryAt
-  entry-other j l n =
-      entry-joined j l
-      ∙ ap (λ (b : ℕ). entryFrom (λ (k : ℕ). word w (ENTRIES + j * ENTRY + k)) (eqb (word w HOLDER) (j + 1)) (cond (eqb b 1) (x ∷ xs) [])) (with-other sessionLimit (word w SHARERS) i h j l n)
-      ∙ same-entry j l
-
-  entries-joined : entriesOf joined (x ∷ xs) ≡ upd (entriesOf w (keyOf w s)) i (give (x ∷ xs))
-  entries-joined =
-      entries-change w joined (keyOf w s) (x ∷ xs) i (give (x ∷ xs)) h
-      (entry-joined i h
-      ∙ ap (λ (b : Bool). entryFrom (λ (k : ℕ). word w (ENTRIES + i * ENTRY + k)) ((entryAt w (keyOf w s) i) .exclusive) (cond b (x ∷ xs) [])) (eq-eqb (bit (with-bit sessionLimit (word w SHARERS) i) i) 1 (with-same sessionLimit (word w SHARERS) i h))
-      ∙ as-shared w (keyOf w s) i x xs)
-      entry-other
-
-  waiting-joined : waitingOf joined lettered ≡ waitingOf w s
-  waiting-joined =
-      waiting-off keyed lettered SHARERS (with-bit sessionLimit (word w SHARERS) i) (omega arith) (omega arith)
-      ∙ waiting-off w lettered KEY (length xs) (omega arith) (omega arith)
-      ∙ waiting-strings w s lettered (λ j l. part-behind s 0 (x ∷ xs) inside (stringLimit + j * stringLimit) stringLimit (omega arith))
-
-  pub shared-given : view (memory joined lettered) ≡ onEntry (view (memory w s)) i (give (x ∷ xs))
-  unfolding locksOf
-  shared-given =
-      let v : ℕ = with-bit sessionLimit (word w SHARERS) i in
-      λ k. record {
-        locks = record {
-          clock = (off keyed SHARERS v CLOCK (omega arith) ∙ off w KEY (length xs) CLOCK (omega arith)) k % 2 ^ 63;
-          entries = (ap (entriesOf joined) (new-key joined (off keyed SHARERS v KEY (omega arith) ∙ here w KEY (length xs) (omega arith))) ∙ entries-joined) k;
-          waiting = waiting-joined k;
-        };
-        rest = (rest-off keyed SHARERS v (omega arith) ∙ rest-off w KEY (length xs) (omega arith)) k;
-      }
+  pub sharer-joined : view (memory (set w SHARERS (with-bit sessionLimit (word w SHARERS) i)) s) ≡ onEntry (view (memory w s)) i (give (keyOf w s))
+  sharer-joined =
+      sharers-stored (with-bit sessionLimit (word w SHARERS) i) (give (keyOf w s))
+      (ap (λ (x : Bool). entryFrom (λ (k : ℕ). word w (ENTRIES + i * ENTRY + k)) ((entryAt w (keyOf w s) i) .exclusive) (cond x (keyOf w s) [])) (eq-eqb (bit (with-bit sessionLimit (word w SHARERS) i) i) 1 (with-same sessionLimit (word w SHARERS) i h))
+      ∙ as-joined (keyOf w s) some-key)
+      (λ j l n. with-other sessionLimit (word w SHARERS) i h j l n)

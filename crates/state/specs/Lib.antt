@@ -9,6 +9,7 @@ pub mod Requests
 pub mod Granting
 pub mod Queue
 pub mod Strings
+pub mod Windows
 pub mod Sharing
 pub mod Search
 pub mod Fresh

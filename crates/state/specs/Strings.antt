@@ -11,13 +11,10 @@ use lib.ListN.{length, getD, take, drop, length-take, length-drop, drop-of-lengt
 use lib.Seq.{drop-cons}
 use borrow.Author.Tests.{eq-eqb, ne-eqb, eqb-true}
 use Rattle.model.specs.Sizes.{sessionLimit, stringLimit}
-use Rattle.model.specs.Lists.{same, all}
-use Rattle.model.specs.Locks.{fits}
+use Rattle.model.specs.Lists.{same}
 use Rattle.state.specs.Grid.{part}
-use Rattle.state.specs.Bits.{bit, empty-bits}
-use Rattle.state.specs.Layout.{KEY, SHARERS, REQUESTS, REQUEST, STRINGS}
-use Rattle.state.specs.View.{word, keyOf, requestAt, locksOf}
-use Rattle.state.specs.Holders.{fits-some}
+use Rattle.state.specs.Layout.{KEY, REQUESTS, REQUEST, STRINGS}
+use Rattle.state.specs.View.{word, keyOf, requestAt}
 use Rattle.state.specs.Requests.{stringAt}
 
 take-least : (m n : ℕ) (l : List ℕ) → take m (take n l) ≡ take (min m n) l
@@ -79,17 +76,6 @@ same-true (x ∷ a) (y ∷ b) e = λ k. eqb-true x y (left (eqb x y) (same a b) 
     right : (p q : Bool) → (p && q) ≡ true → q ≡ true
     right true q e = e
     right false q e = absurd (true≢false (sym e))
-
--- a string that fits the shared locks is the string of each slot that shares
-pub fits-shared : (w s k : List ℕ) → all (fits k) (locksOf w s .entries) ≡ true → (j : ℕ) → j < sessionLimit → bit (word w SHARERS) j ≡ 1 → keyOf w s ≡ k
-fits-shared w s k e j h q =
-    same-true (keyOf w s) k
-    (sym (fits-some w s k (λ z. let y : bit (word w SHARERS) j ≡ 0 = empty-bits (word w SHARERS) sessionLimit j z h in omega arith)) ∙ e)
-
--- a string that is not empty
-pub first-and-rest : (k : List ℕ) → 0 < length k → k ≡ getD k 0 0 ∷ drop 1 k
-first-and-rest [] h = absurd (not-suc-le-zero h)
-first-and-rest (x ∷ k) h = refl
 
 -- the bytes of slot i's string
 pub string-bytes : (w s : List ℕ) (i n : ℕ) → i < sessionLimit → length s ≡ STRINGS → n ≡ length (stringAt w s i)

@@ -7,7 +7,7 @@ ghost use Rattle.state.specs.Bits.{bit, with-bit, without};
 ghost use Rattle.state.specs.Change.{onEntry};
 ghost use Rattle.state.specs.Holders.{NoOther};
 ghost use Rattle.state.specs.Requests.{stringAt};
-ghost use Rattle.state.specs.View.{locksOf, memory, view};
+ghost use Rattle.state.specs.View.{keyOf, locksOf, memory, view};
 ghost use lib.ListN.{length};
 ghost use mathlib.Core.Bool.{not, true};
 ghost use mathlib.Core.List.{List, []};
@@ -146,20 +146,11 @@ pub fn drop_shared(w: &mut Words, i: usize)
     store(w, SHARERS, m);
 }
 
-fn give_shared_in(w: &mut [u64], strings: &mut [u8], i: usize, n: usize)
-    requires { ⌜ (i < sessionLimit) × (length (now w) ≡ WORDS) × (length (now strings) ≡ STRINGS) × (n ≡ length (stringAt (now w) (now strings) i)) × (0 < n) × (n ≤ stringLimit) × (all (fits (stringAt (now w) (now strings) i)) (locksOf (now w) (now strings) .entries) ≡ true) ⌝ }
-    ensures { λ _. ⌜ view (memory (now (w .exit)) (now (strings .exit))) ≡ onEntry (view (memory (now (w .entry)) (now (strings .entry)))) i (give (stringAt (now (w .entry)) (now (strings .entry)) i)) ⌝ }
+// Slot i joins those that share, with their string.
+pub fn join_sharers(w: &mut Words, i: usize)
+    requires { ⌜ i < sessionLimit ⌝ }
+    ensures { λ _. ⌜ ((s : List ℕ) → view (memory (now (w .exit)) s) ≡ onEntry (view (memory (now (w .entry)) s)) i (give (keyOf (now (w .entry)) s))) ⌝ }
 {
     let m = put_in(w[SHARERS], i);
-    requests::copy_to_front(strings, STRING_LIMIT + i * STRING_LIMIT, n);
-    w[KEY] = n as u64 - 1;
-    w[SHARERS] = m;
-}
-
-// Slot i gets the shared lock with the string of its request, which fits the shared locks.
-pub fn give_shared(w: &mut Words, strings: &mut Strings, i: usize, n: usize)
-    requires { ⌜ (i < sessionLimit) × (n ≡ length (stringAt (now w) (now strings) i)) × (0 < n) × (n ≤ stringLimit) × (all (fits (stringAt (now w) (now strings) i)) (locksOf (now w) (now strings) .entries) ≡ true) ⌝ }
-    ensures { λ _. ⌜ view (memory (now (w .exit)) (now (strings .exit))) ≡ onEntry (view (memory (now (w .entry)) (now (strings .entry)))) i (give (stringAt (now (w .entry)) (now (strings .entry)) i)) ⌝ }
-{
-    give_shared_in(w, strings, i, n);
+    store(w, SHARERS, m);
 }

@@ -18,6 +18,8 @@ use crate::layout::KEY;
 use crate::layout::QUEUE;
 use crate::layout::REQUEST;
 use crate::layout::REQUESTS;
+use crate::same::differ_early;
+use crate::same::same_bytes;
 use crate::sizes::SESSION_LIMIT;
 use crate::sizes::SESSIONS;
 use crate::sizes::STRING_LIMIT;
@@ -113,28 +115,14 @@ pub fn lay_request(w: &mut Words, strings: &mut Strings, i: usize, string: &[u8]
     lay_request_in(w, strings, i, string);
 }
 
-// Are two strings the same, byte by byte?
-fn same_bytes(a: &[u8], b: &[u8]) -> bool
-    ensures { λ r. ⌜ same (now (a .entry)) (now (b .entry)) ≡ r ⌝ }
-{
-    if a.len() != b.len() {
-        return false;
-    }
-    let mut i = 0;
-    while i < a.len() {
-        if a[i] != b[i] {
-            return false;
-        }
-        i += 1;
-    }
-    true
-}
-
 fn same_parts(strings: &[u8], k: usize, a: usize, n: usize) -> bool
     requires { ⌜ (k ≤ length (now strings)) × (a + n ≤ length (now strings)) ⌝ }
     ensures { λ r. ⌜ same (take k (now (strings .entry))) (take n (drop a (now (strings .entry)))) ≡ r ⌝ }
 {
     let e = a + n;
+    if differ_early(&strings[..k], &strings[a..e]) {
+        return false;
+    }
     same_bytes(&strings[..k], &strings[a..e])
 }
 
@@ -153,6 +141,24 @@ pub fn has_key(w: &Words, strings: &Strings, i: usize) -> bool
     ensures { λ r. ⌜ same (keyOf (now (w .entry)) (now (strings .entry))) (stringAt (now (w .entry)) (now (strings .entry)) i) ≡ r ⌝ }
 {
     has_key_in(w, strings, i)
+}
+
+fn is_key_in(w: &Words, strings: &[u8], string: &[u8]) -> bool
+    requires { ⌜ length (now strings) ≡ STRINGS ⌝ }
+    ensures { λ r. ⌜ same (keyOf (now (w .entry)) (now (strings .entry))) (now (string .entry)) ≡ r ⌝ }
+{
+    let k = least(w[KEY], KEY_REST) + 1;
+    if differ_early(&strings[..k], string) {
+        return false;
+    }
+    same_bytes(&strings[..k], string)
+}
+
+// Is a string, laid nowhere yet, the shared one?
+pub fn is_key(w: &Words, strings: &Strings, string: &[u8]) -> bool
+    ensures { λ r. ⌜ same (keyOf (now (w .entry)) (now (strings .entry))) (now (string .entry)) ≡ r ⌝ }
+{
+    is_key_in(w, strings, string)
 }
 
 fn lay_first(strings: &mut [u8], b: &[u8], n: usize)
