@@ -1,8 +1,8 @@
 -- The granting rule by the tests of the code, and a grant as one change of the table. Assumes nothing.
-use mathlib.Core.Path.{_≡_, refl, sym, _∙_}
+use mathlib.Core.Path.{_≡_, refl, sym, ap, _∙_}
 use mathlib.Core.Bool.{Bool, true, false, not, _&&_, _||_, true≢false}
 use mathlib.Core.List.{List, [], _∷_}
-use Prim.Native.Nat.{ℕ, _^_, _%_}
+use Prim.Native.Nat.{ℕ, zero, suc, _^_, _%_}
 use native.Mathlib.Omega.{arith}
 use lib.ListN.{length}
 use borrow.Author.Tests.{eqb-true, eqb-false}
@@ -22,6 +22,12 @@ fits-free w s k e = fits-none w s k (eqb-true (word w SHARERS % 2 ^ sessionLimit
 pub fits-key : (w s k : List ℕ) → all noShared (locksOf w s .entries) ≡ false → all (fits k) (locksOf w s .entries) ≡ same (keyOf w s) k
 fits-key w s k e = fits-some w s k (eqb-false (word w SHARERS % 2 ^ sessionLimit) 0 (sym (sharers-test w s) ∙ e))
 
+-- where slot i does not share, nobody else shares just where nobody does
+all-but-one : (es : List Entry) (i : ℕ) → noShared (at es i) ≡ true → allBut noShared i es ≡ all noShared es
+all-but-one [] i o = refl
+all-but-one (x ∷ es) zero o = rw o
+all-but-one (x ∷ es) (suc i) o = ap (λ (b : Bool). noShared x && b) (all-but-one es i o)
+
 module _ (es : List Entry) (i : ℕ) where
   -- somebody else holds exclusive
   pub may-not : (k : List ℕ) → allBut noExclusive i es ≡ false → mayGrant es i k ≡ false
@@ -29,17 +35,24 @@ module _ (es : List Entry) (i : ℕ) where
   may-not [] e = rw e
   may-not (x ∷ k) e = rw e
 
-  -- exclusive: nobody else shares, or slot i itself does
-  pub may-alone : (k : List ℕ) → length k ≡ 0 → allBut noExclusive i es ≡ true → allBut noShared i es ≡ true → mayGrant es i k ≡ true
+  -- exclusive: slot i itself shares, or nobody does
+  pub may-sharing : (k : List ℕ) → length k ≡ 0 → allBut noExclusive i es ≡ true → noShared (at es i) ≡ false → mayGrant es i k ≡ true
   unfolding mayGrant
-  may-alone [] n e o = rw (e, o)
-  may-alone (x ∷ k) n e o = absurd (omega arith)
+  may-sharing [] n e o = rw (e, o) (or-true (allBut noShared i es))
+    where
+      or-true : (p : Bool) → (p || true) ≡ true
+      or-true true = refl
+      or-true false = refl
+  may-sharing (x ∷ k) n e o = absurd (omega arith)
 
-  pub may-among : (k : List ℕ) (b : Bool) → length k ≡ 0 → allBut noExclusive i es ≡ true → allBut noShared i es ≡ false → noShared (at es i) ≡ not b → mayGrant es i k ≡ b
+  pub may-alone : (k : List ℕ) (b : Bool) → length k ≡ 0 → allBut noExclusive i es ≡ true → noShared (at es i) ≡ true → all noShared es ≡ b → mayGrant es i k ≡ b
   unfolding mayGrant
-  may-among [] true n e o p = rw (e, o, p)
-  may-among [] false n e o p = rw (e, o, p)
-  may-among (x ∷ k) b n e o p = absurd (omega arith)
+  may-alone [] b n e o p = rw (e, o) (or-false (allBut noShared i es) ∙ all-but-one es i o ∙ p)
+    where
+      or-false : (p : Bool) → (p || false) ≡ p
+      or-false true = refl
+      or-false false = refl
+  may-alone (x ∷ k) b n e o p = absurd (omega arith)
 
   -- shared
   pub may-share : (k : List ℕ) (b : Bool) → (length k ≡ 0 → ⊥) → allBut noExclusive i es ≡ true → all (fits k) es ≡ b → mayGrant es i k ≡ b

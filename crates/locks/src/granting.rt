@@ -34,10 +34,10 @@ pub fn may_grant(w: &Words, strings: &Strings, i: usize) -> bool
         return false;
     }
     if asked_length(w, strings, i) == 0 {
-        if holders::no_other_shares(w, i) {
+        if holders::is_sharing(w, i) {
             return true;
         }
-        return holders::is_sharing(w, i);
+        return holders::nobody_shares(w);
     }
     if holders::nobody_shares(w) {
         return true;
@@ -54,10 +54,10 @@ pub fn may_give(w: &Words, strings: &Strings, i: usize, string: &[u8]) -> bool
         return false;
     }
     if string.len() == 0 {
-        if holders::no_other_shares(w, i) {
+        if holders::is_sharing(w, i) {
             return true;
         }
-        return holders::is_sharing(w, i);
+        return holders::nobody_shares(w);
     }
     if holders::nobody_shares(w) {
         return true;

@@ -133,6 +133,11 @@ empty-bits m n j e h =
     let f : m ≡ 2 ^ j * (2 * t * c) = sym d ∙ rw (e, power j n h) (omega arith) in
     ap (λ (x : ℕ). x / 2 ^ j % 2) f ∙ ap (λ (x : ℕ). x % 2) (mul-div-cancel-left (2 * t * c) (positive j)) ∙ omega arith
 
+-- with a first member
+pub with-first : (n m i : ℕ) → i < n → m % 2 ^ n ≡ 0 → with-bit n m i ≡ 2 ^ i
+unfolding with-bit
+with-first n m i h e = ap (λ (x : ℕ). x % 2 ^ n + 2 ^ i) (stays m i (empty-bits m n i e h)) ∙ rw e (omega arith)
+
 -- a set that is not empty has a member below n
 pub record Member (m n : ℕ) : Type 0 where
   pub place : ℕ

@@ -13,7 +13,7 @@ use Rattle.model.specs.Sizes.{sessionLimit}
 use Rattle.model.specs.State.{Entry, at}
 use Rattle.model.specs.Locks.{give, withoutExclusive, withoutShared}
 use Rattle.state.specs.Grid.{upd}
-use Rattle.state.specs.Bits.{bit, without, with-bit, without-same, without-other, with-same, with-other}
+use Rattle.state.specs.Bits.{bit, without, with-bit, without-same, without-other, with-same, with-other, with-first}
 use Rattle.state.specs.Layout.{LOCKS, CLOCK, HOLDER, SHARERS, KEY, ENTRIES, ENTRY, WORDS}
 use Rattle.state.specs.View.{Memory, memory, word, keyOf, entryFrom, entryAt, entriesOf, waitingOf, locksOf, view}
 use Rattle.state.specs.Change.{onEntry, off, here, key-off, waiting-off, rest-off, entries-change}
@@ -174,3 +174,7 @@ module _ (w s : List ℕ) (i : ℕ) (h : i < sessionLimit) (long : length w ≡ 
       (ap (λ (x : Bool). entryFrom (λ (k : ℕ). word w (ENTRIES + i * ENTRY + k)) ((entryAt w (keyOf w s) i) .exclusive) (cond x (keyOf w s) [])) (eq-eqb (bit (with-bit sessionLimit (word w SHARERS) i) i) 1 (with-same sessionLimit (word w SHARERS) i h))
       ∙ as-joined (keyOf w s) some-key)
       (λ j l n. with-other sessionLimit (word w SHARERS) i h j l n)
+
+  -- the first of them
+  pub first-joined : word w SHARERS % 2 ^ sessionLimit ≡ 0 → view (memory (set w SHARERS (2 ^ i)) s) ≡ onEntry (view (memory w s)) i (give (keyOf w s))
+  first-joined e = ap (λ (v : ℕ). view (memory (set w SHARERS v) s)) (sym (with-first sessionLimit (word w SHARERS) i h e)) ∙ sharer-joined

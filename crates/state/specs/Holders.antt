@@ -72,7 +72,7 @@ module _ (w s : List ℕ) where
       not-all-but-tab noExclusive (entryAt w (keyOf w s)) 0 sessionLimit i j h n
       (ap (λ (x : ℕ). noExclusive (entryAt w (keyOf w s) x)) (zero-add j) ∙ held-by j e)
 
-  -- nobody shares, or somebody does; and the same of all slots but one
+  -- nobody shares, or somebody does
   unshared-of : (j : ℕ) → bit (word w SHARERS) j ≡ 0 → noShared (entryAt w (keyOf w s) j) ≡ true
   unshared-of j e = shared-at j ∙ ap not (ne-eqb (bit (word w SHARERS) j) 1 (omega arith))
 
@@ -90,23 +90,6 @@ module _ (w s : List ℕ) where
       let m = member (word w SHARERS) sessionLimit o in
       not-all-tab noShared (entryAt w (keyOf w s)) 0 sessionLimit (m .place) (m .below)
       (ap (λ (x : ℕ). noShared (entryAt w (keyOf w s) x)) (zero-add (m .place)) ∙ shared-of (m .place) (m .is-set))
-
-  pub no-other-shares : (i : ℕ) → without (word w SHARERS) i % 2 ^ sessionLimit ≡ 0 → allBut noShared i (locksOf w s .entries) ≡ true
-  unfolding locksOf entriesOf
-  no-other-shares i e =
-      all-but-tab noShared (entryAt w (keyOf w s)) 0 sessionLimit i
-      (λ j p q n.
-      unshared-of j
-      (sym (without-other (word w SHARERS) i j (λ x. n (x ∙ sym (zero-add i)))) ∙ empty-bits (without (word w SHARERS) i) sessionLimit j e (omega arith)))
-
-  pub other-shares : (i : ℕ) → (without (word w SHARERS) i % 2 ^ sessionLimit ≡ 0 → ⊥) → allBut noShared i (locksOf w s .entries) ≡ false
-  unfolding locksOf entriesOf
-  other-shares i o =
-      let m = member (without (word w SHARERS) i) sessionLimit o in
-      let n : m .place ≡ i → ⊥ = (λ e. let z : bit (without (word w SHARERS) i) i ≡ 1 = ap (bit (without (word w SHARERS) i)) (sym e) ∙ m .is-set in let y : bit (without (word w SHARERS) i) i ≡ 0 = without-same (word w SHARERS) i in omega arith) in
-      not-all-but-tab noShared (entryAt w (keyOf w s)) 0 sessionLimit i (m .place) (m .below) n
-      (ap (λ (x : ℕ). noShared (entryAt w (keyOf w s) x)) (zero-add (m .place))
-      ∙ shared-of (m .place) (sym (without-other (word w SHARERS) i (m .place) n) ∙ m .is-set))
 
   -- a string fits the shared locks: nobody shares, or it is their string
   fits-of : (k : List ℕ) (b : Bool) (x : List ℕ) → (isNil (cond b x []) || same (cond b x []) k) ≡ cond b (isNil x || same x k) true
@@ -180,10 +163,3 @@ module _ (w s : List ℕ) where
       by : (b : Bool) → eqb (word w SHARERS % 2 ^ sessionLimit) 0 ≡ b → all noShared (locksOf w s .entries) ≡ b
       by true e = nobody-shares w s (eqb-true (word w SHARERS % 2 ^ sessionLimit) 0 e)
       by false e = somebody-shares w s (eqb-false (word w SHARERS % 2 ^ sessionLimit) 0 e)
-
-  pub others-test : (i : ℕ) → allBut noShared i (locksOf w s .entries) ≡ eqb (without (word w SHARERS) i % 2 ^ sessionLimit) 0
-  others-test i = by (eqb (without (word w SHARERS) i % 2 ^ sessionLimit) 0) refl
-    where
-      by : (b : Bool) → eqb (without (word w SHARERS) i % 2 ^ sessionLimit) 0 ≡ b → allBut noShared i (locksOf w s .entries) ≡ b
-      by true e = no-other-shares w s i (eqb-true (without (word w SHARERS) i % 2 ^ sessionLimit) 0 e)
-      by false e = other-shares w s i (eqb-false (without (word w SHARERS) i % 2 ^ sessionLimit) 0 e)

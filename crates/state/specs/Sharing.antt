@@ -23,6 +23,10 @@ use Rattle.state.specs.Holders.{sharers-test, fits-some}
 use Rattle.state.specs.Requests.{part-behind, take-here, waiting-strings}
 use Rattle.state.specs.Strings.{key-part, same-true}
 
+-- nobody shares, by the word of those that share
+pub no-sharers : (w s : List ℕ) → all noShared (locksOf w s .entries) ≡ true → word w SHARERS % 2 ^ sessionLimit ≡ 0
+no-sharers w s e = eqb-true (word w SHARERS % 2 ^ sessionLimit) 0 (sym (sharers-test w s) ∙ e)
+
 -- while nobody shares, the shared string is not seen
 unshared-entries : (w k k′ : List ℕ) → word w SHARERS % 2 ^ sessionLimit ≡ 0 → entriesOf w k′ ≡ entriesOf w k
 unfolding entriesOf entryAt
@@ -57,7 +61,7 @@ module _ (w s k : List ℕ) (some : 0 < length k) (small : length k ≤ stringLi
   pub key-unseen : all noShared (locksOf w s .entries) ≡ true → view (memory keyed lettered) ≡ view (memory w s)
   unfolding locksOf
   key-unseen e =
-      let z : word w SHARERS % 2 ^ sessionLimit ≡ 0 = eqb-true (word w SHARERS % 2 ^ sessionLimit) 0 (sym (sharers-test w s) ∙ e) in
+      let z : word w SHARERS % 2 ^ sessionLimit ≡ 0 = no-sharers w s e in
       λ j. record {
         locks = record {
           clock = off w KEY (length k - 1) CLOCK (omega arith) j % 2 ^ 63;

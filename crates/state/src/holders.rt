@@ -1,27 +1,21 @@
 // Who holds which lock, in one look: the word of the exclusive holder and the set of those that share, a bit for each slot.
 ghost use Prim.Native.Nat.{ℕ, _*_, _+_, _/_, _<_, _≤_, _%_, _^_};
 ghost use Rattle.model.specs.Lists.{all, allBut};
-ghost use Rattle.model.specs.Locks.{fits, give, noExclusive, noShared, withoutExclusive, withoutShared};
+ghost use Rattle.model.specs.Locks.{give, noExclusive, noShared, withoutExclusive, withoutShared};
 ghost use Rattle.model.specs.State.{at};
 ghost use Rattle.state.specs.Bits.{bit, with-bit, without};
 ghost use Rattle.state.specs.Change.{onEntry};
 ghost use Rattle.state.specs.Holders.{NoOther};
-ghost use Rattle.state.specs.Requests.{stringAt};
-ghost use Rattle.state.specs.View.{keyOf, locksOf, memory, view};
-ghost use lib.ListN.{length};
-ghost use mathlib.Core.Bool.{not, true};
+ghost use Rattle.state.specs.View.{keyOf, locksOf, memory, view, word};
+ghost use mathlib.Core.Bool.{not};
 ghost use mathlib.Core.List.{List, []};
 ghost use mathlib.Core.Path.{_≡_};
-ghost use Rattle.model.specs.Sizes.{sessionLimit, stringLimit};
-ghost use Rattle.state.specs.Layout.{STRINGS, WORDS};
+ghost use Rattle.model.specs.Sizes.{sessionLimit};
+ghost use Rattle.state.specs.Layout.{SHARERS};
 use crate::layout::HOLDER;
-use crate::layout::KEY;
 use crate::layout::SHARERS;
-use crate::requests;
 use crate::sizes::SESSION_LIMIT;
 use crate::sizes::SESSIONS;
-use crate::sizes::STRING_LIMIT;
-use crate::sizes::Strings;
 use crate::sizes::Words;
 use crate::words::sized;
 use crate::words::store;
@@ -110,14 +104,6 @@ pub fn nobody_shares(w: &Words) -> bool
     w[SHARERS] % SETS == 0
 }
 
-// Does nobody but slot i hold the shared lock?
-pub fn no_other_shares(w: &Words, i: usize) -> bool
-    requires { ⌜ i < sessionLimit ⌝ }
-    ensures { λ r. ⌜ ((s : List ℕ) → allBut noShared i (locksOf (now (w .entry)) s .entries) ≡ r) ⌝ }
-{
-    taken_out(w[SHARERS], i) % SETS == 0
-}
-
 // Slot i gets the exclusive lock, which nobody else holds.
 pub fn give_exclusive(w: &mut Words, i: usize)
     requires { ⌜ (i < sessionLimit) × NoOther (now w) i ⌝ }
@@ -152,5 +138,14 @@ pub fn join_sharers(w: &mut Words, i: usize)
     ensures { λ _. ⌜ ((s : List ℕ) → view (memory (now (w .exit)) s) ≡ onEntry (view (memory (now (w .entry)) s)) i (give (keyOf (now (w .entry)) s))) ⌝ }
 {
     let m = put_in(w[SHARERS], i);
+    store(w, SHARERS, m);
+}
+
+// The same where nobody shares: slot i is the only one.
+pub fn first_sharer(w: &mut Words, i: usize)
+    requires { ⌜ (i < sessionLimit) × (word (now w) SHARERS % 2 ^ sessionLimit ≡ 0) ⌝ }
+    ensures { λ _. ⌜ ((s : List ℕ) → view (memory (now (w .exit)) s) ≡ onEntry (view (memory (now (w .entry)) s)) i (give (keyOf (now (w .entry)) s))) ⌝ }
+{
+    let m = power_of(i);
     store(w, SHARERS, m);
 }

@@ -10,6 +10,7 @@ ghost use Rattle.state.specs.View.{keyOf, locksOf, memory, view};
 ghost use lib.ListN.{length};
 ghost use mathlib.Core.Bool.{true};
 ghost use mathlib.Core.Path.{_≡_};
+use crate::holders::first_sharer;
 use crate::holders::join_sharers;
 use crate::holders::nobody_shares;
 use crate::layout::KEY;
@@ -43,6 +44,8 @@ pub fn give_key(w: &mut Words, strings: &mut Strings, i: usize, string: &[u8])
 {
     if nobody_shares(w) {
         lay_key(w, strings, string);
+        first_sharer(w, i);
+        return;
     }
     join_sharers(w, i);
 }
@@ -54,6 +57,8 @@ pub fn give_shared(w: &mut Words, strings: &mut Strings, i: usize, n: usize)
 {
     if nobody_shares(w) {
         copy_key(w, strings, i, n);
+        first_sharer(w, i);
+        return;
     }
     join_sharers(w, i);
 }

@@ -1,26 +1,29 @@
 -- `sharing::give_key` meets its contract: the string is laid where nobody shares; else it is the one of those that share.
-use mathlib.Core.Path.{ap₂, _∙_}
-use mathlib.Core.Logic.{⊎-elim}
-use mathlib.Core.List.{List}
-use Prim.Native.Nat.{ℕ}
-use Rattle.state.specs.Sharing.{fits-key, given-laid}
-use Rattle.state.specs.View.{keyOf, memory, view}
+use mathlib.Core.Path.{refl, ap, _∙_}
+use Rattle.model.specs.Lists.{all}
+use Rattle.model.specs.Locks.{noShared}
+use Rattle.model.specs.State.{Server}
+use Rattle.state.specs.Sharing.{fits-key, given-laid, no-sharers}
+use Rattle.state.specs.View.{memory}
 use borrow.Author.Needs.{needs}
 use Rattle.state.proofs.sharing.give_key.Statement.{statement}
 use Rattle.state.proofs.sharing.give_key.Tie as tie
 
 lay-key-requires : tie.Need-lay-key-requires
-lay-key-requires c κs = let a = c .before .before .before .before .before .before .args in
-    (search needs, search needs, search needs, search needs, c .before .before .before .nobody-shares .ensures (a .strings .now) ∙ c .before .before .if1 .taken)
+lay-key-requires c κs = let a = c .before .before .before .before .before .before .args in (search needs, search needs, search needs, search needs, c .before .before .before .nobody-shares .ensures (a .strings .now) ∙ c .before .before .if1 .taken)
+
+first-sharer-requires : tie.Need-first-sharer-requires
+first-sharer-requires c κs = let a = c .before .before .before .before .before .before .before .before .args in
+    (search needs, no-sharers _ _ (ap (λ (d : Server). all noShared (d .locks .entries)) (c .before .lay-key .ensures .0) ∙ c .before .before .before .before .before .nobody-shares .ensures (a .strings .now) ∙ c .before .before .before .before .if1 .taken))
 
 returns : tie.Need-returns
-returns c = let a = c .before .before .before .before .before .before .args in
-    let j = c .before .before .if1 in
-    ⊎-elim
-    (λ y. given-laid (memory (a .w .now) (a .strings .now)) (memory (j .w) (j .strings)) _ (a .i) (keyOf (j .w) (j .strings)) (a .string .now) (ap₂ (λ (x y : List ℕ). view (memory x y)) (y .4) (y .5) ∙ y .3 .ensures .0) (ap₂ keyOf (y .4) (y .5) ∙ y .3 .ensures .1) (c .join-sharers .ensures (j .strings)))
-    (λ y. given-laid (memory (a .w .now) (a .strings .now)) (memory (j .w) (j .strings)) _ (a .i) (keyOf (j .w) (j .strings)) (a .string .now) (ap₂ (λ (x y : List ℕ). view (memory x y)) (y .1) (y .2)) (ap₂ keyOf (y .1) (y .2) ∙ fits-key (a .w .now) (a .strings .now) (a .string .now) (c .before .before .before .nobody-shares .ensures (a .strings .now) ∙ y .0 .left) (c .before .before .before .before .before .before .pre .3)) (c .join-sharers .ensures (j .strings)))
-    (j .came)
+returns c = let a = c .before .before .before .before .before .before .before .before .before .args in
+    let y = c .before .before .lay-key .ensures in
+    given-laid (memory (a .w .now) (a .strings .now)) _ _ (a .i) _ (a .string .now) (y .0) (y .1) (c .first-sharer .ensures _)
+
+returns-2 : tie.Need-returns-2
+returns-2 c = let a = c .before .before .before .before .before .before .args in
+    given-laid (memory (a .w .now) (a .strings .now)) (memory (a .w .now) (a .strings .now)) _ (a .i) _ (a .string .now) refl (fits-key (a .w .now) (a .strings .now) (a .string .now) (c .before .before .before .nobody-shares .ensures (a .strings .now) ∙ c .before .before .if1 .left) (c .before .before .before .before .before .before .pre .3)) (c .join-sharers .ensures (a .strings .now))
 
 pub give-key-spec : {M : Type 1} → statement M
-give-key-spec =
-    tie.close (tie.spec (λ c κs. search needs) lay-key-requires (λ c κs. search needs) returns)
+give-key-spec = tie.close (tie.spec (λ c κs. search needs) lay-key-requires first-sharer-requires returns (λ c κs. search needs) returns-2)
