@@ -10,6 +10,7 @@ ghost use Rattle.model.specs.Scan.{Scan, Scan.whole, freshScan, leftover, scan,
 ghost use Rattle.model.specs.State.{connectionAt};
 ghost use Rattle.server.specs.Scanning.{DidOn};
 ghost use Rattle.model.specs.Step.{effect, finish, received};
+ghost use Rattle.state.specs.Channels.{Unshown};
 ghost use Rattle.state.specs.Search.{roleNumber};
 ghost use Rattle.state.specs.View.{locksOf, memory, restOf, view};
 ghost use lib.ListN.{length};
@@ -86,7 +87,7 @@ fn act(
     len: u64,
     payload: &[u8],
 ) -> Delivery
-    requires { ⌜ (c < connectionLimit) × (len ≤ payloadLimit) × (length (now payload) ≡ len) × (outputMinimum ≤ length (now out)) × ((role ≡ 0 → ⊥) → i < sessionLimit) × ((s : List ℕ) (ro : Role) → roleNumber ro ≡ role → judged ro (view (memory (now w) s)) i (message kind code param len) (now payload) ≡ v-acts) ⌝ }
+    requires { ⌜ (c < connectionLimit) × (len ≤ payloadLimit) × (length (now payload) ≡ len) × (outputMinimum ≤ length (now out)) × ((role ≡ 0 → ⊥) → i < sessionLimit) × ((s : List ℕ) (ro : Role) → roleNumber ro ≡ role → judged ro (view (memory (now w) s)) i (message kind code param len) (now payload) ≡ v-acts) × (role ≡ 0 → Unshown (now w) c) ⌝ }
     ensures { λ r. ⌜ ((ro : Role) → roleNumber ro ≡ role → Did (finish (view (memory (now (w .entry)) (now (strings .entry)))) (acts ro (view (memory (now (w .entry)) (now (strings .entry)))) i c (message kind code param len) (now (payload .entry)))) r (memory (now (w .entry)) (now (strings .entry))) (memory (now (w .exit)) (now (strings .exit))) (now (out .entry)) (now (out .exit))) ⌝ }
 {
     if role == search::ON_SYNCHRONOUS {
@@ -126,7 +127,7 @@ fn deliver_whole(
     len: u64,
     payload: &[u8],
 ) -> Delivery
-    requires { ⌜ (c < connectionLimit) × (len ≤ payloadLimit) × (length (now payload) ≡ len) × (outputMinimum ≤ length (now out)) × ((s : List ℕ) → slotIn (locksOf (now w) s .entries) c ≡ i) × ((role ≡ 0 → ⊥) → i < sessionLimit) ⌝ }
+    requires { ⌜ (c < connectionLimit) × (len ≤ payloadLimit) × (length (now payload) ≡ len) × (outputMinimum ≤ length (now out)) × ((s : List ℕ) → slotIn (locksOf (now w) s .entries) c ≡ i) × ((role ≡ 0 → ⊥) → i < sessionLimit) × (role ≡ 0 → Unshown (now w) c) ⌝ }
     ensures { λ r. ⌜ ((ro : Role) → roleNumber ro ≡ role → Did (finish (view (memory (now (w .entry)) (now (strings .entry)))) (effect (judged ro (view (memory (now (w .entry)) (now (strings .entry)))) i (message kind code param len) (now (payload .entry))) (whole (message kind code param len) (now (payload .entry))) ro (view (memory (now (w .entry)) (now (strings .entry)))) i c)) r (memory (now (w .entry)) (now (strings .entry))) (memory (now (w .exit)) (now (strings .exit))) (now (out .entry)) (now (out .exit))) ⌝ }
 {
     let v = whole::whole_verdict(w, role, i, kind, code, param, len, payload);
@@ -147,7 +148,7 @@ fn deliver_message(
     role: u8,
     bytes: &[u8],
 ) -> Delivery
-    requires { ⌜ (c < connectionLimit) × (16 ≤ length (now bytes)) × (outputMinimum ≤ length (now out)) × ((s : List ℕ) → slotIn (locksOf (now w) s .entries) c ≡ i) × ((role ≡ 0 → ⊥) → i < sessionLimit) ⌝ }
+    requires { ⌜ (c < connectionLimit) × (16 ≤ length (now bytes)) × (outputMinimum ≤ length (now out)) × ((s : List ℕ) → slotIn (locksOf (now w) s .entries) c ≡ i) × ((role ≡ 0 → ⊥) → i < sessionLimit) × (role ≡ 0 → Unshown (now w) c) ⌝ }
     ensures { λ r. ⌜ ((ro : Role) → roleNumber ro ≡ role → DidOn (view (memory (now (w .entry)) (now (strings .entry)))) c i r (memory (now (w .entry)) (now (strings .entry))) (memory (now (w .exit)) (now (strings .exit))) (now (out .entry)) (now (out .exit)) 0 (length (now (bytes .entry))) ro (freshScan (now (bytes .entry)))) ⌝ }
 {
     if !reading::has_prologue(bytes) {

@@ -6,7 +6,7 @@ use mathlib.Core.List.{List, [], _∷_, _++_}
 use Prim.Native.Nat.{ℕ, zero, suc, _+_, _*_, _-_, _%_, _^_, _≤_, _<_}
 use native.Mathlib.Nat.{zero-add}
 use native.Mathlib.Omega.{arith}
-use lib.Dec.{eqb}
+use lib.Dec.{eqb, lit<}
 use lib.ListN.{length, getD, set, take, drop, length-set}
 use lib.Seq.{take-take, take-append-seam}
 use borrow.Author.Tests.{eq-eqb, ne-eqb, eqb-true}
@@ -17,39 +17,42 @@ use Rattle.model.specs.Locks.{give, withoutExclusive, withoutShared}
 use Rattle.state.specs.Grid.{upd}
 use Rattle.state.specs.Bits.{bit, without, with-bit, without-same, without-other, with-same, with-other}
 use Rattle.state.specs.Layout.{LOCKS, CLOCK, HOLDER, SHARERS, KEY, ENTRIES, ENTRY, WORDS, STRINGS}
-use Rattle.state.specs.View.{Memory, memory, word, keyOf, entryFrom, entryAt, entriesOf, waitingOf, locksOf, view}
+use Rattle.state.specs.View.{Memory, memory, word, keyOf, homeAt, fieldOf, entryFrom, entryAt, entriesOf, waitingOf, locksOf, view}
+use Rattle.state.specs.Confirmed.{field-same}
 use Rattle.state.specs.Change.{onEntry, off, here, key-off, waiting-off, rest-off, entries-change}
 use Rattle.state.specs.Requests.{part-behind, waiting-strings}
 
 -- slot j with another exclusive holder, with another set of sharers
 module _ (w key : List ℕ) (j : ℕ) (long : length w ≡ WORDS) where
-  entry-holder : (v : ℕ) → entryAt (set w HOLDER v) key j ≡ entryFrom (λ (g : ℕ). word w (ENTRIES + j * ENTRY + g)) (eqb v (j + 1)) ((entryAt w key j) .shared)
+  entry-holder : (v : ℕ) → entryAt (set w HOLDER v) key j ≡ entryFrom (fieldOf w j) (eqb v (j + 1)) ((entryAt w key j) .shared)
   unfolding entryAt
   entry-holder v =
+      let t : (f : ℕ) → f < ENTRY → fieldOf (set w HOLDER v) j f ≡ fieldOf w j f = field-same w (set w HOLDER v) j (λ g l. off w HOLDER v (ENTRIES + j * ENTRY + g) (omega arith)) (λ c l. off w HOLDER v (homeAt c) (omega arith)) in
       λ k. record {
-        number = off w HOLDER v (ENTRIES + j * ENTRY + 0) (omega arith) k;
-        synchronous = off w HOLDER v (ENTRIES + j * ENTRY + 1) (omega arith) k % 256;
-        asynchronous = off w HOLDER v (ENTRIES + j * ENTRY + 2) (omega arith) k % 256;
+        number = t 0 (lit< tt) k;
+        synchronous = t 1 (lit< tt) k;
+        asynchronous = t 2 (lit< tt) k;
         exclusive = eqb (here w HOLDER v (omega arith) k) (j + 1);
         shared = cond (eqb (bit (off w HOLDER v SHARERS (omega arith) k) j) 1) key [];
       }
 
-  entry-sharers : (v : ℕ) → entryAt (set w SHARERS v) key j ≡ entryFrom (λ (g : ℕ). word w (ENTRIES + j * ENTRY + g)) ((entryAt w key j) .exclusive) (cond (eqb (bit v j) 1) key [])
+  entry-sharers : (v : ℕ) → entryAt (set w SHARERS v) key j ≡ entryFrom (fieldOf w j) ((entryAt w key j) .exclusive) (cond (eqb (bit v j) 1) key [])
   unfolding entryAt
   entry-sharers v =
+      let t : (f : ℕ) → f < ENTRY → fieldOf (set w SHARERS v) j f ≡ fieldOf w j f = field-same w (set w SHARERS v) j (λ g l. off w SHARERS v (ENTRIES + j * ENTRY + g) (omega arith)) (λ c l. off w SHARERS v (homeAt c) (omega arith)) in
       λ k. record {
-        number = off w SHARERS v (ENTRIES + j * ENTRY + 0) (omega arith) k;
-        synchronous = off w SHARERS v (ENTRIES + j * ENTRY + 1) (omega arith) k % 256;
-        asynchronous = off w SHARERS v (ENTRIES + j * ENTRY + 2) (omega arith) k % 256;
+        number = t 0 (lit< tt) k;
+        synchronous = t 1 (lit< tt) k;
+        asynchronous = t 2 (lit< tt) k;
         exclusive = eqb (off w SHARERS v HOLDER (omega arith) k) (j + 1);
         shared = cond (eqb (bit (here w SHARERS v (omega arith) k) j) 1) key [];
       }
 
   -- slot j as its words have it, with these locks
   entry-as : (x : Bool) (y : List ℕ) → (entryAt w key j) .exclusive ≡ x → (entryAt w key j) .shared ≡ y
-      → entryFrom (λ (g : ℕ). word w (ENTRIES + j * ENTRY + g)) x y ≡ entryAt w key j
+      → entryFrom (fieldOf w j) x y ≡ entryAt w key j
   unfolding entryAt
-  entry-as x y p q = ap₂ (entryFrom (λ (g : ℕ). word w (ENTRIES + j * ENTRY + g))) (sym p) (sym q)
+  entry-as x y p q = ap₂ (entryFrom (fieldOf w j)) (sym p) (sym q)
 
 exclusive-of : (w key : List ℕ) (j : ℕ) → (entryAt w key j) .exclusive ≡ eqb (word w HOLDER) (j + 1)
 unfolding entryAt
@@ -61,22 +64,19 @@ shared-of w key j = refl
 
 -- slot j with one lock given or taken away, from its words
 module _ (w key : List ℕ) (j : ℕ) where
-  row : ℕ → ℕ
-  row g = word w (ENTRIES + j * ENTRY + g)
-
-  as-given : entryFrom (λ (g : ℕ). word w (ENTRIES + j * ENTRY + g)) true ((entryAt w key j) .shared) ≡ give [] (entryAt w key j)
+  as-given : entryFrom (fieldOf w j) true ((entryAt w key j) .shared) ≡ give [] (entryAt w key j)
   unfolding entryAt
   as-given = refl
 
-  as-dropped : entryFrom (λ (g : ℕ). word w (ENTRIES + j * ENTRY + g)) false ((entryAt w key j) .shared) ≡ withoutExclusive (entryAt w key j)
+  as-dropped : entryFrom (fieldOf w j) false ((entryAt w key j) .shared) ≡ withoutExclusive (entryAt w key j)
   unfolding entryAt
   as-dropped = refl
 
-  as-shared : (x : ℕ) (xs : List ℕ) → entryFrom (λ (g : ℕ). word w (ENTRIES + j * ENTRY + g)) ((entryAt w key j) .exclusive) (x ∷ xs) ≡ give (x ∷ xs) (entryAt w key j)
+  as-shared : (x : ℕ) (xs : List ℕ) → entryFrom (fieldOf w j) ((entryAt w key j) .exclusive) (x ∷ xs) ≡ give (x ∷ xs) (entryAt w key j)
   unfolding entryAt
   as-shared x xs = refl
 
-  as-unshared : entryFrom (λ (g : ℕ). word w (ENTRIES + j * ENTRY + g)) ((entryAt w key j) .exclusive) [] ≡ withoutShared (entryAt w key j)
+  as-unshared : entryFrom (fieldOf w j) ((entryAt w key j) .exclusive) [] ≡ withoutShared (entryAt w key j)
   unfolding entryAt
   as-unshared = refl
 
@@ -98,7 +98,7 @@ module _ (w s : List ℕ) (i : ℕ) (h : i < sessionLimit) (long : length w ≡ 
 
   -- another holder v: slot i holds or not as g says, and nobody else did or does
   holder-stored : (v : ℕ) (b : Bool) (g : Entry → Entry) → eqb v (i + 1) ≡ b
-      → entryFrom (λ (k : ℕ). word w (ENTRIES + i * ENTRY + k)) b ((entryAt w (keyOf w s) i) .shared) ≡ g (entryAt w (keyOf w s) i)
+      → entryFrom (fieldOf w i) b ((entryAt w (keyOf w s) i) .shared) ≡ g (entryAt w (keyOf w s) i)
       → ((j : ℕ) → j < sessionLimit → (j ≡ i → ⊥) → word w HOLDER ≡ j + 1 → ⊥)
       → ((j : ℕ) → j < sessionLimit → (j ≡ i → ⊥) → v ≡ j + 1 → ⊥)
       → view (memory (set w HOLDER v) s) ≡ onEntry (view (memory w s)) i g
@@ -106,10 +106,10 @@ module _ (w s : List ℕ) (i : ℕ) (h : i < sessionLimit) (long : length w ≡ 
       let key : List ℕ = keyOf w s in
       by-entries HOLDER v g (omega arith) (omega arith)
       (entries-change w (set w HOLDER v) key key i g h
-      (entry-holder w key i long v ∙ ap (λ (x : Bool). entryFrom (λ (k : ℕ). word w (ENTRIES + i * ENTRY + k)) x ((entryAt w key i) .shared)) e ∙ f)
+      (entry-holder w key i long v ∙ ap (λ (x : Bool). entryFrom (fieldOf w i) x ((entryAt w key i) .shared)) e ∙ f)
       (λ j l n.
       entry-holder w key j long v
-      ∙ ap (λ (x : Bool). entryFrom (λ (k : ℕ). word w (ENTRIES + j * ENTRY + k)) x ((entryAt w key j) .shared)) (ne-eqb v (j + 1) (o′ j l n))
+      ∙ ap (λ (x : Bool). entryFrom (fieldOf w j) x ((entryAt w key j) .shared)) (ne-eqb v (j + 1) (o′ j l n))
       ∙ entry-as w key j long false ((entryAt w key j) .shared) (exclusive-of w key j ∙ ne-eqb (word w HOLDER) (j + 1) (o j l n)) refl))
 
   -- the exclusive lock is granted: nobody else has it
@@ -140,7 +140,7 @@ module _ (w s : List ℕ) (i : ℕ) (h : i < sessionLimit) (long : length w ≡ 
 
   -- another set of sharers, which differs in i alone
   sharers-stored : (v : ℕ) (g : Entry → Entry)
-      → entryFrom (λ (k : ℕ). word w (ENTRIES + i * ENTRY + k)) ((entryAt w (keyOf w s) i) .exclusive) (cond (eqb (bit v i) 1) (keyOf w s) []) ≡ g (entryAt w (keyOf w s) i)
+      → entryFrom (fieldOf w i) ((entryAt w (keyOf w s) i) .exclusive) (cond (eqb (bit v i) 1) (keyOf w s) []) ≡ g (entryAt w (keyOf w s) i)
       → ((j : ℕ) → (j ≡ i → ⊥) → bit v j ≡ bit (word w SHARERS) j)
       → view (memory (set w SHARERS v) s) ≡ onEntry (view (memory w s)) i g
   sharers-stored v g f o =
@@ -150,14 +150,14 @@ module _ (w s : List ℕ) (i : ℕ) (h : i < sessionLimit) (long : length w ≡ 
       (entry-sharers w key i long v ∙ f)
       (λ j l n.
       entry-sharers w key j long v
-      ∙ ap (λ (x : ℕ). entryFrom (λ (k : ℕ). word w (ENTRIES + j * ENTRY + k)) ((entryAt w key j) .exclusive) (cond (eqb x 1) key [])) (o j n)
+      ∙ ap (λ (x : ℕ). entryFrom (fieldOf w j) ((entryAt w key j) .exclusive) (cond (eqb x 1) key [])) (o j n)
       ∙ entry-as w key j long ((entryAt w key j) .exclusive) (cond (eqb (bit (word w SHARERS) j) 1) key []) refl (shared-of w key j)))
 
   -- the shared lock is freed, held or not
   pub shared-dropped : view (memory (set w SHARERS (without (word w SHARERS) i)) s) ≡ onEntry (view (memory w s)) i withoutShared
   shared-dropped =
       sharers-stored (without (word w SHARERS) i) withoutShared
-      (ap (λ (x : Bool). entryFrom (λ (k : ℕ). word w (ENTRIES + i * ENTRY + k)) ((entryAt w (keyOf w s) i) .exclusive) (cond x (keyOf w s) [])) (ne-eqb (bit (without (word w SHARERS) i) i) 1 (let z : bit (without (word w SHARERS) i) i ≡ 0 = without-same (word w SHARERS) i in omega arith))
+      (ap (λ (x : Bool). entryFrom (fieldOf w i) ((entryAt w (keyOf w s) i) .exclusive) (cond x (keyOf w s) [])) (ne-eqb (bit (without (word w SHARERS) i) i) 1 (let z : bit (without (word w SHARERS) i) i ≡ 0 = without-same (word w SHARERS) i in omega arith))
       ∙ as-unshared w (keyOf w s) i)
       (λ j n. without-other (word w SHARERS) i j n)
 
@@ -185,7 +185,7 @@ module _ (w s : List ℕ) (i x : ℕ) (xs : List ℕ) (h : i < sessionLimit) (sm
   -- with another key, slot j is the same if it does not share, or the key is the same
   same-entry : (j : ℕ) → j < sessionLimit → entryAt w (x ∷ xs) j ≡ entryAt w (keyOf w s) j
   unfolding entryAt
-  same-entry j l = ap (entryFrom (λ (k : ℕ). word w (ENTRIES + j * ENTRY + k)) (eqb (word w HOLDER) (j + 1))) (by (eqb (bit (word w SHARERS) j) 1) refl)
+  same-entry j l = ap (entryFrom (fieldOf w j) (eqb (word w HOLDER) (j + 1))) (by (eqb (bit (word w SHARERS) j) 1) refl)
     where
       by : (b : Bool) → eqb (bit (word w SHARERS) j) 1 ≡ b → cond b (x ∷ xs) [] ≡ cond b (keyOf w s) []
       by true e = sym (fits j l (eqb-true (bit (word w SHARERS) j) 1 e))
@@ -195,15 +195,16 @@ module _ (w s : List ℕ) (i x : ℕ) (xs : List ℕ) (h : i < sessionLimit) (sm
   joined = set keyed SHARERS (with-bit sessionLimit (word w SHARERS) i)
 
   entry-joined : (j : ℕ) → j < sessionLimit → entryAt joined (x ∷ xs) j
-      ≡ entryFrom (λ (k : ℕ). word w (ENTRIES + j * ENTRY + k)) ((entryAt w (keyOf w s) j) .exclusive) (cond (eqb (bit (with-bit sessionLimit (word w SHARERS) i) j) 1) (x ∷ xs) [])
+      ≡ entryFrom (fieldOf w j) ((entryAt w (keyOf w s) j) .exclusive) (cond (eqb (bit (with-bit sessionLimit (word w SHARERS) i) j) 1) (x ∷ xs) [])
   unfolding entryAt
   entry-joined j l =
       let v : ℕ = with-bit sessionLimit (word w SHARERS) i in
       let t : (g : ℕ) → (g ≡ SHARERS → ⊥) → (g ≡ KEY → ⊥) → word joined g ≡ word w g = (λ g p q. off keyed SHARERS v g p ∙ off w KEY (length xs) g q) in
+      let u : (f : ℕ) → f < ENTRY → fieldOf joined j f ≡ fieldOf w j f = field-same w joined j (λ g m. t (ENTRIES + j * ENTRY + g) (omega arith) (omega arith)) (λ c m. t (homeAt c) (omega arith) (omega arith)) in
       λ k. record {
-        number = t (ENTRIES + j * ENTRY + 0) (omega arith) (omega arith) k;
-        synchronous = t (ENTRIES + j * ENTRY + 1) (omega arith) (omega arith) k % 256;
-        asynchronous = t (ENTRIES + j * ENTRY + 2) (omega arith) (omega arith) k % 256;
+        number = u 0 (lit< tt) k;
+        synchronous = u 1 (lit< tt) k;
+        asynchronous = u 2 (lit< tt) k;
         exclusive = eqb (t HOLDER (omega arith) (omega arith) k) (j + 1);
         shared = cond (eqb (bit (here keyed SHARERS v (omega (arith, keyed-length)) k) j) 1) (x ∷ xs) [];
       }
@@ -212,14 +213,14 @@ module _ (w s : List ℕ) (i x : ℕ) (xs : List ℕ) (h : i < sessionLimit) (sm
   unfolding entryAt
   entry-other j l n =
       entry-joined j l
-      ∙ ap (λ (b : ℕ). entryFrom (λ (k : ℕ). word w (ENTRIES + j * ENTRY + k)) (eqb (word w HOLDER) (j + 1)) (cond (eqb b 1) (x ∷ xs) [])) (with-other sessionLimit (word w SHARERS) i h j l n)
+      ∙ ap (λ (b : ℕ). entryFrom (fieldOf w j) (eqb (word w HOLDER) (j + 1)) (cond (eqb b 1) (x ∷ xs) [])) (with-other sessionLimit (word w SHARERS) i h j l n)
       ∙ same-entry j l
 
   entries-joined : entriesOf joined (x ∷ xs) ≡ upd (entriesOf w (keyOf w s)) i (give (x ∷ xs))
   entries-joined =
       entries-change w joined (keyOf w s) (x ∷ xs) i (give (x ∷ xs)) h
       (entry-joined i h
-      ∙ ap (λ (b : Bool). entryFrom (λ (k : ℕ). word w (ENTRIES + i * ENTRY + k)) ((entryAt w (keyOf w s) i) .exclusive) (cond b (x ∷ xs) [])) (eq-eqb (bit (with-bit sessionLimit (word w SHARERS) i) i) 1 (with-same sessionLimit (word w SHARERS) i h))
+      ∙ ap (λ (b : Bool). entryFrom (fieldOf w i) ((entryAt w (keyOf w s) i) .exclusive) (cond b (x ∷ xs) [])) (eq-eqb (bit (with-bit sessionLimit (word w SHARERS) i) i) 1 (with-same sessionLimit (word w SHARERS) i h))
       ∙ as-shared w (keyOf w s) i x xs)
       entry-other
 

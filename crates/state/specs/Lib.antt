@@ -3,6 +3,7 @@ pub mod Grid
 pub mod Bits
 pub mod Layout
 pub mod View
+pub mod Confirmed
 pub mod Change
 pub mod Holders
 pub mod Requests
@@ -10,5 +11,7 @@ pub mod Granting
 pub mod Queue
 pub mod Strings
 pub mod Sharing
+pub mod Channels
 pub mod Search
+pub mod OneLook
 pub mod Fresh
