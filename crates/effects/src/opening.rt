@@ -5,8 +5,9 @@ ghost use Rattle.effects.specs.Opening.{changed};
 ghost use Rattle.model.specs.Acts.{acts, opens};
 ghost use Rattle.model.specs.Locks.LockEvent.{enter};
 ghost use Rattle.model.specs.Place.Role.{r-none};
-ghost use Rattle.model.specs.State.{slotOfNumber, withSession};
+ghost use Rattle.model.specs.State.{at, live, slotOfNumber, withSession};
 ghost use Rattle.model.specs.Step.{finish};
+ghost use Rattle.state.specs.Channels.{Unshown};
 ghost use Rattle.state.specs.View.{locksOf, memory, restOf, view};
 ghost use lib.ListN.{length};
 ghost use mathlib.Core.Bool.{false, true};
@@ -26,7 +27,7 @@ use wire::types;
 
 // Session n opens in slot i over connection c.
 fn enter_session(w: &mut Words, i: usize, n: u64, c: u64)
-    requires { ⌜ (i < sessionLimit) × (n < 65536) × (c < 256) ⌝ }
+    requires { ⌜ (i < sessionLimit) × (n < 65536) × (n ≡ 0 → ⊥) × (c < connectionLimit) × Unshown (now w) c ⌝ }
     ensures { λ _. ⌜ ((s : List ℕ) → view (memory (now (w .exit)) s) ≡ changed (view (memory (now (w .entry)) s)) (enter i n c) (withSession (restOf (now (w .entry))) i n)) ⌝ }
 {
     sessions::enter_slot(w, i, n, c);
@@ -47,7 +48,7 @@ fn version(param: u32) -> u32
 
 // Initialize that acts: the first free slot, the next SessionID.
 pub fn initialize(w: &mut Words, out: &mut [u8], c: u64, param: u32, len: u64) -> Delivery
-    requires { ⌜ (c < connectionLimit) × (len ≤ payloadLimit) × (outputMinimum ≤ length (now out)) × ((s : List ℕ) → slotOfNumber (locksOf (now w) s .entries) 0 < sessionLimit) ⌝ }
+    requires { ⌜ (c < connectionLimit) × (len ≤ payloadLimit) × (outputMinimum ≤ length (now out)) × ((s : List ℕ) → slotOfNumber (locksOf (now w) s .entries) 0 < sessionLimit) × Unshown (now w) c ⌝ }
     ensures { λ r. ⌜ ((s : List ℕ) → Did (finish (view (memory (now (w .entry)) s)) (opens true (view (memory (now (w .entry)) s)) c (record { kind = 0; code = 0; param = param; len = len }))) r (memory (now (w .entry)) s) (memory (now (w .exit)) s) (now (out .entry)) (now (out .exit))) ⌝ }
 {
     let i = search::slot_of_number(w, 0);
@@ -67,7 +68,7 @@ pub fn initialize(w: &mut Words, out: &mut [u8], c: u64, param: u32, len: u64) -
 
 // AsyncInitialize that acts: the second connection of the session with the number in the parameter.
 pub fn async_initialize(w: &mut Words, out: &mut [u8], c: u64, param: u32, len: u64) -> Delivery
-    requires { ⌜ (c < connectionLimit) × (len ≤ payloadLimit) × (outputMinimum ≤ length (now out)) × ((s : List ℕ) → slotOfNumber (locksOf (now w) s .entries) param < sessionLimit) ⌝ }
+    requires { ⌜ (c < connectionLimit) × (len ≤ payloadLimit) × (outputMinimum ≤ length (now out)) × ((s : List ℕ) → slotOfNumber (locksOf (now w) s .entries) param < sessionLimit) × ((s : List ℕ) → live (at (locksOf (now w) s .entries) (slotOfNumber (locksOf (now w) s .entries) param)) ≡ true) × Unshown (now w) c ⌝ }
     ensures { λ r. ⌜ ((s : List ℕ) → Did (finish (view (memory (now (w .entry)) s)) (opens false (view (memory (now (w .entry)) s)) c (record { kind = 17; code = 0; param = param; len = len }))) r (memory (now (w .entry)) s) (memory (now (w .exit)) s) (now (out .entry)) (now (out .exit))) ⌝ }
 {
     let i = search::slot_of_number(w, param as u64);
@@ -86,7 +87,7 @@ pub fn act_opening(
     param: u32,
     len: u64,
 ) -> Delivery
-    requires { ⌜ (c < connectionLimit) × (len ≤ payloadLimit) × (outputMinimum ≤ length (now out)) × ((s : List ℕ) → kind ≡ 0 → slotOfNumber (locksOf (now w) s .entries) 0 < sessionLimit) × ((s : List ℕ) → (kind ≡ 0 → ⊥) → slotOfNumber (locksOf (now w) s .entries) param < sessionLimit) ⌝ }
+    requires { ⌜ (c < connectionLimit) × (len ≤ payloadLimit) × (outputMinimum ≤ length (now out)) × ((s : List ℕ) → kind ≡ 0 → slotOfNumber (locksOf (now w) s .entries) 0 < sessionLimit) × ((s : List ℕ) → (kind ≡ 0 → ⊥) → slotOfNumber (locksOf (now w) s .entries) param < sessionLimit) × ((s : List ℕ) → (kind ≡ 0 → ⊥) → live (at (locksOf (now w) s .entries) (slotOfNumber (locksOf (now w) s .entries) param)) ≡ true) × Unshown (now w) c ⌝ }
     ensures { λ r. ⌜ ((s p : List ℕ) (i code : ℕ) → Did (finish (view (memory (now (w .entry)) s)) (acts r-none (view (memory (now (w .entry)) s)) i c (record { kind = kind; code = code; param = param; len = len }) p)) r (memory (now (w .entry)) s) (memory (now (w .exit)) s) (now (out .entry)) (now (out .exit))) ⌝ }
 {
     if kind == types::INITIALIZE {

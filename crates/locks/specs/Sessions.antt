@@ -1,63 +1,56 @@
 -- Opening a session, its second connection and its closing, as changes of one slot. Assumes nothing.
 use mathlib.Core.Path.{_≡_, refl, sym, ap, _∙_}
-use mathlib.Core.Bool.{false}
-use mathlib.Core.List.{[]}
-use Prim.Native.Nat.{ℕ, _<_}
-use native.Mathlib.Nat.{mod-eq-of-lt}
+use Prim.Native.Nat.{ℕ}
+use Rattle.model.specs.Sizes.{noConnection}
 use Rattle.model.specs.Lists.{keep}
 use Rattle.model.specs.State.{Entry, Server, blank}
 use Rattle.model.specs.Locks.{LockEvent.enter, LockEvent.join, LockEvent.close, elsewhere, withoutExclusive, withoutShared, opened, joined, change}
-use Rattle.state.specs.Grid.{upd, upd-upd, upd-set}
-use Rattle.state.specs.Change.{onEntry, entryWith}
+use Rattle.state.specs.Grid.{upd-upd, upd-set}
+use Rattle.state.specs.Change.{onEntry}
+use Rattle.state.specs.Channels.{withRow}
 use Rattle.state.specs.Queue.{onWaiting}
 use Rattle.state.specs.View.{Memory, view}
 use Rattle.locks.specs.Outcome.{Quiet}
 
--- a slot without locks
-abbrev pub slotOf : ℕ → ℕ → ℕ → Entry
-slotOf n a b = record { number = n; synchronous = a; asynchronous = b; exclusive = false; shared = [] }
+-- a slot without its locks
+abbrev pub withoutLocks : Entry → Entry
+withoutLocks e = withoutShared (withoutExclusive e)
 
--- five stores make a slot new
-pub renewed : (i n a b : ℕ) (d d₁ d₂ d₃ d₄ d₅ : Server) → a < 256 → b < 256
-    → d₁ ≡ onEntry d i (entryWith 0 n)
-    → d₂ ≡ onEntry d₁ i (entryWith 1 a)
-    → d₃ ≡ onEntry d₂ i (entryWith 2 b)
-    → d₄ ≡ onEntry d₃ i withoutExclusive
-    → d₅ ≡ onEntry d₄ i withoutShared
-    → d₅ ≡ onEntry d i (λ (e : Entry). slotOf n a b)
-renewed i n a b d d₁ d₂ d₃ d₄ d₅ h l e₁ e₂ e₃ e₄ e₅ =
-    rw (e₅, e₄, e₃, e₂, e₁, upd-upd, upd-upd, upd-upd, upd-upd, mod-eq-of-lt h, mod-eq-of-lt l)
+-- two stores drop them
+pub unlocked : (i : ℕ) (d d₁ d₂ : Server) → d₁ ≡ onEntry d i withoutExclusive → d₂ ≡ onEntry d₁ i withoutShared → d₂ ≡ onEntry d i withoutLocks
+unlocked i d d₁ d₂ e₁ e₂ = rw (e₂, e₁, upd-upd)
 
-pub entered : (m m′ : Memory) (i n c : ℕ) → view m′ ≡ onEntry (view m) i (λ (e : Entry). slotOf n c 255) → Quiet (change (view m .locks) (enter i n c)) m m′
+-- another row without locks
+pub renewed : (i n a b : ℕ) (d d₁ d₂ : Server) → d₁ ≡ onEntry d i (withRow n a b) → d₂ ≡ onEntry d₁ i withoutLocks → d₂ ≡ onEntry d i (λ (e : Entry). withoutLocks (withRow n a b e))
+renewed i n a b d d₁ d₂ e₁ e₂ = rw (e₂, e₁, upd-upd)
+
+pub entered : (m m₁ m′ : Memory) (i n c : ℕ) → view m₁ ≡ onEntry (view m) i (withRow n c noConnection) → view m′ ≡ onEntry (view m₁) i withoutLocks
+    → Quiet (change (view m .locks) (enter i n c)) m m′
 unfolding change
-entered m m′ i n c e =
+entered m m₁ m′ i n c e f =
+    let g : view m′ ≡ onEntry (view m) i (λ (e : Entry). withoutLocks (withRow n c noConnection e)) = renewed i n c noConnection (view m) (view m₁) (view m′) e f in
     record {
-      locks = ap (λ (d : Server). d .locks) e ∙ (λ k. record { clock = view m .locks .clock; entries = sym (upd-set (view m .locks .entries) i blank (λ (e : Entry). opened n c)) k; waiting = view m .locks .waiting });
-      rest = ap (λ (d : Server). d .rest) e;
+      locks = ap (λ (d : Server). d .locks) g ∙ (λ k. record { clock = view m .locks .clock; entries = sym (upd-set (view m .locks .entries) i blank (λ (e : Entry). opened n c)) k; waiting = view m .locks .waiting });
+      rest = ap (λ (d : Server). d .rest) g;
       silent = refl;
     }
 
-pub joining : (m m′ : Memory) (i c : ℕ) → c < 256 → view m′ ≡ onEntry (view m) i (entryWith 2 c) → Quiet (change (view m .locks) (join i c)) m m′
+pub joining : (m m′ : Memory) (i c : ℕ) → view m′ ≡ onEntry (view m) i (joined c) → Quiet (change (view m .locks) (join i c)) m m′
 unfolding change
-joining m m′ i c h e =
-    let g : (x : ℕ) → Entry → Entry = (λ x t. record { number = t .number; synchronous = t .synchronous; asynchronous = x; exclusive = t .exclusive; shared = t .shared }) in
+joining m m′ i c e =
     record {
-      locks = ap (λ (d : Server). d .locks) e
-          ∙ (λ k. record {
-            clock = view m .locks .clock;
-            entries = (ap (λ (x : ℕ). upd (view m .locks .entries) i (g x)) (mod-eq-of-lt h) ∙ sym (upd-set (view m .locks .entries) i blank (joined c))) k;
-            waiting = view m .locks .waiting;
-          });
+      locks = ap (λ (d : Server). d .locks) e ∙ (λ k. record { clock = view m .locks .clock; entries = sym (upd-set (view m .locks .entries) i blank (joined c)) k; waiting = view m .locks .waiting });
       rest = ap (λ (d : Server). d .rest) e;
       silent = refl;
     }
 
 -- a closing: the slot is blank, its request is dropped
-pub closed : (m m₁ m′ : Memory) (i : ℕ) → view m₁ ≡ onEntry (view m) i (λ (e : Entry). slotOf 0 255 255) → view m′ ≡ onWaiting (view m₁) (keep (elsewhere i))
+pub closed : (m m₁ m₂ m′ : Memory) (i : ℕ) → view m₁ ≡ onEntry (view m) i (withRow 0 noConnection noConnection) → view m₂ ≡ onEntry (view m₁) i withoutLocks → view m′ ≡ onWaiting (view m₂) (keep (elsewhere i))
     → Quiet (change (view m .locks) (close i)) m m′
 unfolding change
-closed m m₁ m′ i e f =
-    let g : view m′ ≡ onWaiting (onEntry (view m) i (λ (e : Entry). slotOf 0 255 255)) (keep (elsewhere i)) = f ∙ ap (λ (d : Server). onWaiting d (keep (elsewhere i))) e in
+closed m m₁ m₂ m′ i e f k =
+    let b : Entry → Entry = (λ (e : Entry). withoutLocks (withRow 0 noConnection noConnection e)) in
+    let g : view m′ ≡ onWaiting (onEntry (view m) i b) (keep (elsewhere i)) = k ∙ ap (λ (d : Server). onWaiting d (keep (elsewhere i))) (renewed i 0 noConnection noConnection (view m) (view m₁) (view m₂) e f) in
     record {
       locks = ap (λ (d : Server). d .locks) g
           ∙ (λ k. record {

@@ -1,47 +1,44 @@
 // The slots of the table as sessions open and close. None of this is answered by a lock message.
 ghost use Prim.Native.Nat.{ℕ, _<_};
 ghost use Rattle.locks.specs.Outcome.{Quiet};
-ghost use Rattle.locks.specs.Sessions.{slotOf};
+ghost use Rattle.locks.specs.Sessions.{withoutLocks};
 ghost use Rattle.model.specs.Locks.LockEvent.{close, enter, join};
 ghost use Rattle.model.specs.Locks.{change};
 ghost use Rattle.state.specs.Change.{onEntry};
-ghost use Rattle.state.specs.View.{locksOf, memory, view};
+ghost use Rattle.state.specs.Channels.{Unshown};
+ghost use Rattle.state.specs.View.{locksOf, memory, rowWord, view};
 ghost use mathlib.Core.List.{List};
 ghost use mathlib.Core.Path.{_≡_};
-ghost use Rattle.model.specs.Sizes.{sessionLimit};
+ghost use Rattle.model.specs.Sizes.{connectionLimit, sessionLimit};
 use crate::waiting::drop_request;
+use state::channels;
 use state::holders;
 use state::sizes::Words;
-use state::tables;
 
-// No connection.
-const NONE: u64 = 255;
-
-fn renew(w: &mut Words, i: usize, n: u64, a: u64, b: u64)
-    requires { ⌜ (i < sessionLimit) × (a < 256) × (b < 256) ⌝ }
-    ensures { λ _. ⌜ ((s : List ℕ) → view (memory (now (w .exit)) s) ≡ onEntry (view (memory (now (w .entry)) s)) i (λ e. slotOf n a b)) ⌝ }
+// A slot that opens or closes has no locks.
+fn drop_locks(w: &mut Words, i: usize)
+    requires { ⌜ i < sessionLimit ⌝ }
+    ensures { λ _. ⌜ ((s : List ℕ) → view (memory (now (w .exit)) s) ≡ onEntry (view (memory (now (w .entry)) s)) i withoutLocks) ⌝ }
 {
-    tables::set_entry(w, i, tables::NUMBER, n);
-    tables::set_entry(w, i, tables::SYNCHRONOUS, a);
-    tables::set_entry(w, i, tables::ASYNCHRONOUS, b);
     holders::drop_exclusive(w, i);
     holders::drop_shared(w, i);
 }
 
-// Session n opens in slot i over connection c.
+// Session n opens in slot i over connection c, which no session has.
 pub fn enter_slot(w: &mut Words, i: usize, n: u64, c: u64)
-    requires { ⌜ (i < sessionLimit) × (c < 256) ⌝ }
+    requires { ⌜ (i < sessionLimit) × (n ≡ 0 → ⊥) × (c < connectionLimit) × Unshown (now w) c ⌝ }
     ensures { λ _. ⌜ ((s : List ℕ) → Quiet (change (locksOf (now (w .entry)) s) (enter i n c)) (memory (now (w .entry)) s) (memory (now (w .exit)) s)) ⌝ }
 {
-    renew(w, i, n, c, NONE);
+    channels::open_session(w, i, n, c);
+    drop_locks(w, i);
 }
 
-// Connection c is the second of slot i.
+// Connection c, which no session has, is the second of slot i, which is live.
 pub fn join_slot(w: &mut Words, i: usize, c: u64)
-    requires { ⌜ (i < sessionLimit) × (c < 256) ⌝ }
+    requires { ⌜ (i < sessionLimit) × (rowWord (now w) i 0 ≡ 0 → ⊥) × (c < connectionLimit) × Unshown (now w) c ⌝ }
     ensures { λ _. ⌜ ((s : List ℕ) → Quiet (change (locksOf (now (w .entry)) s) (join i c)) (memory (now (w .entry)) s) (memory (now (w .exit)) s)) ⌝ }
 {
-    tables::set_entry(w, i, tables::ASYNCHRONOUS, c);
+    channels::join_session(w, i, c);
 }
 
 // The session of slot i closes: its locks and its waiting request go, and nobody is told.
@@ -49,6 +46,7 @@ pub fn close_slot(w: &mut Words, i: usize)
     requires { ⌜ i < sessionLimit ⌝ }
     ensures { λ _. ⌜ ((s : List ℕ) → Quiet (change (locksOf (now (w .entry)) s) (close i)) (memory (now (w .entry)) s) (memory (now (w .exit)) s)) ⌝ }
 {
-    renew(w, i, 0, NONE, NONE);
+    channels::close_session(w, i);
+    drop_locks(w, i);
     drop_request(w, i);
 }

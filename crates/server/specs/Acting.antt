@@ -100,22 +100,23 @@ module _ (w s : List ℕ) (h : Header) (p : List ℕ) (passed : first (openingRu
           by true q = let k : a < b = ltb-true a b q in omega arith
           by false q = let k : b ≤ a = ltb-false a b q in absurd (n (let z : a ≡ b = omega arith in z))
 
-  -- AsyncInitialize: the session that it names is there
-  pub slot-named : (h .kind ≡ Initialize → ⊥) → slotOfNumber (locksOf w s .entries) (h .param) < sessionLimit
-  slot-named o =
+  -- AsyncInitialize: the session that it names is live, and so in the table
+  pub slot-lives : (h .kind ≡ Initialize → ⊥) → live (at (locksOf w s .entries) (slotOfNumber (locksOf w s .entries) (h .param))) ≡ true
+  slot-lives o =
       let q = opening-passed (view (memory w s)) h p passed in
-      let es : List Entry = locksOf w s .entries in
-      let i : ℕ = slotOfNumber es (h .param) in
+      let e : Entry = at (locksOf w s .entries) (slotOfNumber (locksOf w s .entries) (h .param)) in
       let k : either Initialize AsyncInitialize (h .kind) ≡ true = not-off (either Initialize AsyncInitialize (h .kind)) (q .0) in
       let t : eqb (h .kind) AsyncInitialize ≡ true = or-right (eqb (h .kind) Initialize) (eqb (h .kind) AsyncInitialize) (ne-eqb (h .kind) Initialize o) k in
-      let f : halfOpen (at es i) ≡ true = not-off (halfOpen (at es i)) (and-off (eqb (h .kind) AsyncInitialize) (not (halfOpen (at es i))) t (q .1 .1 .1 .1 .0)) in
-      let v : live (at es i) ≡ true = and-on (live (at es i)) (eqb ((at es i) .asynchronous) 255) f in
-      inside es i (sessions-held w s) v
+      let f : halfOpen e ≡ true = not-off (halfOpen e) (and-off (eqb (h .kind) AsyncInitialize) (not (halfOpen e)) t (q .1 .1 .1 .1 .0)) in
+      and-on (live e) (eqb (e .asynchronous) 255) f
     where
       or-right : (x y : Bool) → x ≡ false → (x || y) ≡ true → y ≡ true
       or-right true y e f = absurd (true≢false e)
       or-right false y e f = f
 
+  pub slot-named : (h .kind ≡ Initialize → ⊥) → slotOfNumber (locksOf w s .entries) (h .param) < sessionLimit
+  slot-named o = inside (locksOf w s .entries) (slotOfNumber (locksOf w s .entries) (h .param)) (sessions-held w s) (slot-lives o)
+    where
       inside : (es : List Entry) (i : ℕ) → length es ≡ sessionLimit → live (at es i) ≡ true → i < sessionLimit
       inside es i t v = by (ltb i sessionLimit) refl
         where

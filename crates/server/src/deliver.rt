@@ -10,6 +10,7 @@ ghost use Rattle.model.specs.Scan.{Scan, Scan.whole, freshScan, leftover, scan,
 ghost use Rattle.model.specs.State.{connectionAt};
 ghost use Rattle.server.specs.Scanning.{DidOn};
 ghost use Rattle.model.specs.Step.{effect, finish, received};
+ghost use Rattle.state.specs.Channels.{Unshown};
 ghost use Rattle.state.specs.Search.{roleNumber};
 ghost use Rattle.state.specs.View.{locksOf, memory, restOf, view};
 ghost use lib.ListN.{length};
@@ -89,7 +90,7 @@ fn act(
     len: u64,
     payload: &[u8],
 ) -> Delivery
-    requires { ⌜ (c < connectionLimit) × (len ≤ payloadLimit) × (length (now payload) ≡ len) × (outputMinimum ≤ length (now out)) × ((role ≡ 0 → ⊥) → i < sessionLimit) × ((s : List ℕ) (ro : Role) → roleNumber ro ≡ role → judged ro (view (memory (now w) s)) i (message kind code param len) (now payload) ≡ v-acts) ⌝ }
+    requires { ⌜ (c < connectionLimit) × (len ≤ payloadLimit) × (length (now payload) ≡ len) × (outputMinimum ≤ length (now out)) × ((role ≡ 0 → ⊥) → i < sessionLimit) × ((s : List ℕ) (ro : Role) → roleNumber ro ≡ role → judged ro (view (memory (now w) s)) i (message kind code param len) (now payload) ≡ v-acts) × (role ≡ 0 → Unshown (now w) c) ⌝ }
     ensures { λ r. ⌜ ((ro : Role) → roleNumber ro ≡ role → Did (finish (view (memory (now (w .entry)) (now (strings .entry)))) (acts ro (view (memory (now (w .entry)) (now (strings .entry)))) i c (message kind code param len) (now (payload .entry)))) r (memory (now (w .entry)) (now (strings .entry))) (memory (now (w .exit)) (now (strings .exit))) (now (out .entry)) (now (out .exit))) ⌝ }
 {
     if role == ON_SYNCHRONOUS {
@@ -127,7 +128,7 @@ fn deliver_kind(
     h: Header,
     payload: &[u8],
 ) -> Delivery
-    requires { ⌜ (c < connectionLimit) × (h .len ≤ payloadLimit) × (length (now payload) ≡ h .len) × (outputMinimum ≤ length (now out)) × ((s : List ℕ) → slotIn (locksOf (now w) s .entries) c ≡ i) × ((role ≡ 0 → ⊥) → i < sessionLimit) ⌝ }
+    requires { ⌜ (c < connectionLimit) × (h .len ≤ payloadLimit) × (length (now payload) ≡ h .len) × (outputMinimum ≤ length (now out)) × ((s : List ℕ) → slotIn (locksOf (now w) s .entries) c ≡ i) × ((role ≡ 0 → ⊥) → i < sessionLimit) × (role ≡ 0 → Unshown (now w) c) ⌝ }
     ensures { λ r. ⌜ ((ro : Role) → roleNumber ro ≡ role → Did (finish (view (memory (now (w .entry)) (now (strings .entry)))) (effect (judged ro (view (memory (now (w .entry)) (now (strings .entry)))) i (message kind (h .code) (h .param) (h .len)) (now (payload .entry))) (whole (message kind (h .code) (h .param) (h .len)) (now (payload .entry))) ro (view (memory (now (w .entry)) (now (strings .entry)))) i c)) r (memory (now (w .entry)) (now (strings .entry))) (memory (now (w .exit)) (now (strings .exit))) (now (out .entry)) (now (out .exit))) ⌝ }
 {
     let code = h.code;
@@ -156,7 +157,7 @@ fn deliver_whole(
     h: Header,
     payload: &[u8],
 ) -> Delivery
-    requires { ⌜ (c < connectionLimit) × (h .len ≤ payloadLimit) × (length (now payload) ≡ h .len) × (outputMinimum ≤ length (now out)) × ((s : List ℕ) → slotIn (locksOf (now w) s .entries) c ≡ i) × ((role ≡ 0 → ⊥) → i < sessionLimit) ⌝ }
+    requires { ⌜ (c < connectionLimit) × (h .len ≤ payloadLimit) × (length (now payload) ≡ h .len) × (outputMinimum ≤ length (now out)) × ((s : List ℕ) → slotIn (locksOf (now w) s .entries) c ≡ i) × ((role ≡ 0 → ⊥) → i < sessionLimit) × (role ≡ 0 → Unshown (now w) c) ⌝ }
     ensures { λ r. ⌜ ((ro : Role) → roleNumber ro ≡ role → Did (finish (view (memory (now (w .entry)) (now (strings .entry)))) (effect (judged ro (view (memory (now (w .entry)) (now (strings .entry)))) i h (now (payload .entry))) (whole h (now (payload .entry))) ro (view (memory (now (w .entry)) (now (strings .entry)))) i c)) r (memory (now (w .entry)) (now (strings .entry))) (memory (now (w .exit)) (now (strings .exit))) (now (out .entry)) (now (out .exit))) ⌝ }
 {
     let kind = h.kind;
@@ -196,7 +197,7 @@ fn deliver_message(
     role: u8,
     bytes: &[u8],
 ) -> Delivery
-    requires { ⌜ (c < connectionLimit) × (16 ≤ length (now bytes)) × (outputMinimum ≤ length (now out)) × ((s : List ℕ) → slotIn (locksOf (now w) s .entries) c ≡ i) × ((role ≡ 0 → ⊥) → i < sessionLimit) ⌝ }
+    requires { ⌜ (c < connectionLimit) × (16 ≤ length (now bytes)) × (outputMinimum ≤ length (now out)) × ((s : List ℕ) → slotIn (locksOf (now w) s .entries) c ≡ i) × ((role ≡ 0 → ⊥) → i < sessionLimit) × (role ≡ 0 → Unshown (now w) c) ⌝ }
     ensures { λ r. ⌜ ((ro : Role) → roleNumber ro ≡ role → DidOn (view (memory (now (w .entry)) (now (strings .entry)))) c i r (memory (now (w .entry)) (now (strings .entry))) (memory (now (w .exit)) (now (strings .exit))) (now (out .entry)) (now (out .exit)) 0 (length (now (bytes .entry))) ro (freshScan (now (bytes .entry)))) ⌝ }
 {
     if !reading::has_prologue(bytes) {

@@ -16,8 +16,9 @@ use Rattle.model.specs.State.{Entry, Waiting, Locks, Exchange, Connection, Remo
 use Rattle.state.specs.Table.{tab, tab-same, tab-set, getD-tab, apart}
 use Rattle.state.specs.Grid.{upd, upd-set, part, grid, grid-set, grid-off, getD-grid, word-of}
 use Rattle.state.specs.Bits.{bit}
-use Rattle.state.specs.Layout.{LOCKS, CLOCK, VENDOR, STATUS, LAST, ENABLE, LOCKOUT, REMOTE, HOLDER, SHARERS, KEY, COUNT, ENTRIES, ENTRY, EXCHANGES, EXCHANGE, CONNECTIONS, CONNECTION, REQUESTS, REQUEST, QUEUE, WORDS}
-use Rattle.state.specs.View.{Memory, memory, word, flag, keyOf, entryAt, entriesOf, slotAt, requestAt, waitingOf, locksOf, askedOf, exchangeFrom, exchangeOf, connectionFrom, connectionOf, entryFrom, restFrom, restOf, view}
+use Rattle.state.specs.Layout.{LOCKS, CLOCK, VENDOR, STATUS, LAST, ENABLE, LOCKOUT, REMOTE, HOLDER, SHARERS, KEY, COUNT, ENTRIES, ENTRY, EXCHANGES, EXCHANGE, CONNECTIONS, CONNECTION, HOME, REQUESTS, REQUEST, QUEUE, WORDS}
+use Rattle.state.specs.View.{Memory, memory, word, flag, keyOf, rowWord, homeAt, homeOf, fieldOf, entryAt, entriesOf, slotAt, requestAt, waitingOf, locksOf, askedOf, exchangeFrom, exchangeOf, connectionFrom, connectionOf, restFrom, restOf, view}
+use Rattle.state.specs.Confirmed.{field-same, field-small}
 
 -- the word of a field, in the row of a slot or of a connection
 abbrev pub exchangeWord : List ℕ → ℕ → ℕ → ℕ
@@ -25,9 +26,6 @@ exchangeWord w i f = word w (EXCHANGES + i * EXCHANGE + f)
 
 abbrev pub connectionWord : List ℕ → ℕ → ℕ → ℕ
 connectionWord w i f = word w (CONNECTIONS + i * CONNECTION + f)
-
-abbrev pub entryWord : List ℕ → ℕ → ℕ → ℕ
-entryWord w i f = word w (ENTRIES + i * ENTRY + f)
 
 -- a field of a row, by its place
 abbrev pub exchangeWith : ℕ → ℕ → Exchange → Exchange
@@ -115,24 +113,36 @@ module _ (w : List ℕ) where
       by true e = let n : a + g ≡ a + f = ap (λ (x : ℕ). a + x) (eqb-true g f e) in ap (word (set w (a + f) v)) n ∙ here (a + f) v h
       by false e = off (a + f) v (a + g) (λ q. eqb-false g f e (let z : g ≡ f = omega arith in z))
 
+  -- no connection's home stands at a place, as nowhere among the words of the locks
+  abbrev pub Homeless : ℕ → Type 0
+  Homeless a = (c : ℕ) → c < connectionLimit → homeAt c ≡ a → ⊥
+
+  pub past-homes : (a : ℕ) → LOCKS ≤ a → Homeless a
+  past-homes a h c l e = omega arith
+
   -- the parts of the locks, each with the words that it is read from
-  pub entry-off : (key : List ℕ) (a v i : ℕ) → i < sessionLimit → (HOLDER ≡ a → ⊥) → (SHARERS ≡ a → ⊥) → (a < ENTRIES) ⊎ (REQUESTS ≤ a)
+  field-off : (a v i f : ℕ) → i < sessionLimit → f < ENTRY → Homeless a → (a < ENTRIES) ⊎ (REQUESTS ≤ a) → fieldOf (set w a v) i f ≡ fieldOf w i f
+  field-off a v i f h l n o =
+      field-same w (set w a v) i
+      (λ g x. off a v (ENTRIES + i * ENTRY + g) (λ e. ⊎-elim (λ (y : a < ENTRIES). omega arith) (λ (y : REQUESTS ≤ a). omega arith) o))
+      (λ c x. off a v (homeAt c) (n c x)) f l
+
+  pub entry-off : (key : List ℕ) (a v i : ℕ) → i < sessionLimit → (HOLDER ≡ a → ⊥) → (SHARERS ≡ a → ⊥) → Homeless a → (a < ENTRIES) ⊎ (REQUESTS ≤ a)
       → entryAt (set w a v) key i ≡ entryAt w key i
   unfolding entryAt
-  entry-off key a v i h p q o =
-      let n : (j : ℕ) → j < ENTRY → ENTRIES + i * ENTRY + j ≡ a → ⊥ = (λ j l e. ⊎-elim (λ (x : a < ENTRIES). omega arith) (λ (x : REQUESTS ≤ a). omega arith) o) in
+  entry-off key a v i h p q n o =
       λ k. record {
-        number = off a v (ENTRIES + i * ENTRY + 0) (n 0 (lit< tt)) k;
-        synchronous = off a v (ENTRIES + i * ENTRY + 1) (n 1 (lit< tt)) k % 256;
-        asynchronous = off a v (ENTRIES + i * ENTRY + 2) (n 2 (lit< tt)) k % 256;
+        number = field-off a v i 0 h (lit< tt) n o k;
+        synchronous = field-off a v i 1 h (lit< tt) n o k;
+        asynchronous = field-off a v i 2 h (lit< tt) n o k;
         exclusive = eqb (off a v HOLDER p k) (i + 1);
         shared = cond (eqb (bit (off a v SHARERS q k) i) 1) key [];
       }
 
-  pub entries-off : (key : List ℕ) (a v : ℕ) → (HOLDER ≡ a → ⊥) → (SHARERS ≡ a → ⊥) → (a < ENTRIES) ⊎ (REQUESTS ≤ a)
+  pub entries-off : (key : List ℕ) (a v : ℕ) → (HOLDER ≡ a → ⊥) → (SHARERS ≡ a → ⊥) → Homeless a → (a < ENTRIES) ⊎ (REQUESTS ≤ a)
       → entriesOf (set w a v) key ≡ entriesOf w key
   unfolding entriesOf
-  entries-off key a v p q o = tab-same (entryAt (set w a v) key) (entryAt w key) 0 sessionLimit (λ j x y. entry-off key a v j (omega arith) p q o)
+  entries-off key a v p q n o = tab-same (entryAt (set w a v) key) (entryAt w key) 0 sessionLimit (λ j x y. entry-off key a v j (omega arith) p q n o)
 
   pub key-off : (s : List ℕ) (a v : ℕ) → (KEY ≡ a → ⊥) → keyOf (set w a v) s ≡ keyOf w s
   unfolding keyOf
@@ -156,12 +166,12 @@ module _ (w : List ℕ) where
       ∙ tab-same (λ (j : ℕ). requestAt (set w a v) s (slotAt (set w a v) j)) (λ (j : ℕ). requestAt w s (slotAt w j)) 0 (min (word w COUNT) sessionLimit) (λ j p q. request-off s a v j h)
 
   -- a store among the words of the rest leaves the locks, one among the words of the locks leaves the rest
-  pub locks-off : (s : List ℕ) (a v : ℕ) → a < LOCKS → locksOf (set w a v) s ≡ locksOf w s
+  pub locks-off : (s : List ℕ) (a v : ℕ) → a < LOCKS → Homeless a → locksOf (set w a v) s ≡ locksOf w s
   unfolding locksOf
-  locks-off s a v h =
+  locks-off s a v h n =
       λ k. record {
         clock = off a v CLOCK (omega arith) k % 2 ^ 63;
-        entries = (ap (entriesOf (set w a v)) (key-off s a v (omega arith)) ∙ entries-off (keyOf w s) a v (omega arith) (omega arith) (inl (omega arith))) k;
+        entries = (ap (entriesOf (set w a v)) (key-off s a v (omega arith)) ∙ entries-off (keyOf w s) a v (omega arith) (omega arith) n (inl (omega arith))) k;
         waiting = waiting-off s a v (omega arith) (omega arith) k;
       }
 
@@ -200,12 +210,12 @@ exchange-row r f v h l =
     by (suc (suc (suc zero))) l = refl
     by (suc (suc (suc (suc f)))) l = absurd (omega arith)
 
-connection-row : (r : List ℕ) (f v : ℕ) → length r ≡ CONNECTION → f < CONNECTION → connectionOf (set r f v) ≡ connectionWith f v (connectionOf r)
+connection-row : (r : List ℕ) (f v : ℕ) → length r ≡ CONNECTION → f < HOME → connectionOf (set r f v) ≡ connectionWith f v (connectionOf r)
 connection-row r f v h l =
     let t : (g : ℕ) → word (set r f v) g ≡ cond (eqb g f) v (word r g) = (λ g. row-stored r f v g (omega arith)) in
     (λ k. record { isOpen = flag (t 0 k); remainder = t 1 k }) ∙ by f l
   where
-    by : (f : ℕ) → f < CONNECTION → connectionFrom (λ (g : ℕ). cond (eqb g f) v (word r g)) ≡ connectionWith f v (connectionOf r)
+    by : (f : ℕ) → f < HOME → connectionFrom (λ (g : ℕ). cond (eqb g f) v (word r g)) ≡ connectionWith f v (connectionOf r)
     by zero l = refl
     by (suc zero) l = refl
     by (suc (suc f)) l = absurd (omega arith)
@@ -217,7 +227,7 @@ module _ (w s : List ℕ) (i f v : ℕ) (long : length w ≡ WORDS) where
   exchange-stored h l =
       let a : ℕ = EXCHANGES + i * EXCHANGE + f in
       λ k. record {
-        locks = locks-off w s a v (omega arith) k;
+        locks = locks-off w s a v (omega arith) (λ c x e. omega arith) k;
         rest = record {
           exchanges = grid-set exchangeOf EXCHANGES EXCHANGE sessionLimit w i f v (exchangeWith f v) (λ r e. exchange-row r f v e l) h l (omega arith) k;
           connections = grid-off connectionOf CONNECTIONS CONNECTION connectionLimit w a v (inl (omega arith)) k;
@@ -228,62 +238,22 @@ module _ (w s : List ℕ) (i f v : ℕ) (long : length w ≡ WORDS) where
         };
       }
 
-  pub connection-stored : i < connectionLimit → f < CONNECTION
+  pub connection-stored : i < connectionLimit → f < HOME
       → view (memory (set w (CONNECTIONS + i * CONNECTION + f) v) s) ≡ onConnection (view (memory w s)) i (connectionWith f v)
   unfolding restOf
   connection-stored h l =
       let a : ℕ = CONNECTIONS + i * CONNECTION + f in
       λ k. record {
-        locks = locks-off w s a v (omega arith) k;
+        locks = locks-off w s a v (omega arith) (λ c x e. omega arith) k;
         rest = record {
           exchanges = grid-off exchangeOf EXCHANGES EXCHANGE sessionLimit w a v (inr (omega arith)) k;
-          connections = grid-set connectionOf CONNECTIONS CONNECTION connectionLimit w i f v (connectionWith f v) (λ r e. connection-row r f v e l) h l (omega arith) k;
+          connections = grid-set connectionOf CONNECTIONS CONNECTION connectionLimit w i f v (connectionWith f v) (λ r e. connection-row r f v e l) h (omega arith) (omega arith) k;
           lastIssued = off w a v LAST (omega arith) k % 65536;
           vendor = off w a v VENDOR (omega arith) k % 65536;
           status = off w a v STATUS (omega arith) k % 256;
           remoteLocal = record { enable = flag (off w a v ENABLE (omega arith) k); lockout = flag (off w a v LOCKOUT (omega arith) k); remote = flag (off w a v REMOTE (omega arith) k) };
         };
       }
-
--- of a slot, its SessionID and connections
-entry-by : (key : List ℕ) (x : Bool) (y : List ℕ) (t : ℕ → ℕ) (f v : ℕ) → f < ENTRY
-    → entryFrom (λ (g : ℕ). cond (eqb g f) v (t g)) x y ≡ entryWith f v (entryFrom t x y)
-entry-by key x y t zero v l = refl
-entry-by key x y t (suc zero) v l = refl
-entry-by key x y t (suc (suc zero)) v l = refl
-entry-by key x y t (suc (suc (suc f))) v l = absurd (omega arith)
-
-entry-row : (w key : List ℕ) (i f v : ℕ) → length w ≡ WORDS → i < sessionLimit → f < ENTRY
-    → entryAt (set w (ENTRIES + i * ENTRY + f) v) key i ≡ entryWith f v (entryAt w key i)
-unfolding entryAt
-entry-row w key i f v n h l =
-    let b : ℕ = ENTRIES + i * ENTRY in
-    let a : ℕ = b + f in
-    let t : (g : ℕ) → word (set w a v) (b + g) ≡ cond (eqb g f) v (word w (b + g)) = (λ g. stored w b f v g (omega arith)) in
-    let x : Bool = eqb (word w HOLDER) (i + 1) in
-    let y : List ℕ = cond (eqb (bit (word w SHARERS) i) 1) key [] in
-    (λ k. record {
-      number = t 0 k;
-      synchronous = t 1 k % 256;
-      asynchronous = t 2 k % 256;
-      exclusive = eqb (off w a v HOLDER (omega arith) k) (i + 1);
-      shared = cond (eqb (bit (off w a v SHARERS (omega arith) k) i) 1) key [];
-    })
-    ∙ entry-by key x y (λ (g : ℕ). word w (b + g)) f v l
-
-entry-other : (w key : List ℕ) (i f v j : ℕ) → i < sessionLimit → f < ENTRY → j < sessionLimit → (j ≡ i → ⊥)
-    → entryAt (set w (ENTRIES + i * ENTRY + f) v) key j ≡ entryAt w key j
-unfolding entryAt
-entry-other w key i f v j h l m o =
-    let a : ℕ = ENTRIES + i * ENTRY + f in
-    let n : (g : ℕ) → g < ENTRY → ENTRIES + j * ENTRY + g ≡ a → ⊥ = (λ g x e. ⊎-elim (λ (y : j < i). omega arith) (λ (y : i < j). omega arith) (apart j i o)) in
-    λ k. record {
-      number = off w a v (ENTRIES + j * ENTRY + 0) (n 0 (lit< tt)) k;
-      synchronous = off w a v (ENTRIES + j * ENTRY + 1) (n 1 (lit< tt)) k % 256;
-      asynchronous = off w a v (ENTRIES + j * ENTRY + 2) (n 2 (lit< tt)) k % 256;
-      exclusive = eqb (off w a v HOLDER (omega arith) k) (j + 1);
-      shared = cond (eqb (bit (off w a v SHARERS (omega arith) k) j) 1) key [];
-    }
 
 -- a memory whose table differs in slot i alone
 pub entries-change : (w w′ key key′ : List ℕ) (i : ℕ) (g : Entry → Entry) → i < sessionLimit
@@ -297,26 +267,6 @@ entries-change w w′ key key′ i g h e o =
     (λ j p q n. o j (omega arith) (λ e. n (e ∙ sym (zero-add i))))
     ∙ ap (λ (x : Entry). set (entriesOf w key) i (g x)) (sym (getD-tab (entryAt w key) 0 sessionLimit i blank h ∙ ap (entryAt w key) (zero-add i)))
     ∙ upd-set (entriesOf w key) i blank g
-
-entries-set : (w key : List ℕ) (i f v : ℕ) → length w ≡ WORDS → i < sessionLimit → f < ENTRY
-    → entriesOf (set w (ENTRIES + i * ENTRY + f) v) key ≡ upd (entriesOf w key) i (entryWith f v)
-entries-set w key i f v n h l =
-    entries-change w (set w (ENTRIES + i * ENTRY + f) v) key key i (entryWith f v) h (entry-row w key i f v n h l)
-    (λ j x o. entry-other w key i f v j h l x o)
-
-pub entry-stored : (w s : List ℕ) (i f v : ℕ) → length w ≡ WORDS → i < sessionLimit → f < ENTRY
-    → view (memory (set w (ENTRIES + i * ENTRY + f) v) s) ≡ onEntry (view (memory w s)) i (entryWith f v)
-unfolding locksOf
-entry-stored w s i f v n h l =
-    let a : ℕ = ENTRIES + i * ENTRY + f in
-    λ k. record {
-      locks = record {
-        clock = off w a v CLOCK (omega arith) k % 2 ^ 63;
-        entries = (ap (entriesOf (set w a v)) (key-off w s a v (omega arith)) ∙ entries-set w (keyOf w s) i f v n h l) k;
-        waiting = waiting-off w s a v (omega arith) (omega arith) k;
-      };
-      rest = rest-off w a v (omega arith) k;
-    }
 
 -- a field of a row, read: the word that stands there, stored again, changes nothing
 module _ (w : List ℕ) (i : ℕ) where
@@ -340,11 +290,11 @@ module _ (w : List ℕ) (i : ℕ) where
   unfolding restOf
   connection-at h = getD-grid connectionOf CONNECTIONS CONNECTION connectionLimit w i closedConnection h
 
-  pub connection-read : (f : ℕ) → i < connectionLimit → f < CONNECTION → connectionWith f (word w (CONNECTIONS + i * CONNECTION + f)) (connectionAt (restOf w) i) ≡ connectionAt (restOf w) i
+  pub connection-read : (f : ℕ) → i < connectionLimit → f < HOME → connectionWith f (word w (CONNECTIONS + i * CONNECTION + f)) (connectionAt (restOf w) i) ≡ connectionAt (restOf w) i
   connection-read f h l =
-      ap₂ (connectionWith f) (sym (word-of w (CONNECTIONS + i * CONNECTION) CONNECTION f l)) (connection-at h) ∙ again f l ∙ sym (connection-at h)
+      ap₂ (connectionWith f) (sym (word-of w (CONNECTIONS + i * CONNECTION) CONNECTION f (omega arith))) (connection-at h) ∙ again f l ∙ sym (connection-at h)
     where
-      again : (f : ℕ) → f < CONNECTION → connectionWith f (word (part w (CONNECTIONS + i * CONNECTION) CONNECTION) f) (connectionOf (part w (CONNECTIONS + i * CONNECTION) CONNECTION)) ≡ connectionOf (part w (CONNECTIONS + i * CONNECTION) CONNECTION)
+      again : (f : ℕ) → f < HOME → connectionWith f (word (part w (CONNECTIONS + i * CONNECTION) CONNECTION) f) (connectionOf (part w (CONNECTIONS + i * CONNECTION) CONNECTION)) ≡ connectionOf (part w (CONNECTIONS + i * CONNECTION) CONNECTION)
       again zero l = refl
       again (suc zero) l = refl
       again (suc (suc f)) l = absurd (omega arith)
@@ -353,15 +303,19 @@ module _ (w : List ℕ) (i : ℕ) where
   unfolding locksOf entriesOf
   entry-at s h = getD-tab (entryAt w (keyOf w s)) 0 sessionLimit i blank h ∙ ap (entryAt w (keyOf w s)) (zero-add i)
 
-  entry-again : (key : List ℕ) (f : ℕ) → f < ENTRY → entryWith f (word w (ENTRIES + i * ENTRY + f)) (entryAt w key i) ≡ entryAt w key i
+  entry-again : (key : List ℕ) (f : ℕ) → f < ENTRY → entryWith f (fieldOf w i f) (entryAt w key i) ≡ entryAt w key i
   unfolding entryAt
   entry-again key zero l = refl
-  entry-again key (suc zero) l = refl
-  entry-again key (suc (suc zero)) l = refl
+  entry-again key (suc zero) l = λ k. record { number = fieldOf w i 0; synchronous = mod-eq-of-lt (field-small w i 0) k; asynchronous = fieldOf w i 2; exclusive = (entryAt w key i) .exclusive; shared = (entryAt w key i) .shared }
+  entry-again key (suc (suc zero)) l = λ k. record { number = fieldOf w i 0; synchronous = fieldOf w i 1; asynchronous = mod-eq-of-lt (field-small w i 1) k; exclusive = (entryAt w key i) .exclusive; shared = (entryAt w key i) .shared }
   entry-again key (suc (suc (suc f))) l = absurd (omega arith)
 
-  pub entry-read : (s : List ℕ) (f : ℕ) → i < sessionLimit → f < ENTRY → entryWith f (word w (ENTRIES + i * ENTRY + f)) (at (locksOf w s .entries) i) ≡ at (locksOf w s .entries) i
-  entry-read s f h l = ap (entryWith f (word w (ENTRIES + i * ENTRY + f))) (entry-at s h) ∙ entry-again (keyOf w s) f l ∙ sym (entry-at s h)
+  pub entry-read : (s : List ℕ) (f : ℕ) → i < sessionLimit → f < ENTRY → entryWith f (fieldOf w i f) (at (locksOf w s .entries) i) ≡ at (locksOf w s .entries) i
+  entry-read s f h l = ap (entryWith f (fieldOf w i f)) (entry-at s h) ∙ entry-again (keyOf w s) f l ∙ sym (entry-at s h)
+
+  pub entry-told : (f r : ℕ) → i < sessionLimit → f < ENTRY → r ≡ fieldOf w i f
+      → ((s : List ℕ) → entryWith f r (at (locksOf w s .entries) i) ≡ at (locksOf w s .entries) i) × (r ≡ fieldOf w i f)
+  entry-told f r h l e = (λ s. ap (λ (x : ℕ). entryWith f x (at (locksOf w s .entries) i)) e ∙ entry-read s f h l, e)
 
 -- single values
 module _ (w s : List ℕ) (v : ℕ) (long : length w ≡ WORDS) where
@@ -371,7 +325,7 @@ module _ (w s : List ℕ) (v : ℕ) (long : length w ≡ WORDS) where
       λ k. record {
         locks = record {
           clock = (ap (λ (x : ℕ). x % 2 ^ 63) (here w CLOCK v (omega arith)) ∙ mod-eq-of-lt h) k;
-          entries = (ap (entriesOf (set w CLOCK v)) (key-off w s CLOCK v (omega arith)) ∙ entries-off w (keyOf w s) CLOCK v (omega arith) (omega arith) (inl (omega arith))) k;
+          entries = (ap (entriesOf (set w CLOCK v)) (key-off w s CLOCK v (omega arith)) ∙ entries-off w (keyOf w s) CLOCK v (omega arith) (omega arith) (past-homes w CLOCK (omega arith)) (inl (omega arith))) k;
           waiting = waiting-off w s CLOCK v (omega arith) (omega arith) k;
         };
         rest = rest-off w CLOCK v (omega arith) k;
@@ -409,7 +363,7 @@ module _ (w : List ℕ) (v : ℕ) (long : length w ≡ WORDS) where
       ∙ rest-by (grid exchangeOf EXCHANGES EXCHANGE sessionLimit w) (grid connectionOf CONNECTIONS CONNECTION connectionLimit w) (word w) f h
 
   pub single-stored : (s : List ℕ) (f : ℕ) → f < EXCHANGES → view (memory (set w f v) s) ≡ onRest (view (memory w s)) (singleWith f v)
-  single-stored s f h = λ k. record { locks = locks-off w s f v (omega arith) k; rest = rest-row f h k }
+  single-stored s f h = λ k. record { locks = locks-off w s f v (omega arith) (λ c x e. omega arith) k; rest = rest-row f h k }
 
 pub single-read : (w : List ℕ) (f : ℕ) → f < EXCHANGES → singleWith f (word w f) (restOf w) ≡ restOf w
 unfolding restOf

@@ -8,12 +8,12 @@ use native.Mathlib.Numerals.{add-one}
 use lib.Dec.{eqb, ltb}
 use lib.ListN.{length, getD, set, take, replicate}
 use lib.Seq.{take-all, take-suc, take-suc-set}
-use Rattle.model.specs.Sizes.{sessionLimit, connectionLimit, payloadLimit, noConnection}
+use Rattle.model.specs.Sizes.{sessionLimit, connectionLimit, payloadLimit}
 use Rattle.model.specs.State.{Server, Rest, fresh}
 use Rattle.state.specs.Table.{tab, getD-tab}
 use Rattle.state.specs.Grid.{grid}
-use Rattle.state.specs.Layout.{EXCHANGES, EXCHANGE, CONNECTIONS, ENTRIES, ENTRY, REQUESTS, REQUEST, WORDS, STRINGS}
-use Rattle.state.specs.View.{memory, view, keyOf, entryAt, entriesOf, waitingOf, locksOf, restOf}
+use Rattle.state.specs.Layout.{EXCHANGES, EXCHANGE, CONNECTIONS, CONNECTION, ENTRY, REQUEST, WORDS, STRINGS}
+use Rattle.state.specs.View.{memory, view, keyOf, fieldOf, entryAt, entriesOf, waitingOf, locksOf, restOf}
 
 -- n rows alike
 abbrev pub rows : ℕ → List ℕ → List ℕ
@@ -21,24 +21,22 @@ rows zero r = []
 rows (suc n) r = r ++ rows n r
 
 -- vendor number; status, last SessionID and the flags; exchanges (the client's size is 1,024); connections; clock, holder, sharers, key,
--- count; entries (no connections); requests; queue
+-- count; entries (free); requests; queue
 abbrev pub freshWords : ℕ → List ℕ
 freshWords v =
     v
     ∷ replicate 5 0
     ++ rows sessionLimit (0 ∷ 0 ∷ 0 ∷ payloadLimit ∷ [])
-    ++ replicate (connectionLimit * 2) 0
+    ++ replicate (connectionLimit * CONNECTION) 0
     ++ replicate 5 0
-    ++ rows sessionLimit (0 ∷ noConnection ∷ noConnection ∷ [])
+    ++ replicate (sessionLimit * ENTRY) 0
     ++ replicate (sessionLimit * REQUEST) 0
     ++ replicate sessionLimit 0
 
 -- the word at a place
 unfoldable pub freshWord : ℕ → ℕ
 freshWord i =
-    cond (ltb i EXCHANGES) 0
-    (cond (ltb i CONNECTIONS) (cond (eqb ((i - EXCHANGES) % EXCHANGE) 3) payloadLimit 0)
-    (cond (ltb i ENTRIES) 0 (cond (ltb i REQUESTS) (cond (eqb ((i - ENTRIES) % ENTRY) 0) 0 noConnection) 0)))
+    cond (ltb i EXCHANGES) 0 (cond (ltb i CONNECTIONS) (cond (eqb ((i - EXCHANGES) % EXCHANGE) 3) payloadLimit 0) 0)
 
 -- it is that of the list: computed over every place
 fresh-table : tab freshWord 0 WORDS ≡ freshWords 0
@@ -52,7 +50,7 @@ abbrev pub freshStrings : List ℕ
 freshStrings = replicate STRINGS 0
 
 pub fresh-view : (v : ℕ) → v < 2 ^ 16 → view (memory (freshWords v) freshStrings) ≡ fresh v
-unfolding locksOf restOf keyOf entriesOf entryAt waitingOf grid tab
+unfolding locksOf restOf keyOf entriesOf entryAt fieldOf waitingOf grid tab
 fresh-view v h =
     ap (λ (x : ℕ). record { locks = fresh v .locks; rest = record { exchanges = fresh v .rest .exchanges; connections = fresh v .rest .connections; lastIssued = 0; vendor = x; status = 0; remoteLocal = fresh v .rest .remoteLocal } }) (mod-eq-of-lt h)
 

@@ -24,6 +24,13 @@ module _ {A : Type 0} where
   upd-upd (x ∷ xs) zero f g = refl
   upd-upd (x ∷ xs) (suc i) f g = ap (λ (l : List A). x ∷ l) (upd-upd xs i f g)
 
+  -- a change that changes nothing
+  pub upd-same : (l : List A) (i : ℕ) → upd l i (λ (x : A). x) ≡ l
+  unfolding upd
+  upd-same [] i = refl
+  upd-same (x ∷ xs) zero = refl
+  upd-same (x ∷ xs) (suc i) = ap (λ (l : List A). x ∷ l) (upd-same xs i)
+
   -- a change as the model writes it
   pub upd-set : (l : List A) (i : ℕ) (d : A) (f : A → A) → set l i (f (getD l i d)) ≡ upd l i f
   unfolding upd

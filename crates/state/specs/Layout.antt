@@ -33,13 +33,17 @@ EXCHANGES = 6
 abbrev pub EXCHANGE : ℕ
 EXCHANGE = 4
 
--- a row for each connection: open, remainder to skip
+-- a row for each connection: open, remainder to skip, its home (the slot and the place in the slot's row that have it; 0: none)
 abbrev pub CONNECTIONS : ℕ
 CONNECTIONS = EXCHANGES + sessionLimit * EXCHANGE
 
 -- words a row
 abbrev pub CONNECTION : ℕ
-CONNECTION = 2
+CONNECTION = 3
+
+-- the place of the home in the row
+abbrev pub HOME : ℕ
+HOME = 2
 
 -- here the words of the locks begin
 abbrev pub LOCKS : ℕ

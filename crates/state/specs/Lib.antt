@@ -3,6 +3,7 @@ pub mod Grid
 pub mod Bits
 pub mod Layout
 pub mod View
+pub mod Confirmed
 pub mod Change
 pub mod Holders
 pub mod Requests
@@ -11,5 +12,7 @@ pub mod Queue
 pub mod Strings
 pub mod Windows
 pub mod Sharing
+pub mod Channels
 pub mod Search
+pub mod OneLook
 pub mod Fresh

@@ -13,7 +13,7 @@ use Rattle.model.specs.State.{Waiting, Locks, Server}
 use Rattle.state.specs.Table.{tab, tab-same, tab-set, tab-more, getD-tab, length-tab}
 use Rattle.state.specs.Layout.{LOCKS, CLOCK, HOLDER, SHARERS, KEY, COUNT, ENTRIES, REQUESTS, REQUEST, QUEUE, WORDS}
 use Rattle.state.specs.View.{Memory, memory, word, keyOf, entriesOf, slotAt, requestAt, waitingOf, locksOf, view}
-use Rattle.state.specs.Change.{off, here, key-off, entries-off, rest-off}
+use Rattle.state.specs.Change.{off, here, key-off, past-homes, entries-off, rest-off}
 use Rattle.state.specs.Requests.{countOf, Idle, stringAt, slot-small, unseen}
 
 -- stands where no request does
@@ -43,7 +43,7 @@ module _ (w s : List ℕ) (a v : ℕ) (o : (a ≡ COUNT) ⊎ (QUEUE ≤ a)) wher
       λ k. record {
         locks = record {
           clock = off w a v CLOCK (p CLOCK (lit< tt)) k % 2 ^ 63;
-          entries = (ap (entriesOf (set w a v)) (key-off w s a v (p KEY (lit< tt))) ∙ entries-off w (keyOf w s) a v (p HOLDER (lit< tt)) (p SHARERS (lit< tt)) t) k;
+          entries = (ap (entriesOf (set w a v)) (key-off w s a v (p KEY (lit< tt))) ∙ entries-off w (keyOf w s) a v (p HOLDER (lit< tt)) (p SHARERS (lit< tt)) (past-homes w a r) t) k;
           waiting = e k;
         };
         rest = rest-off w a v r k;

@@ -20,7 +20,7 @@ use Rattle.state.specs.Table.{tab, tab-same, tab-more, all-tab-row, apar
 use Rattle.state.specs.Grid.{part, word-of}
 use Rattle.state.specs.Layout.{LOCKS, CLOCK, HOLDER, SHARERS, KEY, COUNT, ENTRIES, REQUESTS, REQUEST, QUEUE, WORDS, STRINGS}
 use Rattle.state.specs.View.{Memory, memory, word, keyOf, entriesOf, slotAt, requestAt, waitingOf, locksOf, view}
-use Rattle.state.specs.Change.{off, here, key-off, entries-off, rest-off}
+use Rattle.state.specs.Change.{off, here, key-off, past-homes, entries-off, rest-off}
 
 -- how many wait
 abbrev pub countOf : List ℕ → ℕ
@@ -122,7 +122,7 @@ module _ (w s s′ : List ℕ) (i f v : ℕ) (h : i < sessionLimit) (l : f < REQ
       λ k. record {
         locks = record {
           clock = off w a v CLOCK (omega arith) k % 2 ^ 63;
-          entries = (ap (entriesOf (set w a v)) (key-off w s′ a v (omega arith) ∙ d) ∙ entries-off w (keyOf w s) a v (omega arith) (omega arith) (inr (omega arith))) k;
+          entries = (ap (entriesOf (set w a v)) (key-off w s′ a v (omega arith) ∙ d) ∙ entries-off w (keyOf w s) a v (omega arith) (omega arith) (past-homes w a (omega arith)) (inr (omega arith))) k;
           waiting = unseen-waiting free e k;
         };
         rest = rest-off w a v (omega arith) k;

@@ -1,4 +1,4 @@
--- Searching the table of sessions: for a connection, and for a number. Assumes nothing.
+-- Searching the table of sessions for a number; and a session's connections and roles, test by test. Assumes nothing.
 use mathlib.Core.Path.{_≡_, refl, sym, ap, _∙_}
 use mathlib.Core.Bool.{Bool, true, false, cond}
 use mathlib.Core.List.{List, [], _∷_}
@@ -67,14 +67,10 @@ module _ (w s : List ℕ) (p : Entry → Bool) where
       let z : from i ≡ 0 = ap (λ (m : ℕ). position p (tab (entryAt w (keyOf w s)) i m)) n ∙ nowhere p (entryAt w (keyOf w s)) i in
       omega arith
 
--- the place of a connection, from its slot
+-- the slot of a connection is where the search ends
 pub place-slot : (w s : List ℕ) (c : ℕ) → (placeOf (locksOf w s .entries) c) .slot ≡ position (onConnection c) (locksOf w s .entries)
 unfolding placeOf
 place-slot w s c = refl
-
-pub place-role : (w s : List ℕ) (c i : ℕ) → (placeOf (locksOf w s .entries) c) .slot ≡ i → (placeOf (locksOf w s .entries) c) .role ≡ roleIn c (at (locksOf w s .entries) i)
-unfolding placeOf
-place-role w s c i e = ap (λ (j : ℕ). roleIn c (at (locksOf w s .entries) j)) e
 
 -- what the words that were read of a slot say of it
 module _ (e : Entry) (r : ℕ) where
@@ -87,19 +83,13 @@ module _ (e : Entry) (r : ℕ) where
   pub asynchronous-read : entryWith 2 r e ≡ e → e .asynchronous ≡ r % 256
   asynchronous-read q = sym (ap (λ (x : Entry). x .asynchronous) q)
 
--- the tests of the code: a free slot has no connection; else the synchronous one, else the asynchronous one
+-- a live slot has the synchronous connection, or the asynchronous one; and the role of each
 module _ (c : ℕ) (e : Entry) where
-  pub not-live : e .number ≡ 0 → onConnection c e ≡ false
-  not-live p = rw (eq-eqb (e .number) 0 p)
-
   pub on-synchronous : (e .number ≡ 0 → ⊥) → e .synchronous ≡ c → onConnection c e ≡ true
   on-synchronous p q = rw (ne-eqb (e .number) 0 p, eq-eqb (e .synchronous) c q)
 
   pub on-asynchronous : (e .number ≡ 0 → ⊥) → (e .synchronous ≡ c → ⊥) → onConnection c e ≡ eqb (e .asynchronous) c
   on-asynchronous p q = rw (ne-eqb (e .number) 0 p, ne-eqb (e .synchronous) c q)
-
-  pub role-none : e .number ≡ 0 → roleNumber (roleIn c e) ≡ 0
-  role-none p = rw (eq-eqb (e .number) 0 p)
 
   pub role-half-open : (e .number ≡ 0 → ⊥) → e .asynchronous ≡ noConnection → roleNumber (roleIn c e) ≡ 1
   role-half-open p q = rw (ne-eqb (e .number) 0 p, eq-eqb (e .asynchronous) noConnection q)

@@ -17,8 +17,8 @@ use Rattle.model.specs.State.{Server}
 use Rattle.state.specs.Table.{tab-same}
 use Rattle.state.specs.Bits.{bit, empty-bits}
 use Rattle.state.specs.Layout.{CLOCK, HOLDER, SHARERS, KEY, ENTRIES, ENTRY, WORDS, STRINGS}
-use Rattle.state.specs.View.{Memory, memory, word, keyOf, entryFrom, entryAt, entriesOf, waitingOf, locksOf, view}
-use Rattle.state.specs.Change.{onEntry, off, here, entries-off, waiting-off, rest-off}
+use Rattle.state.specs.View.{Memory, memory, word, keyOf, fieldOf, entryFrom, entryAt, entriesOf, waitingOf, locksOf, view}
+use Rattle.state.specs.Change.{onEntry, off, here, past-homes, entries-off, waiting-off, rest-off}
 use Rattle.state.specs.Holders.{sharers-test, fits-some}
 use Rattle.state.specs.Requests.{part-behind, take-here, waiting-strings}
 use Rattle.state.specs.Strings.{key-part, same-true}
@@ -35,8 +35,8 @@ unshared-entries w k k′ e =
     (λ j p q.
     let z : bit (word w SHARERS) j ≡ 0 = empty-bits (word w SHARERS) sessionLimit j e (omega arith) in
     let f : eqb (bit (word w SHARERS) j) 1 ≡ false = ne-eqb (bit (word w SHARERS) j) 1 (omega arith) in
-    ap (λ (b : Bool). entryFrom (λ (g : ℕ). word w (ENTRIES + j * ENTRY + g)) (eqb (word w HOLDER) (j + 1)) (cond b k′ [])) f
-    ∙ ap (λ (b : Bool). entryFrom (λ (g : ℕ). word w (ENTRIES + j * ENTRY + g)) (eqb (word w HOLDER) (j + 1)) (cond b k [])) (sym f))
+    ap (λ (b : Bool). entryFrom (fieldOf w j) (eqb (word w HOLDER) (j + 1)) (cond b k′ [])) f
+    ∙ ap (λ (b : Bool). entryFrom (fieldOf w j) (eqb (word w HOLDER) (j + 1)) (cond b k [])) (sym f))
 
 module _ (w s k : List ℕ) (some : 0 < length k) (small : length k ≤ stringLimit) (long : length w ≡ WORDS) (room : length s ≡ STRINGS) where
   abbrev pub keyed : List ℕ
@@ -65,7 +65,7 @@ module _ (w s k : List ℕ) (some : 0 < length k) (small : length k ≤ stringLi
       λ j. record {
         locks = record {
           clock = off w KEY (length k - 1) CLOCK (omega arith) j % 2 ^ 63;
-          entries = (entries-off w (keyOf keyed lettered) KEY (length k - 1) (omega arith) (omega arith) (inl (omega arith)) ∙ unshared-entries w (keyOf w s) (keyOf keyed lettered) z) j;
+          entries = (entries-off w (keyOf keyed lettered) KEY (length k - 1) (omega arith) (omega arith) (past-homes w KEY (omega arith)) (inl (omega arith)) ∙ unshared-entries w (keyOf w s) (keyOf keyed lettered) z) j;
           waiting = (waiting-off w lettered KEY (length k - 1) (omega arith) (omega arith) ∙ waiting-strings w s lettered (λ i l. part-behind s 0 k inside (stringLimit + i * stringLimit) stringLimit (omega arith))) j;
         };
         rest = rest-off w KEY (length k - 1) (omega arith) j;

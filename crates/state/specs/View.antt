@@ -1,16 +1,16 @@
 -- The server that stands in the lent memory. Whatever bits the memory holds, it shows a server: each word is read within its range.
 -- Every later answer depends on the memory through this view alone. Assumes nothing.
-use mathlib.Core.Bool.{Bool, true, false, cond}
+use mathlib.Core.Bool.{Bool, true, false, not, _&&_, cond}
 use mathlib.Core.List.{List, [], _∷_}
 use Prim.Native.Nat.{ℕ, zero, suc, _+_, _*_, _-_, _%_, _^_, min}
-use lib.Dec.{eqb}
+use lib.Dec.{eqb, ltb}
 use lib.ListN.{getD, take}
-use Rattle.model.specs.Sizes.{sessionLimit, connectionLimit, stringLimit}
+use Rattle.model.specs.Sizes.{sessionLimit, connectionLimit, stringLimit, noConnection}
 use Rattle.model.specs.State.{Entry, Waiting, Locks, Asked, Asked.none, Asked.some, Exchange, Connection, RemoteLocal, Rest, Server}
 use Rattle.state.specs.Table.{tab}
 use Rattle.state.specs.Grid.{part, grid}
 use Rattle.state.specs.Bits.{bit}
-use Rattle.state.specs.Layout.{CLOCK, VENDOR, STATUS, LAST, ENABLE, LOCKOUT, REMOTE, HOLDER, SHARERS, KEY, COUNT, ENTRIES, ENTRY, EXCHANGES, EXCHANGE, CONNECTIONS, CONNECTION, REQUESTS, REQUEST, QUEUE}
+use Rattle.state.specs.Layout.{CLOCK, VENDOR, STATUS, LAST, ENABLE, LOCKOUT, REMOTE, HOLDER, SHARERS, KEY, COUNT, ENTRIES, ENTRY, EXCHANGES, EXCHANGE, CONNECTIONS, CONNECTION, HOME, REQUESTS, REQUEST, QUEUE}
 
 -- all that the host lends
 pub record Memory : Type 0 where
@@ -31,13 +31,34 @@ flag x = eqb x 1
 unfoldable pub keyOf : List ℕ → List ℕ → List ℕ
 keyOf w s = word s 0 ∷ take (word w KEY) (part s 1 (stringLimit - 1))
 
--- slot i: its SessionID and connections stand in a row of words; exclusive and shared in words that all slots have in common
+-- slot i's SessionID and connections stand in a row of words
+abbrev pub rowWord : List ℕ → ℕ → ℕ → ℕ
+rowWord w i f = word w (ENTRIES + i * ENTRY + f)
+
+-- the home of a connection: the slot and the place in its row (1: synchronous, 2: asynchronous) that have it, as one number
+abbrev pub homeIn : ℕ → ℕ → ℕ
+homeIn i f = i * 2 + f
+
+abbrev pub homeAt : ℕ → ℕ
+homeAt c = CONNECTIONS + c * CONNECTION + HOME
+
+abbrev pub homeOf : List ℕ → ℕ → ℕ
+homeOf w c = word w (homeAt c)
+
+-- a connection is read confirmed: a live slot n names it, and its own home is that slot and place; so no two slots show one connection
+abbrev pub confirmed : ℕ → ℕ → ℕ → ℕ → ℕ
+confirmed n c home k = cond (not (eqb n 0) && (ltb c connectionLimit && eqb home k)) c noConnection
+
+unfoldable pub fieldOf : List ℕ → ℕ → ℕ → ℕ
+fieldOf w i zero = rowWord w i 0
+fieldOf w i (suc f) = confirmed (rowWord w i 0) (rowWord w i (suc f)) (homeOf w (rowWord w i (suc f))) (homeIn i (suc f))
+
+-- slot i: its SessionID and connections; exclusive and shared stand in words that all slots have in common
 abbrev pub entryFrom : (ℕ → ℕ) → Bool → List ℕ → Entry
-entryFrom t x y = record { number = t 0; synchronous = t 1 % 256; asynchronous = t 2 % 256; exclusive = x; shared = y }
+entryFrom t x y = record { number = t 0; synchronous = t 1; asynchronous = t 2; exclusive = x; shared = y }
 
 unfoldable pub entryAt : List ℕ → List ℕ → ℕ → Entry
-entryAt w key i =
-    entryFrom (λ (g : ℕ). word w (ENTRIES + i * ENTRY + g)) (eqb (word w HOLDER) (i + 1)) (cond (eqb (bit (word w SHARERS) i) 1) key [])
+entryAt w key i = entryFrom (fieldOf w i) (eqb (word w HOLDER) (i + 1)) (cond (eqb (bit (word w SHARERS) i) 1) key [])
 
 unfoldable pub entriesOf : List ℕ → List ℕ → List Entry
 entriesOf w key = tab (entryAt w key) 0 sessionLimit

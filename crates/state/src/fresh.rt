@@ -6,21 +6,16 @@ ghost use lib.ListN.{length, replicate};
 ghost use mathlib.Core.Path.{_≡_};
 ghost use Rattle.state.specs.Layout.{STRINGS, WORDS};
 use crate::layout::CONNECTIONS;
-use crate::layout::ENTRIES;
-use crate::layout::ENTRY;
 use crate::layout::EXCHANGE;
 use crate::layout::EXCHANGES;
-use crate::layout::REQUESTS;
 use crate::sizes;
-use crate::sizes::NO_CONNECTION;
 use crate::sizes::PAYLOAD;
 use crate::sizes::Strings;
 use crate::sizes::Words;
 use crate::tables::CLIENT_SIZE;
-use crate::tables::NUMBER;
 use crate::tables::VENDOR;
 
-// The word of a fresh server at a place: an exchange has the client's size, a slot no connections, all else is 0.
+// The word of a fresh server at a place: an exchange has the client's size, all else is 0.
 fn fresh_word(at: usize) -> u64
     ensures { λ r. ⌜ r ≡ freshWord at ⌝ }
 {
@@ -32,15 +27,6 @@ fn fresh_word(at: usize) -> u64
             return PAYLOAD;
         }
         return 0;
-    }
-    if at < ENTRIES {
-        return 0;
-    }
-    if at < REQUESTS {
-        if (at - ENTRIES) % ENTRY == NUMBER {
-            return 0;
-        }
-        return NO_CONNECTION;
     }
     0
 }

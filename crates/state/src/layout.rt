@@ -9,10 +9,13 @@ pub const EXCHANGES: usize = 6;
 
 pub const EXCHANGE: usize = 4;
 
-// a row for each connection: open, remainder to skip
+// a row for each connection: open, remainder to skip, its home (the slot and the place in the slot's row that have it; 0: none)
 pub const CONNECTIONS: usize = EXCHANGES + SESSION_LIMIT * EXCHANGE;
 
-pub const CONNECTION: usize = 2;
+pub const CONNECTION: usize = 3;
+
+// the place of the home in the row
+pub const HOME: usize = 2;
 
 pub const CLOCK: usize = CONNECTIONS + CONNECTION_LIMIT * CONNECTION;
 

@@ -1,5 +1,6 @@
 // The server's state in memory that the host lends: words for everything but lock strings, bytes for those. Nothing above this crate
 // knows where anything stands.
+pub mod channels;
 pub mod fresh;
 pub mod holders;
 mod layout;

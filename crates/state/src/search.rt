@@ -1,16 +1,17 @@
 // Finding a session: by one of its connections, and by its number.
-ghost use Prim.Native.Nat.{ℕ, _<_, _≤_, _%_};
-ghost use Rattle.model.specs.Lists.{position};
-ghost use Rattle.model.specs.Place.{onConnection, placeOf};
+ghost use Prim.Native.Nat.{ℕ, _<_, _≤_};
+ghost use Rattle.model.specs.Place.{placeOf, roleIn};
 ghost use Rattle.model.specs.State.{at, slotOfNumber};
+ghost use Rattle.state.specs.Channels.{Unshown};
 ghost use Rattle.state.specs.Search.{roleNumber};
-ghost use Rattle.state.specs.View.{locksOf};
+ghost use Rattle.state.specs.View.{fieldOf, homeIn, homeOf, locksOf};
 ghost use lib.Dec.{eqb};
 ghost use mathlib.Core.List.{List};
 ghost use mathlib.Core.Path.{_≡_};
-ghost use Rattle.model.specs.Sizes.{sessionLimit};
+ghost use Rattle.model.specs.Sizes.{connectionLimit, sessionLimit};
 use crate::sizes::NO_CONNECTION;
 use crate::sizes::SESSION_LIMIT;
+use crate::sizes::SESSIONS;
 use crate::sizes::Words;
 use crate::tables;
 
@@ -23,68 +24,73 @@ pub const ON_SYNCHRONOUS: u8 = 2;
 
 pub const ON_ASYNCHRONOUS: u8 = 3;
 
+// The second place in the last slot's row.
+const LAST_HOME: u64 = SESSIONS * 2;
+
 // The slot of a connection's session (past the slots: none), and the connection's role.
 pub struct Place {
     pub slot: usize,
     pub role: u8,
 }
 
-fn has_connection(w: &Words, i: usize, c: u64) -> bool
-    requires { ⌜ i < sessionLimit ⌝ }
-    ensures { λ r. ⌜ ((s : List ℕ) → onConnection c (at (locksOf (now (w .entry)) s .entries) i) ≡ r) ⌝ }
+// Without a role the slot is one past the table.
+fn nowhere() -> Place
+    ensures { λ r. ⌜ (r .slot ≡ sessionLimit) × (r .role ≡ 0) ⌝ }
 {
-    if tables::entry(w, i, tables::NUMBER) == 0 {
+    Place {
+        slot: SESSION_LIMIT,
+        role: NO_ROLE,
+    }
+}
+
+// Does slot i, the home of connection c, show it: is it live, and does its row name it?
+fn is_confirmed(w: &Words, i: usize, f: usize, c: u64) -> bool
+    requires { ⌜ (i < sessionLimit) × (0 < f) × (f < 3) × (c < connectionLimit) × (homeOf (now w) c ≡ homeIn i f) ⌝ }
+    ensures { λ r. ⌜ eqb (fieldOf (now (w .entry)) i f) c ≡ r ⌝ }
+{
+    if tables::row(w, i, f) != c {
         return false;
     }
-    if tables::entry(w, i, tables::SYNCHRONOUS) % 256 == c {
-        return true;
+    if tables::row(w, i, tables::NUMBER) == 0 {
+        return false;
     }
-    tables::entry(w, i, tables::ASYNCHRONOUS) % 256 == c
+    true
 }
 
-fn slot_of_connection(w: &Words, c: u64) -> usize
-    ensures { λ r. ⌜ (r ≤ sessionLimit) × ((s : List ℕ) → position (onConnection c) (locksOf (now (w .entry)) s .entries) ≡ r) ⌝ }
+// The role of the connection that slot i shows at a place in its row.
+fn role_at(w: &Words, i: usize, f: usize) -> u8
+    requires { ⌜ (i < sessionLimit) × (0 < f) × (f < 3) ⌝ }
+    ensures { λ r. ⌜ ((s : List ℕ) (c : ℕ) → c < connectionLimit → fieldOf (now (w .entry)) i f ≡ c → roleNumber (roleIn c (at (locksOf (now (w .entry)) s .entries) i)) ≡ r) × (0 < r) ⌝ }
 {
-    let mut i = 0;
-    while i < SESSION_LIMIT {
-        if has_connection(w, i, c) {
-            return i;
-        }
-        i += 1;
+    if f == tables::ASYNCHRONOUS {
+        return ON_ASYNCHRONOUS;
     }
-    i
-}
-
-fn role_in(w: &Words, i: usize, c: u64) -> u8
-    requires { ⌜ i < sessionLimit ⌝ }
-    ensures { λ r. ⌜ ((s : List ℕ) → roleNumber (Rattle.model.specs.Place.roleIn c (at (locksOf (now (w .entry)) s .entries) i)) ≡ r) ⌝ }
-{
-    if tables::entry(w, i, tables::NUMBER) == 0 {
-        return NO_ROLE;
-    }
-    if tables::entry(w, i, tables::ASYNCHRONOUS) % 256 == NO_CONNECTION {
+    if tables::entry(w, i, tables::ASYNCHRONOUS) == NO_CONNECTION {
         return HALF_OPEN;
     }
-    if tables::entry(w, i, tables::SYNCHRONOUS) % 256 == c {
-        return ON_SYNCHRONOUS;
-    }
-    ON_ASYNCHRONOUS
+    ON_SYNCHRONOUS
 }
 
-// The place of a connection.
+// The place of a connection: one look, where its home is, confirmed by the slot.
 pub fn place_of(w: &Words, c: u64) -> Place
-    ensures { λ r. ⌜ (r .slot ≤ sessionLimit) × ((s : List ℕ) → (placeOf (locksOf (now (w .entry)) s .entries) c) .slot ≡ r .slot) × ((s : List ℕ) → roleNumber ((placeOf (locksOf (now (w .entry)) s .entries) c) .role) ≡ r .role) ⌝ }
+    requires { ⌜ c < connectionLimit ⌝ }
+    ensures { λ r. ⌜ (r .slot ≤ sessionLimit) × ((s : List ℕ) → (placeOf (locksOf (now (w .entry)) s .entries) c) .slot ≡ r .slot) × ((s : List ℕ) → roleNumber ((placeOf (locksOf (now (w .entry)) s .entries) c) .role) ≡ r .role) × (r .role ≡ 0 → Unshown (now (w .entry)) c) ⌝ }
 {
-    let slot = slot_of_connection(w, c);
-    if slot >= SESSION_LIMIT {
-        return Place {
-            slot,
-            role: NO_ROLE,
-        };
+    let h = tables::home(w, c);
+    if h == 0 {
+        return nowhere();
+    }
+    if h > LAST_HOME {
+        return nowhere();
+    }
+    let i = ((h - 1) / 2) as usize;
+    let f = ((h - 1) % 2) as usize + tables::SYNCHRONOUS;
+    if !is_confirmed(w, i, f, c) {
+        return nowhere();
     }
     Place {
-        slot,
-        role: role_in(w, slot, c),
+        slot: i,
+        role: role_at(w, i, f),
     }
 }
 

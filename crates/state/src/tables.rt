@@ -2,8 +2,8 @@
 // Reading: the word at its place; stored again it would change nothing. Storing: the row changes in that field, and nothing else does.
 ghost use Prim.Native.Nat.{ℕ, _*_, _+_, _<_, _^_};
 ghost use Rattle.model.specs.State.{at, connectionAt, exchangeAt};
-ghost use Rattle.state.specs.Change.{connectionWith, connectionWord, entryWith, entryWord, exchangeWith, exchangeWord, onConnection, onEntry, onExchange, onRest, singleWith, withClock};
-ghost use Rattle.state.specs.View.{locksOf, memory, restOf, view, word};
+ghost use Rattle.state.specs.Change.{connectionWith, connectionWord, entryWith, exchangeWith, exchangeWord, onConnection, onEntry, onExchange, onRest, singleWith, withClock};
+ghost use Rattle.state.specs.View.{fieldOf, homeIn, homeOf, locksOf, memory, restOf, rowWord, view, word};
 ghost use lib.ListN.{length};
 ghost use mathlib.Core.List.{List};
 ghost use mathlib.Core.Path.{_≡_};
@@ -16,6 +16,9 @@ use crate::layout::ENTRIES;
 use crate::layout::ENTRY;
 use crate::layout::EXCHANGE;
 use crate::layout::EXCHANGES;
+use crate::layout::HOME;
+use crate::sizes;
+use crate::sizes::NO_CONNECTION;
 use crate::sizes::Words;
 use crate::words::store;
 
@@ -53,6 +56,9 @@ pub const LOCKOUT: usize = 4;
 
 pub const REMOTE: usize = 5;
 
+// A connection's number is below this.
+const CONNECTION_NUMBERS: u64 = sizes::CONNECTIONS;
+
 // What a session has asked and been sent.
 pub fn exchange(w: &Words, i: usize, f: usize) -> u64
     requires { ⌜ (i < sessionLimit) × (f < 4) ⌝ }
@@ -83,19 +89,48 @@ pub fn set_connection(w: &mut Words, i: usize, f: usize, v: u64)
     store(w, CONNECTIONS + i * CONNECTION + f, v);
 }
 
-// A slot of the table of sessions.
-pub fn entry(w: &Words, i: usize, f: usize) -> u64
+// A word of a slot's row, as it stands.
+pub fn row(w: &Words, i: usize, f: usize) -> u64
     requires { ⌜ (i < sessionLimit) × (f < 3) ⌝ }
-    ensures { λ r. ⌜ ((s : List ℕ) → entryWith f r (at (locksOf (now (w .entry)) s .entries) i) ≡ at (locksOf (now (w .entry)) s .entries) i) × (r ≡ entryWord (now (w .entry)) i f) ⌝ }
+    ensures { λ r. ⌜ r ≡ rowWord (now (w .entry)) i f ⌝ }
 {
     w[ENTRIES + i * ENTRY + f]
 }
 
-pub fn set_entry(w: &mut Words, i: usize, f: usize, v: u64)
-    requires { ⌜ (i < sessionLimit) × (f < 3) ⌝ }
-    ensures { λ _. ⌜ ((s : List ℕ) → view (memory (now (w .exit)) s) ≡ onEntry (view (memory (now (w .entry)) s)) i (entryWith f v)) ⌝ }
+// The home of a connection: the slot and the place in its row that have it, as one number.
+pub fn home(w: &Words, c: u64) -> u64
+    requires { ⌜ c < connectionLimit ⌝ }
+    ensures { λ r. ⌜ r ≡ homeOf (now (w .entry)) c ⌝ }
 {
-    store(w, ENTRIES + i * ENTRY + f, v);
+    w[CONNECTIONS + c as usize * CONNECTION + HOME]
+}
+
+pub fn home_in(i: usize, f: usize) -> u64
+    requires { ⌜ (i < sessionLimit) × (f < 3) ⌝ }
+    ensures { λ r. ⌜ r ≡ homeIn i f ⌝ }
+{
+    (i * 2 + f) as u64
+}
+
+// A slot of the table of sessions: its SessionID; a connection only confirmed, that is if the slot is live and the connection's home.
+pub fn entry(w: &Words, i: usize, f: usize) -> u64
+    requires { ⌜ (i < sessionLimit) × (f < 3) ⌝ }
+    ensures { λ r. ⌜ ((s : List ℕ) → entryWith f r (at (locksOf (now (w .entry)) s .entries) i) ≡ at (locksOf (now (w .entry)) s .entries) i) × (r ≡ fieldOf (now (w .entry)) i f) ⌝ }
+{
+    let v = row(w, i, f);
+    if f == NUMBER {
+        return v;
+    }
+    if row(w, i, NUMBER) == 0 {
+        return NO_CONNECTION;
+    }
+    if v >= CONNECTION_NUMBERS {
+        return NO_CONNECTION;
+    }
+    if home(w, v) != home_in(i, f) {
+        return NO_CONNECTION;
+    }
+    v
 }
 
 // A single value; its place is its word.

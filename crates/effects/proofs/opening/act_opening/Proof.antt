@@ -9,7 +9,7 @@ use Rattle.effects.proofs.opening.act_opening.Statement.{statement}
 use Rattle.effects.proofs.opening.act_opening.Tie as tie
 
 initialize-requires : tie.Need-initialize-requires
-initialize-requires c κs = let p = c .before .before .before .before .pre in (p .0, p .1, omega arith, λ s. p .3 s (c .before .before .if1 .taken))
+initialize-requires c κs = let p = c .before .before .before .before .pre in (p .0, p .1, omega arith, λ s. p .3 s (c .before .before .if1 .taken), p .6)
 
 returns : tie.Need-returns
 returns c = let a = c .before .before .before .before .before .before .before .args in
@@ -17,7 +17,7 @@ returns c = let a = c .before .before .before .before .before .before .before .a
     opens-by (view (memory (a .w .now) s)) i (a .c) h p _ _ _ _ _ _ (eq-eqb (a .kind) 0 (c .before .before .before .before .before .if1 .taken)) (c .before .before .initialize .ensures s)
 
 async-initialize-requires : tie.Need-async-initialize-requires
-async-initialize-requires c κs = let p = c .before .before .before .before .pre in (p .0, p .1, omega arith, λ s. p .4 s (c .before .before .if1 .left))
+async-initialize-requires c κs = let p = c .before .before .before .before .pre in (p .0, p .1, omega arith, λ s. p .4 s (c .before .before .if1 .left), λ s. p .5 s (c .before .before .if1 .left), p .6)
 
 returns-2 : tie.Need-returns-2
 returns-2 c = let a = c .before .before .before .before .before .before .before .args in

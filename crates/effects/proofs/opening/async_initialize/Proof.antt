@@ -3,6 +3,7 @@ use mathlib.Core.List.{[]}
 use native.Mathlib.Omega.{arith}
 use Rattle.wire.specs.declared.Header.{Header}
 use Rattle.state.specs.View.{memory, restOf, view}
+use Rattle.state.specs.OneLook.{lives-there}
 use Rattle.effects.specs.Did.{numbersOf}
 use Rattle.effects.specs.Opening.{async-initialized}
 use mathlib.Core.Path.{ap}
@@ -13,7 +14,11 @@ use Rattle.effects.proofs.opening.async_initialize.Statement.{statement
 use Rattle.effects.proofs.opening.async_initialize.Tie as tie
 
 join-slot-requires : tie.Need-join-slot-requires
-join-slot-requires c κs = let p = c .before .before .before .before .before .before .pre .3 [] in let q = c .before .before .before .slot-of-number .ensures .1 [] in omega arith
+join-slot-requires c κs = let a = c .before .before .before .before .before .before .args in
+    let p = c .before .before .before .before .before .before .pre in
+    let r = p .3 [] in
+    let q = c .before .before .before .slot-of-number .ensures .1 [] in
+    (omega arith, lives-there (a .w .now) [] (a .param) (c .before .before .before .slot-of-number .result) q (omega arith) (p .4 []), search needs, p .5)
 
 returns : tie.Need-returns
 returns c = let a = c .before .before .before .before .before .before .before .before .before .before .before .before .args in

@@ -5,9 +5,12 @@ use borrow.Author.Needs.{needs}
 use Rattle.effects.proofs.opening.enter_session.Statement.{statement}
 use Rattle.effects.proofs.opening.enter_session.Tie as tie
 
+enter-slot-requires : tie.Need-enter-slot-requires
+enter-slot-requires c κs = let p = c .before .pre in (search needs, p .2, search needs, p .4)
+
 returns : tie.Need-returns
 returns c = let a = c .before .before .before .before .before .before .args in λ s. session-entered (view (memory (a .w .now) s)) _ _ _ _ (a .i) (a .n) (search needs) (c .before .before .before .before .enter-slot .ensures s .locks) (c .before .before .before .before .enter-slot .ensures s .rest) (c .before .before .renew-exchange .ensures s) (c .set-single .ensures s)
 
 pub enter-session-spec : {M : Type 1} → statement M
 enter-session-spec =
-    tie.close (tie.spec (λ c κs. search needs) (λ c κs. search needs) (λ c κs. search needs) returns)
+    tie.close (tie.spec enter-slot-requires (λ c κs. search needs) (λ c κs. search needs) returns)

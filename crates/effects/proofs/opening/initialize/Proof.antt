@@ -11,7 +11,7 @@ use Rattle.effects.proofs.opening.initialize.Statement.{statement}
 use Rattle.effects.proofs.opening.initialize.Tie as tie
 
 enter-session-requires : tie.Need-enter-session-requires
-enter-session-requires c κs = let p = c .before .before .before .before .before .before .before .pre .3 [] in let q = c .before .before .before .before .slot-of-number .ensures .1 [] in (omega arith, omega arith, omega arith)
+enter-session-requires c κs = let p = c .before .before .before .before .before .before .before .pre in let r = p .3 [] in let q = c .before .before .before .before .slot-of-number .ensures .1 [] in (omega arith, omega arith, omega arith, search needs, p .4)
 
 returns : tie.Need-returns
 returns c = let a = c .before .before .before .before .before .before .before .before .before .before .before .before .before .args in

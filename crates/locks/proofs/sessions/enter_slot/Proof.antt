@@ -4,8 +4,11 @@ use borrow.Author.Needs.{needs}
 use Rattle.locks.proofs.sessions.enter_slot.Statement.{statement}
 use Rattle.locks.proofs.sessions.enter_slot.Tie as tie
 
+open-session-requires : tie.Need-open-session-requires
+open-session-requires c κs = let p = c .before .pre in (search needs, p .1, search needs, p .3)
+
 returns : tie.Need-returns
-returns c = let a = c .before .before .args in λ s. entered _ _ (a .i) (a .n) (a .c) (c .renew .ensures s)
+returns c = let a = c .before .before .before .before .args in λ s. entered _ _ _ (a .i) (a .n) (a .c) (c .before .before .open-session .ensures s) (c .drop-locks .ensures s)
 
 pub enter-slot-spec : {M : Type 1} → statement M
-enter-slot-spec = tie.close (tie.spec (λ c κs. search needs) returns)
+enter-slot-spec = tie.close (tie.spec open-session-requires (λ c κs. search needs) returns)

@@ -4,8 +4,11 @@ use borrow.Author.Needs.{needs}
 use Rattle.locks.proofs.sessions.join_slot.Statement.{statement}
 use Rattle.locks.proofs.sessions.join_slot.Tie as tie
 
+join-session-requires : tie.Need-join-session-requires
+join-session-requires c κs = let p = c .before .pre in (search needs, p .1, search needs, p .3)
+
 returns : tie.Need-returns
-returns c = let a = c .before .before .args in λ s. joining _ _ (a .i) (a .c) (search needs) (c .set-entry .ensures s)
+returns c = let a = c .before .before .args in λ s. joining _ _ (a .i) (a .c) (c .join-session .ensures s)
 
 pub join-slot-spec : {M : Type 1} → statement M
-join-slot-spec = tie.close (tie.spec (λ c κs. search needs) returns)
+join-slot-spec = tie.close (tie.spec join-session-requires returns)

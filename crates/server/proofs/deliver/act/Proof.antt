@@ -5,7 +5,7 @@ use native.Mathlib.Omega.{arith}
 use Rattle.checks.specs.Numbers.{message}
 use Rattle.model.specs.Place.{Role.r-none, Role.r-halfOpen, Role.r-synchronous, Role.r-asynchronous}
 use Rattle.state.specs.View.{memory, view}
-use Rattle.server.specs.Acting.{acts-as, half-acts, role-none, role-half, role-sync, role-async, size-eight, slot-free, slot-named}
+use Rattle.server.specs.Acting.{acts-as, half-acts, role-none, role-half, role-sync, role-async, size-eight, slot-free, slot-lives, slot-named}
 use borrow.Author.Needs.{needs}
 use Rattle.server.proofs.deliver.act.Statement.{statement}
 use Rattle.server.proofs.deliver.act.Tie as tie
@@ -48,7 +48,7 @@ act-opening-requires c κs = let a = c .before .before .before .before .before .
     let s = a .strings .now in
     let h = message (a .kind) (a .code) (a .param) (a .len) in
     let p = a .payload .now in
-    (search needs, search needs, search needs, λ t k. slot-free (a .w .now) t h p (q .5 t r-none (sym (c .before .before .if3 .taken))) k, λ t k. slot-named (a .w .now) t h p (q .5 t r-none (sym (c .before .before .if3 .taken))) k)
+    (search needs, search needs, search needs, λ t k. slot-free (a .w .now) t h p (q .5 t r-none (sym (c .before .before .if3 .taken))) k, λ t k. slot-named (a .w .now) t h p (q .5 t r-none (sym (c .before .before .if3 .taken))) k, λ t k. slot-lives (a .w .now) t h p (q .5 t r-none (sym (c .before .before .if3 .taken))) k, q .6 (c .before .before .if3 .taken))
 
 returns-3 : tie.Need-returns-3
 returns-3 c = let a = c .before .before .before .before .before .before .before .before .before .before .args in

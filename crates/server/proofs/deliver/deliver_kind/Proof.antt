@@ -19,7 +19,7 @@ act-requires : tie.Need-act-requires
 act-requires c κs =
     let q = c .before .before .before .before .before .before .before .before .pre in
     let v = c .before .before .before .before .whole-verdict in
-    (search needs, search needs, q .2, search needs, q .5, λ t ro e. v .ensures t ro e .case ∙ ap verdictOf (c .before .before .before .if1 .taken))
+    (search needs, search needs, q .2, search needs, q .5, λ t ro e. v .ensures t ro e .case ∙ ap verdictOf (c .before .before .before .if1 .taken), q .6)
 
 returns : tie.Need-returns
 returns c =

@@ -75,7 +75,7 @@ deliver-whole-requires c κs = let a = c .before .before .before .before .before
     let eh : h ≡ header bs = c .before .before .before .before .before .before .header-at .ensures in
     let el : header bs .len ≡ h .len = ap (λ (x : Header). x .len) (sym eh) in
     let p : prologue bs ≡ true = sym (c .before .before .before .before .before .before .before .before .has-prologue .ensures) ∙ not-false (c .before .before .before .before .before .before .before .before .has-prologue .result) (c .before .before .before .before .before .before .before .if1 .left) in
-    (search needs, search needs, simp (length-take, length-drop) (omega arith), search needs, q .3, q .4)
+    (search needs, search needs, simp (length-take, length-drop) (omega arith), search needs, q .3, q .4, q .5)
 
 returns-5 : tie.Need-returns-5
 returns-5 c = let a = c .before .before .before .before .before .before .before .before .before .before .before .before .before .before .args in

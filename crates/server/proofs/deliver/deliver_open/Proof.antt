@@ -77,7 +77,7 @@ deliver-message-requires c κs =
     let es = locksOf (a .w .now) s .entries in
     let left = (connectionAt (restOf (a .w .now)) (a .c)) .remainder in
     let p = c .before .before .before .place-of in
-    (search needs, search needs, search needs, λ t. p .ensures .1 t, λ o. role-slot (a .w .now) s (a .c) (p .result .slot) (p .result .role) (p .ensures .1 s) (p .ensures .2 s) o)
+    (search needs, search needs, search needs, λ t. p .ensures .1 t, λ o. role-slot (a .w .now) s (a .c) (p .result .slot) (p .result .role) (p .ensures .1 s) (p .ensures .2 s) o, p .ensures .3)
 
 returns-4 : tie.Need-returns-4
 returns-4 c =

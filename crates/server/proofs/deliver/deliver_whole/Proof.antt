@@ -10,7 +10,7 @@ use Rattle.server.proofs.deliver.deliver_whole.Tie as tie
 deliver-kind-requires : tie.Need-deliver-kind-requires
 deliver-kind-requires c κs =
     let q = c .before .before .before .before .before .before .before .pre in
-    (search needs, search needs, q .2, search needs, q .4, λ o. q .5 (λ z. omega arith))
+    (search needs, search needs, q .2, search needs, q .4, λ o. q .5 (λ z. omega arith), λ z. absurd (omega arith))
 
 returns : tie.Need-returns
 returns c =
@@ -21,7 +21,7 @@ returns c =
 deliver-kind-requires-2 : tie.Need-deliver-kind-requires-2
 deliver-kind-requires-2 c κs =
     let q = c .before .before .before .before .before .before .before .before .pre in
-    (search needs, search needs, q .2, search needs, q .4, λ o. q .5 (λ z. omega arith))
+    (search needs, search needs, q .2, search needs, q .4, λ o. q .5 (λ z. omega arith), λ z. absurd (omega arith))
 
 returns-2 : tie.Need-returns-2
 returns-2 c =
@@ -32,7 +32,7 @@ returns-2 c =
 deliver-kind-requires-3 : tie.Need-deliver-kind-requires-3
 deliver-kind-requires-3 c κs =
     let q = c .before .before .before .before .before .before .before .before .pre in
-    (search needs, search needs, q .2, search needs, q .4, λ o. q .5 (λ z. omega arith))
+    (search needs, search needs, q .2, search needs, q .4, λ o. q .5 (λ z. omega arith), λ z. absurd (omega arith))
 
 returns-3 : tie.Need-returns-3
 returns-3 c =

@@ -1,14 +1,57 @@
--- `tables::entry` meets its contract: the law of the table, at this place.
-use mathlib.Core.Path.{refl}
-use Rattle.state.specs.Change.{entry-read}
+-- `tables::entry` meets its contract: the law of the table, at this place; a connection confirmed, test by test.
+use mathlib.Core.Path.{sym, ap, _∙_}
+use native.Mathlib.Omega.{arith}
+use Rattle.state.specs.Change.{entry-told}
+use Rattle.state.specs.Confirmed.{field-number, field-free, field-past, field-stray, field-shown}
+use Rattle.state.specs.View.{fieldOf, homeOf, rowWord}
 use borrow.Author.Needs.{needs}
 use Rattle.state.proofs.tables.entry.Statement.{statement}
 use Rattle.state.proofs.tables.entry.Tie as tie
 
 returns : tie.Need-returns
-returns c = let a = c .before .args in (λ s. entry-read (a .w .now) (a .i) s (a .f) (search needs) (search needs), refl)
+returns c = let a = c .before .before .args in
+    let w = a .w .now in
+    entry-told w (a .i) (a .f) (c .before .row .result) (search needs) (search needs)
+    (c .before .row .ensures ∙ ap (rowWord w (a .i)) (c .if1 .taken) ∙ sym (field-number w (a .i)) ∙ ap (fieldOf w (a .i)) (sym (c .if1 .taken)))
+
+returns-2 : tie.Need-returns-2
+returns-2 c = let a = c .before .before .before .before .args in
+    let w = a .w .now in
+    entry-told w (a .i) (a .f) 255 (search needs) (search needs)
+    (sym (field-free w (a .i) (a .f) (c .before .before .if1 .left) (sym (c .before .row2 .ensures) ∙ c .if2 .taken)))
+
+returns-3 : tie.Need-returns-3
+returns-3 c = let a = c .before .before .before .before .before .args in
+    let w = a .w .now in
+    entry-told w (a .i) (a .f) 255 (search needs) (search needs)
+    (sym (field-past w (a .i) (a .f) (c .before .before .before .if1 .left) (omega (arith, c .before .before .before .before .row .ensures, c .if3 .taken))))
+
+returns-4 : tie.Need-returns-4
+returns-4 c = let a = c .before .before .before .before .before .before .before .before .args in
+    let w = a .w .now in
+    let r = c .before .before .before .before .before .before .before .row .ensures in
+    entry-told w (a .i) (a .f) 255 (search needs) (search needs)
+    (sym (field-stray w (a .i) (a .f) (c .before .before .before .before .before .before .if1 .left) (λ q. c .if4 .taken (c .before .before .home .ensures ∙ ap (homeOf w) r ∙ q ∙ sym (c .before .home-in .ensures)))))
+
+returns-5 : tie.Need-returns-5
+returns-5 c = let a = c .before .before .before .before .before .before .before .before .args in
+    let w = a .w .now in
+    let r = c .before .before .before .before .before .before .before .row in
+    entry-told w (a .i) (a .f) (r .result) (search needs) (search needs)
+    (r .ensures
+    ∙ sym (field-shown w (a .i) (a .f) (c .before .before .before .before .before .before .if1 .left) (λ q. c .before .before .before .before .if2 .left (c .before .before .before .before .before .row2 .ensures ∙ q)) (omega (arith, r .ensures, c .before .before .before .if3 .left))
+    (ap (homeOf w) (sym (r .ensures)) ∙ sym (c .before .before .home .ensures) ∙ c .if4 .left ∙ c .before .home-in .ensures)))
 
 pub entry-spec : {M : Type 1} → statement M
 entry-spec =
     tie.close
-    (tie.spec (λ c. search needs) (λ c. search needs) (λ c. search needs) (λ c. search needs) (λ c. search needs) returns)
+    (tie.spec
+    (λ c κs. search needs)
+    returns
+    (λ c κs. search needs)
+    returns-2
+    returns-3
+    (λ c κs. search needs)
+    (λ c κs. search needs)
+    returns-4
+    returns-5)

@@ -1,0 +1,329 @@
+-- Which session has a connection: what opening, joining and closing do to the table of sessions, and what one look finds. Assumes nothing.
+use mathlib.Core.Path.{_≡_, refl, sym, ap, _∙_}
+use mathlib.Core.Logic.{_⊎_, inl, inr, ⊎-elim}
+use mathlib.Core.Bool.{Bool, true, false, _&&_, _||_, cond}
+use mathlib.Core.List.{List, []}
+use Prim.Native.Nat.{ℕ, zero, suc, _+_, _*_, _%_, _^_, _≤_, _<_}
+use native.Mathlib.Omega.{arith}
+use lib.Dec.{eqb, lit<}
+use lib.ListN.{length, set, length-set}
+use borrow.Author.Tests.{eqb-true, eqb-false}
+use Rattle.model.specs.Sizes.{sessionLimit, connectionLimit, noConnection}
+use Rattle.model.specs.State.{Entry, Locks, Connection, Server}
+use Rattle.model.specs.Locks.{joined}
+use Rattle.state.specs.Table.{tab-same}
+use Rattle.state.specs.Grid.{upd, upd-same, grid, grid-set, grid-off}
+use Rattle.state.specs.Bits.{bit}
+use Rattle.state.specs.Layout.{CLOCK, VENDOR, STATUS, LAST, ENABLE, LOCKOUT, REMOTE, HOLDER, SHARERS, ENTRIES, ENTRY, EXCHANGES, EXCHANGE, CONNECTIONS, CONNECTION, HOME, WORDS}
+use Rattle.state.specs.View.{memory, word, flag, keyOf, rowWord, homeIn, homeAt, homeOf, fieldOf, entryAt, entriesOf, locksOf, exchangeOf, connectionOf, restOf, view}
+use Rattle.state.specs.Confirmed.{field-same, field-else, field-number, field-free, field-past, field-shown, Shows, shows}
+use Rattle.state.specs.Change.{onEntry, off, here, key-off, waiting-off, rest-off, entries-change}
+
+-- a slot with another SessionID and other connections
+abbrev pub withRow : ℕ → ℕ → ℕ → Entry → Entry
+withRow n a b e = record { number = n; synchronous = a; asynchronous = b; exclusive = e .exclusive; shared = e .shared }
+
+-- no slot shows connection c
+abbrev pub Unshown : List ℕ → ℕ → Type 0
+Unshown w c = (j f : ℕ) → j < sessionLimit → f < 2 → fieldOf w j (suc f) ≡ c → ⊥
+
+-- a store into a slot's row or a connection's home: another table of sessions, all else the same
+abbrev withEntries : Server → List Entry → Server
+withEntries d es = record { locks = record { clock = d .locks .clock; entries = es; waiting = d .locks .waiting }; rest = d .rest }
+
+row-stored : (w s : List ℕ) (i f v : ℕ) → i < sessionLimit → f < ENTRY
+    → view (memory (set w (ENTRIES + i * ENTRY + f) v) s) ≡ withEntries (view (memory w s)) (entriesOf (set w (ENTRIES + i * ENTRY + f) v) (keyOf w s))
+unfolding locksOf
+row-stored w s i f v h l =
+    let a : ℕ = ENTRIES + i * ENTRY + f in
+    λ k. record {
+      locks = record {
+        clock = off w a v CLOCK (omega arith) k % 2 ^ 63;
+        entries = entriesOf (set w a v) (key-off w s a v (omega arith) k);
+        waiting = waiting-off w s a v (omega arith) (omega arith) k;
+      };
+      rest = rest-off w a v (omega arith) k;
+    }
+
+home-row : (r : List ℕ) (v : ℕ) → connectionOf (set r HOME v) ≡ connectionOf r
+home-row r v = λ k. record { isOpen = flag (off r HOME v 0 (omega arith) k); remainder = off r HOME v 1 (omega arith) k }
+
+home-rest : (w : List ℕ) (c v : ℕ) → length w ≡ WORDS → c < connectionLimit → restOf (set w (homeAt c) v) ≡ restOf w
+unfolding restOf
+home-rest w c v long h =
+    let a : ℕ = CONNECTIONS + c * CONNECTION + HOME in
+    λ k. record {
+      exchanges = grid-off exchangeOf EXCHANGES EXCHANGE sessionLimit w a v (inr (omega arith)) k;
+      connections = (grid-set connectionOf CONNECTIONS CONNECTION connectionLimit w c HOME v (λ (x : Connection). x) (λ r e. home-row r v) h (lit< tt) (omega arith)
+          ∙ upd-same (grid connectionOf CONNECTIONS CONNECTION connectionLimit w) c) k;
+      lastIssued = off w a v LAST (omega arith) k % 65536;
+      vendor = off w a v VENDOR (omega arith) k % 65536;
+      status = off w a v STATUS (omega arith) k % 256;
+      remoteLocal = record { enable = flag (off w a v ENABLE (omega arith) k); lockout = flag (off w a v LOCKOUT (omega arith) k); remote = flag (off w a v REMOTE (omega arith) k) };
+    }
+
+home-stored : (w s : List ℕ) (c v : ℕ) → length w ≡ WORDS → c < connectionLimit
+    → view (memory (set w (homeAt c) v) s) ≡ withEntries (view (memory w s)) (entriesOf (set w (homeAt c) v) (keyOf w s))
+unfolding locksOf
+home-stored w s c v long h =
+    let a : ℕ = homeAt c in
+    λ k. record {
+      locks = record {
+        clock = off w a v CLOCK (omega arith) k % 2 ^ 63;
+        entries = entriesOf (set w a v) (key-off w s a v (omega arith) k);
+        waiting = waiting-off w s a v (omega arith) (omega arith) k;
+      };
+      rest = home-rest w c v long h k;
+    }
+
+-- slot j by the fields that it shows
+module _ (w w′ key : List ℕ) (j : ℕ) (holder : word w′ HOLDER ≡ word w HOLDER) (sharers : word w′ SHARERS ≡ word w SHARERS) where
+  entry-rowed : (n a b : ℕ) → fieldOf w′ j 0 ≡ n → fieldOf w′ j 1 ≡ a → fieldOf w′ j 2 ≡ b → entryAt w′ key j ≡ withRow n a b (entryAt w key j)
+  unfolding entryAt
+  entry-rowed n a b p q r =
+      λ k. record { number = p k; synchronous = q k; asynchronous = r k; exclusive = eqb (holder k) (j + 1); shared = cond (eqb (bit (sharers k) j) 1) key [] }
+
+  entry-kept : ((f : ℕ) → f < ENTRY → fieldOf w′ j f ≡ fieldOf w j f) → entryAt w′ key j ≡ entryAt w key j
+  unfolding entryAt
+  entry-kept e = entry-rowed (fieldOf w j 0) (fieldOf w j 1) (fieldOf w j 2) (e 0 (lit< tt)) (e 1 (lit< tt)) (e 2 (lit< tt))
+
+-- slot j where connection c, which it did not show, gets a home that is not here
+keeps : (w w′ : List ℕ) (c j : ℕ) → c < connectionLimit → j < sessionLimit → Unshown w c
+    → ((g : ℕ) → g < ENTRY → rowWord w′ j g ≡ rowWord w j g)
+    → ((x : ℕ) → x < connectionLimit → (x ≡ c → ⊥) → homeOf w′ x ≡ homeOf w x)
+    → ((f : ℕ) → f < 2 → homeOf w′ c ≡ homeIn j (suc f) → ⊥)
+    → (f : ℕ) → f < ENTRY → fieldOf w′ j f ≡ fieldOf w j f
+keeps w w′ c j few h lone row homes away zero l = field-number w′ j ∙ row 0 l ∙ sym (field-number w j)
+keeps w w′ c j few h lone row homes away (suc f) l = field-else w w′ j c f few (row 0 (omega arith)) (row (suc f) l) homes (lone j f h (omega arith)) (away f (omega arith))
+
+-- session n opens in slot i over connection c, which no slot shows: four stores
+module _ (w s : List ℕ) (i n c : ℕ) (long : length w ≡ WORDS) (h : i < sessionLimit) (some : n ≡ 0 → ⊥) (few : c < connectionLimit) (lone : Unshown w c) where
+  abbrev w₁ : List ℕ
+  w₁ = set w (ENTRIES + i * ENTRY + 0) n
+
+  abbrev w₂ : List ℕ
+  w₂ = set w₁ (ENTRIES + i * ENTRY + 1) c
+
+  abbrev w₃ : List ℕ
+  w₃ = set w₂ (ENTRIES + i * ENTRY + 2) noConnection
+
+  abbrev w₄ : List ℕ
+  w₄ = set w₃ (homeAt c) (homeIn i 1)
+
+  long₁ : length w₁ ≡ WORDS
+  long₁ = length-set w (ENTRIES + i * ENTRY + 0) n ∙ long
+
+  long₂ : length w₂ ≡ WORDS
+  long₂ = length-set w₁ (ENTRIES + i * ENTRY + 1) c ∙ long₁
+
+  long₃ : length w₃ ≡ WORDS
+  long₃ = length-set w₂ (ENTRIES + i * ENTRY + 2) noConnection ∙ long₂
+
+  -- every other word is as it was
+  same : (a : ℕ) → ((f : ℕ) → f < ENTRY → a ≡ ENTRIES + i * ENTRY + f → ⊥) → (a ≡ homeAt c → ⊥) → word w₄ a ≡ word w a
+  same a p q =
+      off w₃ (homeAt c) (homeIn i 1) a q
+      ∙ off w₂ (ENTRIES + i * ENTRY + 2) noConnection a (p 2 (lit< tt))
+      ∙ off w₁ (ENTRIES + i * ENTRY + 1) c a (p 1 (lit< tt))
+      ∙ off w (ENTRIES + i * ENTRY + 0) n a (p 0 (lit< tt))
+
+  number-here : rowWord w₄ i 0 ≡ n
+  number-here =
+      off w₃ (homeAt c) (homeIn i 1) (ENTRIES + i * ENTRY + 0) (omega arith)
+      ∙ off w₂ (ENTRIES + i * ENTRY + 2) noConnection (ENTRIES + i * ENTRY + 0) (omega arith)
+      ∙ off w₁ (ENTRIES + i * ENTRY + 1) c (ENTRIES + i * ENTRY + 0) (omega arith)
+      ∙ here w (ENTRIES + i * ENTRY + 0) n (omega arith)
+
+  first-here : rowWord w₄ i 1 ≡ c
+  first-here =
+      off w₃ (homeAt c) (homeIn i 1) (ENTRIES + i * ENTRY + 1) (omega arith)
+      ∙ off w₂ (ENTRIES + i * ENTRY + 2) noConnection (ENTRIES + i * ENTRY + 1) (omega arith)
+      ∙ here w₁ (ENTRIES + i * ENTRY + 1) c (omega (arith, long₁))
+
+  second-here : rowWord w₄ i 2 ≡ noConnection
+  second-here = off w₃ (homeAt c) (homeIn i 1) (ENTRIES + i * ENTRY + 2) (omega arith) ∙ here w₂ (ENTRIES + i * ENTRY + 2) noConnection (omega (arith, long₂))
+
+  home-here : homeOf w₄ c ≡ homeIn i 1
+  home-here = here w₃ (homeAt c) (homeIn i 1) (omega (arith, long₃))
+
+  first-shown : fieldOf w₄ i 1 ≡ c
+  first-shown =
+      field-shown w₄ i 1 (omega arith) (λ e. some (sym number-here ∙ e)) (omega (arith, first-here)) (ap (homeOf w₄) first-here ∙ home-here) ∙ first-here
+
+  second-none : fieldOf w₄ i 2 ≡ noConnection
+  second-none = field-past w₄ i 2 (omega arith) (omega (arith, second-here))
+
+  pub session-opened : view (memory w₄ s) ≡ onEntry (view (memory w s)) i (withRow n c noConnection)
+  unfolding locksOf
+  session-opened =
+      let key : List ℕ = keyOf w s in
+      let d : Server = view (memory w s) in
+      let es : List Entry = entriesOf w₄ key in
+      home-stored w₃ s c (homeIn i 1) long₃ few
+      ∙ ap (λ (x : List ℕ). withEntries (view (memory w₃ s)) (entriesOf w₄ x))
+      (key-off w₂ s (ENTRIES + i * ENTRY + 2) noConnection (omega arith) ∙ key-off w₁ s (ENTRIES + i * ENTRY + 1) c (omega arith) ∙ key-off w s (ENTRIES + i * ENTRY + 0) n (omega arith))
+      ∙ ap (λ (x : Server). withEntries x es) (row-stored w₂ s i 2 noConnection h (lit< tt))
+      ∙ ap (λ (x : Server). withEntries x es) (row-stored w₁ s i 1 c h (lit< tt))
+      ∙ ap (λ (x : Server). withEntries x es) (row-stored w s i 0 n h (lit< tt))
+      ∙ ap (λ (x : List Entry). withEntries d x)
+      (entries-change w w₄ key key i (withRow n c noConnection) h
+      (entry-rowed w w₄ key i (same HOLDER (omega arith) (omega arith)) (same SHARERS (omega arith) (omega arith)) n c noConnection (field-number w₄ i ∙ number-here) first-shown second-none)
+      (λ j l o.
+      entry-kept w w₄ key j (same HOLDER (omega arith) (omega arith)) (same SHARERS (omega arith) (omega arith))
+      (keeps w w₄ c j few l lone
+      (λ g m. same (ENTRIES + j * ENTRY + g) (λ f x e. o (let z : j ≡ i = omega arith in z)) (omega arith))
+      (λ x m q. same (homeAt x) (λ f y e. omega arith) (λ e. q (let z : x ≡ c = omega arith in z)))
+      (λ f m e. o (let y : homeIn i 1 ≡ homeIn j (suc f) = sym home-here ∙ e in let z : j ≡ i = omega arith in z)))))
+
+-- connection c, which no slot shows, is the second of the live slot i: two stores
+module _ (w s : List ℕ) (i c : ℕ) (long : length w ≡ WORDS) (h : i < sessionLimit) (lives : rowWord w i 0 ≡ 0 → ⊥) (few : c < connectionLimit) (lone : Unshown w c) where
+  abbrev v₁ : List ℕ
+  v₁ = set w (ENTRIES + i * ENTRY + 2) c
+
+  abbrev v₂ : List ℕ
+  v₂ = set v₁ (homeAt c) (homeIn i 2)
+
+  long-v : length v₁ ≡ WORDS
+  long-v = length-set w (ENTRIES + i * ENTRY + 2) c ∙ long
+
+  still : (a : ℕ) → (a ≡ ENTRIES + i * ENTRY + 2 → ⊥) → (a ≡ homeAt c → ⊥) → word v₂ a ≡ word w a
+  still a p q = off v₁ (homeAt c) (homeIn i 2) a q ∙ off w (ENTRIES + i * ENTRY + 2) c a p
+
+  named : rowWord v₂ i 2 ≡ c
+  named = off v₁ (homeAt c) (homeIn i 2) (ENTRIES + i * ENTRY + 2) (omega arith) ∙ here w (ENTRIES + i * ENTRY + 2) c (omega arith)
+
+  housed : homeOf v₂ c ≡ homeIn i 2
+  housed = here v₁ (homeAt c) (homeIn i 2) (omega (arith, long-v))
+
+  alive : rowWord v₂ i 0 ≡ rowWord w i 0
+  alive = still (ENTRIES + i * ENTRY + 0) (omega arith) (omega arith)
+
+  other-homes : (x : ℕ) → x < connectionLimit → (x ≡ c → ⊥) → homeOf v₂ x ≡ homeOf w x
+  other-homes x m q = still (homeAt x) (omega arith) (λ e. q (let z : x ≡ c = omega arith in z))
+
+  pub session-joined : view (memory v₂ s) ≡ onEntry (view (memory w s)) i (joined c)
+  unfolding locksOf entryAt
+  session-joined =
+      let key : List ℕ = keyOf w s in
+      let d : Server = view (memory w s) in
+      let es : List Entry = entriesOf v₂ key in
+      home-stored v₁ s c (homeIn i 2) long-v few
+      ∙ ap (λ (x : List ℕ). withEntries (view (memory v₁ s)) (entriesOf v₂ x)) (key-off w s (ENTRIES + i * ENTRY + 2) c (omega arith))
+      ∙ ap (λ (x : Server). withEntries x es) (row-stored w s i 2 c h (lit< tt))
+      ∙ ap (λ (x : List Entry). withEntries d x)
+      (entries-change w v₂ key key i (joined c) h
+      (entry-rowed w v₂ key i (still HOLDER (omega arith) (omega arith)) (still SHARERS (omega arith) (omega arith)) (fieldOf w i 0) (fieldOf w i 1) c
+      (field-number v₂ i ∙ alive ∙ sym (field-number w i))
+      (field-else w v₂ i c 0 few alive (still (ENTRIES + i * ENTRY + 1) (omega arith) (omega arith)) other-homes (lone i 0 h (lit< tt)) (λ e. let y : homeIn i 2 ≡ homeIn i 1 = sym housed ∙ e in omega arith))
+      (field-shown v₂ i 2 (omega arith) (λ e. lives (sym alive ∙ e)) (omega (arith, named)) (ap (homeOf v₂) named ∙ housed) ∙ named))
+      (λ j l o.
+      entry-kept w v₂ key j (still HOLDER (omega arith) (omega arith)) (still SHARERS (omega arith) (omega arith))
+      (keeps w v₂ c j few l lone
+      (λ g m. still (ENTRIES + j * ENTRY + g) (λ e. o (let z : j ≡ i = omega arith in z)) (omega arith))
+      other-homes
+      (λ f m e. o (let y : homeIn i 2 ≡ homeIn j (suc f) = sym housed ∙ e in let z : j ≡ i = omega arith in z)))))
+
+-- a closing: the number of slot i is 0, and it shows no connections
+module _ (w s : List ℕ) (i : ℕ) (long : length w ≡ WORDS) (h : i < sessionLimit) where
+  abbrev freed : List ℕ
+  freed = set w (ENTRIES + i * ENTRY + 0) 0
+
+  pub free-here : rowWord freed i 0 ≡ 0
+  free-here = here w (ENTRIES + i * ENTRY + 0) 0 (omega arith)
+
+  pub session-freed : view (memory freed s) ≡ onEntry (view (memory w s)) i (withRow 0 noConnection noConnection)
+  unfolding locksOf
+  session-freed =
+      let a : ℕ = ENTRIES + i * ENTRY + 0 in
+      let key : List ℕ = keyOf w s in
+      row-stored w s i 0 0 h (lit< tt)
+      ∙ ap (λ (x : List Entry). withEntries (view (memory w s)) x)
+      (entries-change w freed key key i (withRow 0 noConnection noConnection) h
+      (entry-rowed w freed key i (off w a 0 HOLDER (omega arith)) (off w a 0 SHARERS (omega arith)) 0 noConnection noConnection
+      (field-number freed i ∙ free-here) (field-free freed i 1 (omega arith) free-here) (field-free freed i 2 (omega arith) free-here))
+      (λ j l o.
+      entry-kept w freed key j (off w a 0 HOLDER (omega arith)) (off w a 0 SHARERS (omega arith))
+      (field-same w freed j (λ g m. off w a 0 (ENTRIES + j * ENTRY + g) (λ e. o (let z : j ≡ i = omega arith in z))) (λ c m. off w a 0 (homeAt c) (omega arith)))))
+
+-- what is left of a free slot i is not seen: the words of its row, and the home of a connection there
+module _ (w s : List ℕ) (i f : ℕ) (long : length w ≡ WORDS) (h : i < sessionLimit) (free : rowWord w i 0 ≡ 0) (o : 0 < f) (l : f < ENTRY) where
+  abbrev cleared : List ℕ
+  cleared = set w (ENTRIES + i * ENTRY + f) 0
+
+  pub still-free : rowWord cleared i 0 ≡ 0
+  still-free = off w (ENTRIES + i * ENTRY + f) 0 (ENTRIES + i * ENTRY + 0) (omega arith) ∙ free
+
+  cleared-here : (g : ℕ) → fieldOf cleared i g ≡ fieldOf w i g
+  cleared-here zero = field-number cleared i ∙ still-free ∙ sym (field-number w i ∙ free)
+  cleared-here (suc g) = field-free cleared i (suc g) (omega arith) still-free ∙ sym (field-free w i (suc g) (omega arith) free)
+
+  cleared-field : (j g : ℕ) → g < ENTRY → fieldOf cleared j g ≡ fieldOf w j g
+  cleared-field j g m = by (eqb j i) refl
+    where
+      by : (b : Bool) → eqb j i ≡ b → fieldOf cleared j g ≡ fieldOf w j g
+      by true e = let z : j ≡ i = eqb-true j i e in ap (λ (x : ℕ). fieldOf cleared x g) z ∙ cleared-here g ∙ ap (λ (x : ℕ). fieldOf w x g) (sym z)
+      by false e =
+          field-same w cleared j (λ x y. off w (ENTRIES + i * ENTRY + f) 0 (ENTRIES + j * ENTRY + x) (λ q. eqb-false j i e (let z : j ≡ i = omega arith in z)))
+          (λ c y. off w (ENTRIES + i * ENTRY + f) 0 (homeAt c) (omega arith)) g m
+
+  pub row-cleared : view (memory cleared s) ≡ view (memory w s)
+  unfolding locksOf entriesOf
+  row-cleared =
+      let a : ℕ = ENTRIES + i * ENTRY + f in
+      let key : List ℕ = keyOf w s in
+      row-stored w s i f 0 h l
+      ∙ ap (λ (x : List Entry). withEntries (view (memory w s)) x)
+      (tab-same (entryAt cleared key) (entryAt w key) 0 sessionLimit
+      (λ j p q. entry-kept w cleared key j (off w a 0 HOLDER (omega arith)) (off w a 0 SHARERS (omega arith)) (cleared-field j)))
+
+  module _ (c : ℕ) (few : c < connectionLimit) (housed : homeOf w c ≡ homeIn i f) where
+    abbrev homeless : List ℕ
+    homeless = set w (homeAt c) 0
+
+    pub free-still : rowWord homeless i 0 ≡ 0
+    free-still = off w (homeAt c) 0 (ENTRIES + i * ENTRY + 0) (omega arith) ∙ free
+
+    unshown : Unshown w c
+    unshown j g m x e =
+        let r : Shows w j c (suc g) = shows w j c (suc g) (omega arith) few e in
+        let y : homeIn i f ≡ homeIn j (suc g) = sym housed ∙ r .home in
+        let z : j ≡ i = omega arith in
+        r .lives (ap (λ (x : ℕ). rowWord w x 0) z ∙ free)
+
+    away : (j g : ℕ) → homeOf homeless c ≡ homeIn j (suc g) → ⊥
+    away j g e = let y : 0 ≡ homeIn j (suc g) = sym (here w (homeAt c) 0 (omega arith)) ∙ e in omega arith
+
+    pub home-cleared : view (memory homeless s) ≡ view (memory w s)
+    unfolding locksOf entriesOf
+    home-cleared =
+        let a : ℕ = homeAt c in
+        let key : List ℕ = keyOf w s in
+        home-stored w s c 0 long few
+        ∙ ap (λ (x : List Entry). withEntries (view (memory w s)) x)
+        (tab-same (entryAt homeless key) (entryAt w key) 0 sessionLimit
+        (λ j p q.
+        entry-kept w homeless key j (off w a 0 HOLDER (omega arith)) (off w a 0 SHARERS (omega arith))
+        (keeps w homeless c j few (omega arith) unshown
+        (λ g m. off w a 0 (ENTRIES + j * ENTRY + g) (omega arith))
+        (λ x m r. off w a 0 (homeAt x) (λ e. r (let z : x ≡ c = omega arith in z)))
+        (λ g m. away j g))))
+
+-- the same of the memories that the code's stores leave
+pub opened-by : (w x₁ x₂ x₃ x₄ s : List ℕ) (i n c k : ℕ) → x₁ ≡ set w (ENTRIES + i * ENTRY + 0) n → x₂ ≡ set x₁ (ENTRIES + i * ENTRY + 1) c → x₃ ≡ set x₂ (ENTRIES + i * ENTRY + 2) noConnection
+    → x₄ ≡ set x₃ (homeAt c) k → k ≡ homeIn i 1 → length w ≡ WORDS → i < sessionLimit → (n ≡ 0 → ⊥) → c < connectionLimit → Unshown w c
+    → view (memory x₄ s) ≡ onEntry (view (memory w s)) i (withRow n c noConnection)
+opened-by w x₁ x₂ x₃ x₄ s i n c k e₁ e₂ e₃ e₄ e long h some few lone =
+    ap (λ (x : List ℕ). view (memory x s))
+    (e₄ ∙ ap (set x₃ (homeAt c)) e
+    ∙ ap (λ (x : List ℕ). set x (homeAt c) (homeIn i 1)) (e₃ ∙ ap (λ (x : List ℕ). set x (ENTRIES + i * ENTRY + 2) noConnection) (e₂ ∙ ap (λ (x : List ℕ). set x (ENTRIES + i * ENTRY + 1) c) e₁)))
+    ∙ session-opened w s i n c long h some few lone
+
+pub joined-by : (w x₁ x₂ s : List ℕ) (i c k : ℕ) → x₁ ≡ set w (ENTRIES + i * ENTRY + 2) c → x₂ ≡ set x₁ (homeAt c) k → k ≡ homeIn i 2 → length w ≡ WORDS → i < sessionLimit → (rowWord w i 0 ≡ 0 → ⊥) → c < connectionLimit → Unshown w c
+    → view (memory x₂ s) ≡ onEntry (view (memory w s)) i (joined c)
+joined-by w x₁ x₂ s i c k e₁ e₂ e long h lives few lone =
+    ap (λ (x : List ℕ). view (memory x s)) (e₂ ∙ ap (set x₁ (homeAt c)) e ∙ ap (λ (x : List ℕ). set x (homeAt c) (homeIn i 2)) e₁) ∙ session-joined w s i c long h lives few lone
+
+pub cleared-by : (w₀ w x : List ℕ) (i f : ℕ) → ((s : List ℕ) → view (memory w s) ≡ view (memory w₀ s)) → x ≡ set w (ENTRIES + i * ENTRY + f) 0 → length w ≡ WORDS → i < sessionLimit → rowWord w i 0 ≡ 0 → 0 < f → f < ENTRY
+    → ((s : List ℕ) → view (memory x s) ≡ view (memory w₀ s)) × (rowWord x i 0 ≡ 0)
+cleared-by w₀ w x i f k e long h free o l =
+    (λ s. ap (λ (y : List ℕ). view (memory y s)) e ∙ row-cleared w s i f long h free o l ∙ k s, ap (λ (y : List ℕ). rowWord y i 0) e ∙ still-free w [] i f long h free o l)
