@@ -18,8 +18,9 @@ fn but_the_last(string: &[u8]) -> Vec<u8> {
     other
 }
 
-/// A session on every two connections, then one more; each asks for the shared lock and releases it.
-/// Numbers from the first that is refused, and far ones; each connection is cut and opens again.
+/// A session on every two connections, so that all are in use; each shares the lock, and releases it.
+/// Numbers from the first that is refused on, and far ones. Then every connection is cut and opens
+/// again, every second time for a session too many.
 fn numbers() -> Vec<Event> {
     let mut list = Vec::new();
     for (number, synchronous) in (1..=SESSIONS as u32).zip((0..).step_by(2)) {
