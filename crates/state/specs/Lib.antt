@@ -13,3 +13,5 @@ pub mod Windows
 pub mod Sharing
 pub mod Search
 pub mod Fresh
+pub mod Tidy
+pub mod OneMemory
