@@ -144,7 +144,7 @@ pub record Member (m n : ℕ) : Type 0 where
   pub below : place < n
   pub is-set : bit m place ≡ 1
 
-low-bits : (m n : ℕ) → m % 2 ^ suc n ≡ bit m n * 2 ^ n + m % 2 ^ n
+pub low-bits : (m n : ℕ) → m % 2 ^ suc n ≡ bit m n * 2 ^ n + m % 2 ^ n
 low-bits m n = ap (λ (x : ℕ). m % x) (pow-succ' 2 n) ∙ mod-mul m (lit< tt) (positive n)
 
 pub member : (m n : ℕ) → (m % 2 ^ n ≡ 0 → ⊥) → Member m n

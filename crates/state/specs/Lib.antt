@@ -16,3 +16,5 @@ pub mod Channels
 pub mod Search
 pub mod OneLook
 pub mod Fresh
+pub mod Tidy
+pub mod OneMemory
