@@ -166,6 +166,11 @@ pub skip-none : (d : Server) (c i : ℕ) (r : Delivery) (m m′ : Memory) (out o
 skip-none d c i r m m′ out out′ zero here ro l q = absurd (not-suc-le-zero l)
 skip-none d c i r m m′ out out′ (suc left) here ro l q = empty-done d c i r m m′ out out′ (suc left) here ro q
 
+-- the slot is the one that was found
+pub at-slot : (d : Server) (c i j : ℕ) (r : Delivery) (m m′ : Memory) (out out′ : List ℕ) (left here : ℕ) (ro : Role) (s : Scan) → j ≡ i
+    → DidOn d c i r m m′ out out′ left here ro s → DidOn d c j r m m′ out out′ left here ro s
+at-slot d c i j r m m′ out out′ left here ro s e q = subst (λ (k : ℕ). DidOn d c k r m m′ out out′ left here ro s) (sym e) q
+
 -- the place of the connection is the one that was found
 pub received-as : (d : Server) (c i : ℕ) (r : Delivery) (m m′ : Memory) (out out′ : List ℕ) (left here : ℕ) (s : Scan) → slotOf d c ≡ i
     → DidOn d c i r m m′ out out′ left here (roleOf (d .locks .entries) c) s

@@ -4,7 +4,7 @@ ghost use Rattle.checks.specs.Numbers.{message, verdictOf};
 ghost use Rattle.effects.specs.Did.{Did, DidWith};
 ghost use Rattle.model.specs.Acts.{acts};
 ghost use Rattle.model.specs.Checks.{Verdict.v-acts, judged};
-ghost use Rattle.model.specs.Place.{Role, slotIn};
+ghost use Rattle.model.specs.Place.{Role, roleOf, slotIn};
 ghost use Rattle.model.specs.Missing.{ifMore, lacking};
 ghost use Rattle.model.specs.Scan.{Scan, Scan.whole, freshScan, leftover, scan, size};
 ghost use Rattle.model.specs.State.{connectionAt};
@@ -187,39 +187,43 @@ fn deliver_whole(
     deliver_kind(w, strings, out, c, i, role, kind, h, payload)
 }
 
-// At least sixteen bytes, with nothing to skip.
+// At least sixteen bytes, with nothing to skip. The place of the connection is looked up on each way by itself, right before its role is
+// asked: the compiler then makes one branch of the two.
 fn deliver_message(
     w: &mut Words,
     strings: &mut Strings,
     out: &mut [u8],
     c: u64,
-    i: usize,
-    role: u8,
     bytes: &[u8],
 ) -> Delivery
-    requires { ⌜ (c < connectionLimit) × (16 ≤ length (now bytes)) × (outputMinimum ≤ length (now out)) × ((s : List ℕ) → slotIn (locksOf (now w) s .entries) c ≡ i) × ((role ≡ 0 → ⊥) → i < sessionLimit) × (role ≡ 0 → Unshown (now w) c) ⌝ }
-    ensures { λ r. ⌜ ((ro : Role) → roleNumber ro ≡ role → DidOn (view (memory (now (w .entry)) (now (strings .entry)))) c i r (memory (now (w .entry)) (now (strings .entry))) (memory (now (w .exit)) (now (strings .exit))) (now (out .entry)) (now (out .exit)) 0 (length (now (bytes .entry))) ro (freshScan (now (bytes .entry)))) ⌝ }
+    requires { ⌜ (c < connectionLimit) × (16 ≤ length (now bytes)) × (outputMinimum ≤ length (now out)) ⌝ }
+    ensures { λ r. ⌜ DidOn (view (memory (now (w .entry)) (now (strings .entry)))) c (slotIn (locksOf (now (w .entry)) (now (strings .entry)) .entries) c) r (memory (now (w .entry)) (now (strings .entry))) (memory (now (w .exit)) (now (strings .exit))) (now (out .entry)) (now (out .exit)) 0 (length (now (bytes .entry))) (roleOf (locksOf (now (w .entry)) (now (strings .entry)) .entries) c) (freshScan (now (bytes .entry))) ⌝ }
 {
     if !reading::has_prologue(bytes) {
-        return replies::send_fatal(w, strings, out, c, i, 1);
+        let place = search::place_of(w, c);
+        return replies::send_fatal(w, strings, out, c, place.slot, 1);
     }
     let h = reading::header_at(bytes);
     let len = h.len;
     if len > PAYLOAD {
-        let v = whole::long_verdict(role);
-        let told = apply(w, strings, out, c, i, v, 16, len);
+        let place = search::place_of(w, c);
+        let v = whole::long_verdict(place.role);
+        let told = apply(w, strings, out, c, place.slot, v, 16, len);
         return told;
     }
     let end = 16 + len as usize;
     if bytes.len() < end {
-        let v = whole::partial_verdict(role, h.kind);
+        let place = search::place_of(w, c);
+        let v = whole::partial_verdict(place.role, h.kind);
         if v == MORE {
             return answer::more_needed((end - bytes.len()) as u64);
         }
-        let told = apply(w, strings, out, c, i, v, 0, 0);
+        let told = apply(w, strings, out, c, place.slot, v, 0, 0);
         return told;
     }
-    deliver_whole(w, strings, out, c, i, role, h, &bytes[16..end])
+    let place = search::place_of(w, c);
+    let i = place.slot;
+    deliver_whole(w, strings, out, c, i, place.role, h, &bytes[16..end])
 }
 
 fn least(a: u64, b: usize) -> u64
@@ -252,7 +256,5 @@ pub fn deliver_open(
     if bytes.len() < 16 {
         return answer::more_needed((16 - bytes.len()) as u64);
     }
-    let place = search::place_of(w, c);
-    let i = place.slot;
-    deliver_message(w, strings, out, c, i, place.role, bytes)
+    deliver_message(w, strings, out, c, bytes)
 }

@@ -16,5 +16,3 @@ pub mod Channels
 pub mod Search
 pub mod OneLook
 pub mod Fresh
-pub mod Tidy
-pub mod OneMemory

@@ -10,7 +10,6 @@ use Rattle.model.specs.Scan.{Scan.empty, Scan.skipping, freshScan, scan}
 use Rattle.model.specs.State.{Connection, connectionAt}
 use Rattle.state.specs.View.{locksOf, memory, restOf, view}
 use Rattle.effects.specs.Did.{did-nothing, numbersOf}
-use Rattle.server.specs.Acting.{role-slot}
 use Rattle.server.specs.Scanning.{received-as, on-scan, scan-empty, scan-skips, scan-fresh, skip-none, short-done, skip-done}
 use borrow.Author.Needs.{needs}
 use Rattle.server.proofs.deliver.deliver_open.Statement.{statement}
@@ -68,31 +67,19 @@ returns-3 c =
     (short-done d (a .c) (slotIn es (a .c)) _ _ _ _ _ left bs (roleOf es (a .c)) (omega arith) (c .before .if3 .taken)
     (did-nothing (16 - length bs) (took more-needed 0 0) _ _ _ (ap numbersOf (c .more-needed2 .ensures))))
 
-deliver-message-requires : tie.Need-deliver-message-requires
-deliver-message-requires c κs =
-    let a = c .before .before .before .before .before .before .before .before .before .before .before .args in
-    let s = a .strings .now in
-    let bs = a .bytes .now in
-    let d = view (memory (a .w .now) s) in
-    let es = locksOf (a .w .now) s .entries in
-    let left = (connectionAt (restOf (a .w .now)) (a .c)) .remainder in
-    let p = c .before .before .before .place-of in
-    (search needs, search needs, search needs, λ t. p .ensures .1 t, λ o. role-slot (a .w .now) s (a .c) (p .result .slot) (p .result .role) (p .ensures .1 s) (p .ensures .2 s) o, p .ensures .3)
-
 returns-4 : tie.Need-returns-4
 returns-4 c =
-    let a = c .before .before .before .before .before .before .before .before .before .before .before .before .before .before .args in
+    let a = c .before .before .before .before .before .before .before .before .before .before .before .before .args in
     let s = a .strings .now in
     let bs = a .bytes .now in
     let d = view (memory (a .w .now) s) in
     let es = locksOf (a .w .now) s .entries in
     let left = (connectionAt (restOf (a .w .now)) (a .c)) .remainder in
-    let er : c .before .before .before .before .before .before .before .before .before .before .connection .result ≡ left = ap (λ (x : Connection). x .remainder) (c .before .before .before .before .before .before .before .before .before .before .connection .ensures .0) in
-    let p = c .before .before .before .before .before .before .place-of in
+    let er : c .before .before .before .before .before .before .before .before .connection .result ≡ left = ap (λ (x : Connection). x .remainder) (c .before .before .before .before .before .before .before .before .connection .ensures .0) in
     let z : left ≡ 0 = omega arith in
-    received-as d (a .c) (p .result .slot) _ _ _ _ _ left (length bs) (scan left bs) (p .ensures .1 s)
-    (on-scan d (a .c) (p .result .slot) _ _ _ _ _ left (length bs) (roleOf es (a .c)) (scan left bs) (freshScan bs) (scan-fresh left bs (omega arith) z)
-    (rw z (c .before .before .deliver-message .ensures (roleOf es (a .c)) (p .ensures .2 s))))
+    received-as d (a .c) (slotIn es (a .c)) _ _ _ _ _ left (length bs) (scan left bs) refl
+    (on-scan d (a .c) (slotIn es (a .c)) _ _ _ _ _ left (length bs) (roleOf es (a .c)) (scan left bs) (freshScan bs) (scan-fresh left bs (omega arith) z)
+    (rw z (c .before .before .deliver-message .ensures)))
 
 pub deliver-open-spec : {M : Type 1} → statement M
 deliver-open-spec =
@@ -108,6 +95,5 @@ deliver-open-spec =
     (λ c κs. search needs)
     returns-3
     (λ c κs. search needs)
-    deliver-message-requires
     (λ c. search needs)
     returns-4)
