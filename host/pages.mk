@@ -1,15 +1,20 @@
 # Pages and pictures of what the host kit and the prover have to tell, for the root Makefile to include
 # behind Makefile.inc, whose names it uses.
 
-.PHONY: bench bench-docs speed-plot believe evidence timeline
+.PHONY: bench bench-docs instructions speed-plot believe evidence timeline
 
-# Nanoseconds beside the reference: to target/speed.md, with a picture.
+# Nanoseconds beside an ordinary Rust server: to target/speed.md, with a picture.
 bench: library
 	$(CARGO) run $(HOST_FLAGS) --profile speed -q -p bench -- --write target/speed.md --plot target/speed.svg
 
 # The same to the page and the picture in docs/, on a machine with nothing else to do.
 bench-docs: library
 	$(CARGO) run $(HOST_FLAGS) --profile speed -q -p bench -- --write docs/SPEED.md --plot docs/speed.svg
+
+# Instructions of a call, library and ordinary server, workload by workload; valgrind counts them. WRITE=docs/SPEED.md
+# puts the table into that page.
+instructions: library
+	$(CARGO) run $(HOST_FLAGS) --profile speed -q -p bench -- --instructions 60000 $(if $(WRITE),--write $(WRITE))
 
 # The picture of the table that docs/SPEED.md has, without measuring.
 speed-plot:

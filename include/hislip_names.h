@@ -12,7 +12,7 @@ static inline const char *hislip_refusal_name(uint64_t refusal)
 {
     switch (refusal) {
     case HISLIP_ACCEPTED: return "accepted";
-    case HISLIP_REFUSED_CONNECTION: return "the connection number is above 31, or not open";
+    case HISLIP_REFUSED_CONNECTION: return "the connection number is above 63, or not open";
     case HISLIP_REFUSED_ALREADY_OPEN: return "the connection is already open";
     case HISLIP_REFUSED_CLOCK_BACKWARDS: return "the clock is below the last reading";
     case HISLIP_REFUSED_CLOCK_TOO_HIGH: return "the clock is above 2^62";

@@ -90,13 +90,13 @@ extern "C" {
 #endif
 
 /* Sizes. */
-#define HISLIP_WORDS 235          /* uint64_t to lend as `words`: what hislip_words() tells         */
-#define HISLIP_STRING_BYTES 1088  /* bytes to lend as `strings`: what hislip_string_bytes() tells   */
-#define HISLIP_SESSIONS 16        /* live sessions, half-open ones included                         */
-#define HISLIP_CONNECTIONS 32     /* connections are numbered 0 to 31                               */
+#define HISLIP_WORDS 459          /* uint64_t to lend as `words`: what hislip_words() tells         */
+#define HISLIP_STRING_BYTES 8448  /* bytes to lend as `strings`: what hislip_string_bytes() tells   */
+#define HISLIP_SESSIONS 32        /* live sessions, half-open ones included                         */
+#define HISLIP_CONNECTIONS 64     /* connections are numbered 0 to 63                               */
 #define HISLIP_HEADER 16          /* bytes of a message before its payload                          */
 #define HISLIP_PAYLOAD 1024       /* bytes of payload, either way                                   */
-#define HISLIP_LOCK_STRING 64     /* bytes of a lock string                                         */
+#define HISLIP_LOCK_STRING 256    /* bytes of a lock string                                         */
 #define HISLIP_OUTPUT 2048        /* smallest output buffer                                         */
 #define HISLIP_CLOCK_MAX ((uint64_t)1 << 62)
 
@@ -131,7 +131,7 @@ extern "C" {
 
 /* Refusals, by number and cause. */
 #define HISLIP_ACCEPTED 0
-#define HISLIP_REFUSED_CONNECTION 1      /* connection above 31; for a delivery or a cut, also not open */
+#define HISLIP_REFUSED_CONNECTION 1      /* connection above 63; for a delivery or a cut, also not open */
 #define HISLIP_REFUSED_ALREADY_OPEN 2    /* opening one already open                                    */
 #define HISLIP_REFUSED_CLOCK_BACKWARDS 3 /* clock below the last reading (equal is fine)                */
 #define HISLIP_REFUSED_CLOCK_TOO_HIGH 4  /* clock above 2^62                                            */
@@ -178,20 +178,20 @@ uint64_t hislip_string_bytes(void);
 HISLIP_NOT_NULL
 void hislip_new(uint64_t *words, uint8_t *strings, uint16_t vendor);
 
-/* A connection opens. Refusals: 1 (above 31), 2 (already open). Sends nothing. */
+/* A connection opens. Refusals: 1 (above 63), 2 (already open). Sends nothing. */
 HISLIP_NOT_NULL
 hislip_done hislip_open(uint64_t *words, uint8_t *strings, uint32_t connection);
 
 /* Unread bytes of a connection: all of them, from the first one not yet taken. At most one message is
  * taken; deliver again while bytes are taken and some are left. Refusals, in this order: 7 (`out_len`
- * under 2,048), 1 (above 31, or not open). Outcomes: all seven. `len` may be 0 (more needed). */
+ * under 2,048), 1 (above 63, or not open). Outcomes: all seven. `len` may be 0 (more needed). */
 HISLIP_NOT_NULL HISLIP_USE_RESULT
 hislip_delivery hislip_deliver(uint64_t *words, uint8_t *strings, uint32_t connection,
                                const uint8_t *bytes, size_t len, uint8_t *out, size_t out_len);
 
 /* A connection is cut. Its session, if it has one, closes with both connections, its locks and its
  * waiting request; the output holds the lock answers of others who are now granted. The number may be
- * opened again at once. Refusals, in this order: 7, 1 (above 31, or not open). */
+ * opened again at once. Refusals, in this order: 7, 1 (above 63, or not open). */
 HISLIP_NOT_NULL HISLIP_USE_RESULT
 hislip_done hislip_cut(uint64_t *words, uint8_t *strings, uint32_t connection,
                        uint8_t *out, size_t out_len);

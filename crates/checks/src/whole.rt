@@ -23,7 +23,7 @@ use wire::types;
 
 // Checks 3 and 4: the length is above 1,024.
 pub fn long_verdict(role: u8) -> u8
-    ensures { λ r. ⌜ (r ≡ 5 → ⊥) × ((ro : Role) → roleNumber ro ≡ role → Numbered (tooLong ro) r) ⌝ }
+    ensures { λ r. ⌜ (r ≡ 5 → ⊥) × (r ≡ 2 → ⊥) × ((ro : Role) → roleNumber ro ≡ role → Numbered (tooLong ro) r) ⌝ }
 {
     match role {
         NO_ROLE => FATAL_3,
@@ -34,7 +34,7 @@ pub fn long_verdict(role: u8) -> u8
 
 // Checks 3 and 5: the payload is not all here.
 pub fn partial_verdict(role: u8, kind: u8) -> u8
-    ensures { λ r. ⌜ (r ≡ 5 → ⊥) × ((ro : Role) (code param len : ℕ) → roleNumber ro ≡ role → Numbered (partly ro (message kind code param len)) r) ⌝ }
+    ensures { λ r. ⌜ (r ≡ 5 → ⊥) × (r ≡ 2 → ⊥) × ((ro : Role) (code param len : ℕ) → roleNumber ro ≡ role → Numbered (partly ro (message kind code param len)) r) ⌝ }
 {
     if role == HALF_OPEN {
         return FATAL_2;

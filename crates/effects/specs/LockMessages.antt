@@ -9,6 +9,8 @@ use lib.ListN.{length, length-append}
 use borrow.Author.Tests.{eq-eqb, ne-eqb}
 use Rattle.wire.specs.Frame.{Frame, frameOf, frameBytes, bytesOf, written, length-frame, bytes-one}
 use Rattle.wire.specs.Splice.{splice, splice-splice}
+use Rattle.model.specs.Sizes.{sessionLimit}
+use Rattle.model.specs.Bound.{answersRoom}
 use Rattle.model.specs.State.{Entry, Waiting, Locks, Rest, Server, at, exchangeAt, withExchange}
 use Rattle.model.specs.Exchange.{enterClear}
 use Rattle.model.specs.Locks.{Answer, LockEvent.request, LockEvent.release, LockEvent.clear, LockResult, elsewhere, noShared, tell, refuse, released, change, grantPass}
@@ -54,12 +56,12 @@ refuse-length es p (w ∷ ws) = by (p w) (refuse-length es p ws)
     by true h = omega arith
     by false h = omega arith
 
-pub clear-short : (w s : List ℕ) (m m′ : Memory) (i : ℕ) (out out′ : List ℕ) (a : ℕ) → Met (change (locksOf w s) (clear i)) m m′ out out′ 0 a → a ≤ 272
+pub clear-short : (w s : List ℕ) (m m′ : Memory) (i : ℕ) (out out′ : List ℕ) (a : ℕ) → Met (change (locksOf w s) (clear i)) m m′ out out′ 0 a → a ≤ answersRoom
 unfolding change
 clear-short w s m m′ i out out′ a x =
     let es : List Entry = locksOf w s .entries in
     let ws : List Waiting = locksOf w s .waiting in
-    let l : countOf w ≤ 16 = min-le-right _ _ in
+    let l : countOf w ≤ sessionLimit = min-le-right _ _ in
     omega (arith, x .place, answers-length (refuse es (elsewhere i) ws), refuse-length es (elsewhere i) ws, count-is w s)
 
 one-answer : (l : Locks) (i : ℕ) (x y : Bool) → length ((released x y l i) .answers) ≡ 1

@@ -1,13 +1,12 @@
 -- The status query: message available, and the byte that is answered. Assumes nothing.
 use mathlib.Core.Path.{_≡_, refl, sym, ap, ap₂, _∙_}
-use mathlib.Core.Bool.{Bool, cond}
+use mathlib.Core.Bool.{Bool, true, false, cond}
 use mathlib.Core.List.{List, [], _∷_}
 use Prim.Native.Nat.{ℕ, _+_, _*_, _-_, _/_, _%_, _<_}
 use native.Mathlib.Omega.{arith}
 use lib.Dec.{eqb}
 use lib.ListN.{length}
 use lib.Seq.{getD-set-same}
-use borrow.Author.Tests.{eq-eqb, ne-eqb}
 use Rattle.wire.specs.declared.Header.{Header}
 use Rattle.wire.specs.Frame.{frameOf, frameBytes}
 use Rattle.wire.specs.Splice.{splice}
@@ -29,16 +28,17 @@ lowStatus v = v % 256 % 16 + v % 256 / 32 * 32
 without-16 : (b : ℕ) → b - b / 16 % 2 * 16 ≡ b % 16 + b / 32 * 32
 without-16 b = omega arith
 
+sixteen : (p : Bool) → cond p 1 0 * 16 ≡ cond p 16 0
+sixteen true = refl
+sixteen false = refl
+
 module _ (r : Rest) (i v a : ℕ) (s : singleWith 1 v r ≡ r) (x : exchangeWith 2 a (exchangeAt r i) ≡ exchangeAt r i) where
   byte-of : (z : ℕ) → cond (eqb a 1) 16 0 ≡ z → lowStatus v + z ≡ statusByte (r .status) ((exchangeAt r i) .messageAvailable)
   byte-of z e =
       ap₂ _+_ (sym (without-16 (v % 256)) ∙ ap (λ (y : Rest). y .status - y .status / 16 % 2 * 16) s) (sym e ∙ ap (λ (y : Exchange). cond (y .messageAvailable) 16 0) x)
 
-  pub byte-available : a ≡ 1 → lowStatus v + 16 ≡ statusByte (r .status) ((exchangeAt r i) .messageAvailable)
-  byte-available e = byte-of 16 (ap (λ (b : Bool). cond b 16 0) (eq-eqb a 1 e))
-
-  pub byte-quiet : (a ≡ 1 → ⊥) → lowStatus v ≡ statusByte (r .status) ((exchangeAt r i) .messageAvailable)
-  byte-quiet e = let z : lowStatus v ≡ lowStatus v + 0 = omega arith in z ∙ byte-of 0 (ap (λ (b : Bool). cond b 16 0) (ne-eqb a 1 e))
+  pub byte-flag : (m : ℕ) → m ≡ cond (eqb a 1) 1 0 → lowStatus v + m * 16 ≡ statusByte (r .status) ((exchangeAt r i) .messageAvailable)
+  byte-flag m e = byte-of (m * 16) (sym (ap (λ (y : ℕ). y * 16) e ∙ sixteen (eqb a 1)))
 
 module _ (w s w′ out out′ : List ℕ) (i c n : ℕ) (few : i < sessionLimit) (e : entryWith 0 n (at (locksOf w s .entries) i) ≡ at (locksOf w s .entries) i) (told : Delivery) where
   pub status-told : (code param len b : ℕ) (p : List ℕ) → told ≡ delivered n len 17 → view (memory w′ s) ≡ onRest (view (memory w s)) (withSlot i (noteRmt code))

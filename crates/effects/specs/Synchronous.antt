@@ -5,12 +5,11 @@ use mathlib.Core.Bool.{Bool, true, false, not, _&&_, cond}
 use mathlib.Core.Logic.{_⊎_, inl, inr, ⊎-elim}
 use Rattle.wire.specs.Frame
 use mathlib.Core.List.{List, [], _∷_}
-use Prim.Native.Nat.{ℕ, _+_, _-_, _%_, _^_, _<_}
+use Prim.Native.Nat.{ℕ, _+_, _*_, _-_, _%_, _^_, _<_, _≤_}
 use native.Mathlib.Nat.{mod-eq-of-lt}
 use native.Mathlib.Omega.{arith}
 use lib.Dec.{eqb}
-use lib.ListN.{length, getD, set}
-use lib.Seq.{set-getD}
+use lib.ListN.{length}
 use borrow.Author.Tests.{eq-eqb, ne-eqb}
 use Rattle.wire.specs.declared.Header.{Header}
 use Rattle.model.specs.MessageTypes.{Data, DataEND, Trigger, DeviceClearAcknowledge}
@@ -35,11 +34,6 @@ pub slot-changed : (d : Server) (i : ℕ) (g : Exchange → Exchange) → onExch
 slot-changed d i g =
     ap (λ (l : List Exchange). onRest d (λ (r : Rest). record { exchanges = l; connections = r .connections; lastIssued = r .lastIssued; vendor = r .vendor; status = r .status; remoteLocal = r .remoteLocal })) (sym (upd-set (d .rest .exchanges) i freshExchange g))
 
-pub slot-kept : (d : Server) (i : ℕ) (g : Exchange → Exchange) → g (exchangeAt (d .rest) i) ≡ exchangeAt (d .rest) i → d ≡ onRest d (withSlot i g)
-slot-kept d i g e =
-    ap (λ (l : List Exchange). onRest d (λ (r : Rest). record { exchanges = l; connections = r .connections; lastIssued = r .lastIssued; vendor = r .vendor; status = r .status; remoteLocal = r .remoteLocal }))
-    (sym (ap (set (d .rest .exchanges) i) e ∙ set-getD (d .rest .exchanges) i freshExchange))
-
 -- two changes of one exchange
 pub slot-twice : (d d₁ d₂ : Server) (i : ℕ) (f g : Exchange → Exchange) → d₁ ≡ onExchange d i f → d₂ ≡ onRest d₁ (withSlot i g) → d₂ ≡ onRest d (withSlot i (λ (x : Exchange). g (f x)))
 slot-twice d d₁ d₂ i f g e₁ e₂ =
@@ -47,17 +41,26 @@ slot-twice d d₁ d₂ i f g e₁ e₂ =
     ∙ ap (λ (l : List Exchange). onRest d (λ (r : Rest). record { exchanges = l; connections = r .connections; lastIssued = r .lastIssued; vendor = r .vendor; status = r .status; remoteLocal = r .remoteLocal })) (upd-upd (d .rest .exchanges) i f g)
     ∙ slot-changed d i (λ (x : Exchange). g (f x))
 
--- RMT-delivered
-module _ (d : Server) (i code : ℕ) where
-  pub rmt-told : (d₁ : Server) → code ≡ 1 → d₁ ≡ onExchange d i (exchangeWith 2 0) → d₁ ≡ onRest d (withSlot i (noteRmt code))
-  rmt-told d₁ e q =
-      q ∙ slot-changed d i (exchangeWith 2 0)
-      ∙ ap (λ (b : Bool). onRest d (withSlot i (λ (x : Exchange). record { inClear = x .inClear; asked = x .asked; messageAvailable = not b && x .messageAvailable; clientSize = x .clientSize }))) (sym (eq-eqb code 1 e))
+-- RMT-delivered: the word that is stored says what the word that stood there and the code say
+pub rmt-kept : (d : Server) (i code : ℕ) (d₁ : Server) (a v : ℕ) → exchangeWith 2 a (exchangeAt (d .rest) i) ≡ exchangeAt (d .rest) i
+    → eqb v 1 ≡ (not (eqb code 1) && eqb a 1) → d₁ ≡ onExchange d i (exchangeWith 2 v) → d₁ ≡ onRest d (withSlot i (noteRmt code))
+rmt-kept d i code d₁ a v x e q =
+    q ∙ slot-changed d i (exchangeWith 2 v)
+    ∙ ap (λ (b : Bool). onRest d (withSlot i (λ (x : Exchange). record { inClear = x .inClear; asked = x .asked; messageAvailable = b; clientSize = x .clientSize })))
+    (e ∙ ap (λ (z : Exchange). not (eqb code 1) && z .messageAvailable) x)
 
-  pub rmt-untold : (code ≡ 1 → ⊥) → d ≡ onRest d (withSlot i (noteRmt code))
-  rmt-untold o =
-      let x : Exchange = exchangeAt (d .rest) i in
-      slot-kept d i (noteRmt code) (ap (λ (b : Bool). record { inClear = x .inClear; asked = x .asked; messageAvailable = not b && x .messageAvailable; clientSize = x .clientSize }) (ne-eqb code 1 o))
+-- a product is a test
+pub both-on : (p q : Bool) → eqb (cond p 1 0 * (1 - cond q 1 0)) 1 ≡ (not q && p)
+both-on true true = refl
+both-on true false = refl
+both-on false true = refl
+both-on false false = refl
+
+pub both-small : (p q : Bool) → cond p 1 0 * (1 - cond q 1 0) ≤ 1
+both-small true true = omega arith
+both-small true false = omega arith
+both-small false true = omega arith
+both-small false false = omega arith
 
 -- what is asked, plus 1
 pub asked-stored : (p : ℕ) → p < 2 ^ 32 → askedOf (p + 1) ≡ some p

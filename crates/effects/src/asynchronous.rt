@@ -20,6 +20,7 @@ ghost use Rattle.model.specs.Sizes.{connectionLimit, outputMinimum, payloadLimi
 use crate::Delivery;
 use crate::answer;
 use crate::synchronous::note_rmt;
+use crate::synchronous::same_number;
 use locks::grant_pass;
 use locks::info;
 use locks::release;
@@ -41,10 +42,8 @@ fn status_of(w: &Words, i: usize) -> u8
 {
     let all = tables::single(w, tables::STATUS) % 256;
     let low = all % 16 + all / 32 * 32;
-    if tables::exchange(w, i, tables::AVAILABLE) == 1 {
-        return (low + 16) as u8;
-    }
-    low as u8
+    let on = same_number(tables::exchange(w, i, tables::AVAILABLE), 1);
+    (low + on * 16) as u8
 }
 
 // AsyncStatusQuery.

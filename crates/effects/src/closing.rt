@@ -1,6 +1,7 @@
 // Closing a connection and, if it has one, its session.
 ghost use Prim.Native.Nat.{ℕ, _+_, _<_, _≤_};
 ghost use Rattle.effects.specs.Closing.{Closes, closedServer, shut};
+ghost use Rattle.model.specs.Bound.{answersRoom};
 ghost use Rattle.model.specs.Place.{slotIn};
 ghost use Rattle.model.specs.Sizes.{noConnection};
 ghost use Rattle.model.specs.State.{at, freshExchange, withConnections, withExchange};
@@ -82,7 +83,7 @@ pub fn close_place(
     c: u64,
     i: usize,
 ) -> usize
-    requires { ⌜ (at + 272 ≤ length (now out)) × ((s : List ℕ) → slotIn (locksOf (now w) s .entries) c ≡ i) ⌝ }
+    requires { ⌜ (at + answersRoom ≤ length (now out)) × ((s : List ℕ) → slotIn (locksOf (now w) s .entries) c ≡ i) ⌝ }
     ensures { λ r. ⌜ Closes (view (memory (now (w .entry)) (now (strings .entry)))) c i (memory (now (w .exit)) (now (strings .exit))) (now (out .entry)) (now (out .exit)) at r ⌝ }
 {
     close_parts(w, c, i);

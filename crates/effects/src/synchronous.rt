@@ -8,7 +8,9 @@ ghost use Rattle.model.specs.Place.{Role.r-synchronous};
 ghost use Rattle.model.specs.Step.{finish};
 ghost use Rattle.state.specs.Change.{onRest};
 ghost use Rattle.state.specs.View.{memory, view};
+ghost use lib.Dec.{eqb};
 ghost use lib.ListN.{length};
+ghost use mathlib.Core.Bool.{_&&_, cond, not};
 ghost use mathlib.Core.List.{List};
 ghost use mathlib.Core.Path.{_≡_};
 ghost use Rattle.model.specs.Sizes.{connectionLimit, outputMinimum, payloadLimit, sessionLimit};
@@ -20,15 +22,38 @@ use wire::frame;
 use wire::message_id::MessageId;
 use wire::types;
 
+// 1 where the two are one number, else 0: a number, so that no branch is made of it.
+pub fn same_number(a: u64, b: u64) -> u64
+    ensures { λ r. ⌜ (r ≡ cond (eqb a b) 1 0) × (r ≤ 1) ⌝ }
+{
+    if a == b {
+        return 1;
+    }
+    0
+}
+
+fn wide(b: u8) -> u64
+    ensures { λ r. ⌜ r ≡ b ⌝ }
+{
+    b as u64
+}
+
+// The word of message available behind a message with this control code: a product, for no processor foresees the code.
+fn left_by(word: u64, code: u8) -> u64
+    ensures { λ r. ⌜ eqb r 1 ≡ (not (eqb code 1) && eqb word 1) ⌝ }
+{
+    let available = same_number(word, 1);
+    let delivered = same_number(wide(code), 1);
+    available * (1 - delivered)
+}
+
 // RMT-delivered (code 1) turns message available off.
 pub fn note_rmt(w: &mut Words, i: usize, code: u8)
     requires { ⌜ i < sessionLimit ⌝ }
     ensures { λ _. ⌜ ((s : List ℕ) → view (memory (now (w .exit)) s) ≡ onRest (view (memory (now (w .entry)) s)) (withSlot i (noteRmt code))) ⌝ }
 {
-    if code != 1 {
-        return;
-    }
-    tables::set_exchange(w, i, tables::AVAILABLE, 0);
+    let available = tables::exchange(w, i, tables::AVAILABLE);
+    tables::set_exchange(w, i, tables::AVAILABLE, left_by(available, code));
 }
 
 // What is asked is this message. The word kept is its number plus 1; 0 is nothing asked.

@@ -1,6 +1,7 @@
 // The grant pass: after a lock was freed, those that wait are looked at once.
 ghost use Prim.Native.Nat.{_+_, _<_, _≤_};
 ghost use Rattle.locks.specs.Outcome.{Met};
+ghost use Rattle.model.specs.Bound.{answersRoom};
 ghost use Rattle.model.specs.Locks.{grantPass};
 ghost use Rattle.state.specs.View.{locksOf, memory};
 ghost use lib.ListN.{length};
@@ -11,7 +12,7 @@ use state::sizes::Words;
 
 // Oldest first, each that may be granted is, and is told; the others go on waiting.
 pub fn grant_waiting(w: &mut Words, strings: &mut Strings, out: &mut [u8], start: usize) -> usize
-    requires { ⌜ start + 272 ≤ length (now out) ⌝ }
+    requires { ⌜ start + answersRoom ≤ length (now out) ⌝ }
     ensures { λ r. ⌜ Met (grantPass (locksOf (now (w .entry)) (now (strings .entry)))) (memory (now (w .entry)) (now (strings .entry))) (memory (now (w .exit)) (now (strings .exit))) (now (out .entry)) (now (out .exit)) start r ⌝ }
 {
     let n = requests::waiting_count(w);

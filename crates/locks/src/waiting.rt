@@ -2,6 +2,7 @@
 ghost use Prim.Native.Nat.{ℕ, _+_, _<_, _≤_};
 ghost use Rattle.locks.specs.Outcome.{Met, ends, spot};
 ghost use Rattle.locks.specs.Waiting.{stays, swept};
+ghost use Rattle.model.specs.Bound.{answersRoom};
 ghost use Rattle.model.specs.Lists.{keep};
 ghost use Rattle.model.specs.Locks.LockEvent.{clear, reading};
 ghost use Rattle.model.specs.Locks.{change, elsewhere, refuse};
@@ -33,7 +34,7 @@ fn may_stay(w: &Words, x: usize, i: usize, t: u64) -> bool
 
 // Those that do not stay are answered 0, oldest first.
 fn answer_leaving(w: &Words, out: &mut [u8], start: usize, i: usize, t: u64) -> usize
-    requires { ⌜ start + 272 ≤ length (now out) ⌝ }
+    requires { ⌜ start + answersRoom ≤ length (now out) ⌝ }
     ensures { λ r. ⌜ ((s : List ℕ) → ends (refuse (locksOf (now (w .entry)) s .entries) (stays i t) (locksOf (now (w .entry)) s .waiting)) (now (out .entry)) start ≡ spot (now (out .exit)) r) ⌝ }
 {
     let n = requests::waiting_count(w);
@@ -69,7 +70,7 @@ fn keep_staying(w: &mut Words, i: usize, t: u64)
 
 // What does not stay is answered 0 and leaves the queue.
 fn sweep(w: &mut Words, out: &mut [u8], at: usize, i: usize, t: u64) -> usize
-    requires { ⌜ at + 272 ≤ length (now out) ⌝ }
+    requires { ⌜ at + answersRoom ≤ length (now out) ⌝ }
     ensures { λ r. ⌜ ((s : List ℕ) → Met (swept (locksOf (now (w .entry)) s) i t) (memory (now (w .entry)) s) (memory (now (w .exit)) s) (now (out .entry)) (now (out .exit)) at r) ⌝ }
 {
     let r = answer_leaving(w, out, at, i, t);
@@ -83,7 +84,7 @@ fn sweep(w: &mut Words, out: &mut [u8], at: usize, i: usize, t: u64) -> usize
 
 // A device clear: the request of slot i is answered 0.
 pub fn clear_request(w: &mut Words, out: &mut [u8], at: usize, i: usize) -> usize
-    requires { ⌜ (i < sessionLimit) × (at + 272 ≤ length (now out)) ⌝ }
+    requires { ⌜ (i < sessionLimit) × (at + answersRoom ≤ length (now out)) ⌝ }
     ensures { λ r. ⌜ ((s : List ℕ) → Met (change (locksOf (now (w .entry)) s) (clear i)) (memory (now (w .entry)) s) (memory (now (w .exit)) s) (now (out .entry)) (now (out .exit)) at r) ⌝ }
 {
     sweep(w, out, at, i, 0)
@@ -91,7 +92,7 @@ pub fn clear_request(w: &mut Words, out: &mut [u8], at: usize, i: usize) -> usiz
 
 // The clock reads t: a request whose deadline is t or before is answered 0.
 pub fn expire(w: &mut Words, out: &mut [u8], at: usize, t: u64) -> usize
-    requires { ⌜ (t < 9223372036854775808) × (at + 272 ≤ length (now out)) ⌝ }
+    requires { ⌜ (t < 9223372036854775808) × (at + answersRoom ≤ length (now out)) ⌝ }
     ensures { λ r. ⌜ ((s : List ℕ) → Met (change (locksOf (now (w .entry)) s) (reading t)) (memory (now (w .entry)) s) (memory (now (w .exit)) s) (now (out .entry)) (now (out .exit)) at r) ⌝ }
 {
     tables::set_clock(w, t);

@@ -222,4 +222,4 @@ bound-run v es = record { waiting = few; bound = bound (final (fresh v) es) few 
         omega (arith, few-wait (l .entries) (l .waiting) (i .sound .good), i .sound .firm .slots)
 
 pub output-fits : OutputFits
-output-fits = record { any-server = output; few-waiting = bound; any-run = bound-run; enough = omega arith }
+output-fits = record { any-server = output; few-waiting = bound; any-run = bound-run; sum = refl; enough = omega arith }

@@ -32,7 +32,7 @@ blocked es w = not (mayGrant es (w .slot) (w .string))
 abbrev pub numbered : ℕ → Entry → Bool
 numbered n e = live e && eqb (e .number) n
 
--- unique live numbers, unique connections (255 is none), one exclusive holder, 16 slots
+-- unique live numbers, unique connections (255 is none), one exclusive holder, 32 slots
 abbrev pub exclusive : Entry → Bool
 exclusive e = e .exclusive
 

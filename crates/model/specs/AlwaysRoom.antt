@@ -14,10 +14,10 @@ use Rattle.model.specs.Locks.{LockEvent.request, holds, mayGrant, elsewh
 use Rattle.model.specs.Step.{final}
 
 pub record RoomToWait (l : Locks) (i : ℕ) : Type 0 where
-  -- 01: "one waiting request per session": while live session i has none waiting, fewer than 16 wait
+  -- 01: "one waiting request per session": while live session i has none waiting, fewer than 32 wait
   pub fewer-wait : all (elsewhere i) (l .waiting) ≡ true → length (l .waiting) < sessionLimit
-  -- 01: "3 if S already holds that kind, has a request waiting, or the string exceeds 64; 1 if it may be granted, and it is; 0 if timeout
-  -- is 0; else it waits": the test for a place never decides
+  -- 01: "3 if S already holds that kind, has a request waiting, or the string exceeds 64 [Q-6: 256]; 1 if it may be granted, and it
+  -- is; 0 if timeout is 0; else it waits": the test for a place never decides
   pub as-in-01 : (t : ℕ) (k : List ℕ) → change l (request i t k)
       ≡ respond (ruling (holds k (at (l .entries) i)) (all (elsewhere i) (l .waiting)) (ltb stringLimit (length k)) (mayGrant (l .entries) i k) (eqb t 0)) l i t k
 

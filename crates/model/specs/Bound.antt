@@ -14,9 +14,13 @@ use Rattle.model.specs.Step.{step, final}
 abbrev pub frameSize : ℕ
 frameSize = 17
 
+-- an answer to each session's request
+abbrev pub answersRoom : ℕ
+answersRoom = frameSize * sessionLimit
+
 -- one frame with the largest payload, an answer to each session's request, and four more
 abbrev pub outputBound : ℕ
-outputBound = frameSize + payloadLimit + frameSize * (sessionLimit + 4)
+outputBound = frameSize + payloadLimit + answersRoom + frameSize * 4
 
 -- the buffer lent with a call; openings and status changes have none
 abbrev pub roomOf : Event → ℕ
@@ -46,5 +50,7 @@ pub record OutputFits : Type 0 where
   pub any-server : (d : Server) (e : Event) → Output d e
   pub few-waiting : (d : Server) → length (d .locks .waiting) ≤ sessionLimit → Bound d
   pub any-run : (v : ℕ) (es : List Event) → BoundRun v es
-  -- 01, refusal 7: an output buffer under 2,048
+  -- the sum: 17 + 1,024 + 17 * 32 + 17 * 4
+  pub sum : outputBound ≡ 1653
+  -- 01, refusal 7: an output buffer under 2,048; Q-6: it may stay so
   pub enough : outputBound ≤ outputMinimum

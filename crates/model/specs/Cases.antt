@@ -109,12 +109,12 @@ number-cases =
     ∷ record { server = withLast lastSessionId (opening 8 ∷ send 8 initialize ∷ opening 9 ∷ []); call = send 9 initialize; test = λ r. isActed 2 (r .reply) }
     ∷ []
 
--- M. A string of 65 bytes is neither granted nor waits; another string is not granted; a request with timeout 0 does not wait; one at
+-- M. A string a byte too long is neither granted nor waits; another string is not granted; a request with timeout 0 does not wait; one at
 -- its deadline waits no more
 pub string-cases : List Case
 string-cases =
-    after three (request 1 0 (replicate 65 7)) (λ r. all (λ e. leb (length (e .shared)) stringLimit) (r .server .locks .entries))
-    ∷ after (three ++ (request 1 0 [] ∷ [])) (request 3 9 (replicate 65 7)) (λ r. all (λ w. leb (length (w .string)) stringLimit) (r .server .locks .waiting))
+    after three (request 1 0 (replicate (stringLimit + 1) 7)) (λ r. all (λ e. leb (length (e .shared)) stringLimit) (r .server .locks .entries))
+    ∷ after (three ++ (request 1 0 [] ∷ [])) (request 3 9 (replicate (stringLimit + 1) 7)) (λ r. all (λ w. leb (length (w .string)) stringLimit) (r .server .locks .waiting))
     ∷ after (three ++ (request 1 0 cal ∷ [])) (request 3 0 Cal) (λ r. all (λ e. isNil (e .shared) || same (e .shared) cal) (r .server .locks .entries))
     ∷ after (three ++ (request 1 0 [] ∷ [])) (request 3 0 []) noneExpired
     ∷ after (three ++ (request 1 0 [] ∷ request 3 5 [] ∷ [])) (clock 5 outputMinimum) noneExpired

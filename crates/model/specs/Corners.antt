@@ -144,15 +144,25 @@ pub openings-hold : map found openings ≡ map sought openings
 unfolding openings log final step refusal causes answered plan finish received effect verdict placeOf acts synchronousExchange synchronousSaid asynchronousRest asynchronousSaid asynchronousEvent controlled mayAnswer answerNumber availableAt scan freshScan header field encode headerBytes frameBytes bytesOf classOf mayGrant access passOver grantPass change
 openings-hold = refl
 
+-- 256 bytes, the last of them given
+abbrev long : ℕ → List ℕ
+long b = replicate 255 7 ++ (b ∷ [])
+
 -- locks
 pub locks : List Corner
 locks =
-    -- 3: that kind is held, a request waits, a string of 65 bytes; 64 bytes are taken
+    -- 3: that kind is held, a request waits, a string of 257 bytes, of 1,024; 256 and 65 bytes are taken
     corner exclusive (request 1 9 []) (took acted 16 1) (plain 1 5 3)
     ∷ corner (three ++ (request 1 0 cal ∷ [])) (request 1 0 Cal) (took acted 19 1) (plain 1 5 3)
     ∷ corner (exclusive ++ (request 3 9 [] ∷ [])) (request 3 9 cal) (took acted 19 2) (plain 3 5 3)
-    ∷ corner three (request 1 9 (replicate 65 1)) (took acted 81 1) (plain 1 5 3)
-    ∷ corner three (request 1 9 (replicate 64 1)) (took acted 80 1) (plain 1 5 1)
+    ∷ corner three (request 1 9 (replicate 257 1)) (took acted 273 1) (plain 1 5 3)
+    ∷ corner three (request 1 9 (replicate 1024 1)) (took acted 1040 1) (plain 1 5 3)
+    ∷ corner three (request 1 9 (replicate 256 1)) (took acted 272 1) (plain 1 5 1)
+    ∷ corner three (request 1 9 (replicate 65 1)) (took acted 81 1) (plain 1 5 1)
+    -- every byte counts: strings of 256 bytes that are the same, that differ in the last one, and one that is a byte shorter
+    ∷ corner (three ++ (request 1 0 (long 1) ∷ [])) (request 3 0 (long 1)) (took acted 272 2) (plain 3 5 1)
+    ∷ corner (three ++ (request 1 0 (long 1) ∷ [])) (request 3 0 (long 2)) (took acted 272 2) (plain 3 5 0)
+    ∷ corner (three ++ (request 1 0 (long 1) ∷ [])) (request 3 0 (replicate 255 7)) (took acted 271 2) (plain 3 5 0)
     -- the exclusive holder may have shared; another's right string while one holds both may not be granted
     ∷ corner exclusive (request 1 0 cal) (took acted 19 1) (plain 1 5 1)
     ∷ corner (exclusive ++ (request 1 0 cal ∷ [])) (request 3 0 cal) (took acted 19 2) (plain 3 5 0)
@@ -228,9 +238,12 @@ exchanges-hold = refl
 -- refusals 1 to 8 and their order
 pub refusals : List Corner
 refusals =
-    corner [] (opening 31) done []
-    ∷ corner [] (opening 32) (refused 1) []
-    ∷ corner three (send 32 []) (refused 1) []
+    corner [] (opening 32) done []
+    ∷ corner [] (opening 63) done []
+    ∷ corner [] (opening 64) (refused 1) []
+    ∷ corner [] (opening 255) (refused 1) []
+    ∷ corner three (send 64 []) (refused 1) []
+    ∷ corner three (cut 64 2048) (refused 1) []
     ∷ corner three (send 7 []) (refused 1) []
     ∷ corner three (cut 7 2048) (refused 1) []
     ∷ corner (three ++ (cut 0 2048 ∷ [])) (send 1 []) (refused 1) []
@@ -243,8 +256,8 @@ refusals =
     ∷ corner half (answer 1 [] true 2048) (refused 5) []
     ∷ corner three (answer 1 (replicate 1025 0) true 2048) (refused 5) []
     ∷ corner asked (answer 1 (replicate 1025 0) true 2048) (refused 6) []
-    ∷ corner three (delivery 40 [] 2047) (refused 7) []
-    ∷ corner three (cut 40 2047) (refused 7) []
+    ∷ corner three (delivery 64 [] 2047) (refused 7) []
+    ∷ corner three (cut 64 2047) (refused 7) []
     ∷ corner [] (clock 4611686018427387905 2047) (refused 7) []
     ∷ corner three (answer 4 [] true 2047) (refused 7) []
     ∷ corner three (answer 4 [] true 2048) (refused 8) []
@@ -256,18 +269,19 @@ pub refusals-hold : map found refusals ≡ map sought refusals
 unfolding refusals log final step refusal causes answered plan finish received effect verdict placeOf acts synchronousExchange synchronousSaid asynchronousRest asynchronousSaid asynchronousEvent controlled mayAnswer answerNumber availableAt scan freshScan header field encode headerBytes frameBytes bytesOf classOf mayGrant access passOver grantPass change
 refusals-hold = refl
 
--- sixteen half-open sessions are sixteen live ones; the sub-address is looked at first; a cut frees a place
+-- 32 half-open sessions are 32 live ones; the sub-address is looked at first; a cut frees a place
 abbrev halves : ℕ → List Event
 halves zero = []
 halves (suc n) = halves n ++ (opening n ∷ send n initialize ∷ [])
 
--- sixteen sessions
+-- 32 sessions; one on the last two connections
 pub places : List Corner
 places =
-    corner (halves 15 ++ (opening 20 ∷ [])) (send 20 initialize) (took acted 16 16) (20 ∷ 0x48 ∷ 0x53 ∷ 1 ∷ 0 ∷ 1 ∷ 0 ∷ 0 ∷ 16 ∷ eightZeros)
-    ∷ corner (halves 16 ++ (opening 20 ∷ [])) (send 20 initialize) (took closed 0 0) (plain 20 2 4)
-    ∷ corner (halves 16 ++ (opening 20 ∷ [])) (send 20 (message 0 0 0x1004141 (hislip 0x31))) (took closed 0 0) (plain 20 2 3)
-    ∷ corner (halves 16 ++ (cut 3 2048 ∷ opening 20 ∷ [])) (send 20 initialize) (took acted 16 17) (20 ∷ 0x48 ∷ 0x53 ∷ 1 ∷ 0 ∷ 1 ∷ 0 ∷ 0 ∷ 17 ∷ eightZeros)
+    corner (halves 31 ++ (opening 40 ∷ [])) (send 40 initialize) (took acted 16 32) (40 ∷ 0x48 ∷ 0x53 ∷ 1 ∷ 0 ∷ 1 ∷ 0 ∷ 0 ∷ 32 ∷ eightZeros)
+    ∷ corner (halves 32 ++ (opening 40 ∷ [])) (send 40 initialize) (took closed 0 0) (plain 40 2 4)
+    ∷ corner (halves 32 ++ (opening 40 ∷ [])) (send 40 (message 0 0 0x1004141 (hislip 0x31))) (took closed 0 0) (plain 40 2 3)
+    ∷ corner (halves 32 ++ (cut 3 2048 ∷ opening 40 ∷ [])) (send 40 initialize) (took acted 16 33) (40 ∷ 0x48 ∷ 0x53 ∷ 1 ∷ 0 ∷ 1 ∷ 0 ∷ 0 ∷ 33 ∷ eightZeros)
+    ∷ corner (opening 62 ∷ opening 63 ∷ send 62 initialize ∷ []) (send 63 (asyncInitialize 1)) (took acted 16 1) (63 ∷ 0x48 ∷ 0x53 ∷ 18 ∷ 0 ∷ 0 ∷ 0 ∷ 0x41 ∷ 0x41 ∷ eightZeros)
     ∷ []
 
 pub places-hold : map found places ≡ map sought places

@@ -39,8 +39,8 @@ mayAct m s = s .exclusive || (not (exclusiveHeld m) && (not (notShared s) || all
 abbrev pub accessOn : Model → ℕ → Bool
 accessOn m c = any (λ s. on c s && mayAct m s) (m .sessions)
 
--- 01: "Request answers, in this order: 3 if S already holds that kind, has a request waiting, or the string exceeds 64; 1 if it may be
--- granted, and it is; 0 if timeout is 0; else it waits". Of session n, with timeout t and string k: the codes sent at once
+-- 01: "Request answers, in this order: 3 if S already holds that kind, has a request waiting, or the string exceeds 64 [Q-6: 256]; 1 if
+-- it may be granted, and it is; 0 if timeout is 0; else it waits". Of session n, with timeout t and string k: the codes sent at once
 abbrev pub requestCodes : Model → ℕ → ℕ → List ℕ → List ℕ
 requestCodes m n t k =
     cond (own n (has k) (m .sessions) || (any (λ w. eqb (w .number) n) (m .waiting) || ltb stringLimit (length k))) (3 ∷ [])

@@ -36,7 +36,7 @@ use Rattle.model.specs.Table.{message, send, request, release, cal, Cal,
 pub rich : List Event
 rich =
     three
-    ++ (opening 0 ∷ opening 6 ∷ opening 7 ∷ opening 8 ∷ delivery 9 [] 2048 ∷ opening 40
+    ++ (opening 0 ∷ opening 6 ∷ opening 7 ∷ opening 8 ∷ delivery 9 [] 2048 ∷ opening 64
     -- session 4, in pieces, with bytes behind
     ∷ send 6 (take 9 initialize) ∷ send 6 (initialize ++ initialize) ∷ send 7 (asyncInitialize 9) ∷ opening 7 ∷ send 7 (asyncInitialize 4)
     -- shared, exclusive, waiting; a request in pieces

@@ -40,7 +40,7 @@ outcomeNumber closed = 5
 outcomeNumber acted = 6
 
 -- 01, "Numbers given to the host"
--- connection number above 31; for a delivery or a cut, also not open
+-- connection number above 63; for a delivery or a cut, also not open
 abbrev pub noSuchConnection : ℕ
 noSuchConnection = 1
 

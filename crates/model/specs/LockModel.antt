@@ -109,7 +109,7 @@ with-sessions m ss = record { clock = m .clock; sessions = ss; waiting = m .wait
 abbrev pub with-waiting : Model → List Request → Model
 with-waiting m ws = record { clock = m .clock; sessions = m .sessions; waiting = ws }
 
--- 01: 3 if S already holds that kind, has a request waiting, or the string exceeds 64; 1 if it may be granted, and it is;
+-- 01 and Q-6: 3 if S already holds that kind, has a request waiting, or the string exceeds 256; 1 if it may be granted, and it is;
 -- 0 if timeout is 0; else it waits until clock of arrival plus timeout. By the tests: 3, may be granted, timeout 0
 abbrev pub decided : Bool → Bool → Bool → Model → ℕ → ℕ → List ℕ → ModelResult
 decided true g z m n t k = record { model = m; told = tells (m .sessions) n 3 true ∷ [] }

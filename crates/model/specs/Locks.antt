@@ -114,7 +114,7 @@ elsewhere i w = not (eqb (w .slot) i)
 abbrev pub noPlace : List Waiting → Bool
 noPlace ws = leb sessionLimit (length ws)
 
--- request answers, in this order: 3 if S already holds that kind, has a request waiting, or the string exceeds 64; 1 if it may be
+-- request answers, in this order: 3 if S already holds that kind, has a request waiting, or the string exceeds 256; 1 if it may be
 -- granted, and it is; 0 if timeout is 0; also if no place is left to wait, which no run reaches (theorem AlwaysRoom); else it waits
 pub data Ruling : Type 0 where
   invalid granted denied queued : Ruling

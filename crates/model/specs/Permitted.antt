@@ -97,7 +97,7 @@ pub data Takes (d : Server) (c : ℕ) : List Form → Type 0 where
 pub data Permitted (d : Server) (last c : ℕ) (bs : List ℕ) : ℕ → Type 0 where
   established : (fs : List Form) → WholeMessage ((connectionAt (d .rest) c) .remainder) bs → Takes d c fs → permits fs (header bs) ≡ true
       → Permitted d last c bs ((entryOf d c) .number)
-  -- Initialize: fewer than 16 live sessions, half-open ones included; n is the next SessionID
+  -- Initialize: fewer than 32 live sessions, half-open ones included; n is the next SessionID
   initialize : (n : ℕ) → WholeMessage ((connectionAt (d .rest) c) .remainder) bs → WithoutRole d c → permits initializeForms (header bs) ≡ true
       → SubAddress (payloadOf (header bs) bs) → tally live (d .locks .entries) < sessionLimit → FirstFree (d .locks .entries) last n → Permitted d last c bs n
   -- AsyncInitialize: "the parameter must equal a half-open session's number"

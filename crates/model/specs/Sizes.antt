@@ -1,21 +1,21 @@
--- 01, "Sizes at the bench": every size that a rule, a claim or a proof uses, by name. Assumes nothing.
+-- 01, "Sizes at the bench", with 02's Q-6: every size that a rule, a claim or a proof uses, by name. Assumes nothing.
 use Prim.Native.Nat.{ℕ, _^_}
 
--- 16 sessions
+-- 32 sessions (Q-6)
 abbrev pub sessionLimit : ℕ
-sessionLimit = 16
+sessionLimit = 32
 
--- connections numbered 0 to 31
+-- connections numbered 0 to 63 (Q-6)
 abbrev pub connectionLimit : ℕ
-connectionLimit = 32
+connectionLimit = 64
 
 -- payload taken from a client at most 1,024 bytes
 abbrev pub payloadLimit : ℕ
 payloadLimit = 1024
 
--- lock string at most 64
+-- lock string at most 256 (Q-6)
 abbrev pub stringLimit : ℕ
-stringLimit = 64
+stringLimit = 256
 
 -- an output buffer of at least 2,048 bytes
 abbrev pub outputMinimum : ℕ

@@ -98,7 +98,7 @@ fresh v =
       };
     }
 
--- reading: outside the table a slot is free, and outside 0 to 31 a connection is closed
+-- reading: outside the table a slot is free, and outside 0 to 63 a connection is closed
 abbrev pub at : List Entry → ℕ → Entry
 at es i = getD es i blank
 

@@ -9,11 +9,11 @@ use Rattle.model.specs.State.{Server}
 use Rattle.model.specs.Interface.{Reply.took, Outcome.more-needed, Outcome.held}
 use Rattle.model.specs.Scan.{Scan, Scan.whole, size, leftover}
 use Rattle.model.specs.Place.{Role}
-use Rattle.model.specs.Checks.{Verdict, Verdict.v-more, Verdict.v-held, Verdict.v-ignored, Verdict.v-closed, Verdict.v-acts, Verdict.v-error, Verdict.v-fatal}
+use Rattle.model.specs.Checks.{Verdict, Verdict.v-more, Verdict.v-held, Verdict.v-ignored, Verdict.v-closed, Verdict.v-acts, Verdict.v-error, Verdict.v-fatal, judged}
 use Rattle.model.specs.Acts.{acts}
 use Rattle.model.specs.Step.{finish, effect, idle, channels}
 use Rattle.state.specs.View.{Memory}
-use Rattle.checks.specs.Numbers.{verdictOf}
+use Rattle.checks.specs.Numbers.{message, verdictOf}
 use Rattle.effects.specs.declared.Delivery.{Delivery}
 use Rattle.effects.specs.Did.{Did}
 use Rattle.effects.specs.Replies.{errorPlan, ignorePlan, closePlan, fatals}
@@ -59,3 +59,10 @@ pub acts-done : (d : Server) (c i : ℕ) (h : Header) (p : List ℕ) (ro : Role)
     → Did (finish d (acts ro d i c h p)) r m m′ out out′ → Done d c i (whole h p) ro r m m′ out out′ y
 unfolding effect
 acts-done d c i h p ro r m m′ out out′ y e q = by-verdict d c i (whole h p) ro r m m′ out out′ y v-acts e q
+
+-- a whole message whose kind is told by number
+pub of-kind : (d : Server) (c i : ℕ) (h : Header) (p : List ℕ) (ro : Role) (r : Delivery) (m m′ : Memory) (out out′ : List ℕ) (k : ℕ) → h .kind ≡ k
+    → Done d c i (whole (message k (h .code) (h .param) (h .len)) p) ro r m m′ out out′ (judged ro d i (message k (h .code) (h .param) (h .len)) p)
+    → Done d c i (whole h p) ro r m m′ out out′ (judged ro d i h p)
+of-kind d c i h p ro r m m′ out out′ k e q =
+    subst (λ (x : ℕ). Done d c i (whole (message x (h .code) (h .param) (h .len)) p) ro r m m′ out out′ (judged ro d i (message x (h .code) (h .param) (h .len)) p)) (sym e) q

@@ -32,15 +32,21 @@ use effects::outcome;
 use effects::replies;
 use effects::synchronous;
 use state::search;
+use state::search::ON_ASYNCHRONOUS;
+use state::search::ON_SYNCHRONOUS;
 use state::sizes::PAYLOAD;
 use state::sizes::Strings;
 use state::sizes::Words;
 use state::tables;
+use wire::Header;
 use wire::reading;
+use wire::types::ASYNC_STATUS_QUERY;
+use wire::types::DATA;
+use wire::types::DATA_END;
 
-// What a verdict other than "acts" does: so many bytes are taken, and so many are left to skip. Callers take the answer into a local: it is
-// written to memory by this call, and a delivery that acts keeps its own in registers. (Where more is needed the callers tell it
-// themselves, with what is missing.)
+// What a verdict other than "acts" and "held" does: so many bytes are taken, and so many are left to skip. Callers take the answer into a
+// local: it is written to memory by this call, and a delivery that acts keeps its own in registers. (Held, and more needed with what is
+// missing, the callers tell themselves.)
 fn apply(
     w: &mut Words,
     strings: &mut Strings,
@@ -51,7 +57,7 @@ fn apply(
     taken: u64,
     left: u64,
 ) -> Delivery
-    requires { ⌜ (c < connectionLimit) × (outputMinimum ≤ length (now out)) × ((s : List ℕ) → slotIn (locksOf (now w) s .entries) c ≡ i) × (v ≡ 5 → ⊥) ⌝ }
+    requires { ⌜ (c < connectionLimit) × (outputMinimum ≤ length (now out)) × ((s : List ℕ) → slotIn (locksOf (now w) s .entries) c ≡ i) × (v ≡ 5 → ⊥) × (v ≡ 2 → ⊥) ⌝ }
     ensures { λ r. ⌜ ((ro : Role) (x : Scan) → size x ≡ taken → leftover x ≡ left → Did (finish (view (memory (now (w .entry)) (now (strings .entry)))) (effect (verdictOf v) x ro (view (memory (now (w .entry)) (now (strings .entry)))) i c)) r (memory (now (w .entry)) (now (strings .entry))) (memory (now (w .exit)) (now (strings .exit))) (now (out .entry)) (now (out .exit))) ⌝ }
 {
     if v >= FATAL_0 {
@@ -65,9 +71,6 @@ fn apply(
     }
     if v == IGNORED {
         return answer::quiet(outcome::IGNORED, taken);
-    }
-    if v == HELD {
-        return answer::quiet(outcome::HELD, 0);
     }
     answer::more_needed(0)
 }
@@ -89,10 +92,10 @@ fn act(
     requires { ⌜ (c < connectionLimit) × (len ≤ payloadLimit) × (length (now payload) ≡ len) × (outputMinimum ≤ length (now out)) × ((role ≡ 0 → ⊥) → i < sessionLimit) × ((s : List ℕ) (ro : Role) → roleNumber ro ≡ role → judged ro (view (memory (now w) s)) i (message kind code param len) (now payload) ≡ v-acts) ⌝ }
     ensures { λ r. ⌜ ((ro : Role) → roleNumber ro ≡ role → Did (finish (view (memory (now (w .entry)) (now (strings .entry)))) (acts ro (view (memory (now (w .entry)) (now (strings .entry)))) i c (message kind code param len) (now (payload .entry)))) r (memory (now (w .entry)) (now (strings .entry))) (memory (now (w .exit)) (now (strings .exit))) (now (out .entry)) (now (out .exit))) ⌝ }
 {
-    if role == search::ON_SYNCHRONOUS {
+    if role == ON_SYNCHRONOUS {
         return synchronous::act_synchronous(w, out, c, i, kind, code, param, len);
     }
-    if role == search::ON_ASYNCHRONOUS {
+    if role == ON_ASYNCHRONOUS {
         return asynchronous::act_asynchronous(
             w,
             strings,
@@ -112,8 +115,8 @@ fn act(
     answer::quiet(outcome::ACTED, 16 + len)
 }
 
-// A whole message: the verdict, and what it does.
-fn deliver_whole(
+// A whole message of a kind (header h, but for its kind): the verdict, and what it does.
+fn deliver_kind(
     w: &mut Words,
     strings: &mut Strings,
     out: &mut [u8],
@@ -121,20 +124,66 @@ fn deliver_whole(
     i: usize,
     role: u8,
     kind: u8,
-    code: u8,
-    param: u32,
-    len: u64,
+    h: Header,
     payload: &[u8],
 ) -> Delivery
-    requires { ⌜ (c < connectionLimit) × (len ≤ payloadLimit) × (length (now payload) ≡ len) × (outputMinimum ≤ length (now out)) × ((s : List ℕ) → slotIn (locksOf (now w) s .entries) c ≡ i) × ((role ≡ 0 → ⊥) → i < sessionLimit) ⌝ }
-    ensures { λ r. ⌜ ((ro : Role) → roleNumber ro ≡ role → Did (finish (view (memory (now (w .entry)) (now (strings .entry)))) (effect (judged ro (view (memory (now (w .entry)) (now (strings .entry)))) i (message kind code param len) (now (payload .entry))) (whole (message kind code param len) (now (payload .entry))) ro (view (memory (now (w .entry)) (now (strings .entry)))) i c)) r (memory (now (w .entry)) (now (strings .entry))) (memory (now (w .exit)) (now (strings .exit))) (now (out .entry)) (now (out .exit))) ⌝ }
+    requires { ⌜ (c < connectionLimit) × (h .len ≤ payloadLimit) × (length (now payload) ≡ h .len) × (outputMinimum ≤ length (now out)) × ((s : List ℕ) → slotIn (locksOf (now w) s .entries) c ≡ i) × ((role ≡ 0 → ⊥) → i < sessionLimit) ⌝ }
+    ensures { λ r. ⌜ ((ro : Role) → roleNumber ro ≡ role → Did (finish (view (memory (now (w .entry)) (now (strings .entry)))) (effect (judged ro (view (memory (now (w .entry)) (now (strings .entry)))) i (message kind (h .code) (h .param) (h .len)) (now (payload .entry))) (whole (message kind (h .code) (h .param) (h .len)) (now (payload .entry))) ro (view (memory (now (w .entry)) (now (strings .entry)))) i c)) r (memory (now (w .entry)) (now (strings .entry))) (memory (now (w .exit)) (now (strings .exit))) (now (out .entry)) (now (out .exit))) ⌝ }
 {
+    let code = h.code;
+    let param = h.param;
+    let len = h.len;
     let v = whole::whole_verdict(w, role, i, kind, code, param, len, payload);
     if v == ACTS {
         return act(w, strings, out, c, i, role, kind, code, param, len, payload);
     }
+    if v == HELD {
+        return answer::quiet(outcome::HELD, 0);
+    }
     let told = apply(w, strings, out, c, i, v, 16 + len, 0);
     told
+}
+
+// A whole message. For the kinds that come most often role and kind are told as constants: checks and effect are then compiled for the one
+// kind, and are reached by one test of it in place of two dispatches.
+fn deliver_whole(
+    w: &mut Words,
+    strings: &mut Strings,
+    out: &mut [u8],
+    c: u64,
+    i: usize,
+    role: u8,
+    h: Header,
+    payload: &[u8],
+) -> Delivery
+    requires { ⌜ (c < connectionLimit) × (h .len ≤ payloadLimit) × (length (now payload) ≡ h .len) × (outputMinimum ≤ length (now out)) × ((s : List ℕ) → slotIn (locksOf (now w) s .entries) c ≡ i) × ((role ≡ 0 → ⊥) → i < sessionLimit) ⌝ }
+    ensures { λ r. ⌜ ((ro : Role) → roleNumber ro ≡ role → Did (finish (view (memory (now (w .entry)) (now (strings .entry)))) (effect (judged ro (view (memory (now (w .entry)) (now (strings .entry)))) i h (now (payload .entry))) (whole h (now (payload .entry))) ro (view (memory (now (w .entry)) (now (strings .entry)))) i c)) r (memory (now (w .entry)) (now (strings .entry))) (memory (now (w .exit)) (now (strings .exit))) (now (out .entry)) (now (out .exit))) ⌝ }
+{
+    let kind = h.kind;
+    if role == ON_SYNCHRONOUS {
+        if kind == DATA {
+            return deliver_kind(w, strings, out, c, i, ON_SYNCHRONOUS, DATA, h, payload);
+        }
+        if kind == DATA_END {
+            return deliver_kind(w, strings, out, c, i, ON_SYNCHRONOUS, DATA_END, h, payload);
+        }
+    }
+    if role == ON_ASYNCHRONOUS {
+        if kind == ASYNC_STATUS_QUERY {
+            return deliver_kind(
+                w,
+                strings,
+                out,
+                c,
+                i,
+                ON_ASYNCHRONOUS,
+                ASYNC_STATUS_QUERY,
+                h,
+                payload,
+            );
+        }
+    }
+    deliver_kind(w, strings, out, c, i, role, kind, h, payload)
 }
 
 // At least sixteen bytes, with nothing to skip.
@@ -169,19 +218,7 @@ fn deliver_message(
         let told = apply(w, strings, out, c, i, v, 0, 0);
         return told;
     }
-    deliver_whole(
-        w,
-        strings,
-        out,
-        c,
-        i,
-        role,
-        h.kind,
-        h.code,
-        h.param,
-        len,
-        &bytes[16..end],
-    )
+    deliver_whole(w, strings, out, c, i, role, h, &bytes[16..end])
 }
 
 fn least(a: u64, b: usize) -> u64

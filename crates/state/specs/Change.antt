@@ -136,7 +136,7 @@ module _ (w : List ℕ) where
 
   pub key-off : (s : List ℕ) (a v : ℕ) → (KEY ≡ a → ⊥) → keyOf (set w a v) s ≡ keyOf w s
   unfolding keyOf
-  key-off s a v o = ap (λ (x : ℕ). word s 0 ∷ take x (part s 1 63)) (off a v KEY o)
+  key-off s a v o = ap (λ (x : ℕ). word s 0 ∷ take x (part s 1 (stringLimit - 1))) (off a v KEY o)
 
   request-off : (s : List ℕ) (a v j : ℕ) → a < REQUESTS → requestAt (set w a v) s (slotAt (set w a v) j) ≡ requestAt w s (slotAt w j)
   unfolding requestAt slotAt

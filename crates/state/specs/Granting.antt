@@ -179,8 +179,8 @@ module _ (w s : List ℕ) (i x : ℕ) (xs : List ℕ) (h : i < sessionLimit) (sm
   new-key : (w′ : List ℕ) → word w′ KEY ≡ length xs → keyOf w′ lettered ≡ x ∷ xs
   unfolding keyOf splice
   new-key w′ e =
-      ap (λ (n : ℕ). x ∷ take n (take 63 (xs ++ drop (0 + length (x ∷ xs)) s))) e
-      ∙ ap (λ (l : List ℕ). x ∷ l) (take-take (length xs) 63 (xs ++ drop (0 + length (x ∷ xs)) s) (omega arith) ∙ take-append-seam xs (drop (0 + length (x ∷ xs)) s))
+      ap (λ (n : ℕ). x ∷ take n (take (stringLimit - 1) (xs ++ drop (0 + length (x ∷ xs)) s))) e
+      ∙ ap (λ (l : List ℕ). x ∷ l) (take-take (length xs) (stringLimit - 1) (xs ++ drop (0 + length (x ∷ xs)) s) (omega arith) ∙ take-append-seam xs (drop (0 + length (x ∷ xs)) s))
 
   -- with another key, slot j is the same if it does not share, or the key is the same
   same-entry : (j : ℕ) → j < sessionLimit → entryAt w (x ∷ xs) j ≡ entryAt w (keyOf w s) j

@@ -147,7 +147,7 @@ module _ (w s : List ℕ) (i : ℕ) (x : List ℕ) (h : i < sessionLimit) (small
       let s′ : List ℕ = splice s (stringLimit + i * stringLimit) x in
       let e : part s′ 0 1 ≡ part s 0 1 = part-before s (stringLimit + i * stringLimit) x there 0 1 (omega arith) in
       let f : word s′ 0 ≡ word s 0 = sym (word-of s′ 0 1 0 (lit< tt)) ∙ ap (λ (l : List ℕ). getD l 0 0) e ∙ word-of s 0 1 0 (lit< tt) in
-      ap₂ (λ (a : ℕ) (b : List ℕ). a ∷ take (word w KEY) b) f (part-before s (stringLimit + i * stringLimit) x there 1 63 (omega arith))
+      ap₂ (λ (a : ℕ) (b : List ℕ). a ∷ take (word w KEY) b) f (part-before s (stringLimit + i * stringLimit) x there 1 (stringLimit - 1) (omega arith))
 
   -- with its length in the row, while slot i does not wait
   pub laid-view : Idle w i

@@ -29,12 +29,12 @@ take-least (suc m) (suc n) (x ∷ l) =
     ap (λ (l : List ℕ). x ∷ l) (take-least m n l) ∙ ap (λ (k : ℕ). take k (x ∷ l)) (sym e)
 
 -- the shared string is at the front of the bytes
-pub key-part : (w s : List ℕ) → 0 < length s → keyOf w s ≡ take (min (word w KEY) 63 + 1) s
+pub key-part : (w s : List ℕ) → 0 < length s → keyOf w s ≡ take (min (word w KEY) (stringLimit - 1) + 1) s
 unfolding keyOf
 key-part w [] h = absurd (not-suc-le-zero h)
 key-part w (x ∷ s) h =
-    let e : min (word w KEY) 63 + 1 ≡ suc (min (word w KEY) 63) = omega arith in
-    ap (λ (l : List ℕ). x ∷ l) (take-least (word w KEY) 63 s) ∙ ap (λ (k : ℕ). take k (x ∷ s)) (sym e)
+    let e : min (word w KEY) (stringLimit - 1) + 1 ≡ suc (min (word w KEY) (stringLimit - 1)) = omega arith in
+    ap (λ (l : List ℕ). x ∷ l) (take-least (word w KEY) (stringLimit - 1) s) ∙ ap (λ (k : ℕ). take k (x ∷ s)) (sym e)
 
 -- slot i's string is at its place
 pub string-part : (w s : List ℕ) (i : ℕ) → stringAt w s i ≡ part s (stringLimit + i * stringLimit) (min (word w (REQUESTS + i * REQUEST + 1)) stringLimit)

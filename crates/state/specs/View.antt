@@ -27,9 +27,9 @@ word w i = getD w i 0
 abbrev pub flag : ℕ → Bool
 flag x = eqb x 1
 
--- the string of the shared lock: at least one byte, at most 64
+-- the string of the shared lock: at least one byte, at most 256
 unfoldable pub keyOf : List ℕ → List ℕ → List ℕ
-keyOf w s = word s 0 ∷ take (word w KEY) (part s 1 63)
+keyOf w s = word s 0 ∷ take (word w KEY) (part s 1 (stringLimit - 1))
 
 -- slot i: its SessionID and connections stand in a row of words; exclusive and shared in words that all slots have in common
 abbrev pub entryFrom : (ℕ → ℕ) → Bool → List ℕ → Entry

@@ -18,6 +18,7 @@ use crate::layout::HOLDER;
 use crate::layout::KEY;
 use crate::layout::SHARERS;
 use crate::requests;
+use crate::sizes::SESSION_LIMIT;
 use crate::sizes::SESSIONS;
 use crate::sizes::STRING_LIMIT;
 use crate::sizes::Strings;
@@ -59,8 +60,8 @@ pub fn no_other_exclusive(w: &Words, i: usize) -> bool
     h > SESSIONS
 }
 
-// Sets of slots, a bit each: 2^16.
-const SETS: u64 = 65536;
+// Sets of slots, a bit each.
+const SETS: u64 = 1 << SESSION_LIMIT;
 
 // Bit i of a set.
 fn bit_of(m: u64, i: usize) -> u64
@@ -72,7 +73,7 @@ fn bit_of(m: u64, i: usize) -> u64
 
 fn power_of(i: usize) -> u64
     requires { ⌜ i < sessionLimit ⌝ }
-    ensures { λ r. ⌜ (r ≡ 2 ^ i) × (r < 65536) ⌝ }
+    ensures { λ r. ⌜ (r ≡ 2 ^ i) × (r < 2 ^ sessionLimit) ⌝ }
 {
     1 << i
 }

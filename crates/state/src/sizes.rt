@@ -1,16 +1,17 @@
-// The sizes of 01's bench: the one place in code, as `model/specs/Sizes.antt` is the one in definitions. Each function below ties the two.
+// The sizes of 01's bench, with 02's Q-6: the one place in code, as `model/specs/Sizes.antt` is the one in definitions. Each function below
+// ties the two.
 ghost use Rattle.model.specs.Sizes.{clockLimit, connectionLimit, noConnection, outputMinimum, payloadLimit, sessionLimit, stringLimit};
 ghost use Rattle.state.specs.Layout.{STRINGS, WORDS};
 ghost use mathlib.Core.Path.{_≡_};
 use crate::layout;
 
-pub const SESSION_LIMIT: usize = 16;
+pub const SESSION_LIMIT: usize = 32;
 
-pub const CONNECTION_LIMIT: usize = 32;
+pub const CONNECTION_LIMIT: usize = 64;
 
 pub const PAYLOAD_LIMIT: usize = 1024;
 
-pub const STRING_LIMIT: usize = 64;
+pub const STRING_LIMIT: usize = 256;
 
 pub const OUTPUT_MINIMUM: usize = 2048;
 

@@ -1,17 +1,19 @@
 //! The two sides. Each pays one call that is not inlined, with the same numbers in and out.
 
-use hislip::sys::{self, hislip_delivery, hislip_done};
-use reference::{Delivery, Refusal, Server};
+use hislip::sys;
+use reference::Reply;
 
 pub trait Contender {
     fn new() -> Self;
     fn open(&mut self, connection: u32);
-    fn deliver(&mut self, connection: u32, bytes: &[u8], out: &mut [u8]) -> hislip_delivery;
-    fn answer(&mut self, session: u32, payload: &[u8], out: &mut [u8]) -> hislip_done;
+    fn deliver(&mut self, connection: u32, bytes: &[u8], out: &mut [u8]) -> Reply;
+    fn answer(&mut self, session: u32, payload: &[u8], out: &mut [u8]) -> Reply;
 }
 
 /// "AA".
 const VENDOR: u16 = 0x4141;
+/// The answers end.
+const END: u8 = 1;
 
 pub struct Library {
     words: Vec<u64>,
@@ -37,89 +39,56 @@ impl Contender for Library {
     }
 
     #[inline(always)]
-    fn deliver(&mut self, connection: u32, bytes: &[u8], out: &mut [u8]) -> hislip_delivery {
+    fn deliver(&mut self, connection: u32, bytes: &[u8], out: &mut [u8]) -> Reply {
         let (words, strings) = (self.words.as_mut_ptr(), self.strings.as_mut_ptr());
         let (shown, len) = (bytes.as_ptr(), bytes.len());
         let (out, out_len) = (out.as_mut_ptr(), out.len());
-        unsafe { sys::hislip_deliver(words, strings, connection, shown, len, out, out_len) }
+        let told =
+            unsafe { sys::hislip_deliver(words, strings, connection, shown, len, out, out_len) };
+        Reply {
+            refusal: told.refusal,
+            outcome: told.outcome,
+            session: told.session,
+            taken: told.taken,
+            output: told.output,
+            missing: told.missing,
+        }
     }
 
     #[inline(always)]
-    fn answer(&mut self, session: u32, payload: &[u8], out: &mut [u8]) -> hislip_done {
+    fn answer(&mut self, session: u32, payload: &[u8], out: &mut [u8]) -> Reply {
         let (words, strings) = (self.words.as_mut_ptr(), self.strings.as_mut_ptr());
         let (bytes, len) = (payload.as_ptr(), payload.len());
         let (out, out_len) = (out.as_mut_ptr(), out.len());
-        unsafe { sys::hislip_answer(words, strings, session, bytes, len, 1, out, out_len) }
+        let done =
+            unsafe { sys::hislip_answer(words, strings, session, bytes, len, END, out, out_len) };
+        Reply {
+            refusal: done.refusal,
+            output: done.output,
+            ..Reply::default()
+        }
     }
 }
 
-pub struct Reference(Box<Server>);
+/// Its calls are never inlined either.
+pub struct Ordinary(Box<ordinary::Server>);
 
-impl Contender for Reference {
-    fn new() -> Reference {
-        Reference(Box::new(Server::new(VENDOR)))
+impl Contender for Ordinary {
+    fn new() -> Ordinary {
+        Ordinary(Box::new(ordinary::Server::new(VENDOR)))
     }
 
     fn open(&mut self, connection: u32) {
-        self.0.open(connection).expect("not open yet");
+        self.0.open(connection);
     }
 
     #[inline(always)]
-    fn deliver(&mut self, connection: u32, bytes: &[u8], out: &mut [u8]) -> hislip_delivery {
-        reference_deliver(&mut self.0, connection, bytes, out)
+    fn deliver(&mut self, connection: u32, bytes: &[u8], out: &mut [u8]) -> Reply {
+        self.0.deliver(connection, bytes, out)
     }
 
     #[inline(always)]
-    fn answer(&mut self, session: u32, payload: &[u8], out: &mut [u8]) -> hislip_done {
-        reference_answer(&mut self.0, session, payload, out)
+    fn answer(&mut self, session: u32, payload: &[u8], out: &mut [u8]) -> Reply {
+        self.0.answer(session, payload, END, out)
     }
-}
-
-#[inline(never)]
-fn reference_deliver(
-    server: &mut Server,
-    connection: u32,
-    bytes: &[u8],
-    out: &mut [u8],
-) -> hislip_delivery {
-    numbers(server.deliver(connection, bytes, out))
-}
-
-#[inline(never)]
-fn reference_answer(
-    server: &mut Server,
-    session: u32,
-    payload: &[u8],
-    out: &mut [u8],
-) -> hislip_done {
-    match server.answer(session, payload, true, out) {
-        Ok(output) => hislip_done {
-            refusal: 0,
-            output: output as u64,
-        },
-        Err(refusal) => hislip_done {
-            refusal: refusal as u64,
-            output: 0,
-        },
-    }
-}
-
-fn numbers(told: Result<Delivery, Refusal>) -> hislip_delivery {
-    let accepted = |delivery: Delivery| hislip_delivery {
-        refusal: 0,
-        outcome: delivery.outcome as u64,
-        session: delivery.session.into(),
-        taken: delivery.taken as u64,
-        output: delivery.output as u64,
-        missing: delivery.missing,
-    };
-    let refused = |refusal: Refusal| hislip_delivery {
-        refusal: refusal as u64,
-        outcome: 0,
-        session: 0,
-        taken: 0,
-        output: 0,
-        missing: 0,
-    };
-    told.map_or_else(refused, accepted)
 }

@@ -1,8 +1,10 @@
-//! The library's speed beside the reference's, as a Markdown page and a picture. Exit status 1 if an
+//! The library's speed beside an ordinary server's, as a Markdown page and a picture. Exit status 1 if an
 //! answer or a byte differs, 2 if the command line is not understood ([`options::USAGE`]).
 
 mod contender;
+mod draw;
 mod figures;
+mod instructions;
 mod options;
 mod page;
 mod plot;
@@ -13,21 +15,21 @@ use std::fs;
 use std::process::ExitCode;
 
 use options::{Options, USAGE};
-use workload::Workload;
+use workload::Plan;
 
 fn main() -> ExitCode {
     let chosen = Options::read(std::env::args().skip(1)).and_then(|options| {
-        let workloads = options.chosen(workload::all())?;
-        Ok((options, workloads))
+        let plans = options.chosen(workload::all())?;
+        Ok((options, plans))
     });
-    let (options, workloads) = match chosen {
+    let (options, plans) = match chosen {
         Ok(chosen) => chosen,
         Err(what) => {
             eprintln!("bench: {what}\n\n{USAGE}");
             return ExitCode::from(2);
         }
     };
-    match run(&options, &workloads) {
+    match run(&options, &plans) {
         Ok(()) => ExitCode::SUCCESS,
         Err(error) => {
             eprintln!("bench: {error}");
@@ -36,15 +38,24 @@ fn main() -> ExitCode {
     }
 }
 
-fn run(options: &Options, workloads: &[Workload]) -> Result<(), String> {
+fn run(options: &Options, plans: &[Plan]) -> Result<(), String> {
     if let Some(side) = options.side {
-        workloads.iter().map(side).for_each(drop);
+        let run = |plan: &Plan| side(&plan.make(options.events));
+        plans.iter().map(run).for_each(drop);
+        return Ok(());
+    }
+    if let Some(events) = options.instructions {
+        let table = instructions::table(plans, events)?;
+        print!("{table}");
+        if let Some(file) = &options.write {
+            write(file, &instructions::replaced(&read(file)?, &table)?)?;
+        }
         return Ok(());
     }
     let page = match &options.from {
         Some(file) => read(file)?,
         None => {
-            let page = page::page(workloads, options.repetitions)?;
+            let page = page::page(plans, options)?;
             print!("{page}");
             page
         }

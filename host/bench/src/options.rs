@@ -1,18 +1,22 @@
 //! The command line.
 
-use crate::contender::{Library, Reference};
+use crate::contender::{Library, Ordinary};
 use crate::timing::time;
-use crate::workload::Workload;
+use crate::workload::{Plan, Workload};
 
 pub const USAGE: &str = "\
 usage: bench [--repetitions N] [--only NAME] [--write FILE] [--plot FILE]
+       bench --instructions EVENTS [--only NAME] [--write FILE]
        bench --from PAGE --plot FILE
-       bench --side library|reference [--only NAME]
+       bench --side library|ordinary [--events N] [--only NAME]
 
---only      one workload
---write     the page over the page in the file; what stands there from its first `##` on is kept
---plot      the ratios as a picture; --from draws those of a page that is there and measures nothing
---side      runs each workload once on one side and prints nothing, for a profiler";
+--only          one workload
+--write         the page over the page in the file; what stands there from its first `##` on is kept
+--instructions  instructions of a call, counted by callgrind over the first so many events of each
+                workload; --write puts the table in the place of the one that the file has
+--plot          the ratios as a picture; --from draws those of a page that is there and measures nothing
+--side          runs each workload once on one side and prints nothing, for a profiler; --events runs
+                the first N of its events";
 
 /// Runs a workload on one side.
 pub type Side = fn(&Workload) -> Vec<f64>;
@@ -25,6 +29,9 @@ pub struct Options {
     pub plot: Option<String>,
     pub from: Option<String>,
     pub side: Option<Side>,
+    /// Of each workload, the first so many.
+    pub events: usize,
+    pub instructions: Option<usize>,
 }
 
 impl Options {
@@ -37,6 +44,8 @@ impl Options {
             plot: None,
             from: None,
             side: None,
+            events: usize::MAX,
+            instructions: None,
         };
         while let Some(name) = words.next() {
             let value = words.next().ok_or(format!("`{name}` without a value"))?;
@@ -47,6 +56,8 @@ impl Options {
                 "--plot" => options.plot = Some(value),
                 "--from" => options.from = Some(value),
                 "--side" => options.side = Some(side(&value)?),
+                "--events" => options.events = events(&value)?,
+                "--instructions" => options.instructions = Some(events(&value)?),
                 _ => return Err(format!("no option `{name}`")),
             }
         }
@@ -54,17 +65,17 @@ impl Options {
     }
 
     /// The workloads that are to run; the error lists the names that there are.
-    pub fn chosen(&self, mut workloads: Vec<Workload>) -> Result<Vec<Workload>, String> {
+    pub fn chosen(&self, mut plans: Vec<Plan>) -> Result<Vec<Plan>, String> {
         let Some(wanted) = &self.only else {
-            return Ok(workloads);
+            return Ok(plans);
         };
-        let names: Vec<&str> = workloads.iter().map(|workload| workload.name).collect();
+        let names: Vec<&str> = plans.iter().map(|plan| &*plan.name).collect();
         if !names.contains(&wanted.as_str()) {
             let names = names.join("\n  ");
             return Err(format!("no workload `{wanted}`; there are\n  {names}"));
         }
-        workloads.retain(|workload| workload.name == wanted);
-        Ok(workloads)
+        plans.retain(|plan| plan.name == *wanted);
+        Ok(plans)
     }
 }
 
@@ -73,10 +84,15 @@ fn repetitions(value: &str) -> Result<usize, String> {
     number.ok_or(format!("`{value}` repetitions: at least 2 are needed"))
 }
 
+fn events(value: &str) -> Result<usize, String> {
+    let number = value.parse().ok().filter(|number| *number > 0);
+    number.ok_or(format!("`{value}` events: at least 1 is needed"))
+}
+
 fn side(name: &str) -> Result<Side, String> {
     match name {
         "library" => Ok(time::<Library>),
-        "reference" => Ok(time::<Reference>),
+        "ordinary" => Ok(time::<Ordinary>),
         _ => Err(format!("no side `{name}`")),
     }
 }
@@ -84,53 +100,44 @@ fn side(name: &str) -> Result<Side, String> {
 #[cfg(test)]
 mod tests {
     use super::Options;
-    use crate::workload::Workload;
+    use crate::workload;
 
     fn read(words: &str) -> Result<Options, String> {
-        Options::read(words.split_whitespace().map(str::to_owned))
-    }
-
-    fn two() -> Vec<Workload> {
-        let named = |name| Workload {
-            name,
-            sessions: 1,
-            before: Vec::new(),
-            steps: Vec::new(),
-            bytes: Vec::new(),
-            clear: false,
-        };
-        vec![named("the mix"), named("status")]
+        Options::read(words.split(", ").map(str::to_owned))
     }
 
     #[test]
     fn a_wrong_name_is_answered_with_the_names() {
-        let options = read("--only nothing").expect("understood");
-        let what = options.chosen(two()).err().expect("no such name");
-        assert_eq!(
-            what,
-            "no workload `nothing`; there are\n  the mix\n  status"
-        );
+        let options = read("--only, nothing").expect("understood");
+        let what = options.chosen(workload::all());
+        let what = what.err().expect("no such name");
+        assert!(what.starts_with("no workload `nothing`; there are\n  02's mix\n"));
     }
 
     #[test]
-    fn a_right_name_chooses_one() {
-        let options = read("--only status").expect("understood");
-        let chosen = options.chosen(two()).expect("there");
-        assert_eq!(
-            chosen.iter().map(|w| w.name).collect::<Vec<_>>(),
-            ["status"]
-        );
+    fn every_name_chooses_one() {
+        for plan in workload::all() {
+            let words = ["--only".to_owned(), plan.name.clone()];
+            let options = Options::read(words.into_iter()).expect("understood");
+            let chosen = options.chosen(workload::all()).expect("there");
+            let names: Vec<&String> = chosen.iter().map(|plan| &plan.name).collect();
+            assert_eq!(names, [&plan.name]);
+        }
     }
 
     #[test]
     fn what_is_not_understood_is_named() {
         let told = |words| read(words).err().expect("not understood");
         assert_eq!(
-            told("--repetitions 1"),
+            told("--repetitions, 1"),
             "`1` repetitions: at least 2 are needed"
         );
-        assert_eq!(told("--fast yes"), "no option `--fast`");
+        assert_eq!(told("--fast, yes"), "no option `--fast`");
         assert_eq!(told("--only"), "`--only` without a value");
-        assert_eq!(told("--side left"), "no side `left`");
+        assert_eq!(told("--side, left"), "no side `left`");
+        assert_eq!(
+            told("--instructions, 0"),
+            "`0` events: at least 1 is needed"
+        );
     }
 }

@@ -3,12 +3,14 @@
 use std::path::Path;
 
 use record::{date, machine, tree};
+use reference::limits::{OUTPUT, SESSIONS};
 
+use crate::options::Options;
 use crate::timing::{compare, measure, Outcomes, Times, SLICE};
-use crate::workload::Workload;
+use crate::workload::{Plan, Workload};
 
 /// The first cells of the table's head, by which it is found again.
-pub const HEAD: &str = "| workload | events | library min | median | reference min | median | ratio of minima | of medians |";
+pub const HEAD: &str = "| workload | events | library min | median | ordinary min | median | ratio of minima | of medians |";
 
 /// The measured part of a page.
 #[derive(Default)]
@@ -25,7 +27,7 @@ impl Measured {
     fn add(&mut self, workload: &Workload, outcomes: &Outcomes, times: &Times) {
         self.rows += &row(workload, times);
         self.checks += &format!("- {}: {}\n", workload.name, describe(outcomes));
-        let spread = times.library.spread().max(times.reference.spread());
+        let spread = times.library.spread().max(times.ordinary.spread());
         self.slowest = self.slowest.max(spread);
         self.apart = self.apart.max(ratios_apart(times));
     }
@@ -45,15 +47,20 @@ fn origin(load_before: &str) -> String {
 }
 
 /// Compares and measures every workload; says on the error stream how far it is.
-pub fn page(workloads: &[Workload], repetitions: usize) -> Result<String, String> {
+pub fn page(plans: &[Plan], options: &Options) -> Result<String, String> {
     let load = machine::load();
     let mut measured = Measured::default();
-    for (place, workload) in (1..).zip(workloads) {
-        eprintln!("bench: {place} of {}, {}", workloads.len(), workload.name);
-        let outcomes = compare(workload)?;
-        measured.add(workload, &outcomes, &measure(workload, repetitions));
+    for (place, plan) in (1..).zip(plans) {
+        eprintln!("bench: {place} of {}, {}", plans.len(), plan.name);
+        let workload = plan.make(options.events);
+        let outcomes = compare(&workload)?;
+        measured.add(
+            &workload,
+            &outcomes,
+            &measure(&workload, options.repetitions),
+        );
     }
-    Ok(text(&measured, repetitions, &origin(&load)))
+    Ok(text(&measured, options.repetitions, &origin(&load)))
 }
 
 fn text(measured: &Measured, repetitions: usize, origin: &str) -> String {
@@ -65,26 +72,26 @@ fn text(measured: &Measured, repetitions: usize, origin: &str) -> String {
     } = measured;
     format!(
         "# Speed\n\n\
-         The proved library beside the reference, an ordinary Rust server with `&mut self`; nanoseconds \
-         per event, {repetitions} repetitions of each, the two sides taking turns. Both are optimised, and \
-         both pay one call that is not inlined. A minimum is taken slice by slice: of each {SLICE} events \
-         the fastest repetition counts.\n\n\
+         The proved library beside an ordinary Rust server; nanoseconds per event, {repetitions} repetitions \
+         of each, the two sides taking turns. Both are optimised, and both pay one call that is not inlined. \
+         Each delivery is of a session drawn at random, in the mix and its kinds from all {SESSIONS}. A \
+         minimum is taken slice by slice: of each {SLICE} events the fastest repetition counts.\n\n\
          {origin}\n\n\
          {HEAD}\n|---|---|---|---|---|---|---|---|\n{rows}\n\
          ![The ratios as a picture](speed.svg)\n\n\
          Noise: within a workload the slowest repetition took up to {slowest:.0} % longer than the fastest. \
          The ratio of minima from the first half of the repetitions alone and from the second half differ \
          by at most {apart:.0} %.\n\n\
-         Buffers: the output buffer is neither cleared nor filled between events, except in the row that \
-         says so, where both sides have 2,048 bytes cleared before each event, within the time taken.\n\n\
+         Buffers: the output buffer is neither cleared nor filled between events, except in the rows that \
+         say so, where both sides have {OUTPUT} bytes cleared before each event, within the time taken.\n\n\
          Before the time is taken every answer and every byte of the buffer is compared on the same \
          events; all were equal. What the events came to:\n\n{checks}"
     )
 }
 
 fn row(workload: &Workload, times: &Times) -> String {
-    let minima = (times.library.fastest(), times.reference.fastest());
-    let medians = (times.library.median(), times.reference.median());
+    let minima = (times.library.fastest(), times.ordinary.fastest());
+    let medians = (times.library.median(), times.ordinary.median());
     format!(
         "| {} | {} | {:.1} | {:.1} | {:.1} | {:.1} | {:.2} | {:.2} |\n",
         workload.name,
@@ -100,8 +107,8 @@ fn row(workload: &Workload, times: &Times) -> String {
 
 /// How far the ratios of the two halves are apart, in percent.
 fn ratios_apart(times: &Times) -> f64 {
-    let (library, reference) = (times.library.halves(), times.reference.halves());
-    let ratio = |half: usize| library[half] / reference[half];
+    let (library, ordinary) = (times.library.halves(), times.ordinary.halves());
+    let ratio = |half: usize| library[half] / ordinary[half];
     100.0 * (ratio(0) / ratio(1) - 1.0).abs()
 }
 

@@ -18,7 +18,7 @@ const STYLE: &str = "\
 .grid { stroke: #ddd } .number, .axis { font-size: 10px; fill: #555 } .title { font-weight: bold }
 ";
 
-/// A workload with its two ratios, library over reference.
+/// A workload with its two ratios, library over ordinary server.
 #[derive(Debug, PartialEq)]
 struct Row {
     name: String,
@@ -73,7 +73,7 @@ pub fn draw(page: &str) -> Result<String, String> {
 
 /// Marks at every quarter, and what the numbers are.
 fn axis(drawing: &mut Drawing, end: f64, bottom: f64) {
-    let title = "time of the library over that of the reference, by workload";
+    let title = "time of the library over that of the ordinary server, by workload";
     drawing.words("title", Anchor::Start, (10.0, 18.0), title);
     for quarter in 0..=(end * 4.0).round() as u32 {
         let ratio = f64::from(quarter) / 4.0;

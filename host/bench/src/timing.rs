@@ -4,22 +4,20 @@ use std::collections::BTreeMap;
 use std::hint::black_box;
 use std::time::Instant;
 
-use hislip::sys::hislip_delivery;
 use reference::compose::message;
+use reference::limits::OUTPUT;
 use reference::Reply;
 
-use crate::contender::{Contender, Library, Reference};
+use crate::contender::{Contender, Library, Ordinary};
 use crate::figures::Figures;
-use crate::workload::{Step, Workload};
-
-const OUTPUT: usize = 2048;
+use crate::workload::{Part, Step, Workload};
 
 /// Events between two looks at the clock.
 pub const SLICE: usize = 1_000;
 
 pub struct Times {
     pub library: Figures,
-    pub reference: Figures,
+    pub ordinary: Figures,
 }
 
 /// A server with the workload's sessions open.
@@ -39,32 +37,18 @@ fn ready<C: Contender>(workload: &Workload, out: &mut [u8]) -> C {
 }
 
 #[inline(always)]
-fn one<C: Contender>(
-    server: &mut C,
-    workload: &Workload,
-    step: Step,
-    out: &mut [u8],
-) -> hislip_delivery {
+fn one<C: Contender>(server: &mut C, workload: &Workload, step: Step, out: &mut [u8]) -> Reply {
+    let bytes = |Part { start, length }| &workload.bytes[start as usize..][..length as usize];
     match step {
-        Step::Deliver(connection, place) => server.deliver(connection, &workload.bytes[place], out),
-        Step::Answer(session, place) => {
-            let done = server.answer(session, &workload.bytes[place], out);
-            hislip_delivery {
-                refusal: done.refusal,
-                outcome: 0,
-                session: 0,
-                taken: 0,
-                output: done.output,
-                missing: 0,
-            }
-        }
+        Step::Deliver(connection, part) => server.deliver(connection, bytes(part), out),
+        Step::Answer(session, part) => server.answer(session, bytes(part), out),
     }
 }
 
 /// How often the events of a workload came to what, in words.
 pub type Outcomes = BTreeMap<&'static str, usize>;
 
-fn outcome(step: Step, told: hislip_delivery) -> &'static str {
+fn outcome(step: Step, told: Reply) -> &'static str {
     match step {
         _ if told.refusal != 0 => "refused",
         Step::Answer(..) => "answers sent",
@@ -77,7 +61,7 @@ fn outcome(step: Step, told: hislip_delivery) -> &'static str {
 pub fn compare(workload: &Workload) -> Result<Outcomes, String> {
     let (mut left_out, mut right_out) = (vec![0x5a; OUTPUT], vec![0x5a; OUTPUT]);
     let mut left: Library = ready(workload, &mut left_out);
-    let mut right: Reference = ready(workload, &mut right_out);
+    let mut right: Ordinary = ready(workload, &mut right_out);
     let mut outcomes = Outcomes::new();
     for (place, step) in workload.steps.iter().enumerate() {
         let told = one(&mut left, workload, *step, &mut left_out);
@@ -91,48 +75,47 @@ pub fn compare(workload: &Workload) -> Result<Outcomes, String> {
 
 /// The nanoseconds of each slice.
 pub fn time<C: Contender>(workload: &Workload) -> Vec<f64> {
-    let mut out = vec![0; OUTPUT];
+    // Neither side is compiled for this length.
+    let mut out = vec![0; black_box(OUTPUT)];
     let mut server: C = ready(workload, &mut out);
+    timed_events(&mut server, workload, &mut out)
+}
+
+/// A function of its own, so that a profiler can begin here ([`crate::instructions`]).
+#[inline(never)]
+fn timed_events<C: Contender>(server: &mut C, workload: &Workload, out: &mut [u8]) -> Vec<f64> {
     let mut sum = 0;
     let mut run = |slice: &[Step]| {
         let start = Instant::now();
         for step in slice {
             if workload.clear {
-                black_box(&mut out[..]).fill(0);
+                black_box(&mut *out).fill(0);
             }
-            let told = one(&mut server, workload, *step, &mut out);
+            let told = one(server, workload, *step, out);
             sum += told.taken + told.output;
         }
         start.elapsed().as_nanos() as f64
     };
     let times = workload.steps.chunks(SLICE).map(&mut run).collect();
     black_box(sum);
-    black_box(&out);
+    black_box(out);
     times
 }
 
 /// Each repetition runs both sides; who goes first changes every time.
 pub fn measure(workload: &Workload, repetitions: usize) -> Times {
-    let mut times = Times {
-        library: Figures::new(workload.steps.len()),
-        reference: Figures::new(workload.steps.len()),
-    };
+    let events = workload.steps.len();
+    let (mut library, mut ordinary) = (Figures::new(events), Figures::new(events));
     time::<Library>(workload);
-    time::<Reference>(workload);
+    time::<Ordinary>(workload);
     for repetition in 0..repetitions {
         if repetition % 2 == 0 {
-            times.library.repetitions.push(time::<Library>(workload));
-            times
-                .reference
-                .repetitions
-                .push(time::<Reference>(workload));
+            library.repetitions.push(time::<Library>(workload));
+            ordinary.repetitions.push(time::<Ordinary>(workload));
         } else {
-            times
-                .reference
-                .repetitions
-                .push(time::<Reference>(workload));
-            times.library.repetitions.push(time::<Library>(workload));
+            ordinary.repetitions.push(time::<Ordinary>(workload));
+            library.repetitions.push(time::<Library>(workload));
         }
     }
-    times
+    Times { library, ordinary }
 }

@@ -1,199 +1,353 @@
 //! What is run: prepared events over prepared sessions, the same for both sides.
 
 use reference::compose::message;
+use reference::limits::{LOCK_STRING, PAYLOAD, SESSIONS};
+
+use crate::draw::Draw;
+
+/// A message or a payload in `Workload::bytes`.
+#[derive(Clone, Copy, PartialEq, Eq)]
+pub struct Part {
+    pub start: u32,
+    pub length: u32,
+}
 
 /// One event of a timed loop.
 #[derive(Clone, Copy)]
 pub enum Step {
-    /// Connection, and which message.
-    Deliver(u32, usize),
-    /// Session, and which payload.
-    Answer(u32, usize),
+    /// Connection, and what it shows.
+    Deliver(u32, Part),
+    /// Session, and the payload.
+    Answer(u32, Part),
 }
 
 pub struct Workload {
-    pub name: &'static str,
+    pub name: String,
     /// Sessions 1 to so many, on connections 0 and 1, 2 and 3, ...
     pub sessions: u32,
     /// Run once before the time is taken.
     pub before: Vec<Step>,
     pub steps: Vec<Step>,
-    pub bytes: Vec<Vec<u8>>,
+    pub bytes: Vec<u8>,
     /// The output buffer is cleared before each event.
     pub clear: bool,
 }
 
-/// Messages by place in `Workload::bytes`.
-mod place {
-    pub const DATA: usize = 0;
-    pub const DATA_END: usize = 1;
-    pub const STATUS: usize = 2;
-    pub const EXCLUSIVE: usize = 3;
-    pub const SHARED: usize = 4;
-    pub const RELEASE: usize = 5;
-    pub const LOCKS: [usize; 3] = [EXCLUSIVE, SHARED, RELEASE];
-    /// Three pieces of a DataEND: less than a header, a header, and some payload.
-    pub const PIECES: [usize; 3] = [6, 7, 8];
-    pub const WAIT: usize = 9;
-    pub const ANSWER: usize = 10;
+/// A workload that is made when it is run.
+pub struct Plan {
+    pub name: String,
+    /// The output buffer is cleared before each event.
+    pub clear: bool,
+    make: fn(&Messages) -> Workload,
 }
 
-fn all_bytes() -> Vec<Vec<u8>> {
-    let command = b"CONFigure:VOLTage:DC 10,0.001;:INITiate";
-    let data_end = message(7, 1, 0xffff_ff02, command);
-    vec![
-        message(6, 0, 0xffff_ff00, command),
-        data_end.clone(),
-        message(21, 0, 0xffff_ff02, b""),
-        message(4, 1, 0, b""),
-        message(4, 1, 0, b"calibration"),
-        message(4, 0, 0xffff_ff02, b""),
-        data_end[..7].to_vec(),
-        data_end[..16].to_vec(),
-        data_end[..40].to_vec(),
-        message(4, 1, u32::MAX, b""),
-        (0..1024).map(|i| i as u8).collect(),
-    ]
-}
-
-fn workload(name: &'static str, sessions: u32, steps: Vec<Step>) -> Workload {
-    Workload {
-        name,
-        sessions,
-        before: Vec::new(),
-        steps,
-        bytes: all_bytes(),
-        clear: false,
-    }
-}
-
-/// A small generator, so that the order is not a pattern that a processor learns.
-fn next(state: &mut u64) -> u64 {
-    *state ^= *state << 13;
-    *state ^= *state >> 7;
-    *state ^= *state << 17;
-    *state
-}
-
-/// 02's mix: 1,200,000 deliveries in even parts Data, DataEND, status queries, lock requests,
-/// releases and pieces of messages.
-fn mix() -> Vec<Step> {
-    let mut state = 0x1234_5678_9abc_def1;
-    let mut steps = Vec::with_capacity(1_200_000);
-    for round in 0..200_000 {
-        let number = next(&mut state);
-        let synchronous = 2 * (number % 8) as u32;
-        let asynchronous = synchronous + 1;
-        let request = if number & 256 == 0 {
-            place::EXCLUSIVE
-        } else {
-            place::SHARED
-        };
-        let mut six = [
-            Step::Deliver(synchronous, place::DATA),
-            Step::Deliver(synchronous, place::DATA_END),
-            Step::Deliver(asynchronous, place::STATUS),
-            Step::Deliver(synchronous, place::PIECES[round % 3]),
-            Step::Deliver(asynchronous, request),
-            Step::Deliver(asynchronous, place::RELEASE),
-        ];
-        // The first four in any order, and the lock round all of them or after them.
-        for last in (1..4).rev() {
-            six.swap(last, (number >> (8 * last)) as usize % (last + 1));
-        }
-        if number & 512 == 0 {
-            six[..5].rotate_right(1);
-        }
-        steps.extend(six);
-    }
-    steps
-}
-
-/// The mix's deliveries of some kinds alone, in their order.
-fn of_the_mix(name: &'static str, places: &[usize]) -> Workload {
-    let wanted = |step: &Step| matches!(step, Step::Deliver(_, place) if places.contains(place));
-    workload(name, 8, mix().into_iter().filter(wanted).collect())
-}
-
-/// The mix with every delivery on the connections of the first session: what is left of its cost
-/// when a session is found at the first look.
-fn of_one_session() -> Vec<Step> {
-    let mut steps = mix();
-    for step in &mut steps {
-        if let Step::Deliver(connection, _) = step {
-            *connection %= 2;
-        }
-    }
-    steps
-}
-
-/// The mix with every round alike and the sessions in turn: what it costs once a processor has
-/// learnt the order.
-fn in_turn() -> Vec<Step> {
-    let round = |round: usize| {
-        let synchronous = 2 * (round % 8) as u32;
-        [
-            Step::Deliver(synchronous, place::DATA),
-            Step::Deliver(synchronous, place::DATA_END),
-            Step::Deliver(synchronous + 1, place::STATUS),
-            Step::Deliver(synchronous, place::PIECES[round % 3]),
-            Step::Deliver(
-                synchronous + 1,
-                [place::EXCLUSIVE, place::SHARED][round / 8 % 2],
-            ),
-            Step::Deliver(synchronous + 1, place::RELEASE),
-        ]
-    };
-    (0..200_000).flat_map(round).collect()
-}
-
-fn repeated(count: usize, steps: &[Step]) -> Vec<Step> {
-    steps.iter().copied().cycle().take(count).collect()
-}
-
-/// Sixteen sessions, one holds the lock and fifteen wait; each release grants the next one, and
-/// who released asks again.
-fn storm() -> Workload {
-    let asynchronous = |session: usize| 2 * (session as u32 % 16) + 1;
-    let wait = |session: usize| Step::Deliver(asynchronous(session), place::WAIT);
-    let release = |session: usize| Step::Deliver(asynchronous(session), place::RELEASE);
-    let round: Vec<Step> = (0..16).flat_map(|i| [release(i), wait(i)]).collect();
-    Workload {
-        before: (0..16).map(wait).collect(),
-        ..workload("lock storm, 15 waiting", 16, repeated(400_000, &round))
-    }
-}
-
-pub fn all() -> Vec<Workload> {
-    let data = [
-        Step::Deliver(0, place::DATA),
-        Step::Deliver(0, place::DATA_END),
-    ];
-    let status = [Step::Deliver(1, place::STATUS)];
-    let answers = [
-        Step::Deliver(0, place::DATA_END),
-        Step::Answer(1, place::ANSWER),
-    ];
-    vec![
-        workload("02's mix", 8, mix()),
+impl Plan {
+    /// With the first so many of its events.
+    pub fn make(&self, events: usize) -> Workload {
+        let mut workload = (self.make)(&Messages::new(events));
+        workload.steps.truncate(events);
         Workload {
-            clear: true,
-            ..workload("02's mix, buffer cleared", 8, mix())
-        },
-        workload("02's mix, all of one session", 8, of_one_session()),
-        workload("02's mix, every round alike", 8, in_turn()),
-        of_the_mix("of the mix: Data", &[place::DATA]),
-        of_the_mix("of the mix: DataEND", &[place::DATA_END]),
-        of_the_mix("of the mix: status queries", &[place::STATUS]),
-        of_the_mix("of the mix: lock requests and releases", &place::LOCKS),
-        of_the_mix("of the mix: pieces of messages", &place::PIECES),
-        workload("status only", 1, repeated(600_000, &status)),
-        workload("data only", 1, repeated(600_000, &data)),
-        storm(),
-        workload(
-            "DataEND and 1,024-byte answers",
-            1,
-            repeated(300_000, &answers),
+            name: self.name.clone(),
+            clear: self.clear,
+            ..workload
+        }
+    }
+}
+
+/// All that sessions can be open at once.
+const ALL: u32 = SESSIONS as u32;
+
+/// Rounds of the mix: with six deliveries each, 02's 1,200,000.
+const ROUNDS: usize = 200_000;
+/// Events of a workload beside the mix.
+const EVENTS: usize = 400_000;
+
+/// The messages that workloads are made of, one behind the other.
+struct Messages {
+    /// No more events than these are wanted.
+    events: usize,
+    bytes: Vec<u8>,
+    /// Each with RMT-delivered 0 and 1.
+    data: [Part; 2],
+    data_end: [Part; 2],
+    status: [Part; 2],
+    exclusive: Part,
+    shared: Part,
+    release: Part,
+    /// Three pieces of a DataEND: less than a header, a header, and some payload.
+    pieces: [Part; 3],
+    /// Exclusive, with a long timeout.
+    wait: Part,
+    /// For each session a string of the greatest length, with a long timeout; the last byte tells them apart.
+    wait_long: Vec<Part>,
+    answer: Part,
+}
+
+impl Messages {
+    fn new(events: usize) -> Messages {
+        let mut bytes = Vec::new();
+        let mut keep = |part: &[u8]| {
+            let start = bytes.len() as u32;
+            bytes.extend_from_slice(part);
+            let length = part.len() as u32;
+            Part { start, length }
+        };
+        let command = b"CONFigure:VOLTage:DC 10,0.001;:INITiate";
+        let numbered = |kind, code| message(kind, code, 0xffff_ff02, command);
+        let long = |session: u32| {
+            let mut string = [b's'; LOCK_STRING];
+            string[LOCK_STRING - 1] = session as u8;
+            message(4, 1, u32::MAX, &string)
+        };
+        Messages {
+            data: [0, 1].map(|code| keep(&numbered(6, code))),
+            data_end: [0, 1].map(|code| keep(&numbered(7, code))),
+            status: [0, 1].map(|code| keep(&message(21, code, 0xffff_ff02, b""))),
+            exclusive: keep(&message(4, 1, 0, b"")),
+            shared: keep(&message(4, 1, 0, b"calibration")),
+            release: keep(&message(4, 0, 0xffff_ff02, b"")),
+            pieces: [7, 16, 40].map(|length| keep(&numbered(7, 1)[..length])),
+            wait: keep(&message(4, 1, u32::MAX, b"")),
+            wait_long: (1..=ALL).map(|session| keep(&long(session))).collect(),
+            answer: keep(&[b'7'; PAYLOAD]),
+            bytes,
+            events,
+        }
+    }
+
+    /// Steps without a name yet.
+    fn workload(&self, steps: Vec<Step>) -> Workload {
+        Workload {
+            name: String::new(),
+            sessions: ALL,
+            before: Vec::new(),
+            steps,
+            bytes: self.bytes.clone(),
+            clear: false,
+        }
+    }
+
+    /// 02's mix: 1,200,000 deliveries in even parts Data, DataEND, status queries, lock requests,
+    /// releases and pieces of messages, each of a session drawn from so many. Only a release is of the
+    /// session that holds the lock. Data and DataEND `between` a request and its release are mostly held;
+    /// without them every whole message acts.
+    fn mix(&self, sessions: u32, between: bool) -> Vec<Step> {
+        let mut draw = Draw::new();
+        let mut steps = Vec::new();
+        for _ in 0..ROUNDS.min(self.events) {
+            let mut order = [0, 1, 2, 3, 4, 5];
+            loop {
+                draw.shuffle(&mut order);
+                if orderly(&order, between) {
+                    break;
+                }
+            }
+            let six = self.round(&mut draw, sessions);
+            steps.extend(order.map(|which| six[which]));
+        }
+        steps
+    }
+
+    /// Data, DataEND, a status query, a piece, a lock request and its release.
+    fn round(&self, draw: &mut Draw, sessions: u32) -> [Step; 6] {
+        let holder = asynchronous(draw.below(sessions));
+        let request = draw.pick(&[self.exclusive, self.shared]);
+        [
+            Step::Deliver(synchronous(draw.below(sessions)), draw.pick(&self.data)),
+            Step::Deliver(synchronous(draw.below(sessions)), draw.pick(&self.data_end)),
+            Step::Deliver(asynchronous(draw.below(sessions)), draw.pick(&self.status)),
+            Step::Deliver(synchronous(draw.below(sessions)), draw.pick(&self.pieces)),
+            Step::Deliver(holder, request),
+            Step::Deliver(holder, self.release),
+        ]
+    }
+
+    /// The mix with every round alike and the sessions in turn: what it costs once a processor has
+    /// learnt the order.
+    fn in_turn(&self) -> Vec<Step> {
+        let round = |round: usize| {
+            let session = round as u32 % ALL;
+            let (synchronous, asynchronous) = (synchronous(session), asynchronous(session));
+            let request = [self.exclusive, self.shared][round / SESSIONS % 2];
+            [
+                Step::Deliver(synchronous, self.data[0]),
+                Step::Deliver(synchronous, self.data_end[1]),
+                Step::Deliver(asynchronous, self.status[0]),
+                Step::Deliver(synchronous, self.pieces[round % 3]),
+                Step::Deliver(asynchronous, request),
+                Step::Deliver(asynchronous, self.release),
+            ]
+        };
+        (0..ROUNDS.min(self.events)).flat_map(round).collect()
+    }
+
+    /// The mix's deliveries of some kinds alone, in their order.
+    fn of_the_mix(&self, parts: &[Part]) -> Workload {
+        let wanted = |step: &Step| matches!(step, Step::Deliver(_, part) if parts.contains(part));
+        let mut steps = self.mix(ALL, false);
+        steps.retain(wanted);
+        self.workload(steps)
+    }
+
+    fn count(&self) -> usize {
+        EVENTS.min(self.events)
+    }
+
+    /// Data and DataEND of those who have no access, while the first session holds the lock.
+    fn held(&self) -> Workload {
+        let mut draw = Draw::new();
+        let held = |_| {
+            let part = draw.pick(&[self.data[0], self.data_end[1]]);
+            Step::Deliver(synchronous(1 + draw.below(ALL - 1)), part)
+        };
+        let steps = (0..self.count()).map(held).collect();
+        Workload {
+            before: vec![Step::Deliver(asynchronous(0), self.exclusive)],
+            ..self.workload(steps)
+        }
+    }
+
+    /// One session holds and all others wait; each release grants the next one, and who released asks
+    /// again. `asks` is a session's request.
+    fn storm(&self, asks: impl Fn(u32) -> Part) -> Workload {
+        let wait = |session: u32| Step::Deliver(asynchronous(session), asks(session));
+        let mut line = Draw::new().shuffled(ALL);
+        let before = line.iter().map(|session| wait(*session)).collect();
+        let mut steps = Vec::with_capacity(self.count());
+        while steps.len() < self.count() {
+            let first = line[0];
+            steps.push(Step::Deliver(asynchronous(first), self.release));
+            steps.push(wait(first));
+            line.rotate_left(1);
+        }
+        Workload {
+            before,
+            ..self.workload(steps)
+        }
+    }
+
+    /// The first session shares with its string; it takes and releases the exclusive lock over and over,
+    /// and of all others, who wait, nobody can be granted anything.
+    fn in_vain(&self, asks: impl Fn(u32) -> Part) -> Workload {
+        let first = |part: Part| Step::Deliver(asynchronous(0), part);
+        let wait = |session: u32| Step::Deliver(asynchronous(session), asks(session));
+        let mut before = vec![first(self.shared)];
+        let others = Draw::new().shuffled(ALL - 1);
+        before.push(first(self.exclusive));
+        before.extend(others.iter().map(|other| wait(1 + other)));
+        let pair = [first(self.release), first(self.exclusive)];
+        let steps = pair.into_iter().cycle().take(self.count()).collect();
+        Workload {
+            before,
+            ..self.workload(steps)
+        }
+    }
+
+    /// DataEND of a session drawn at random, then the answer to one that has asked.
+    fn answers(&self) -> Workload {
+        let mut draw = Draw::new();
+        let mut asked: Vec<u32> = (0..ALL).collect();
+        let before = asked
+            .iter()
+            .map(|asks| Step::Deliver(synchronous(*asks), self.data_end[1]))
+            .collect();
+        let mut steps = Vec::with_capacity(self.count());
+        while steps.len() < self.count() {
+            let answered = asked.swap_remove(draw.below(asked.len() as u32) as usize);
+            steps.push(Step::Answer(1 + answered, self.answer));
+            let asks = draw.below(ALL);
+            steps.push(Step::Deliver(synchronous(asks), self.data_end[1]));
+            if !asked.contains(&asks) {
+                asked.push(asks);
+            }
+        }
+        Workload {
+            before,
+            ..self.workload(steps)
+        }
+    }
+}
+
+/// In a round's order: the release comes after the request, and unless Data and DataEND may stand
+/// between them, neither does.
+fn orderly(order: &[usize; 6], between: bool) -> bool {
+    let place = |which: usize| order.iter().position(|other| *other == which);
+    let (data, data_end) = (place(0), place(1));
+    let locked = place(4)..place(5);
+    let apart = between || !(locked.contains(&data) || locked.contains(&data_end));
+    place(4) < place(5) && apart
+}
+
+/// The connections of a session, counted from 0.
+fn synchronous(session: u32) -> u32 {
+    2 * session
+}
+
+fn asynchronous(session: u32) -> u32 {
+    2 * session + 1
+}
+
+/// The mix and each of its kinds.
+const OF_THE_MIX: [(&str, fn(&Messages) -> Workload); 6] = [
+    ("02's mix", |m| m.workload(m.mix(ALL, false))),
+    ("Data", |m| m.of_the_mix(&m.data)),
+    ("DataEND", |m| m.of_the_mix(&m.data_end)),
+    ("status queries", |m| m.of_the_mix(&m.status)),
+    ("lock requests and releases", |m| {
+        m.of_the_mix(&[m.exclusive, m.shared, m.release])
+    }),
+    ("pieces of messages", |m| m.of_the_mix(&m.pieces)),
+];
+
+/// The mix with fewer sessions.
+const FEWER: [(u32, fn(&Messages) -> Workload); 3] = [
+    (1, |m| m.workload(m.mix(1, false))),
+    (4, |m| m.workload(m.mix(4, false))),
+    (16, |m| m.workload(m.mix(16, false))),
+];
+
+/// All workloads, in the page's order.
+pub fn all() -> Vec<Plan> {
+    let mut all = Vec::new();
+    let mut plan = |name: &str, make: fn(&Messages) -> Workload, clear: bool| {
+        let name = name.to_owned();
+        all.push(Plan { name, clear, make });
+    };
+    for (name, make) in OF_THE_MIX {
+        plan(name, make, false);
+        plan(&format!("{name}, buffer cleared"), make, true);
+    }
+    for (sessions, make) in FEWER.into_iter().filter(|fewer| fewer.0 < ALL) {
+        plan(
+            &format!("02's mix, sessions drawn from {sessions}"),
+            make,
+            false,
+        );
+    }
+    let others = ALL - 1;
+    let rest: [(&str, fn(&Messages) -> Workload); 8] = [
+        ("02's mix, in a fixed order", |m| m.workload(m.in_turn())),
+        ("02's mix, a third of Data held", |m| {
+            m.workload(m.mix(ALL, true))
+        }),
+        ("Data and DataEND, held", Messages::held),
+        (&format!("exclusive, {others} waiting"), |m| {
+            m.storm(|_| m.wait)
+        }),
+        (
+            &format!("{LOCK_STRING}-byte strings, {others} waiting"),
+            |m| m.storm(|session| m.wait_long[session as usize]),
         ),
-    ]
+        (&format!("release in vain, {others} waiting"), |m| {
+            m.in_vain(|_| m.wait)
+        }),
+        (&format!("release in vain, {others} wait to share"), |m| {
+            m.in_vain(|session| m.wait_long[session as usize])
+        }),
+        ("DataEND and 1,024-byte answers", Messages::answers),
+    ];
+    for (name, make) in rest {
+        plan(name, make, false);
+    }
+    all
 }

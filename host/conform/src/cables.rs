@@ -1,6 +1,9 @@
 //! A program's bytes in pieces of every kind, and its cable dropped after every byte, while another
 //! program waits for its locks.
 
+use std::ops::Range;
+
+use reference::limits::{CONNECTIONS, LOCK_STRING};
 use reference::{Event, Server, Subject};
 
 use crate::bout::{check_list, Failed, Pair, VENDOR};
@@ -8,8 +11,9 @@ use crate::messages::{answer, clock, cut, deliver, header, lock, message, sessio
 
 const PIECES: [usize; 6] = [1, 3, 15, 16, 17, 2000];
 
-const SYNCHRONOUS: u32 = 0;
-const ASYNCHRONOUS: u32 = 1;
+/// The program is on the last two connections.
+const SYNCHRONOUS: u32 = CONNECTIONS as u32 - 2;
+const ASYNCHRONOUS: u32 = SYNCHRONOUS + 1;
 
 /// What the program sends, and on which connection.
 fn script() -> Vec<(u32, Vec<u8>)> {
@@ -18,7 +22,7 @@ fn script() -> Vec<(u32, Vec<u8>)> {
     vec![
         (SYNCHRONOUS, message(0, 0, 0x0100_5858, b"hislip0")),
         (ASYNCHRONOUS, message(17, 0, 2, b"")),
-        (ASYNCHRONOUS, message(4, 1, 0, b"cal")),
+        (ASYNCHRONOUS, message(4, 1, 0, &[b'c'; LOCK_STRING])),
         (ASYNCHRONOUS, message(4, 1, 0, b"")),
         (SYNCHRONOUS, message(6, 0, 0xffff_ff00, b"MEAS:")),
         (SYNCHRONOUS, message(7, 0, 0xffff_ff02, b"VOLT?")),
@@ -34,6 +38,9 @@ fn script() -> Vec<(u32, Vec<u8>)> {
     ]
 }
 
+/// Within the lock string and the too large payload every 40th byte will do.
+const LONG: [Range<usize>; 2] = [60..305, 393..1403];
+
 /// How many bytes the script has.
 fn length() -> usize {
     script().iter().map(|(_, bytes)| bytes.len()).sum()
@@ -48,7 +55,7 @@ struct Builder {
 }
 
 impl Builder {
-    /// Session 1 is the other program; connections 0 and 1 are open for the script.
+    /// Session 1 is the other program; the last two connections are open for the script.
     fn new() -> Builder {
         let mut builder = Builder {
             list: Vec::new(),
@@ -59,8 +66,9 @@ impl Builder {
         for event in session(2, 3, 1) {
             builder.push(event);
         }
-        builder.push(Event::Open { connection: 0 });
-        builder.push(Event::Open { connection: 1 });
+        for connection in [SYNCHRONOUS, ASYNCHRONOUS] {
+            builder.push(Event::Open { connection });
+        }
         builder
     }
 
@@ -73,7 +81,7 @@ impl Builder {
 
     /// A piece arrives; bytes are shown until none are taken.
     fn arrive(&mut self, connection: u32, piece: &[u8]) {
-        let place = connection as usize;
+        let place = (connection - SYNCHRONOUS) as usize;
         self.unread[place].extend_from_slice(piece);
         loop {
             let taken = self.push(deliver(connection, self.unread[place].clone()));
@@ -122,8 +130,9 @@ fn list(piece: usize, cut_after: usize) -> Vec<Event> {
 pub fn check(pair: Pair) -> Result<usize, Failed> {
     let mut count = 0;
     for piece in PIECES {
-        // Within the too large payload every 40th byte will do.
-        for cut_after in (1..=length()).filter(|n| !(140..1150).contains(n) || n % 40 == 0) {
+        for cut_after in
+            (1..=length()).filter(|n| !LONG.iter().any(|long| long.contains(n)) || n % 40 == 0)
+        {
             count += check_list(pair, "cables", &list(piece, cut_after))?;
         }
     }

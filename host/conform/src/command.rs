@@ -25,10 +25,22 @@ pub const LIBRARY: Side = Side {
     see_locks: false,
 };
 
+pub const ORDINARY: Side = Side {
+    name: "ordinary server",
+    new: |vendor| Box::new(<ordinary::Server as Subject>::new(vendor)),
+    see_locks: true,
+};
+
 /// The reference and the library.
 pub const PAIR: Pair = Pair {
     left: REFERENCE,
     right: LIBRARY,
+};
+
+/// The reference and the server that the library's speed is compared with.
+pub const HELD_TO_IT: Pair = Pair {
+    left: REFERENCE,
+    right: ORDINARY,
 };
 
 pub const USAGE: &str = "\
@@ -40,6 +52,7 @@ conform seed N                    the random list of a seed
 conform examples | systematic | cables | sizes | wrap
                                   one suite, not thinned
 conform list N                    the events of a seed with the library's answers, for `timeline`
+conform ordinary ..               the same with the ordinary server in the library's place
 conform selftest                  every wrong server must be found
 conform .. --json                 the result as one JSON object; everything else goes to the error stream
 
@@ -60,11 +73,15 @@ pub fn execute(program: &str, arguments: &[&str]) -> u8 {
         ["list", seed] => return listed(seed),
         _ => {}
     }
+    let (program, pair, command) = match arguments {
+        ["ordinary", rest @ ..] => (format!("{program} ordinary"), HELD_TO_IT, rest),
+        _ => (program.to_owned(), PAIR, arguments),
+    };
     let mut tally = Tally {
         aside: json,
         ..Tally::default()
     };
-    let ran = match suites(arguments, &mut tally) {
+    let ran = match suites(pair, command, &mut tally) {
         Ok(ran) => ran,
         Err(what) => return not_understood(&what),
     };
@@ -73,7 +90,7 @@ pub fn execute(program: &str, arguments: &[&str]) -> u8 {
             let events = grouped(tally.events());
             tally.say(&format!("conform: {events} events, no difference"));
         }
-        Err(failed) => explain(program, failed, &tally),
+        Err(failed) => explain(&program, pair, failed, &tally),
     }
     if json {
         println!("{}", tally.json(&arguments.join(" "), ran.as_ref().err()));
@@ -82,23 +99,23 @@ pub fn execute(program: &str, arguments: &[&str]) -> u8 {
 }
 
 /// Runs what the arguments name; the outer error is a command that does not exist.
-fn suites(arguments: &[&str], tally: &mut Tally) -> Result<Result<(), Failed>, String> {
+fn suites(pair: Pair, arguments: &[&str], tally: &mut Tally) -> Result<Result<(), Failed>, String> {
     Ok(match arguments {
-        ["quick"] => quick::run(PAIR, tally),
-        ["soak", rest @ ..] => Soak::read(rest)?.run(PAIR, tally),
+        ["quick"] => quick::run(pair, tally),
+        ["soak", rest @ ..] => Soak::read(rest)?.run(pair, tally),
         ["seed", seed] => {
             let seed = number(seed)?;
             let mut reach = Reach::default();
-            let run = || hostile::check(PAIR, seed, &mut reach);
+            let run = || hostile::check(pair, seed, &mut reach);
             let ran = tally.suite(&format!("seed {seed}"), run);
             tally.seeds = Some((seed..=seed, reach));
             ran
         }
-        ["examples"] => tally.suite("bench examples", || bench_examples::check(PAIR)),
-        ["systematic"] => tally.suite("systematic", || systematic::check(PAIR, 1)),
-        ["cables"] => tally.suite("cables", || cables::check(PAIR)),
-        ["sizes"] => tally.suite("sizes", || sizes::check(PAIR)),
-        ["wrap"] => tally.suite("SessionID wrap", || wrap::check(PAIR)),
+        ["examples"] => tally.suite("bench examples", || bench_examples::check(pair)),
+        ["systematic"] => tally.suite("systematic", || systematic::check(pair, 1)),
+        ["cables"] => tally.suite("cables", || cables::check(pair)),
+        ["sizes"] => tally.suite("sizes", || sizes::check(pair)),
+        ["wrap"] => tally.suite("SessionID wrap", || wrap::check(pair)),
         [] => return Err("no command is given".into()),
         _ => return Err(format!("no command `{}`", arguments.join(" "))),
     })
@@ -138,12 +155,12 @@ pub(crate) fn number(text: &str) -> Result<u64, String> {
     number.map_err(|_| format!("`{text}` is no whole number below 2^64"))
 }
 
-fn explain(program: &str, failed: &Failed, tally: &Tally) {
+fn explain(program: &str, pair: Pair, failed: &Failed, tally: &Tally) {
     let again = format!("{program} {}", failed.again);
     tally.say(&format!("DIFFERENCE in `{again}`"));
     let found = &failed.difference;
     tally.say(&format!("event {}: {}", found.place, found.what));
     tally.say("looking for a shorter list ...");
-    tally.say(report::shortest(PAIR, failed).trim_end());
+    tally.say(report::shortest(pair, failed).trim_end());
     tally.say(&format!("repeat with: {again}"));
 }

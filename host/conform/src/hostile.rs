@@ -1,6 +1,7 @@
 //! Random lists, seeded. A list has a temper: some are calm with many locks, some throw rubbish,
 //! some run out of sessions; most get deep before they get wild.
 
+use reference::limits::{CONNECTIONS, LOCK_STRING};
 use reference::{Event, Reply, Subject};
 
 use crate::bout::{Bout, Difference, Failed, Pair};
@@ -281,11 +282,28 @@ impl Author {
             choice if choice < request => message(4, 1, timeout, self.numbers.pick(&STRINGS)),
             0..=19 => message(4, 0, 0xffff_fefe, b""),
             20 => message(24, 0, 0, b""),
-            21 => message(4, 1, timeout, &[b'k'; 64]),
-            22 => message(4, 1, timeout, &[b'k'; 65]),
+            21 | 22 => message(4, 1, timeout, &self.long_string()),
             _ => message(4, 0, 0, b"x"),
         };
         self.send(connection, &bytes)
+    }
+
+    /// Around the limit, and where strings are the same but for their ends.
+    fn long_string(&mut self) -> Vec<u8> {
+        let lengths = [
+            64,
+            65,
+            LOCK_STRING - 1,
+            LOCK_STRING,
+            LOCK_STRING,
+            LOCK_STRING + 1,
+        ];
+        let mut string = vec![b'k'; self.numbers.pick(&lengths)];
+        if self.numbers.permille(300) {
+            string.pop();
+            string.push(b'K');
+        }
+        string
     }
 
     fn asynchronous_message(&mut self) -> Event {
@@ -407,10 +425,11 @@ impl Author {
 
     /// Numbers that no good host would give.
     fn odd_call(&mut self) -> Event {
-        let any = self.numbers.below(40) as u32;
-        let connection =
-            self.numbers
-                .pick(&[any, any, 31, 32, 33, 255, 256, 0x1_0000, 1 << 31, u32::MAX]);
+        const FIRST: u32 = CONNECTIONS as u32;
+        let any = self.numbers.below(CONNECTIONS + 8) as u32;
+        let around = self.numbers.pick(&[FIRST - 1, FIRST, FIRST + 1]);
+        let far = self.numbers.pick(&[255, 256, 0x1_0000, 1 << 31, u32::MAX]);
+        let connection = self.numbers.pick(&[any, any, around, around, far, far]);
         match self.numbers.below(4) {
             0 | 1 => Event::Open { connection },
             2 => Event::Cut {
@@ -451,7 +470,7 @@ impl Author {
 
 impl Temper {
     fn any(numbers: &mut Numbers) -> Temper {
-        let sessions = numbers.pick(&[0, 1, 2, 3, 3, 4, 4, 5, 6, 8, 12, 15, 16, 17]);
+        let sessions = numbers.pick(&[0, 1, 2, 3, 3, 4, 4, 5, 6, 8, 12, 20, 31, 32, 33, 33]);
         let wild = numbers.permille(250);
         let mut weights = [1, 8, 14, 6, 10, 1, 6, 6, 1, 1, 0, 1];
         for weight in &mut weights {

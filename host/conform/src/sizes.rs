@@ -1,12 +1,48 @@
-//! Answers and lock strings of every size, around every limit.
+//! Answers and lock strings of every size, and connections of every number, around every limit.
 
+use reference::limits::{CONNECTIONS, LOCK_STRING, SESSIONS};
 use reference::Event;
 
 use crate::bout::{check_list, Failed, Pair};
-use crate::messages::{answer, deliver, lock, message, release, session};
+use crate::messages::{answer, cut, deliver, half_open, lock, message, release, session};
 
 /// What a client may announce as its size.
 const CLIENT_SIZES: [u64; 7] = [0, 1, 5, 1023, 1024, 1025, u64::MAX];
+
+/// The string with another last byte.
+fn but_the_last(string: &[u8]) -> Vec<u8> {
+    let mut other = string.to_vec();
+    if let Some(last) = other.last_mut() {
+        *last = b'K';
+    }
+    other
+}
+
+/// A session on every two connections, then one more; each asks for the shared lock and releases it.
+/// Numbers from the first that is refused, and far ones; each connection is cut and opens again.
+fn numbers() -> Vec<Event> {
+    let mut list = Vec::new();
+    for (number, synchronous) in (1..=SESSIONS as u32).zip((0..).step_by(2)) {
+        list.extend(session(synchronous, synchronous + 1, number));
+        list.push(deliver(synchronous, message(7, 0, number, b"?")));
+        list.push(lock(synchronous + 1, b"all", 0));
+        list.push(answer(number, b"x", 1));
+    }
+    let first = CONNECTIONS as u32;
+    for connection in (first..first + 8).chain([127, 128, 255, 256, 1 << 16, 1 << 31, u32::MAX]) {
+        list.extend(half_open(connection));
+        list.push(cut(connection));
+    }
+    for synchronous in (0..first).step_by(2) {
+        list.push(deliver(synchronous + 1, message(24, 0, 0, b"")));
+        list.push(release(synchronous + 1));
+    }
+    for connection in 0..first {
+        list.push(cut(connection));
+        list.extend(half_open(connection));
+    }
+    list
+}
 
 pub fn list() -> Vec<Event> {
     let mut list = session(0, 1, 1);
@@ -25,11 +61,12 @@ pub fn list() -> Vec<Event> {
         }
     }
     list.extend(session(2, 3, 2));
-    for length in (0..=70).chain([255, 256, 257, 1023, 1024]) {
+    for length in (0..=LOCK_STRING + 6).chain([1023, 1024]) {
         let string = vec![b'k'; length];
         list.push(lock(1, &string, 0));
         list.push(lock(3, &string, 0));
         list.push(lock(3, &vec![b'k'; length + 1], 0));
+        list.push(lock(3, &but_the_last(&string), 0));
         list.extend([release(1), release(3), release(1), release(3)]);
     }
     for length in 0..=1030 {
@@ -43,5 +80,6 @@ pub fn list() -> Vec<Event> {
 
 /// Returns the events run.
 pub fn check(pair: Pair) -> Result<usize, Failed> {
-    check_list(pair, "sizes", &list())
+    let sizes = check_list(pair, "sizes", &list())?;
+    Ok(sizes + check_list(pair, "sizes", &numbers())?)
 }

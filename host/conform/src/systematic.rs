@@ -3,6 +3,7 @@
 use std::slice;
 
 use reference::history::omitted;
+use reference::limits::{CONNECTIONS, LOCK_STRING};
 use reference::wire::{class, Channel, Class};
 use reference::Event;
 
@@ -20,14 +21,20 @@ const LENGTHS: [u64; 12] = [
     7,
     8,
     9,
-    64,
-    65,
+    LOCK_STRING as u64,
+    LOCK_STRING as u64 + 1,
     1024,
     1025,
     1 << 32,
     u64::MAX - 15,
     u64::MAX,
 ];
+
+/// The connection that stays without a role.
+const LAST: u32 = CONNECTIONS as u32 - 1;
+
+/// One that is not open, but with all sessions live.
+const FREE: u32 = LAST - 2;
 
 /// How much of the payload is in the delivery.
 #[derive(Clone, Copy)]
@@ -51,15 +58,15 @@ fn two(then: &[Event]) -> Vec<Event> {
     [session(0, 1, 1), session(2, 3, 2), then.to_vec()].concat()
 }
 
-/// So many live sessions, the last one half-open, and connection 31 without a role.
+/// So many live sessions, the last one half-open, and the last connection without a role.
 fn crowd(live: u32) -> Vec<Event> {
     let mut events = Vec::new();
     for number in 1..live {
         let connection = 2 * (number - 1);
         events.extend(session(connection, connection + 1, number));
     }
-    events.extend(half_open(30));
-    events.push(Event::Open { connection: 31 });
+    events.extend(half_open(LAST - 1));
+    events.push(Event::Open { connection: LAST });
     events
 }
 
@@ -81,17 +88,17 @@ pub fn states() -> Vec<State> {
 
 /// Connections that have no session yet, or half of one.
 fn opening() -> Vec<State> {
-    let undecided = Event::Open { connection: 31 };
+    let undecided = Event::Open { connection: LAST };
     let alone = [&half_open(0)[..], slice::from_ref(&undecided)].concat();
     let beside = two(&[&half_open(8)[..], slice::from_ref(&undecided)].concat());
     vec![
-        state("no role, nobody there", 31, 1, vec![undecided]),
-        state("no role, number 1 half-open", 31, 1, alone),
-        state("no role, number 3 half-open", 31, 3, beside.clone()),
-        state("no role, naming an established session", 31, 2, beside),
+        state("no role, nobody there", LAST, 1, vec![undecided]),
+        state("no role, number 1 half-open", LAST, 1, alone),
+        state("no role, number 3 half-open", LAST, 3, beside.clone()),
+        state("no role, naming an established session", LAST, 2, beside),
         state("half-open", 0, 1, half_open(0).to_vec()),
-        state("15 sessions live", 31, 15, crowd(15)),
-        state("16 sessions live", 31, 16, crowd(16)),
+        state("31 sessions live", LAST, 31, crowd(31)),
+        state("32 sessions live", LAST, 32, crowd(32)),
     ]
 }
 
@@ -169,8 +176,8 @@ fn probes(state: &State) -> Vec<Event> {
         release(1),
         release(3),
         cut(state.connection),
-        Event::Open { connection: 29 },
-        deliver(29, message(0, 0, 0x0100_0000, b"")),
+        Event::Open { connection: FREE },
+        deliver(FREE, message(0, 0, 0x0100_0000, b"")),
     ]
 }
 

@@ -1,6 +1,7 @@
 //! The programs at the other end, as a list's author sees them: which connections are open, what
 //! they have sent and nobody has taken yet, and which sessions they got.
 
+use reference::limits::CONNECTIONS;
 use reference::{Event, Reply};
 
 #[derive(Clone, Copy, Debug, PartialEq, Eq)]
@@ -44,7 +45,7 @@ impl World {
             unread: Vec::new(),
         };
         World {
-            wires: vec![wire; 32],
+            wires: vec![wire; CONNECTIONS],
             sessions: Vec::new(),
             clock: 0,
         }

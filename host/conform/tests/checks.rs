@@ -3,7 +3,7 @@
 use std::time::Duration;
 
 use conform::bout::{Bout, Failed, Pair, VENDOR};
-use conform::command::{LIBRARY, REFERENCE};
+use conform::command::{HELD_TO_IT, LIBRARY, REFERENCE};
 use conform::messages::clock;
 use conform::reach::Reach;
 use conform::watch::Side;
@@ -53,6 +53,14 @@ fn random_lists_reach_every_answer() {
         assert!(reach.frames[kind] > 20, "type {kind}: {reach:?}");
     }
     assert!(reach.most_lock_answers >= 5, "{reach:?}");
+}
+
+/// `make conform` does the same on more lists.
+#[test]
+fn the_ordinary_server_answers_as_the_reference() {
+    for seed in 1..=100 {
+        hostile::check(HELD_TO_IT, seed, &mut Reach::default()).expect("every answer and byte");
+    }
 }
 
 #[test]

@@ -1,16 +1,15 @@
 //! Bytes that come: shown to the server until it takes them, and acted on as it says.
 
-use hislip::{Frames, Outcome};
+use hislip::{Frames, Outcome, CONNECTIONS, SESSIONS};
 use query::message::HEADER;
 use query::names;
 
 use crate::connection::Lane;
 use crate::describe::{self, kept};
-use crate::gateway::{Gateway, Who, CONNECTIONS};
+use crate::gateway::{Gateway, Who};
 use crate::instrument::{asks, Fault, Job, Request};
 use crate::session::{Session, LONGEST_MESSAGE};
 
-const SESSIONS: usize = 16;
 const REQUEST: u8 = 1;
 
 /// A message that acted.

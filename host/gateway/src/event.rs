@@ -4,7 +4,7 @@ use std::net::{SocketAddr, TcpStream};
 
 use crate::instrument::Done;
 
-/// A connection's own number, never used twice; the server's numbers 0 to 31 are.
+/// A connection's own number, never used twice; the server's numbers 0 to 63 are.
 pub type Id = u64;
 
 pub enum Event {

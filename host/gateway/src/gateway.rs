@@ -6,7 +6,7 @@ use std::net::{SocketAddr, TcpListener, ToSocketAddrs};
 use std::sync::mpsc::{channel, Receiver, Sender};
 use std::time::{Duration, Instant};
 
-use hislip::{Frames, Server};
+use hislip::{Frames, Server, CONNECTIONS};
 use query::names;
 
 use crate::arrive::Newcomer;
@@ -20,7 +20,6 @@ use crate::log::Log;
 use crate::refuse::Refusals;
 use crate::session::Session;
 
-pub const CONNECTIONS: usize = 32;
 /// How long the last bytes have to get out when the gateway ends.
 const ENDING: Duration = Duration::from_millis(500);
 

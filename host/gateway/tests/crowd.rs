@@ -11,8 +11,7 @@ use common::program::Program;
 use common::{eventually, settings, Running};
 use gateway::instrument::simulated::Simulated;
 use gateway::Settings;
-
-const SESSIONS: usize = 16;
+use hislip::{CONNECTIONS, SESSIONS};
 
 fn initialize(gateway: &Running) -> TcpStream {
     let mut stream = connect(gateway.address);
@@ -28,7 +27,7 @@ fn refused(stream: &mut TcpStream) {
 }
 
 #[test]
-fn the_seventeenth_program_reads_fatal_error_4() {
+fn the_33rd_program_reads_fatal_error_4() {
     let gateway = Running::start();
     let mut clients: Vec<Client> = (0..SESSIONS).map(|_| gateway.open()).collect();
     for _ in 0..20 {
@@ -38,13 +37,13 @@ fn the_seventeenth_program_reads_fatal_error_4() {
         refused(&mut stream);
     }
     assert!(gateway.logged("FatalError 4 sent: server refused connection"));
-    assert_eq!(clients[15].query("*OPC?"), "1");
+    assert_eq!(clients[31].query("*OPC?"), "1");
     drop(clients.pop());
-    assert_eq!(gateway.open().session, 17);
+    assert_eq!(gateway.open().session, 33);
 }
 
 #[test]
-fn seventeen_that_have_only_begun() {
+fn those_that_have_only_begun_count() {
     let gateway = Running::start();
     let mut begun: Vec<TcpStream> = Vec::new();
     for _ in 0..SESSIONS {
@@ -156,8 +155,8 @@ fn a_flood_of_connections_is_bounded() {
         .collect();
     assert_eq!(first.query("*OPC?"), "1");
     let threads = std::fs::read_dir(format!("/proc/{}/task", program.child.id()));
-    // Two for each of 32 connections and of 64 that linger, 64 refusals, and the gateway's own.
-    let most = 2 * (32 + 64) + 64 + 16;
+    // Two for each connection and each of 64 that linger, 64 refusals, and the gateway's own.
+    let most = 2 * (CONNECTIONS + 64) + 64 + 16;
     let count = threads.expect("a live process").count();
     assert!(count <= most, "{count} threads");
     drop(flood);

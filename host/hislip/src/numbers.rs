@@ -7,7 +7,7 @@ use crate::sizes::CONNECTIONS;
 /// A session's number as the client knows it (SessionID), 1 to 65,535.
 pub type SessionId = u16;
 
-/// A connection's number. The host gives it to a socket when it opens; one above 31 can be said, and
+/// A connection's number. The host gives it to a socket when it opens; one above 63 can be said, and
 /// every call that takes it refuses it.
 ///
 /// ```
@@ -31,7 +31,7 @@ impl Connection {
         self.0
     }
 
-    /// The numbers that are not refused, 0 to 31.
+    /// The numbers that are not refused, 0 to 63.
     pub fn all() -> impl Iterator<Item = Connection> {
         (0..CONNECTIONS as u32).map(Connection)
     }

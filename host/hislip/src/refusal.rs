@@ -6,7 +6,7 @@ use std::fmt;
 /// Why a call was turned away. It changed nothing: neither the server nor a lent byte.
 #[derive(Clone, Copy, Debug, PartialEq, Eq, Hash)]
 pub enum Refusal {
-    /// 1: the connection number is above 31; for a delivery or a cut, also not open.
+    /// 1: the connection number is above 63; for a delivery or a cut, also not open.
     Connection,
     /// 2: the connection is already open.
     AlreadyOpen,
@@ -45,7 +45,7 @@ impl Refusal {
     /// The cause, as `hislip_names.h` has it.
     pub fn reason(self) -> &'static str {
         match self {
-            Refusal::Connection => "the connection number is above 31, or not open",
+            Refusal::Connection => "the connection number is above 63, or not open",
             Refusal::AlreadyOpen => "the connection is already open",
             Refusal::ClockBackwards => "the clock is below the last reading",
             Refusal::ClockTooHigh => "the clock is above 2^62",

@@ -56,7 +56,7 @@ impl Server {
         server
     }
 
-    /// A connection opens. Refused: a number above 31, or already open.
+    /// A connection opens. Refused: a number above 63, or already open.
     ///
     /// # Panics
     ///
@@ -69,7 +69,7 @@ impl Server {
     }
 
     /// All unread bytes of a connection; at most one message is taken. Deliver again while bytes are
-    /// taken and some are left. Refused: a number above 31, or not open.
+    /// taken and some are left. Refused: a number above 63, or not open.
     ///
     /// # Panics
     ///
@@ -104,7 +104,7 @@ impl Server {
     }
 
     /// A connection is cut, and its session closes. The frames are lock answers for others. Refused: a
-    /// number above 31, or not open.
+    /// number above 63, or not open.
     ///
     /// # Panics
     ///

@@ -1,10 +1,10 @@
 //! The sizes of the interface, as `include/hislip_server.h` has them.
 
 /// Live sessions, half-open ones included.
-pub const SESSIONS: usize = 16;
+pub const SESSIONS: usize = 32;
 
 /// Connections are numbered from 0 to one below this.
-pub const CONNECTIONS: usize = 32;
+pub const CONNECTIONS: usize = 64;
 
 /// Bytes of a message before its payload.
 pub const HEADER: usize = 16;
@@ -13,7 +13,7 @@ pub const HEADER: usize = 16;
 pub const PAYLOAD: usize = 1024;
 
 /// Bytes of a lock string.
-pub const LOCK_STRING: usize = 64;
+pub const LOCK_STRING: usize = 256;
 
 /// Smallest output buffer that is not refused.
 pub const OUTPUT: usize = 2048;
@@ -22,7 +22,7 @@ pub const OUTPUT: usize = 2048;
 pub const CLOCK_MAX: u64 = 1 << 62;
 
 /// Words of 64 bits that a server is kept in: what [`crate::sys::hislip_words`] tells.
-pub const WORDS: usize = 235;
+pub const WORDS: usize = 459;
 
 /// Bytes that a server is kept in beside them: what [`crate::sys::hislip_string_bytes`] tells.
-pub const STRING_BYTES: usize = 1088;
+pub const STRING_BYTES: usize = 8448;

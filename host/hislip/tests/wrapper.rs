@@ -32,7 +32,7 @@ fn refusals_have_number_and_cause() {
     let mut server = with_session();
     assert_eq!(server.clock(9).expect("forwards").count(), 0);
     let told: Vec<(u64, String)> = [
-        server.open(32).unwrap_err(),
+        server.open(64).unwrap_err(),
         server.open(0).unwrap_err(),
         server.clock(8).unwrap_err(),
         server.clock(u64::MAX).unwrap_err(),
@@ -85,8 +85,8 @@ fn several_frames_come_in_order() {
 #[test]
 fn a_connection_without_a_session_closes_without_a_number() {
     let mut server = Server::new(*b"ZZ");
-    server.open(31).expect("not open");
-    let closed = server.deliver(31, &[0; 16]).expect("open");
+    server.open(63).expect("not open");
+    let closed = server.deliver(63, &[0; 16]).expect("open");
     assert_eq!(closed.outcome, Outcome::Closed { session: None });
 }
 
@@ -171,8 +171,8 @@ fn every_connection_number_can_be_said() {
     for connection in Connection::all() {
         server.open(connection).expect("not open");
     }
-    for number in [32, 256, u32::MAX] {
+    for number in [64, 255, 256, u32::MAX] {
         assert_eq!(server.open(number).unwrap_err(), Refusal::Connection);
     }
-    assert_eq!(Connection::all().last(), Some(31.into()));
+    assert_eq!(Connection::all().last(), Some(63.into()));
 }

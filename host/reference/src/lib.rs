@@ -1,7 +1,7 @@
 //! The rules of document 01 a second time, in ordinary Rust.
 //!
-//! Written from the papers alone, so that it can disagree with the proved library. It is also the
-//! program that the library's speed is compared with: no allocation per call, all state in place.
+//! Written from the papers alone, so that it can disagree with the proved library. The server that the
+//! library's speed is compared with is `ordinary`.
 //!
 //! `lock_model` is 01's ledger and shares no rule with `server`; `history` is 01's shortened list.
 

@@ -9,7 +9,7 @@ use std::collections::BTreeMap;
 use crate::event::{Event, Reply};
 use crate::lock_view::{LockView, SessionView, WaitingView};
 
-const LOCK_STRING: usize = 64;
+const LOCK_STRING: usize = 256;
 
 #[derive(Clone, Debug, Default)]
 struct Entry {

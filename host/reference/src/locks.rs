@@ -6,7 +6,7 @@ use crate::limits::{LOCK_STRING, SESSIONS};
 
 #[derive(Clone, Copy, Debug, PartialEq, Eq, Hash)]
 pub struct LockString {
-    length: u8,
+    length: u16,
     bytes: [u8; LOCK_STRING],
 }
 
@@ -21,7 +21,7 @@ impl LockString {
         let mut bytes = [0; LOCK_STRING];
         bytes.get_mut(..string.len())?.copy_from_slice(string);
         Some(LockString {
-            length: string.len() as u8,
+            length: string.len() as u16,
             bytes,
         })
     }
@@ -60,14 +60,14 @@ pub enum Released {
 pub struct Locks {
     exclusive: Option<u8>,
     /// One bit for each slot.
-    shared: u16,
+    shared: u32,
     key: LockString,
     /// By arrival; places from `count` on are blank.
     waiting: [Request; SESSIONS],
     count: usize,
 }
 
-fn bit(slot: u8) -> u16 {
+fn bit(slot: u8) -> u32 {
     1 << slot
 }
 

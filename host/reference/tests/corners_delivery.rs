@@ -35,8 +35,8 @@ fn item_02_common_prefix_of_all_deliveries() {
         bench.server.deliver(99, &good, &mut short),
         Err(Refusal::ShortBuffer)
     );
-    assert_eq!(bench.try_deliver(32, &good), Err(Refusal::Connection));
-    assert_eq!(bench.try_deliver(31, &good), Err(Refusal::Connection));
+    assert_eq!(bench.try_deliver(64, &good), Err(Refusal::Connection));
+    assert_eq!(bench.try_deliver(63, &good), Err(Refusal::Connection));
     assert_eq!(bench.deliver(a.sync, b""), more_needed());
     assert_eq!(bench.deliver(a.sync, &[0; 15]), more_needed());
     assert_eq!(bench.deliver(a.sync, &[0; 16]), fatal_both(a, 1));
@@ -441,19 +441,19 @@ fn item_29_sub_address_and_version() {
         assert_eq!(seen.frames, [sent(0, 1, 0, given << 16 | number)]);
         bench.cut(0);
     }
-    for connection in 0..16 {
+    for connection in 0..32 {
         bench.half_open(connection);
     }
-    bench.open(20);
-    assert_eq!(bench.send(20, 0, 0, b"bad"), fatal(20, 3));
-    bench.open(20);
-    assert_eq!(bench.send(20, 0, 0, b""), fatal(20, 4));
+    bench.open(40);
+    assert_eq!(bench.send(40, 0, 0, b"bad"), fatal(40, 3));
+    bench.open(40);
+    assert_eq!(bench.send(40, 0, 0, b""), fatal(40, 4));
 }
 
 #[test]
 fn item_30_session_numbers_go_round_and_pass_over_live_ones() {
     let mut bench = Bench::new();
-    let stays = bench.session_on(30, 31);
+    let stays = bench.session_on(62, 63);
     let half = bench.half_open(29);
     assert_eq!((stays.number, half), (1, 2));
     for expected in 3..=65_535 {
@@ -490,13 +490,13 @@ fn item_31_closing_frees_everything_of_the_session() {
 #[test]
 fn item_31_cutting_a_half_open_session_frees_its_place() {
     let mut bench = Bench::new();
-    for connection in 0..16 {
+    for connection in 0..32 {
         bench.half_open(connection);
     }
-    bench.open(20);
-    assert_eq!(bench.cut(20), []);
+    bench.open(40);
+    assert_eq!(bench.cut(40), []);
     assert_eq!(bench.cut(3), []);
-    assert_eq!(bench.half_open(3), 17);
+    assert_eq!(bench.half_open(3), 33);
 }
 
 #[test]

@@ -13,7 +13,7 @@ fn item_36_refusals_in_order_and_without_effect() {
     let mut short = vec![5; 2047];
     bench.unchanged(|bench| {
         let server = &mut bench.server;
-        assert_eq!(server.open(32), Err(Refusal::Connection));
+        assert_eq!(server.open(64), Err(Refusal::Connection));
         assert_eq!(server.open(u32::MAX), Err(Refusal::Connection));
         assert_eq!(server.open(0), Err(Refusal::AlreadyOpen));
         assert_eq!(server.cut(77, &mut short), Err(Refusal::ShortBuffer));
@@ -25,8 +25,8 @@ fn item_36_refusals_in_order_and_without_effect() {
             server.answer(9, &[0; 2000], true, &mut short),
             Err(Refusal::ShortBuffer)
         );
-        assert_eq!(bench.try_cut(32), Err(Refusal::Connection));
-        assert_eq!(bench.try_cut(31), Err(Refusal::Connection));
+        assert_eq!(bench.try_cut(64), Err(Refusal::Connection));
+        assert_eq!(bench.try_cut(63), Err(Refusal::Connection));
         assert_eq!(bench.try_clock(u64::MAX), Err(Refusal::ClockTooHigh));
         assert_eq!(bench.try_clock((1 << 62) + 1), Err(Refusal::ClockTooHigh));
         assert_eq!(bench.try_clock(99), Err(Refusal::ClockBackwards));

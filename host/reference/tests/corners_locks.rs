@@ -21,9 +21,9 @@ fn item_45_granting_rule() {
 #[test]
 fn item_46_answers_in_order() {
     let (mut bench, [a, b]) = Bench::with();
-    assert_eq!(bench.lock(a, &[b'x'; 65], 0), Some(3));
+    assert_eq!(bench.lock(a, &[b'x'; 257], 0), Some(3));
     assert_eq!(bench.lock(a, &[b'x'; 1024], 0), Some(3));
-    assert_eq!(bench.lock(a, &[b'x'; 64], 0), Some(1));
+    assert_eq!(bench.lock(a, &[b'x'; 256], 0), Some(1));
     assert_eq!(bench.lock(a, b"y", 0), Some(3));
     assert_eq!(bench.lock(a, b"", 9), Some(1));
     assert_eq!(bench.lock(a, b"", 9), Some(3));
@@ -36,6 +36,13 @@ fn item_46_answers_in_order() {
 #[test]
 fn item_46_strings_are_bytes() {
     let (mut bench, [a, b]) = Bench::with();
+    assert_eq!(bench.lock(a, &[b'x'; 256], 0), Some(1));
+    let last = [&[b'x'; 255][..], b"y"].concat();
+    assert_eq!(bench.lock(b, &last, 0), Some(0), "the last byte counts");
+    assert_eq!(bench.lock(b, &last[..255], 0), Some(0), "a byte shorter");
+    assert_eq!(bench.lock(b, &[b'x'; 256], 0), Some(1));
+    assert_eq!(bench.release(a), (2, vec![]));
+    assert_eq!(bench.release(b), (2, vec![]));
     assert_eq!(bench.lock(a, b"k\0", 0), Some(1));
     assert_eq!(bench.lock(b, b"k", 0), Some(0));
     assert_eq!(bench.lock(b, b"k\0\0", 0), Some(0));
@@ -188,8 +195,8 @@ fn item_58_a_release_leaves_the_own_request_waiting() {
     assert_eq!(bench.release(b), (2, vec![granted(a)]));
 }
 
-/// All but the first of sixteen sessions wait for the lock that the first holds.
-fn storm() -> (Bench, [Client; 16]) {
+/// All but the first of 32 sessions wait for the lock that the first holds.
+fn storm() -> (Bench, [Client; 32]) {
     let (mut bench, clients) = Bench::with();
     bench.lock(clients[0], b"", 0);
     for client in &clients[1..] {
@@ -204,14 +211,14 @@ fn item_63_the_longest_outputs() {
         |frames: &[Sent]| -> usize { frames.iter().map(|frame| 17 + frame.payload.len()).sum() };
     let (mut bench, clients) = storm();
     let closed = bench.deliver(clients[0].sync, &[0; 16]);
-    assert_eq!(length(&closed.frames), 289);
+    assert_eq!(length(&closed.frames), 34 + 31 * 17);
     let (mut bench, clients) = storm();
     let released = bench.send(clients[0].asynchronous, LOCK, 0, b"");
-    assert_eq!(length(&released.frames), 272);
+    assert_eq!(length(&released.frames), 17 + 31 * 17);
     let (mut bench, clients) = storm();
-    assert_eq!(length(&bench.cut(clients[0].sync)), 255);
+    assert_eq!(length(&bench.cut(clients[0].sync)), 31 * 17);
     let (mut bench, clients) = storm();
-    assert_eq!(length(&bench.clock(100)), 255);
+    assert_eq!(length(&bench.clock(100)), 31 * 17);
     bench.ask(clients[0], 2);
     let answer = bench.answer(1, &[1; 1024], true).expect("asked");
     assert_eq!(length(&answer), 1041);

@@ -13,10 +13,10 @@ use Rattle.effects.proofs.session_id.next_session_id.Statement.{stateme
 use Rattle.effects.proofs.session_id.next_session_id.Tie as tie
 
 abbrev Inv-loop : tie.InvT-loop
-Inv-loop w last k₀ k = (k ≤ 16) × ((s : List ℕ) → issued sessionLimit 0 (locksOf w s .entries) (restOf w .lastIssued) ≡ triesFrom k (locksOf w s .entries) last)
+Inv-loop w last k₀ k = (k ≤ sessionLimit) × ((s : List ℕ) → issued sessionLimit 0 (locksOf w s .entries) (restOf w .lastIssued) ≡ triesFrom k (locksOf w s .entries) last)
 
 abbrev μ-loop : tie.MeasureT-loop
-μ-loop w last k₀ k = 16 - k
+μ-loop w last k₀ k = sessionLimit - k
 
 loop-holds : tie.Need-loop-holds Inv-loop μ-loop
 loop-holds c = (omega arith, λ s. tries-start (locksOf (c .before .args .w .now) s .entries) (restOf (c .before .args .w .now) .lastIssued) (c .single .result % 65536) (last-read (restOf (c .before .args .w .now)) (c .single .result) (c .single .ensures .0)))

@@ -7,6 +7,7 @@ use native.Mathlib.Omega.{arith}
 use lib.ListN.{drop}
 use Rattle.model.specs.Acts.{holder}
 use Rattle.model.specs.Lists.{tally}
+use Rattle.model.specs.Sizes.{sessionLimit}
 use Rattle.locks.specs.Info.{count-end, count-holder, count-other}
 use Rattle.state.specs.View.{locksOf}
 use borrow.Author.Needs.{needs}
@@ -14,10 +15,10 @@ use Rattle.locks.proofs.info.holder_count.Statement.{statement}
 use Rattle.locks.proofs.info.holder_count.Tie as tie
 
 abbrev Inv-loop : tie.InvT-loop
-Inv-loop w n₀ k₀ n k = (k ≤ 16) × (n ≤ k) × ((s : List ℕ) → tally holder (locksOf w s .entries) ≡ n + tally holder (drop k (locksOf w s .entries)))
+Inv-loop w n₀ k₀ n k = (k ≤ sessionLimit) × (n ≤ k) × ((s : List ℕ) → tally holder (locksOf w s .entries) ≡ n + tally holder (drop k (locksOf w s .entries)))
 
 abbrev μ-loop : tie.MeasureT-loop
-μ-loop w n₀ k₀ n k = 16 - k
+μ-loop w n₀ k₀ n k = sessionLimit - k
 
 loop-holds : tie.Need-loop-holds Inv-loop μ-loop
 loop-holds c = (search needs, search needs, λ s. omega arith)

@@ -3,11 +3,11 @@ use mathlib.Core.Path.{_≡_, refl, ap}
 use mathlib.Core.List.{[]}
 use native.Mathlib.Omega.{arith}
 use Rattle.wire.specs.Frame.{bytesOf}
-use Rattle.model.specs.Interface.{Reply.took, Outcome.more-needed, Outcome.held, Outcome.ignored}
+use Rattle.model.specs.Interface.{Reply.took, Outcome.more-needed, Outcome.ignored}
 use Rattle.effects.specs.Did.{numbersOf, did-nothing, did-plainly}
 use Rattle.effects.specs.Replies.{nothing-said}
 use Rattle.state.specs.View.{memory, restOf, view}
-use Rattle.server.specs.Verdicts.{fatal-done, error-done, closed-done, ignored-done, held-done, more-done}
+use Rattle.server.specs.Verdicts.{fatal-done, error-done, closed-done, ignored-done, more-done}
 use borrow.Author.Needs.{needs}
 use Rattle.server.proofs.deliver.apply.Statement.{statement}
 use Rattle.server.proofs.deliver.apply.Tie as tie
@@ -36,14 +36,9 @@ returns-4 c =
 
 returns-5 : tie.Need-returns-5
 returns-5 c =
-    let a = c .before .before .before .before .before .before .before .args in
-    λ ro x e f. held-done (view (memory (a .w .now) (a .strings .now))) (a .c) (a .i) x ro _ _ _ _ _ (a .v) (c .before .if5 .taken) (did-nothing 0 (took held 0 0) _ _ _ (ap numbersOf (c .quiet2 .ensures)))
-
-returns-6 : tie.Need-returns-6
-returns-6 c =
-    let p = c .before .before .before .before .before .before .before in
+    let p = c .before .before .before .before .before .before in
     let a = p .args in
-    λ ro x e f. more-done (view (memory (a .w .now) (a .strings .now))) (a .c) (a .i) x ro _ _ _ _ _ (a .v) (omega arith) (c .before .if5 .left) (c .before .before .if4 .left) (c .before .before .before .if3 .left) (p .pre .3) (did-nothing 0 (took more-needed 0 0) _ _ _ (ap numbersOf (c .more-needed .ensures)))
+    λ ro x e f. more-done (view (memory (a .w .now) (a .strings .now))) (a .c) (a .i) x ro _ _ _ _ _ (a .v) (omega arith) (p .pre .4) (c .before .if4 .left) (c .before .before .if3 .left) (p .pre .3) (did-nothing 0 (took more-needed 0 0) _ _ _ (ap numbersOf (c .more-needed .ensures)))
 
 pub apply-spec : {M : Type 1} → statement M
 apply-spec =
@@ -61,6 +56,4 @@ apply-spec =
     (λ c κs. search needs)
     returns-4
     (λ c κs. search needs)
-    returns-5
-    (λ c κs. search needs)
-    returns-6)
+    returns-5)

@@ -35,7 +35,7 @@ returns-2 c =
     let t : prologue bs ≡ true = sym (c .before .before .before .before .before .before .before .before .before .before .has-prologue .ensures) ∙ not-false (c .before .before .before .before .before .before .before .before .before .before .has-prologue .result) (c .before .before .before .before .before .before .before .before .before .if1 .left) in
     let v = c .before .before .before .before .before .before .long-verdict in
     λ ro e. on-scan d (a .c) (a .i) _ _ _ _ _ 0 (length bs) ro (freshScan bs) (long h) (scan-long bs (p .pre .1) t (omega arith) ∙ ap long (sym eh))
-    (long-done d (a .c) (a .i) _ _ _ _ _ 0 (length bs) ro h (v .result) (v .ensures .1 ro e .case) (c .before .before .apply .ensures ro (long h) refl refl))
+    (long-done d (a .c) (a .i) _ _ _ _ _ 0 (length bs) ro h (v .result) (v .ensures .2 ro e .case) (c .before .before .apply .ensures ro (long h) refl refl))
 
 returns-3 : tie.Need-returns-3
 returns-3 c =
@@ -49,7 +49,7 @@ returns-3 c =
     let t : prologue bs ≡ true = sym (c .before .before .before .before .before .before .before .has-prologue .ensures) ∙ not-false (c .before .before .before .before .before .before .before .has-prologue .result) (c .before .before .before .before .before .before .if1 .left) in
     let v = c .before .before .partial-verdict in
     λ ro e. on-scan d (a .c) (a .i) _ _ _ _ _ 0 (length bs) ro (freshScan bs) (part h) (scan-part bs (p .pre .1) t (omega arith) (omega arith) ∙ ap part (sym eh))
-    (part-more d (a .c) (a .i) _ _ _ _ _ 0 (length bs) ro h (v .ensures .1 ro (h .code) (h .param) (h .len) e .case ∙ ap verdictOf (c .before .if4 .taken))
+    (part-more d (a .c) (a .i) _ _ _ _ _ 0 (length bs) ro h (v .ensures .2 ro (h .code) (h .param) (h .len) e .case ∙ ap verdictOf (c .before .if4 .taken))
     (did-nothing (16 + h .len - length bs) (took more-needed 0 0) _ _ _ (ap numbersOf (c .more-needed .ensures))))
 
 returns-4 : tie.Need-returns-4
@@ -64,7 +64,7 @@ returns-4 c =
     let t : prologue bs ≡ true = sym (c .before .before .before .before .before .before .before .before .before .before .before .before .has-prologue .ensures) ∙ not-false (c .before .before .before .before .before .before .before .before .before .before .before .before .has-prologue .result) (c .before .before .before .before .before .before .before .before .before .before .before .if1 .left) in
     let v = c .before .before .before .before .before .before .before .partial-verdict in
     λ ro e. on-scan d (a .c) (a .i) _ _ _ _ _ 0 (length bs) ro (freshScan bs) (part h) (scan-part bs (p .pre .1) t (omega arith) (omega arith) ∙ ap part (sym eh))
-    (part-done d (a .c) (a .i) _ _ _ _ _ 0 (length bs) ro h (v .result) (v .ensures .1 ro (h .code) (h .param) (h .len) e) (c .before .before .before .before .before .before .if4 .left) (c .before .before .apply2 .ensures ro (part h) refl refl))
+    (part-done d (a .c) (a .i) _ _ _ _ _ 0 (length bs) ro h (v .result) (v .ensures .2 ro (h .code) (h .param) (h .len) e) (c .before .before .before .before .before .before .if4 .left) (c .before .before .apply2 .ensures ro (part h) refl refl))
 
 deliver-whole-requires : tie.Need-deliver-whole-requires
 deliver-whole-requires c κs = let a = c .before .before .before .before .before .before .before .before .before .before .before .args in

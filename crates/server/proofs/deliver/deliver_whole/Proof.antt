@@ -1,51 +1,58 @@
--- `deliver::deliver_whole` meets its contract: the verdict by its number, and what was done by it.
-use mathlib.Core.Path.{_≡_, refl, ap, _∙_}
+-- `deliver::deliver_whole` meets its contract: role and kind told as constants are those of the message.
+use mathlib.Core.Path.{_≡_, _∙_}
 use native.Mathlib.Omega.{arith}
-use Rattle.checks.specs.Numbers.{message, verdictOf}
-use Rattle.model.specs.Checks.{judged}
-use Rattle.model.specs.Scan.{Scan.whole}
 use Rattle.state.specs.View.{memory, view}
-use Rattle.server.specs.Verdicts.{acts-done, by-verdict}
+use Rattle.server.specs.Verdicts.{of-kind}
 use borrow.Author.Needs.{needs}
 use Rattle.server.proofs.deliver.deliver_whole.Statement.{statement}
 use Rattle.server.proofs.deliver.deliver_whole.Tie as tie
 
-whole-verdict-requires : tie.Need-whole-verdict-requires
-whole-verdict-requires c κs = λ e. c .before .before .before .pre .5 (λ z. omega arith)
-
-act-requires : tie.Need-act-requires
-act-requires c κs =
-    let q = c .before .before .before .before .before .before .before .before .pre in
-    let v = c .before .before .before .before .whole-verdict in
-    (search needs, search needs, q .2, search needs, q .5, λ t ro e. v .ensures t ro e .case ∙ ap verdictOf (c .before .before .before .if1 .taken))
+deliver-kind-requires : tie.Need-deliver-kind-requires
+deliver-kind-requires c κs =
+    let q = c .before .before .before .before .before .before .before .pre in
+    (search needs, search needs, q .2, search needs, q .4, λ o. q .5 (λ z. omega arith))
 
 returns : tie.Need-returns
 returns c =
-    let a = c .before .before .before .before .before .before .before .before .before .before .before .args in
-    let v = c .before .before .before .before .before .before .before .whole-verdict in
-    let d = view (memory (a .w .now) (a .strings .now)) in
-    let h = message (a .kind) (a .code) (a .param) (a .len) in
-    λ ro e. acts-done d (a .c) (a .i) h (a .payload .now) ro _ _ _ _ _ (judged ro d (a .i) h (a .payload .now))
-    (v .ensures (a .strings .now) ro e .case ∙ ap verdictOf (c .before .before .before .before .before .before .if1 .taken)) (c .before .before .act .ensures ro e)
+    let a = c .before .before .before .before .before .before .before .before .before .before .args in
+    let f = c .before .before .deliver-kind in
+    λ ro e. of-kind (view (memory (a .w .now) (a .strings .now))) (a .c) (a .i) (a .h) (a .payload .now) ro _ _ _ _ _ 6 (c .before .before .before .before .before .before .if2 .taken) (f .ensures ro (e ∙ c .before .before .before .before .before .before .before .if1 .taken))
+
+deliver-kind-requires-2 : tie.Need-deliver-kind-requires-2
+deliver-kind-requires-2 c κs =
+    let q = c .before .before .before .before .before .before .before .before .pre in
+    (search needs, search needs, q .2, search needs, q .4, λ o. q .5 (λ z. omega arith))
 
 returns-2 : tie.Need-returns-2
 returns-2 c =
     let a = c .before .before .before .before .before .before .before .before .before .before .before .args in
-    let v = c .before .before .before .before .before .before .before .whole-verdict in
-    let d = view (memory (a .w .now) (a .strings .now)) in
-    let h = message (a .kind) (a .code) (a .param) (a .len) in
-    λ ro e. by-verdict d (a .c) (a .i) (whole h (a .payload .now)) ro _ _ _ _ _ (judged ro d (a .i) h (a .payload .now)) (verdictOf (v .result))
-    (v .ensures (a .strings .now) ro e .case) (c .before .before .apply .ensures ro (whole h (a .payload .now)) refl refl)
+    let f = c .before .before .deliver-kind2 in
+    λ ro e. of-kind (view (memory (a .w .now) (a .strings .now))) (a .c) (a .i) (a .h) (a .payload .now) ro _ _ _ _ _ 7 (c .before .before .before .before .before .before .if3 .taken) (f .ensures ro (e ∙ c .before .before .before .before .before .before .before .before .if1 .taken))
+
+deliver-kind-requires-3 : tie.Need-deliver-kind-requires-3
+deliver-kind-requires-3 c κs =
+    let q = c .before .before .before .before .before .before .before .before .pre in
+    (search needs, search needs, q .2, search needs, q .4, λ o. q .5 (λ z. omega arith))
+
+returns-3 : tie.Need-returns-3
+returns-3 c =
+    let a = c .before .before .before .before .before .before .before .before .before .before .before .args in
+    let f = c .before .before .deliver-kind3 in
+    λ ro e. of-kind (view (memory (a .w .now) (a .strings .now))) (a .c) (a .i) (a .h) (a .payload .now) ro _ _ _ _ _ 21 (c .before .before .before .before .before .before .if5 .taken) (f .ensures ro (e ∙ c .before .before .before .before .before .before .before .if4 .taken))
 
 pub deliver-whole-spec : {M : Type 1} → statement M
 deliver-whole-spec =
     tie.close
     (tie.spec
-    whole-verdict-requires
-    act-requires
+    deliver-kind-requires
     (λ c. search needs)
     returns
+    deliver-kind-requires-2
     (λ c. search needs)
+    returns-2
+    deliver-kind-requires-3
+    (λ c. search needs)
+    returns-3
     (λ c κs. search needs)
     (λ c. search needs)
-    returns-2)
+    (λ c. search needs))

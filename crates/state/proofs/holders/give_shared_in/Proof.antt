@@ -4,6 +4,7 @@ use mathlib.Core.List.{List}
 use Prim.Native.Nat.{ℕ, _+_, _*_, _-_}
 use native.Mathlib.Omega.{arith}
 use lib.ListN.{length, set, take, drop}
+use Rattle.model.specs.Sizes.{sessionLimit, stringLimit}
 use Rattle.wire.specs.Splice.{splice}
 use Rattle.state.specs.Bits.{with-bit}
 use Rattle.state.specs.Layout.{KEY, SHARERS}
@@ -22,9 +23,9 @@ returns c = let p = c .before .before in
     let w : List ℕ = a .w .now in
     let s : List ℕ = a .strings .now in
     let k : List ℕ = stringAt w s (a .i) in
-    let e : take (a .n) (drop (64 + a .i * 64) s) ≡ k = string-bytes w s (a .i) (a .n) (search needs) (search needs) (q .3) in
+    let e : take (a .n) (drop (stringLimit + a .i * stringLimit) s) ≡ k = string-bytes w s (a .i) (a .n) (search needs) (search needs) (q .3) in
     ap₂ (λ (x : ℕ) (y : List ℕ). view (memory (set (set w KEY (a .n - 1)) SHARERS x) y)) (c .before .before .before .before .put-in .ensures) (p .copy-to-front .ensures ∙ ap (splice s 0) e)
-    ∙ ap (λ (x : ℕ). view (memory (set (set w KEY (x - 1)) SHARERS (with-bit 16 (word w SHARERS) (a .i))) (splice s 0 k))) (q .3)
+    ∙ ap (λ (x : ℕ). view (memory (set (set w KEY (x - 1)) SHARERS (with-bit sessionLimit (word w SHARERS) (a .i))) (splice s 0 k))) (q .3)
     ∙ string-given w s (a .i) k (search needs) (search needs) (search needs) (omega arith) (omega arith) (q .6)
 
 pub give-shared-in-spec : {M : Type 1} → statement M

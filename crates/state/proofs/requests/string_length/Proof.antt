@@ -1,4 +1,4 @@
--- `requests::string_length` meets its contract: the second word of the slot's row, at most 64.
+-- `requests::string_length` meets its contract: the second word of the slot's row, at most 256.
 use mathlib.Core.Path.{_∙_}
 use Rattle.state.specs.Strings.{string-length}
 use borrow.Author.Needs.{needs}

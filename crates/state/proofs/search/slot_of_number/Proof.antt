@@ -5,6 +5,7 @@ use Prim.Native.Nat.{ℕ, _+_, _-_, _≤_}
 use native.Mathlib.Omega.{arith}
 use lib.Dec.{eqb}
 use Rattle.model.specs.Lists.{position}
+use Rattle.model.specs.Sizes.{sessionLimit}
 use Rattle.model.specs.State.{at}
 use Rattle.model.specs.State.{Entry}
 use Rattle.state.specs.Search.{from, search-starts, search-hits, search-goes-on, search-ends, number-read}
@@ -15,10 +16,10 @@ use Rattle.state.proofs.search.slot_of_number.Statement.{statement}
 use Rattle.state.proofs.search.slot_of_number.Tie as tie
 
 abbrev Inv-loop : tie.InvT-loop
-Inv-loop w n i₀ i = (i ≤ 16) × ((s : List ℕ) → position (λ (e : Entry). eqb (e .number) n) (locksOf w s .entries) ≡ i + from w s (λ (e : Entry). eqb (e .number) n) i)
+Inv-loop w n i₀ i = (i ≤ sessionLimit) × ((s : List ℕ) → position (λ (e : Entry). eqb (e .number) n) (locksOf w s .entries) ≡ i + from w s (λ (e : Entry). eqb (e .number) n) i)
 
 abbrev μ-loop : tie.MeasureT-loop
-μ-loop w n i₀ i = 16 - i
+μ-loop w n i₀ i = sessionLimit - i
 
 loop-holds : tie.Need-loop-holds Inv-loop μ-loop
 loop-holds c = let a = c .args in (omega arith, λ s. search-starts (a .w .now) s (λ (e : Entry). eqb (e .number) (a .n)))

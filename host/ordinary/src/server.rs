@@ -1,0 +1,206 @@
+//! The state, and the events that are not deliveries.
+
+use reference::limits::{CLOCK, CONNECTIONS, OUTPUT, PAYLOAD, SESSIONS};
+use reference::wire::kind;
+use reference::{Refusal, Reply};
+
+use crate::frames::Frames;
+use crate::locks::Locks;
+use crate::replies::{done, refused};
+
+#[derive(Clone, Copy, PartialEq, Eq, Hash)]
+pub enum Role {
+    NotOpen,
+    /// Open, and no message has given it a role yet.
+    Undecided,
+    /// The synchronous connection of a session that has no other yet.
+    HalfOpen,
+    Synchronous,
+    Asynchronous,
+}
+
+#[derive(Clone, Copy, Hash)]
+pub struct Connection {
+    /// Payload bytes of a too large message that are still to come.
+    pub skip: u64,
+    pub role: Role,
+    /// Its session's slot, if it has one.
+    pub slot: u8,
+}
+
+const NOT_OPEN: Connection = Connection {
+    skip: 0,
+    role: Role::NotOpen,
+    slot: 0,
+};
+
+#[derive(Clone, Copy, Hash)]
+pub struct Session {
+    /// 0: nobody is in this slot.
+    pub number: u16,
+    pub synchronous: u8,
+    /// None while the session is half-open.
+    pub asynchronous: Option<u8>,
+    pub in_clear: bool,
+    pub message_available: bool,
+    /// MessageID that the instrument's answer will carry.
+    pub asked: Option<u32>,
+    pub client_size: u64,
+}
+
+const NOBODY: Session = Session {
+    number: 0,
+    synchronous: 0,
+    asynchronous: None,
+    in_clear: false,
+    message_available: false,
+    asked: None,
+    client_size: PAYLOAD as u64,
+};
+
+impl Session {
+    pub fn new(number: u16, synchronous: u8) -> Session {
+        Session {
+            number,
+            synchronous,
+            ..NOBODY
+        }
+    }
+}
+
+/// Shared by all sessions, and outlives them.
+#[derive(Clone, Copy, Default, Hash)]
+pub struct RemoteLocal {
+    pub enable: bool,
+    pub lockout: bool,
+    pub remote: bool,
+}
+
+#[derive(Clone, Hash)]
+pub struct Server {
+    pub(crate) vendor: u16,
+    pub(crate) last_issued: u16,
+    pub(crate) status: u8,
+    pub(crate) remote_local: RemoteLocal,
+    pub(crate) clock: u64,
+    pub(crate) connections: [Connection; CONNECTIONS],
+    pub(crate) sessions: [Session; SESSIONS],
+    pub(crate) locks: Locks,
+}
+
+impl Server {
+    pub fn new(vendor: u16) -> Server {
+        Server {
+            vendor,
+            last_issued: 0,
+            status: 0,
+            remote_local: RemoteLocal::default(),
+            clock: 0,
+            connections: [NOT_OPEN; CONNECTIONS],
+            sessions: [NOBODY; SESSIONS],
+            locks: Locks::new(),
+        }
+    }
+
+    pub fn open(&mut self, connection: u32) -> Reply {
+        let Some(here) = self.connections.get_mut(connection as usize) else {
+            return refused(Refusal::Connection);
+        };
+        if here.role != Role::NotOpen {
+            return refused(Refusal::AlreadyOpen);
+        }
+        here.role = Role::Undecided;
+        done(0)
+    }
+
+    pub fn cut(&mut self, connection: u32, out: &mut [u8]) -> Reply {
+        let Some(out) = out.first_chunk_mut::<OUTPUT>() else {
+            return refused(Refusal::ShortBuffer);
+        };
+        match self.connections.get(connection as usize) {
+            Some(here) if here.role != Role::NotOpen => {
+                let mut frames = Frames::new(out);
+                self.close(connection as u8, &mut frames);
+                done(frames.used())
+            }
+            _ => refused(Refusal::Connection),
+        }
+    }
+
+    pub fn clock(&mut self, milliseconds: u64, out: &mut [u8]) -> Reply {
+        let Some(out) = out.first_chunk_mut::<OUTPUT>() else {
+            return refused(Refusal::ShortBuffer);
+        };
+        if milliseconds > CLOCK {
+            return refused(Refusal::ClockTooHigh);
+        }
+        if milliseconds < self.clock {
+            return refused(Refusal::ClockBackwards);
+        }
+        self.clock = milliseconds;
+        let mut frames = Frames::new(out);
+        self.locks.expire(milliseconds, |connection| {
+            frames.send(connection, kind::LOCK_RESPONSE, 0, 0);
+        });
+        done(frames.used())
+    }
+
+    /// The instrument's answer to a session. A call of its own, like the library's.
+    #[inline(never)]
+    pub fn answer(&mut self, session: u32, payload: &[u8], end: u8, out: &mut [u8]) -> Reply {
+        let Some(out) = out.first_chunk_mut::<OUTPUT>() else {
+            return refused(Refusal::ShortBuffer);
+        };
+        let mut live = self.sessions.iter_mut().filter(|live| live.number != 0);
+        let Some(live) = live.find(|live| u32::from(live.number) == session) else {
+            return refused(Refusal::NoSession);
+        };
+        let Some(asked) = live.asked else {
+            return refused(Refusal::NothingAsked);
+        };
+        if payload.len() > PAYLOAD || payload.len() as u64 > live.client_size {
+            return refused(Refusal::AnswerTooLong);
+        }
+        live.message_available = true;
+        let kind = if end == 0 {
+            kind::DATA
+        } else {
+            live.asked = None;
+            kind::DATA_END
+        };
+        let mut frames = Frames::new(out);
+        frames.send_with(live.synchronous, kind, 0, asked, payload);
+        done(frames.used())
+    }
+
+    pub fn status(&mut self, status: u8) {
+        self.status = status;
+    }
+
+    /// Closes as if cut: the connection, its session if it has one, and all that goes with it. Returns
+    /// the session's number, or 0.
+    pub(crate) fn close(&mut self, connection: u8, frames: &mut Frames) -> u16 {
+        let here = &mut self.connections[usize::from(connection)];
+        let Connection { role, slot, .. } = *here;
+        *here = NOT_OPEN;
+        if matches!(role, Role::NotOpen | Role::Undecided) {
+            return 0;
+        }
+        let place = &mut self.sessions[usize::from(slot)];
+        let session = *place;
+        *place = NOBODY;
+        self.connections[usize::from(session.synchronous)] = NOT_OPEN;
+        if let Some(asynchronous) = session.asynchronous {
+            self.connections[usize::from(asynchronous)] = NOT_OPEN;
+        }
+        self.locks.forget(slot);
+        self.grant_pass(frames);
+        session.number
+    }
+
+    pub(crate) fn grant_pass(&mut self, frames: &mut Frames) {
+        self.locks.grant_pass(|connection| {
+            frames.send(connection, kind::LOCK_RESPONSE, 1, 0);
+        });
+    }
+}

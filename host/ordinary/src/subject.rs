@@ -1,0 +1,76 @@
+//! As conformance runs see it.
+
+use reference::lock_view::{LockView, SessionView, WaitingView};
+use reference::subject::image_of;
+use reference::{Reply, Subject};
+
+use crate::locks::Request;
+use crate::server::Server;
+
+impl Subject for Server {
+    fn new(vendor: u16) -> Server {
+        Server::new(vendor)
+    }
+
+    fn open(&mut self, connection: u32) -> Reply {
+        Server::open(self, connection)
+    }
+
+    fn deliver(&mut self, connection: u32, bytes: &[u8], out: &mut [u8]) -> Reply {
+        Server::deliver(self, connection, bytes, out)
+    }
+
+    fn cut(&mut self, connection: u32, out: &mut [u8]) -> Reply {
+        Server::cut(self, connection, out)
+    }
+
+    fn clock(&mut self, milliseconds: u64, out: &mut [u8]) -> Reply {
+        Server::clock(self, milliseconds, out)
+    }
+
+    fn answer(&mut self, session: u32, payload: &[u8], end: u8, out: &mut [u8]) -> Reply {
+        Server::answer(self, session, payload, end, out)
+    }
+
+    fn status(&mut self, status: u8) {
+        Server::status(self, status);
+    }
+
+    fn fork(&self) -> Box<dyn Subject> {
+        Box::new(self.clone())
+    }
+
+    fn memory(&self, image: &mut Vec<u8>) {
+        image_of(self, image);
+    }
+
+    fn lock_view(&self) -> Option<LockView> {
+        Some(self.locks_shown())
+    }
+}
+
+impl Server {
+    fn locks_shown(&self) -> LockView {
+        let live = (0..).zip(&self.sessions);
+        let live = live.filter(|(_, session)| session.number != 0);
+        let shown = |(slot, session): (u8, &crate::server::Session)| SessionView {
+            session: session.number,
+            synchronous: session.synchronous,
+            asynchronous: session.asynchronous,
+            exclusive: self.locks.has_exclusive(slot),
+            shared: self.locks.shared_by(slot).map(<[u8]>::to_vec),
+        };
+        let waiting = |(slot, request): (u8, &Request)| WaitingView {
+            session: self.sessions[usize::from(slot)].number,
+            string: request.string.as_bytes().to_vec(),
+            deadline: request.deadline,
+        };
+        let mut sessions: Vec<_> = live.map(shown).collect();
+        sessions.sort_by_key(|view| view.session);
+        LockView {
+            clock: self.clock,
+            sessions,
+            waiting: self.locks.waiting().map(waiting).collect(),
+        }
+    }
+}
