@@ -29,8 +29,8 @@
  * of HISLIP_OUTPUT bytes always suffices.
  *
  * WHAT IS WRITTEN. `words`, `strings` and the first `output` bytes of `out`; the bytes of `out` after
- * them keep their values, and `bytes` and `payload` are only read. A refused call and a delivery
- * answered more needed or held write nothing at all.
+ * them keep their values, and `bytes` and `payload` are only read. A refused call, a delivery answered
+ * more needed or held, and the two questions (hislip_deadline, hislip_client_size) write nothing at all.
  *
  * REFUSALS. A refused call has a number and one cause. It changes nothing: neither the server nor
  * any lent byte, and every other field of the answer is 0. If several causes hold, the first in the
@@ -80,7 +80,8 @@ extern "C" {
 
 /* Compilers that know these words warn; the others pass over them.
  * HISLIP_NOT_NULL: no pointer is null, see WHAT THE HOST OWES.
- * HISLIP_USE_RESULT: the answer counts the bytes to be sent, so a host that drops it drops frames. */
+ * HISLIP_USE_RESULT: the answer counts the bytes to be sent, so a host that drops it drops frames; or
+ * the answer is all that there is of the call. */
 #if defined(__GNUC__)
 #define HISLIP_NOT_NULL __attribute__((nonnull))
 #define HISLIP_USE_RESULT __attribute__((warn_unused_result))
@@ -166,6 +167,17 @@ typedef struct {
     uint64_t refusal, output;
 } hislip_done;
 
+/* The answer to hislip_deadline. `waiting`: how many lock requests wait, 0 to 32. `deadline`: the clock
+ * at which the first of them runs out of time; 0 if none waits. */
+typedef struct {
+    uint64_t waiting, deadline;
+} hislip_deadlines;
+
+/* The answer to hislip_client_size. `size`: the largest payload that the session's client takes. */
+typedef struct {
+    uint64_t refusal, size;
+} hislip_sized;
+
 /* How many uint64_t to lend as `words`: HISLIP_WORDS, if header and archive are of one version. */
 uint64_t hislip_words(void);
 
@@ -215,6 +227,21 @@ hislip_done hislip_answer(uint64_t *words, uint8_t *strings, uint32_t session,
  * 16 is replaced by the session's own message available. */
 HISLIP_NOT_NULL
 void hislip_status(uint64_t *words, uint8_t *strings, uint8_t status);
+
+/* A question, no event: it changes nothing and may be asked at any time between two events. How many
+ * lock requests wait, and the earliest of their deadlines, in milliseconds of hislip_clock: a reading
+ * below it answers nobody, an accepted one at or above it answers at least one request. So a host that
+ * has nothing else to do may sleep until then, and without end if none waits. The answer holds until
+ * the next event that is not refused. Never refused. */
+HISLIP_NOT_NULL HISLIP_USE_RESULT
+hislip_deadlines hislip_deadline(const uint64_t *words, const uint8_t *strings);
+
+/* A question, no event: it changes nothing. The largest payload that the session's client takes: what
+ * it announced last (any 64-bit number), 1,024 before that. hislip_answer takes at most this and at
+ * most HISLIP_PAYLOAD bytes at once; a host cuts a longer answer into pieces, the last one with END.
+ * A half-open session is live too. Refusal: 8 (no live session of that number). */
+HISLIP_NOT_NULL HISLIP_USE_RESULT
+hislip_sized hislip_client_size(const uint64_t *words, const uint8_t *strings, uint32_t session);
 
 /* The payload length of a message, from its 16 header bytes: a help for going through frames. */
 static inline uint64_t hislip_payload_length(const uint8_t *message)

@@ -68,6 +68,7 @@ static void open_both(void)
 static void lock_and_hold(void)
 {
     hislip_delivery told = send(1, HISLIP_TYPE_ASYNC_LOCK, 1, 0, "");
+    hislip_deadlines due;
     hislip_done done;
     expect("A gets the exclusive lock",
            one_frame(told.output, 1, HISLIP_TYPE_ASYNC_LOCK_RESPONSE, 1, 0));
@@ -79,10 +80,14 @@ static void lock_and_hold(void)
     expect("the clock reads 1,000", done.refusal == HISLIP_ACCEPTED && done.output == 0);
     told = send(3, HISLIP_TYPE_ASYNC_LOCK, 1, 500, "");
     expect("B waits", told.outcome == HISLIP_ACTED_ON && told.output == 0);
+    due = hislip_deadline(words, strings);
+    expect("nothing is due before 1,500", due.waiting == 1 && due.deadline == 1500);
     done = hislip_clock(words, strings, 1499, out, sizeof out);
     expect("still at 1,499", done.refusal == 0 && done.output == 0);
     done = hislip_clock(words, strings, 1500, out, sizeof out);
     expect("answered 0 at 1,500", one_frame(done.output, 3, HISLIP_TYPE_ASYNC_LOCK_RESPONSE, 0, 0));
+    due = hislip_deadline(words, strings);
+    expect("and nobody waits", due.waiting == 0 && due.deadline == 0);
     done = hislip_clock(words, strings, 1499, out, sizeof out);
     expect("the clock does not go back", done.refusal == HISLIP_REFUSED_CLOCK_BACKWARDS);
 }
@@ -90,7 +95,9 @@ static void lock_and_hold(void)
 static void ask_and_answer(void)
 {
     hislip_delivery told = send(0, HISLIP_TYPE_DATA_END, 0, 0xffffff00, "*IDN?");
+    hislip_sized sized = hislip_client_size(words, strings, 1);
     hislip_done done;
+    expect("A takes answers of 1,024 bytes", sized.refusal == HISLIP_ACCEPTED && sized.size == 1024);
     expect("A asks", told.outcome == HISLIP_ACTED_ON && told.session == 1 && told.taken == 21);
     done = hislip_answer(words, strings, 1, (const uint8_t *)"", 0, 1, out, sizeof out);
     expect("the answer carries the question's number",
@@ -105,6 +112,8 @@ static void ask_and_answer(void)
     expect("a buffer of 2,047 is refused", done.refusal == HISLIP_REFUSED_SHORT_BUFFER);
     done = hislip_cut(words, strings, 0, out, sizeof out);
     expect("A's cable drops", done.refusal == HISLIP_ACCEPTED && done.output == 0);
+    sized = hislip_client_size(words, strings, 1);
+    expect("and it takes none", sized.refusal == HISLIP_REFUSED_NO_SESSION && sized.size == 0);
     told = send(2, HISLIP_TYPE_DATA, 0, 0xffffff00, "x");
     expect("and B's Data goes through", told.outcome == HISLIP_ACTED_ON && told.taken == 17);
 }

@@ -8,3 +8,4 @@ pub mod Waiting
 pub mod Sweep
 pub mod Pass
 pub mod Asking
+pub mod Deadline

@@ -2,6 +2,7 @@
 // memory and the output what the model says of one lock event.
 pub mod access;
 pub mod answers;
+pub mod deadline;
 pub mod grant_pass;
 pub mod granting;
 pub mod info;

@@ -61,3 +61,4 @@ pub mod Sending
 pub mod LocalityTable
 pub mod Outcomes
 pub mod Missing
+pub mod Asking

@@ -52,3 +52,4 @@ pub mod Statements
 pub mod Sending
 pub mod Outcomes
 pub mod Missing
+pub mod Asking

@@ -6,3 +6,4 @@ pub mod Calls
 pub mod Events
 pub mod Answers
 pub mod Program
+pub mod Asking

@@ -12,6 +12,7 @@ ghost use mathlib.Core.List.{[]};
 ghost use mathlib.Core.Path.{_≡_};
 ghost use Rattle.state.specs.Layout.{STRINGS, WORDS};
 
+mod asking;
 mod deliver;
 
 use effects::Delivery;

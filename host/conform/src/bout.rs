@@ -2,6 +2,7 @@
 
 use reference::{Event, Reply};
 
+use crate::asking::Roll;
 use crate::demand3::Trial;
 use crate::report::describe_reply;
 use crate::watch::{Complaint, Side};
@@ -57,6 +58,7 @@ pub struct Bout {
     pair: Pair,
     pub left: Trial,
     pub right: Trial,
+    roll: Roll,
 }
 
 /// A complaint with the server's name before it.
@@ -75,6 +77,7 @@ impl Bout {
             pair,
             left: Trial::new(&pair.left, vendor),
             right: Trial::new(&pair.right, vendor),
+            roll: Roll::default(),
         }
     }
 
@@ -82,6 +85,7 @@ impl Bout {
     pub fn restart_from(&mut self, other: &Bout) {
         self.left.restart_from(&other.left);
         self.right.restart_from(&other.right);
+        self.roll.clone_from(&other.roll);
     }
 
     /// One event on both. The answer is the left one's, which is the right one's too.
@@ -104,7 +108,21 @@ impl Bout {
         }
         self.left.demand3(event).map_err(by_demand3(left))?;
         self.right.demand3(event).map_err(by_demand3(right))?;
+        self.ask()?;
         Ok(first)
+    }
+
+    /// The questions, of both.
+    fn ask(&mut self) -> Result<(), Complaint> {
+        let Pair { left, right } = self.pair;
+        self.roll.after(&self.left.model);
+        let (one, other) = (&mut self.left.watch, &mut self.right.watch);
+        let asked = self.roll.ask(one.subject.as_ref(), other.subject.as_ref());
+        asked.map_err(|[what, first, second]| {
+            format!("{what}, {}: {first}; {}: {second}", left.name, right.name)
+        })?;
+        one.unchanged().map_err(of(left))?;
+        other.unchanged().map_err(of(right))
     }
 
     /// What demand 3 owes at the end of a list, for both.

@@ -20,7 +20,7 @@ pub struct Trial {
     pub watch: Watch,
     /// A second server of the kind that gets the canonical history alone.
     again: Watch,
-    model: LockModel,
+    pub model: LockModel,
     /// What the lock model answers to the last event.
     answers: Vec<LockAnswer>,
 }
@@ -55,6 +55,7 @@ impl Trial {
         self.answers.clear();
         self.model.event(event, &reply, &mut self.answers);
         self.compare_answers(&sent)?;
+        self.compare_deadline()?;
         if !omitted(event, &reply) {
             self.keep(event)?;
         }
@@ -87,6 +88,15 @@ impl Trial {
         Err(format!(
             "lock answers {told:?}, by the lock model {model:?}"
         ))
+    }
+
+    /// Who waits, and until when, is what the lock model says.
+    fn compare_deadline(&self) -> Result<(), Complaint> {
+        let (told, model) = (self.watch.subject.deadline(), self.model.deadline());
+        match told == model {
+            true => Ok(()),
+            false => Err(format!("{told:?}, by the lock model {model:?}")),
+        }
     }
 
     /// Access and AsyncLockInfo go by the lock model's holders.

@@ -1,6 +1,7 @@
 //! Conformance: two servers get the same events; every answer, every output byte, every byte that
 //! must stay as it was, and demand 3 on the whole list are compared.
 
+pub mod asking;
 pub mod bench_examples;
 pub mod bout;
 pub mod cables;

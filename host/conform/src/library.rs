@@ -2,7 +2,7 @@
 //! lent: a store outside the lent memory is seen.
 
 use hislip::sys;
-use reference::{Reply, Subject};
+use reference::{Deadline, Reply, Size, Subject};
 
 const GUARD: usize = 8;
 const GUARD_WORD: u64 = 0x5afe_5afe_5afe_5afe;
@@ -18,6 +18,11 @@ impl Library {
         let words = self.words[GUARD..].as_mut_ptr();
         let strings = self.strings[GUARD..].as_mut_ptr();
         (words, strings)
+    }
+
+    /// The same for a question.
+    fn shown(&self) -> (*const u64, *const u8) {
+        (self.words[GUARD..].as_ptr(), self.strings[GUARD..].as_ptr())
     }
 
     /// A fresh server, whatever the memory held.
@@ -36,7 +41,7 @@ fn done(done: sys::hislip_done) -> Reply {
 }
 
 // SAFETY of all calls: the lent memory has the lengths that the library asks for, between guards;
-// inputs and outputs are slices that Rust keeps apart; `&mut self` keeps calls one after another.
+// inputs and outputs are slices that Rust keeps apart; the borrow of `self` keeps calls one after another.
 impl Subject for Library {
     fn new(vendor: u16) -> Library {
         let (words, strings) = unsafe { (sys::hislip_words(), sys::hislip_string_bytes()) };
@@ -90,6 +95,24 @@ impl Subject for Library {
     fn status(&mut self, status: u8) {
         let (words, strings) = self.lent();
         unsafe { sys::hislip_status(words, strings, status) };
+    }
+
+    fn deadline(&self) -> Deadline {
+        let (words, strings) = self.shown();
+        let told = unsafe { sys::hislip_deadline(words, strings) };
+        Deadline {
+            waiting: told.waiting,
+            deadline: told.deadline,
+        }
+    }
+
+    fn client_size(&self, session: u32) -> Size {
+        let (words, strings) = self.shown();
+        let told = unsafe { sys::hislip_client_size(words, strings, session) };
+        Size {
+            refusal: told.refusal,
+            size: told.size,
+        }
     }
 
     fn fork(&self) -> Box<dyn Subject> {

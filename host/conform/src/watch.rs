@@ -6,7 +6,7 @@ use reference::event::frames;
 use reference::history::omitted;
 use reference::lock_view::LockView;
 use reference::wire::Header;
-use reference::{Event, Reply, Subject};
+use reference::{Deadline, Event, Reply, Subject};
 
 use crate::numbers::mix;
 
@@ -131,6 +131,7 @@ impl Watch {
         let seen = (start + room + BESIDE).next_multiple_of(8);
         pattern(self.calls, &mut self.fill[..seen]);
         self.area[..seen].copy_from_slice(&self.fill[..seen]);
+        let due = self.subject.deadline();
         let reply = self.call(event, start..start + room)?;
         let output = usize::try_from(reply.output).unwrap_or(usize::MAX);
         if output > room {
@@ -147,8 +148,18 @@ impl Watch {
             return Err("bytes after the last frame were changed".into());
         }
         check_reply(event, &reply, &self.area[start..end])?;
+        check_waking(event, &reply, due)?;
         self.check_memory(event, &reply)?;
         Ok(reply)
+    }
+
+    /// Sees that the server holds what it held after the last event, after questions.
+    pub fn unchanged(&mut self) -> Result<(), Complaint> {
+        self.subject.memory(&mut self.after);
+        match self.after == self.before {
+            true => Ok(()),
+            false => Err("a question changed what the server holds".into()),
+        }
     }
 
     /// Calls with input that begins at any place, and sees that it is left as it was.
@@ -204,6 +215,19 @@ fn check_reply(event: &Event, reply: &Reply, output: &[u8]) -> Result<(), Compla
     }
     if frames(output).is_none() {
         return Err("the output is not a row of whole frames".into());
+    }
+    Ok(())
+}
+
+/// A reading before the deadline told just before answers nobody, one at or past it somebody.
+fn check_waking(event: &Event, reply: &Reply, due: Deadline) -> Result<(), Complaint> {
+    let Event::Clock { milliseconds, .. } = event else {
+        return Ok(());
+    };
+    let owed = due.waiting > 0 && due.deadline <= *milliseconds;
+    if reply.refusal == 0 && owed != (reply.output > 0) {
+        let what = if owed { "nobody" } else { "somebody" };
+        return Err(format!("a reading answers {what}, and {due:?} was told"));
     }
     Ok(())
 }

@@ -6,7 +6,7 @@ use conform::bout::{Bout, Failed, Pair, VENDOR};
 use conform::command::{HELD_TO_IT, LIBRARY, REFERENCE};
 use conform::messages::clock;
 use conform::reach::Reach;
-use conform::watch::Side;
+use conform::watch::{Side, Watch};
 use conform::{bench_examples, hostile, report, shrink};
 use reference::event::Frame;
 use reference::Event;
@@ -105,6 +105,14 @@ fn the_library_agrees_on_its_first_lists() {
     for seed in 1..=20 {
         hostile::check(pair, seed, &mut Reach::default()).expect("no difference");
     }
+}
+
+#[test]
+fn a_question_that_changes_the_server_is_seen() {
+    let mut watch = Watch::new(&LIBRARY, VENDOR);
+    watch.unchanged().expect("nothing happened");
+    watch.subject.status(7);
+    watch.unchanged().expect_err("another status byte");
 }
 
 /// Two equal readings after some status changes, which a wrong server answers wrongly.

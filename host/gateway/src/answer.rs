@@ -1,12 +1,12 @@
 //! What the instrument gives back: answers go to their session in pieces that the client takes.
 
-use hislip::Frames;
+use hislip::{Frames, PAYLOAD};
 
 use crate::connection::{Connection, Lane};
 use crate::describe::{self, kept};
 use crate::gateway::{Gateway, Who};
 use crate::instrument::{Done, Fault, Request};
-use crate::session::{Answer, PAYLOAD};
+use crate::session::Answer;
 
 impl Gateway {
     /// The session's synchronous connection.
@@ -82,8 +82,15 @@ impl Gateway {
         if !room.is_some_and(Connection::has_room) {
             return false;
         }
+        let size = match self.server.client_size(session) {
+            Ok(size) => size.min(PAYLOAD as u64) as usize,
+            Err(refusal) => {
+                self.lost(session, refusal.reason());
+                return false;
+            }
+        };
         let left = &answer.bytes[answer.sent..];
-        let piece = &left[..left.len().min(state.size.min(PAYLOAD) as usize)];
+        let piece = &left[..left.len().min(size)];
         let end = piece.len() == left.len();
         if piece.is_empty() && !end {
             self.lost(session, "the client takes no payload");

@@ -173,15 +173,9 @@ impl Gateway {
         match acted.kind {
             names::ASYNC_INITIALIZE => state.whole = true,
             names::ASYNC_LOCK if acted.code == REQUEST => {
-                let until = self.clock + u64::from(acted.parameter);
-                self.holders.requested(session, acted.payload, reply, until);
+                self.holders.requested(session, acted.payload, reply);
             }
             names::ASYNC_LOCK => self.holders.released(session, reply),
-            names::ASYNC_MAXIMUM_MESSAGE_SIZE => {
-                if let Ok(size) = acted.payload.try_into() {
-                    state.size = u64::from_be_bytes(size);
-                }
-            }
             names::ASYNC_DEVICE_CLEAR => {
                 state.clear(self.next_ticket);
                 self.bench.clear(session);

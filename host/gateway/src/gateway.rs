@@ -54,8 +54,6 @@ pub struct Who {
 pub struct Gateway {
     pub(crate) server: Server,
     start: Instant,
-    /// What the server's clock reads.
-    pub(crate) clock: u64,
     queue: Receiver<Event>,
     pub(crate) events: Sender<Event>,
     pub(crate) connections: [Option<Connection>; CONNECTIONS],
@@ -106,7 +104,6 @@ impl Gateway {
         Ok(Gateway {
             server: Server::new(settings.vendor),
             start: Instant::now(),
-            clock: 0,
             queue,
             connections: [const { None }; CONNECTIONS],
             next_id: 0,
@@ -163,8 +160,8 @@ impl Gateway {
 
     /// The first lock request to run out of time, connection to be cut, or newcomer to be seated.
     fn next_deadline(&self) -> Option<Instant> {
-        let lock = self.holders.next_deadline();
-        let lock = lock.map(|at| self.start + Duration::from_millis(at));
+        let lock = self.server.deadline();
+        let lock = lock.map(|due| self.start + Duration::from_millis(due.milliseconds));
         let newcomer = self.newcomers.front().map(|newcomer| newcomer.until);
         let cut = self.to_be_cut().map(|(_, at, _)| at).min();
         [lock, newcomer, cut].into_iter().flatten().min()
@@ -203,10 +200,8 @@ impl Gateway {
         let now = self.start.elapsed().as_millis() as u64;
         match self.server.clock(now).map(kept) {
             Ok(output) => {
-                self.clock = now;
                 self.route(&output);
                 self.later_answers(Frames::new(&output));
-                self.holders.time_is(now);
             }
             Err(refusal) => self.say(Who::default(), || format!("clock {now}: {refusal}")),
         }

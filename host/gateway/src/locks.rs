@@ -1,5 +1,5 @@
-//! Who holds which lock and who waits until when, followed from messages that acted and lock answers
-//! sent. The holders are for the log alone; the deadlines say when the clock must next be read.
+//! Who holds which lock and who waits, for the log alone, followed from messages that acted and lock
+//! answers sent.
 
 use std::collections::BTreeMap;
 
@@ -10,27 +10,22 @@ const SHARED_RELEASED: u8 = 2;
 struct Locks {
     exclusive: bool,
     shared: Option<Vec<u8>>,
-    waits: Option<Waits>,
-}
-
-struct Waits {
-    string: Vec<u8>,
-    /// On the server's clock.
-    until: u64,
+    /// For this string.
+    waits: Option<Vec<u8>>,
 }
 
 #[derive(Default)]
 pub struct Holders(BTreeMap<u16, Locks>);
 
 impl Holders {
-    /// A request for a string was answered, or waits until then.
-    pub fn requested(&mut self, session: u16, string: &[u8], answer: Option<u8>, until: u64) {
+    /// A request for a string was answered, or waits.
+    pub fn requested(&mut self, session: u16, string: &[u8], answer: Option<u8>) {
         let locks = self.0.entry(session).or_default();
         let string = string.to_vec();
         match answer {
             Some(GRANTED) => locks.grant(string),
             Some(_) => {}
-            None => locks.waits = Some(Waits { string, until }),
+            None => locks.waits = Some(string),
         }
     }
 
@@ -46,26 +41,13 @@ impl Holders {
     /// A waiting request was answered.
     pub fn answered(&mut self, session: u16, code: u8) {
         let locks = self.0.entry(session).or_default();
-        if let (Some(waits), GRANTED) = (locks.waits.take(), code) {
-            locks.grant(waits.string);
-        }
-    }
-
-    /// The clock reads so much: by now the server has answered every request of that time.
-    pub fn time_is(&mut self, now: u64) {
-        for locks in self.0.values_mut() {
-            locks.waits.take_if(|waits| waits.until <= now);
+        if let (Some(string), GRANTED) = (locks.waits.take(), code) {
+            locks.grant(string);
         }
     }
 
     pub fn gone(&mut self, session: u16) {
         self.0.remove(&session);
-    }
-
-    /// When the first waiting request runs out of time.
-    pub fn next_deadline(&self) -> Option<u64> {
-        let waiting = self.0.values().filter_map(|locks| locks.waits.as_ref());
-        waiting.map(|waits| waits.until).min()
     }
 
     /// `no locks`, or who holds and who waits.

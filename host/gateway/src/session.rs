@@ -8,8 +8,6 @@ pub const LONGEST_MESSAGE: usize = 1 << 20;
 /// Bytes of a session's commands that the instrument has not yet done, above which further messages
 /// wait.
 const LONGEST_BACKLOG: usize = 1 << 20;
-/// Payload that the library sends at most, and a client's size until it names one.
-pub const PAYLOAD: u64 = 1024;
 
 /// An answer and how much of it is sent.
 pub struct Answer {
@@ -20,8 +18,6 @@ pub struct Answer {
 pub struct Session {
     /// Data whose end has not come; None if it was too long.
     parts: Option<Vec<u8>>,
-    /// The largest payload the client takes.
-    pub size: u64,
     /// A request that may be answered: the synchronous channel waits for it.
     pub question: Option<Ticket>,
     pub answer: Option<Answer>,
@@ -37,7 +33,6 @@ impl Session {
     pub fn new(first: Ticket) -> Session {
         Session {
             parts: Some(Vec::new()),
-            size: PAYLOAD,
             question: None,
             answer: None,
             backlog: 0,
@@ -70,9 +65,8 @@ impl Session {
 
     /// A device clear: nothing is asked, kept or to be sent any more.
     pub fn clear(&mut self, first: Ticket) {
-        let (size, whole) = (self.size, self.whole);
+        let whole = self.whole;
         *self = Session {
-            size,
             whole,
             ..Session::new(first)
         };

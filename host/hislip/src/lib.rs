@@ -1,7 +1,8 @@
 //! A safe wrapper over the proved HiSLIP server library.
 //!
 //! A [`Server`] owns the memory that the C interface wants lent and an output buffer. The six
-//! events are methods, or values of [`Event`] for [`Server::apply`].
+//! events are methods, or values of [`Event`] for [`Server::apply`]. Two questions change nothing:
+//! [`Server::deadline`] and [`Server::client_size`].
 //!
 //! ```
 //! use hislip::{MessageType, Outcome, Server};
@@ -39,7 +40,7 @@ pub use message_type::{type_name, MessageType};
 pub use numbers::{Connection, SessionId};
 pub use outcome::{Delivery, Outcome};
 pub use refusal::Refusal;
-pub use server::Server;
+pub use server::{Deadline, Server};
 pub use sizes::{
     CLOCK_MAX, CONNECTIONS, HEADER, LOCK_STRING, OUTPUT, PAYLOAD, SESSIONS, STRING_BYTES, WORDS,
 };

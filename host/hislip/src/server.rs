@@ -7,6 +7,15 @@ use crate::refusal::Refusal;
 use crate::sizes::OUTPUT;
 use crate::sys;
 
+/// Lock requests that wait, as [`Server::deadline`] tells it.
+#[derive(Clone, Copy, Debug, PartialEq, Eq, Hash)]
+pub struct Deadline {
+    /// How many wait, 1 to [`crate::SESSIONS`].
+    pub waiting: usize,
+    /// The reading of the clock at which the first of them runs out of time.
+    pub milliseconds: u64,
+}
+
 /// Owns the words, the strings and the output buffer. A clone is a second server in the same state.
 ///
 /// Every pointer passed on is a slice's and so never null, also of an empty one, as the C interface
@@ -168,6 +177,38 @@ impl Server {
         let (words, strings) = self.memory();
         // SAFETY: as for `open`.
         unsafe { sys::hislip_status(words, strings, status) };
+    }
+
+    /// How many lock requests wait and the earliest of their deadlines; None if none waits. A reading
+    /// of the clock before it answers nobody, one at or past it answers at least one, so a host with
+    /// nothing else to do may sleep until then. Holds until the next event; asking changes nothing.
+    ///
+    /// ```
+    /// let server = hislip::Server::new(*b"AA");
+    /// assert_eq!(server.deadline(), None);
+    /// ```
+    pub fn deadline(&self) -> Option<Deadline> {
+        // SAFETY: both are the memory that `hislip_new` wrote, and `&self` keeps writers away; the
+        // call only reads.
+        let told = unsafe { sys::hislip_deadline(self.words.as_ptr(), self.strings.as_ptr()) };
+        (told.waiting > 0).then_some(Deadline {
+            waiting: told.waiting as usize,
+            milliseconds: told.deadline,
+        })
+    }
+
+    /// The largest payload that a session's client takes: an answer may have so many bytes and no more
+    /// than [`crate::PAYLOAD`]. Any 64-bit number, as the client said it. Refused: no live session of
+    /// that number. Asking changes nothing.
+    ///
+    /// # Panics
+    ///
+    /// As [`Server`] says: never, with the proved archive.
+    pub fn client_size(&self, session: SessionId) -> Result<u64, Refusal> {
+        let (words, strings) = (self.words.as_ptr(), self.strings.as_ptr());
+        // SAFETY: as for `deadline`.
+        let told = unsafe { sys::hislip_client_size(words, strings, session.into()) };
+        Refusal::check(told.refusal).map(|()| told.size)
     }
 
     fn memory(&mut self) -> (*mut u64, *mut u8) {

@@ -31,6 +31,26 @@ pub struct hislip_done {
     pub output: u64,
 }
 
+/// The answer to `hislip_deadline`.
+#[repr(C)]
+#[derive(Clone, Copy, Debug, PartialEq, Eq)]
+pub struct hislip_deadlines {
+    /// How many lock requests wait.
+    pub waiting: u64,
+    /// The earliest of their deadlines; 0 if none waits.
+    pub deadline: u64,
+}
+
+/// The answer to `hislip_client_size`.
+#[repr(C)]
+#[derive(Clone, Copy, Debug, PartialEq, Eq)]
+pub struct hislip_sized {
+    /// 0, or 8 and then `size` is 0.
+    pub refusal: u64,
+    /// The largest payload that the session's client takes.
+    pub size: u64,
+}
+
 extern "C" {
     /// How many words to lend.
     pub fn hislip_words() -> u64;
@@ -83,4 +103,10 @@ extern "C" {
     ) -> hislip_done;
     /// The instrument's status byte changes.
     pub fn hislip_status(words: *mut u64, strings: *mut u8, status: u8);
+    /// How many lock requests wait, and until when.
+    #[must_use = "asking changes nothing"]
+    pub fn hislip_deadline(words: *const u64, strings: *const u8) -> hislip_deadlines;
+    /// How long an answer to a session may be.
+    #[must_use = "asking changes nothing"]
+    pub fn hislip_client_size(words: *const u64, strings: *const u8, session: u32) -> hislip_sized;
 }

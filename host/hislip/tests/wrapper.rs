@@ -1,7 +1,8 @@
 //! The safe wrapper: typed answers, and nothing that is passed can do harm.
 
 use hislip::{
-    sys, Answer, Connection, Event, Frame, Frames, MessageType, Outcome, Refusal, Server, OUTPUT,
+    sys, Answer, Connection, Deadline, Event, Frame, Frames, MessageType, Outcome, Refusal, Server,
+    OUTPUT,
 };
 use reference::compose::message;
 
@@ -67,6 +68,57 @@ fn a_question_and_its_answer() {
         (0xffff_ff00, &b"meter"[..])
     );
     assert_eq!(frames[0].message, message(7, 0, 0xffff_ff00, b"meter"));
+}
+
+/// Session 2 on connections 2 and 3.
+fn second_session(server: &mut Server) {
+    server.open(2).expect("not open");
+    server.open(3).expect("not open");
+    let opened = server.deliver(2, &message(0, 0, 0x0100_0000, b"hislip0"));
+    assert_eq!(opened.expect("open").taken, 23);
+    let joined = server.deliver(3, &message(17, 0, 2, b""));
+    assert_eq!(joined.expect("open").taken, 16);
+}
+
+#[test]
+fn a_host_may_sleep_until_the_deadline() {
+    let mut server = with_session();
+    second_session(&mut server);
+    assert_eq!(server.clock(100).expect("forwards").count(), 0);
+    let granted = server.deliver(1, &message(4, 1, 0, b"")).expect("open");
+    assert_eq!(granted.frames.count(), 1);
+    assert_eq!(server.deadline(), None);
+    let waits = server.deliver(3, &message(4, 1, 40, b"")).expect("open");
+    assert_eq!(waits.frames.count(), 0);
+    let due = Deadline {
+        waiting: 1,
+        milliseconds: 140,
+    };
+    assert_eq!(server.deadline(), Some(due));
+    assert_eq!(server.clock(139).expect("forwards").count(), 0);
+    assert_eq!(server.deadline(), Some(due), "asking changes nothing");
+    assert_eq!(server.clock(140).expect("forwards").count(), 1);
+    assert_eq!(server.deadline(), None);
+}
+
+#[test]
+fn the_clients_size_is_told() {
+    let mut server = with_session();
+    assert_eq!(server.client_size(1), Ok(1024));
+    for size in [0, 5, 1025, u64::MAX] {
+        let announced = message(15, 0, 0, &size.to_be_bytes());
+        assert_eq!(server.deliver(1, &announced).expect("open").taken, 24);
+        assert_eq!(server.client_size(1), Ok(size));
+    }
+    for session in [0, 2, u16::MAX] {
+        assert_eq!(server.client_size(session), Err(Refusal::NoSession));
+    }
+    server.open(7).expect("not open");
+    let half_open = server.deliver(7, &message(0, 0, 0x0100_0000, b""));
+    assert_eq!(half_open.expect("open").taken, 16);
+    assert_eq!(server.client_size(2), Ok(1024));
+    assert_eq!(server.cut(0).expect("open").count(), 0);
+    assert_eq!(server.client_size(1), Err(Refusal::NoSession));
 }
 
 #[test]

@@ -2,7 +2,7 @@
 
 use reference::lock_view::{LockView, SessionView, WaitingView};
 use reference::subject::image_of;
-use reference::{Reply, Subject};
+use reference::{Deadline, Refusal, Reply, Size, Subject};
 
 use crate::locks::Request;
 use crate::server::Server;
@@ -34,6 +34,28 @@ impl Subject for Server {
 
     fn status(&mut self, status: u8) {
         Server::status(self, status);
+    }
+
+    fn deadline(&self) -> Deadline {
+        let deadlines = || self.locks.waiting().map(|(_, request)| request.deadline);
+        Deadline {
+            waiting: deadlines().count() as u64,
+            deadline: deadlines().min().unwrap_or(0),
+        }
+    }
+
+    fn client_size(&self, session: u32) -> Size {
+        let mut live = self.sessions.iter().filter(|live| live.number != 0);
+        match live.find(|live| u32::from(live.number) == session) {
+            Some(live) => Size {
+                refusal: 0,
+                size: live.client_size,
+            },
+            None => Size {
+                refusal: Refusal::NoSession as u64,
+                size: 0,
+            },
+        }
     }
 
     fn fork(&self) -> Box<dyn Subject> {

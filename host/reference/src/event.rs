@@ -91,6 +91,20 @@ impl Reply {
     }
 }
 
+/// The answer to the question who waits: how many, and the earliest deadline; 0 and 0 if nobody does.
+#[derive(Clone, Copy, Debug, Default, PartialEq, Eq)]
+pub struct Deadline {
+    pub waiting: u64,
+    pub deadline: u64,
+}
+
+/// The answer to the question how long an answer to a session may be.
+#[derive(Clone, Copy, Debug, Default, PartialEq, Eq)]
+pub struct Size {
+    pub refusal: u64,
+    pub size: u64,
+}
+
 /// One frame of an output.
 #[derive(Clone, Copy, Debug, PartialEq, Eq)]
 pub struct Frame<'a> {

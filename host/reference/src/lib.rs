@@ -21,7 +21,7 @@ pub mod server;
 pub mod subject;
 pub mod wire;
 
-pub use event::{Event, Reply};
+pub use event::{Deadline, Event, Reply, Size};
 pub use reply::{Delivery, Outcome, Refusal};
 pub use server::Server;
 pub use subject::Subject;

@@ -6,7 +6,7 @@
 
 use std::collections::BTreeMap;
 
-use crate::event::{Event, Reply};
+use crate::event::{Deadline, Event, Reply};
 use crate::lock_view::{LockView, SessionView, WaitingView};
 
 const LOCK_STRING: usize = 256;
@@ -111,6 +111,20 @@ impl LockModel {
                 entry.synchronous == connection || entry.asynchronous == Some(connection)
             })
             .map(|(number, _)| *number)
+    }
+
+    /// The sessions that live, ascending.
+    pub fn sessions(&self) -> impl Iterator<Item = u16> + '_ {
+        self.sessions.keys().copied()
+    }
+
+    /// How many requests wait, and the earliest deadline; 0 and 0 if none does.
+    pub fn deadline(&self) -> Deadline {
+        let earliest = self.waiting.iter().map(|request| request.deadline).min();
+        Deadline {
+            waiting: self.waiting.len() as u64,
+            deadline: earliest.unwrap_or(0),
+        }
     }
 
     pub fn count(&self) -> Count {

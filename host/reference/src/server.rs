@@ -153,6 +153,22 @@ impl Server {
         self.status = status;
     }
 
+    /// How many requests wait, and the earliest deadline; 0 and 0 if none does.
+    pub fn deadline(&self) -> (usize, u64) {
+        let waiting = self.locks.waiting();
+        let earliest = waiting.iter().map(|request| request.deadline).min();
+        (waiting.len(), earliest.unwrap_or(0))
+    }
+
+    /// The largest payload that a live session's client takes.
+    pub fn client_size(&self, session: u32) -> Result<u64, Refusal> {
+        let mut sessions = self.sessions.iter().flatten();
+        match sessions.find(|known| u32::from(known.number) == session) {
+            Some(known) => Ok(known.client_size),
+            None => Err(Refusal::NoSession),
+        }
+    }
+
     pub fn remote_local(&self) -> RemoteLocal {
         self.remote_local
     }

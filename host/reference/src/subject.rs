@@ -2,7 +2,7 @@
 
 use std::hash::{Hash, Hasher};
 
-use crate::event::{Event, Reply};
+use crate::event::{Deadline, Event, Reply, Size};
 use crate::lock_view::LockView;
 use crate::server::Server;
 
@@ -16,6 +16,10 @@ pub trait Subject {
     fn clock(&mut self, milliseconds: u64, out: &mut [u8]) -> Reply;
     fn answer(&mut self, session: u32, payload: &[u8], end: u8, out: &mut [u8]) -> Reply;
     fn status(&mut self, status: u8);
+
+    /// Questions, which change nothing.
+    fn deadline(&self) -> Deadline;
+    fn client_size(&self, session: u32) -> Size;
 
     /// A second server in the same state.
     fn fork(&self) -> Box<dyn Subject>;
@@ -132,6 +136,24 @@ macro_rules! subject_of {
 
             fn status(&mut self, status: u8) {
                 <$server>::status(self, status);
+            }
+
+            fn deadline(&self) -> $crate::Deadline {
+                let (waiting, deadline) = <$server>::deadline(self);
+                $crate::Deadline {
+                    waiting: waiting as u64,
+                    deadline,
+                }
+            }
+
+            fn client_size(&self, session: u32) -> $crate::Size {
+                match <$server>::client_size(self, session) {
+                    Ok(size) => $crate::Size { refusal: 0, size },
+                    Err(refusal) => $crate::Size {
+                        refusal: refusal as u64,
+                        size: 0,
+                    },
+                }
             }
 
             fn fork(&self) -> Box<dyn $crate::Subject> {

@@ -278,3 +278,35 @@ fn item_64_the_buffer_holds_frames_and_then_what_it_held() {
     assert_eq!((&out[..4], out[4]), (&b"\x03HS\x05"[..], 0));
     assert_eq!(out[17..], old[17..]);
 }
+
+#[test]
+fn who_waits_and_until_when() {
+    let (mut bench, [a, b, c]) = Bench::with();
+    bench.clock(100);
+    assert_eq!(bench.server.deadline(), (0, 0));
+    bench.lock(a, b"", 0);
+    bench.lock(b, b"", 50);
+    bench.lock(c, b"", 20);
+    assert_eq!(bench.server.deadline(), (2, 120), "not the first to come");
+    assert_eq!(bench.clock(119), []);
+    assert_eq!(bench.clock(120), [timed_out(c)]);
+    assert_eq!(bench.server.deadline(), (1, 150));
+    bench.cut(b.sync);
+    assert_eq!(bench.server.deadline(), (0, 0));
+}
+
+#[test]
+fn how_long_an_answer_may_be() {
+    let (mut bench, [a]) = Bench::with();
+    assert_eq!(bench.server.client_size(1), Ok(1024));
+    bench.send(a.asynchronous, 15, 0, &u64::MAX.to_be_bytes());
+    assert_eq!(bench.server.client_size(1), Ok(u64::MAX));
+    for session in [0, 2, 65_537, u32::MAX] {
+        let told = bench.server.client_size(session);
+        assert_eq!(told, Err(Refusal::NoSession), "{session}");
+    }
+    bench.half_open(7);
+    assert_eq!(bench.server.client_size(2), Ok(1024));
+    bench.cut(a.sync);
+    assert_eq!(bench.server.client_size(1), Err(Refusal::NoSession));
+}

@@ -58,6 +58,23 @@ fn dropped_output_is_warned_of() {
     warned_of("dropped", &clock("done ="), &clock(""));
 }
 
+/// Questions take memory that is only read.
+#[test]
+fn a_dropped_answer_to_a_question_is_warned_of() {
+    let ask = |keep: &str| {
+        format!(
+            "#include \"hislip_server.h\"\n\
+             uint64_t ask(const uint64_t *words, const uint8_t *strings);\n\
+             uint64_t ask(const uint64_t *words, const uint8_t *strings)\n\
+             {{ hislip_sized told = {{1, 1}};\n\
+             hislip_deadlines due = hislip_deadline(words, strings);\n\
+             {keep} hislip_client_size(words, strings, 1);\n\
+             return due.waiting + due.deadline + told.refusal + told.size; }}\n"
+        )
+    };
+    warned_of("question", &ask("told ="), &ask(""));
+}
+
 /// What host/c/names.c prints of one kind, behind the kind's word.
 fn lines<'a>(text: &'a str, kind: &str) -> Vec<&'a str> {
     let rest = |line: &'a str| line.strip_prefix(kind)?.strip_prefix(' ');
