@@ -210,13 +210,13 @@ module _ (d : Server) (e : Event) (c : ℕ) (v : Inv (d .locks)) (z : refusal d 
 
   leaves : (step d e) .server .locks ≡ record { clock = d .locks .clock; entries = left .entries; waiting = left .waiting }
   unfolding step answered finish change grantPass
-  leaves = ap (λ n. (answered n d e) .server .locks) z ∙ ap (λ x. (settle (frees x) ((change (d .locks) x) .locks)) .locks) p
+  leaves = ap (λ n. (answered n d e) .server .locks) z ∙ ap (λ x. (settle (frees (d .locks) x) ((change (d .locks) x) .locks)) .locks) p
 
   sends : keep isLock ((step d e) .frames) ≡ map lockFrame (left .answers)
   unfolding step answered finish change grantPass
   sends =
       ap (λ n. keep isLock ((answered n d e) .frames)) z
-      ∙ ap (λ x. keep isLock (map lockFrame ((change (d .locks) x) .answers) ++ ((plan d e) .said ++ map lockFrame ((settle (frees x) ((change (d .locks) x) .locks)) .answers)))) p
+      ∙ ap (λ x. keep isLock (map lockFrame ((change (d .locks) x) .answers) ++ ((plan d e) .said ++ map lockFrame ((settle (frees (d .locks) x) ((change (d .locks) x) .locks)) .answers)))) p
       ∙ keep-append ((plan d e) .said) (map lockFrame (left .answers))
       ∙ ap₂ _++_ (plan-no d e) (keep-locks (left .answers))
 

@@ -1,14 +1,15 @@
 -- N. Isolation over the run (01, "Access: the exclusive holder alone"): from the answer that grants S exclusive until its release or its
 -- closing, every Data, DataEND and Trigger that acts is S's. Assumes nothing.
 use mathlib.Core.Path.{_≡_}
-use mathlib.Core.Bool.{Bool, true, _&&_}
+use mathlib.Core.Bool.{Bool, true, _&&_, _||_}
 use mathlib.Core.List.{List, [], _∷_}
 use Prim.Native.Nat.{ℕ}
 use lib.Dec.{eqb}
+use Rattle.wire.specs.declared.Header.{Header}
 use Rattle.wire.specs.Message.{header}
 use Rattle.wire.specs.Class.{one-of}
 use Rattle.model.specs.Sizes.{noConnection}
-use Rattle.model.specs.MessageTypes.{AsyncLock, commands}
+use Rattle.model.specs.MessageTypes.{AsyncLock, AsyncDeviceClear, commands}
 use Rattle.model.specs.Lists.{isNil, any}
 use Rattle.model.specs.State.{Locks, at, Server, fresh}
 use Rattle.model.specs.Interface.{Event, Event.delivery, Outcome.acted, Reply.took}
@@ -29,10 +30,15 @@ pub data Begins (d : Server) (j : ℕ) : Event → Type 0 where
   later : (e : Event) → awaitsExclusive (d .locks) j ≡ true → ((at (d .locks .entries) j) .asynchronous ≡ noConnection → ⊥)
       → any (λ f. answers1 f && eqb (f .to) ((at (d .locks .entries) j) .asynchronous)) ((step d e) .frames) ≡ true → Begins d j e
 
--- how it ends: its AsyncLock with code 0, a release, acts; or it closes
+-- 02, Q-3: the messages with which a release takes effect: the release itself, a Data, DataEND or Trigger, AsyncDeviceClear
+abbrev pub mayRelease : Header → Bool
+mayRelease h = (eqb (h .kind) AsyncLock && eqb (h .code) 0) || (one-of commands (h .kind) || eqb (h .kind) AsyncDeviceClear)
+
+-- how it ends: such a message of it acts, and answer 1 is sent to its asynchronous connection; or it closes
 pub data Ends (d : Server) (j : ℕ) : Event → Type 0 where
   releases : (c : ℕ) (bs : List ℕ) (room k n : ℕ) → slotOf d c ≡ j → (step d (delivery c bs room)) .reply ≡ took acted k n
-      → (header bs) .kind ≡ AsyncLock → (header bs) .code ≡ 0 → Ends d j (delivery c bs room)
+      → mayRelease (header bs) ≡ true → any (λ f. answers1 f && eqb (f .to) ((at (d .locks .entries) j) .asynchronous)) ((step d (delivery c bs room)) .frames) ≡ true
+      → Ends d j (delivery c bs room)
   closes : {e : Event} (c : ℕ) → slotOf d c ≡ j → Closes d e c → Ends d j e
 
 -- no call of the list ends it
