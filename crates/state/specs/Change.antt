@@ -13,11 +13,12 @@ use lib.Seq.{getD-set-same, getD-set-other}
 use borrow.Author.Tests.{eqb-true, eqb-false}
 use Rattle.model.specs.Sizes.{sessionLimit, connectionLimit, stringLimit}
 use Rattle.model.specs.State.{Entry, Waiting, Locks, Exchange, Connection, RemoteLocal, Rest, Server, blank, at, freshExchange, closedConnection, exchangeAt, connectionAt}
+use Rattle.model.specs.Locks.{withOrder}
 use Rattle.state.specs.Table.{tab, tab-same, tab-set, getD-tab, apart}
 use Rattle.state.specs.Grid.{upd, upd-set, part, grid, grid-set, grid-off, getD-grid, word-of}
 use Rattle.state.specs.Bits.{bit}
 use Rattle.state.specs.Layout.{LOCKS, CLOCK, VENDOR, STATUS, LAST, ENABLE, LOCKOUT, REMOTE, HOLDER, SHARERS, KEY, COUNT, ENTRIES, ENTRY, EXCHANGES, EXCHANGE, CONNECTIONS, CONNECTION, REQUESTS, REQUEST, QUEUE, WORDS}
-use Rattle.state.specs.View.{Memory, memory, word, flag, keyOf, entryAt, entriesOf, slotAt, requestAt, waitingOf, locksOf, askedOf, exchangeFrom, exchangeOf, connectionFrom, connectionOf, entryFrom, restFrom, restOf, view}
+use Rattle.state.specs.View.{Memory, memory, standingOf, word, flag, keyOf, entryAt, entriesOf, slotAt, requestAt, waitingOf, locksOf, askedOf, exchangeFrom, exchangeOf, connectionFrom, connectionOf, entryFrom, restFrom, restOf, view}
 
 -- the word of a field, in the row of a slot or of a connection
 abbrev pub exchangeWord : List ℕ → ℕ → ℕ → ℕ
@@ -41,9 +42,11 @@ connectionWith zero v x = record { isOpen = flag v; remainder = x .remainder }
 connectionWith (suc f) v x = record { isOpen = x .isOpen; remainder = v }
 
 abbrev pub entryWith : ℕ → ℕ → Entry → Entry
-entryWith zero v e = record { number = v; synchronous = e .synchronous; asynchronous = e .asynchronous; exclusive = e .exclusive; shared = e .shared }
-entryWith (suc zero) v e = record { number = e .number; synchronous = v % 256; asynchronous = e .asynchronous; exclusive = e .exclusive; shared = e .shared }
-entryWith (suc (suc f)) v e = record { number = e .number; synchronous = e .synchronous; asynchronous = v % 256; exclusive = e .exclusive; shared = e .shared }
+entryWith zero v e = record { number = v; synchronous = e .synchronous; asynchronous = e .asynchronous; exclusive = e .exclusive; shared = e .shared; last = e .last; standing = e .standing }
+entryWith (suc zero) v e = record { number = e .number; synchronous = v % 256; asynchronous = e .asynchronous; exclusive = e .exclusive; shared = e .shared; last = e .last; standing = e .standing }
+entryWith (suc (suc zero)) v e = record { number = e .number; synchronous = e .synchronous; asynchronous = v % 256; exclusive = e .exclusive; shared = e .shared; last = e .last; standing = e .standing }
+entryWith (suc (suc (suc zero))) v e = withOrder (v % 2 ^ 32) (e .standing) e
+entryWith (suc (suc (suc (suc f)))) v e = withOrder (e .last) (standingOf v) e
 
 -- a single value of the rest, by its place: vendor number, status byte, last SessionID, the three flags
 abbrev pub flagsWith : ℕ → ℕ → RemoteLocal → RemoteLocal
@@ -127,6 +130,8 @@ module _ (w : List ℕ) where
         asynchronous = off a v (ENTRIES + i * ENTRY + 2) (n 2 (lit< tt)) k % 256;
         exclusive = eqb (off a v HOLDER p k) (i + 1);
         shared = cond (eqb (bit (off a v SHARERS q k) i) 1) key [];
+        last = off a v (ENTRIES + i * ENTRY + 3) (n 3 (lit< tt)) k % 2 ^ 32;
+        standing = standingOf (off a v (ENTRIES + i * ENTRY + 4) (n 4 (lit< tt)) k);
       }
 
   pub entries-off : (key : List ℕ) (a v : ℕ) → (HOLDER ≡ a → ⊥) → (SHARERS ≡ a → ⊥) → (a < ENTRIES) ⊎ (REQUESTS ≤ a)
@@ -251,7 +256,9 @@ entry-by : (key : List ℕ) (x : Bool) (y : List ℕ) (t : ℕ → ℕ) (f v : �
 entry-by key x y t zero v l = refl
 entry-by key x y t (suc zero) v l = refl
 entry-by key x y t (suc (suc zero)) v l = refl
-entry-by key x y t (suc (suc (suc f))) v l = absurd (omega arith)
+entry-by key x y t (suc (suc (suc zero))) v l = refl
+entry-by key x y t (suc (suc (suc (suc zero)))) v l = refl
+entry-by key x y t (suc (suc (suc (suc (suc f))))) v l = absurd (omega arith)
 
 entry-row : (w key : List ℕ) (i f v : ℕ) → length w ≡ WORDS → i < sessionLimit → f < ENTRY
     → entryAt (set w (ENTRIES + i * ENTRY + f) v) key i ≡ entryWith f v (entryAt w key i)
@@ -268,6 +275,8 @@ entry-row w key i f v n h l =
       asynchronous = t 2 k % 256;
       exclusive = eqb (off w a v HOLDER (omega arith) k) (i + 1);
       shared = cond (eqb (bit (off w a v SHARERS (omega arith) k) i) 1) key [];
+      last = t 3 k % 2 ^ 32;
+      standing = standingOf (t 4 k);
     })
     ∙ entry-by key x y (λ (g : ℕ). word w (b + g)) f v l
 
@@ -283,6 +292,8 @@ entry-other w key i f v j h l m o =
       asynchronous = off w a v (ENTRIES + j * ENTRY + 2) (n 2 (lit< tt)) k % 256;
       exclusive = eqb (off w a v HOLDER (omega arith) k) (j + 1);
       shared = cond (eqb (bit (off w a v SHARERS (omega arith) k) j) 1) key [];
+      last = off w a v (ENTRIES + j * ENTRY + 3) (n 3 (lit< tt)) k % 2 ^ 32;
+      standing = standingOf (off w a v (ENTRIES + j * ENTRY + 4) (n 4 (lit< tt)) k);
     }
 
 -- a memory whose table differs in slot i alone
@@ -358,7 +369,9 @@ module _ (w : List ℕ) (i : ℕ) where
   entry-again key zero l = refl
   entry-again key (suc zero) l = refl
   entry-again key (suc (suc zero)) l = refl
-  entry-again key (suc (suc (suc f))) l = absurd (omega arith)
+  entry-again key (suc (suc (suc zero))) l = refl
+  entry-again key (suc (suc (suc (suc zero)))) l = refl
+  entry-again key (suc (suc (suc (suc (suc f))))) l = absurd (omega arith)
 
   pub entry-read : (s : List ℕ) (f : ℕ) → i < sessionLimit → f < ENTRY → entryWith f (word w (ENTRIES + i * ENTRY + f)) (at (locksOf w s .entries) i) ≡ at (locksOf w s .entries) i
   entry-read s f h l = ap (entryWith f (word w (ENTRIES + i * ENTRY + f))) (entry-at s h) ∙ entry-again (keyOf w s) f l ∙ sym (entry-at s h)

@@ -8,7 +8,7 @@ use native.Mathlib.Numerals.{add-one}
 use lib.Dec.{eqb, ltb}
 use lib.ListN.{length, getD, set, take, replicate}
 use lib.Seq.{take-all, take-suc, take-suc-set}
-use Rattle.model.specs.Sizes.{sessionLimit, connectionLimit, payloadLimit, noConnection}
+use Rattle.model.specs.Sizes.{sessionLimit, connectionLimit, payloadLimit, noConnection, beforeFirst}
 use Rattle.model.specs.State.{Server, Rest, fresh}
 use Rattle.state.specs.Table.{tab, getD-tab}
 use Rattle.state.specs.Grid.{grid}
@@ -21,7 +21,7 @@ rows zero r = []
 rows (suc n) r = r ++ rows n r
 
 -- vendor number; status, last SessionID and the flags; exchanges (the client's size is 1,024); connections; clock, holder, sharers, key,
--- count; entries (no connections); requests; queue
+-- count; entries (no connections, no message acted); requests; queue
 abbrev pub freshWords : ℕ → List ℕ
 freshWords v =
     v
@@ -29,20 +29,24 @@ freshWords v =
     ++ rows sessionLimit (0 ∷ 0 ∷ 0 ∷ payloadLimit ∷ [])
     ++ replicate (connectionLimit * 2) 0
     ++ replicate 5 0
-    ++ rows sessionLimit (0 ∷ noConnection ∷ noConnection ∷ [])
+    ++ rows sessionLimit (0 ∷ noConnection ∷ noConnection ∷ beforeFirst ∷ 0 ∷ [])
     ++ replicate (sessionLimit * REQUEST) 0
     ++ replicate sessionLimit 0
+
+-- a field of an entry
+unfoldable pub freshEntry : ℕ → ℕ
+freshEntry f = cond (eqb f 3) beforeFirst (cond (eqb f 1) noConnection (cond (eqb f 2) noConnection 0))
 
 -- the word at a place
 unfoldable pub freshWord : ℕ → ℕ
 freshWord i =
     cond (ltb i EXCHANGES) 0
     (cond (ltb i CONNECTIONS) (cond (eqb ((i - EXCHANGES) % EXCHANGE) 3) payloadLimit 0)
-    (cond (ltb i ENTRIES) 0 (cond (ltb i REQUESTS) (cond (eqb ((i - ENTRIES) % ENTRY) 0) 0 noConnection) 0)))
+    (cond (ltb i ENTRIES) 0 (cond (ltb i REQUESTS) (freshEntry ((i - ENTRIES) % ENTRY)) 0)))
 
 -- it is that of the list: computed over every place
 fresh-table : tab freshWord 0 WORDS ≡ freshWords 0
-unfolding tab freshWord
+unfolding tab freshWord freshEntry
 fresh-table = refl
 
 pub fresh-at : (i : ℕ) → i < WORDS → getD (freshWords 0) i 0 ≡ freshWord i

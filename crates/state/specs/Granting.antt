@@ -17,7 +17,7 @@ use Rattle.model.specs.Locks.{give, withoutExclusive, withoutShared}
 use Rattle.state.specs.Grid.{upd}
 use Rattle.state.specs.Bits.{bit, without, with-bit, without-same, without-other, with-same, with-other}
 use Rattle.state.specs.Layout.{LOCKS, CLOCK, HOLDER, SHARERS, KEY, ENTRIES, ENTRY, WORDS, STRINGS}
-use Rattle.state.specs.View.{Memory, memory, word, keyOf, entryFrom, entryAt, entriesOf, waitingOf, locksOf, view}
+use Rattle.state.specs.View.{Memory, memory, standingOf, word, keyOf, entryFrom, entryAt, entriesOf, waitingOf, locksOf, view}
 use Rattle.state.specs.Change.{onEntry, off, here, key-off, waiting-off, rest-off, entries-change}
 use Rattle.state.specs.Requests.{part-behind, waiting-strings}
 
@@ -32,6 +32,8 @@ module _ (w key : List ℕ) (j : ℕ) (long : length w ≡ WORDS) where
         asynchronous = off w HOLDER v (ENTRIES + j * ENTRY + 2) (omega arith) k % 256;
         exclusive = eqb (here w HOLDER v (omega arith) k) (j + 1);
         shared = cond (eqb (bit (off w HOLDER v SHARERS (omega arith) k) j) 1) key [];
+        last = off w HOLDER v (ENTRIES + j * ENTRY + 3) (omega arith) k % 2 ^ 32;
+        standing = standingOf (off w HOLDER v (ENTRIES + j * ENTRY + 4) (omega arith) k);
       }
 
   entry-sharers : (v : ℕ) → entryAt (set w SHARERS v) key j ≡ entryFrom (λ (g : ℕ). word w (ENTRIES + j * ENTRY + g)) ((entryAt w key j) .exclusive) (cond (eqb (bit v j) 1) key [])
@@ -43,6 +45,8 @@ module _ (w key : List ℕ) (j : ℕ) (long : length w ≡ WORDS) where
         asynchronous = off w SHARERS v (ENTRIES + j * ENTRY + 2) (omega arith) k % 256;
         exclusive = eqb (off w SHARERS v HOLDER (omega arith) k) (j + 1);
         shared = cond (eqb (bit (here w SHARERS v (omega arith) k) j) 1) key [];
+        last = off w SHARERS v (ENTRIES + j * ENTRY + 3) (omega arith) k % 2 ^ 32;
+        standing = standingOf (off w SHARERS v (ENTRIES + j * ENTRY + 4) (omega arith) k);
       }
 
   -- slot j as its words have it, with these locks
@@ -206,6 +210,8 @@ module _ (w s : List ℕ) (i x : ℕ) (xs : List ℕ) (h : i < sessionLimit) (sm
         asynchronous = t (ENTRIES + j * ENTRY + 2) (omega arith) (omega arith) k % 256;
         exclusive = eqb (t HOLDER (omega arith) (omega arith) k) (j + 1);
         shared = cond (eqb (bit (here keyed SHARERS v (omega (arith, keyed-length)) k) j) 1) (x ∷ xs) [];
+        last = t (ENTRIES + j * ENTRY + 3) (omega arith) (omega arith) k % 2 ^ 32;
+        standing = standingOf (t (ENTRIES + j * ENTRY + 4) (omega arith) (omega arith) k);
       }
 
   entry-other : (j : ℕ) → j < sessionLimit → (j ≡ i → ⊥) → entryAt joined (x ∷ xs) j ≡ entryAt w (keyOf w s) j

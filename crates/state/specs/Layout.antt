@@ -64,13 +64,13 @@ KEY = SHARERS + 1
 abbrev pub COUNT : ℕ
 COUNT = KEY + 1
 
--- a row for each slot: SessionID, synchronous and asynchronous connection
+-- a row for each slot: SessionID, synchronous and asynchronous connection, the number of the last message, the release that stands
 abbrev pub ENTRIES : ℕ
 ENTRIES = COUNT + 1
 
 -- words a row
 abbrev pub ENTRY : ℕ
-ENTRY = 3
+ENTRY = 5
 
 -- a row for each slot: its request's deadline, the length of its string
 abbrev pub REQUESTS : ℕ

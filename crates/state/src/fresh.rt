@@ -1,6 +1,6 @@
 // A fresh server: every word and every byte is written, whatever was there.
 ghost use Rattle.model.specs.State.{fresh};
-ghost use Rattle.state.specs.Fresh.{freshStrings, freshWord, freshWords};
+ghost use Rattle.state.specs.Fresh.{freshEntry, freshStrings, freshWord, freshWords};
 ghost use Rattle.state.specs.View.{memory, view};
 ghost use lib.ListN.{length, replicate};
 ghost use mathlib.Core.Path.{_≡_};
@@ -12,15 +12,34 @@ use crate::layout::EXCHANGE;
 use crate::layout::EXCHANGES;
 use crate::layout::REQUESTS;
 use crate::sizes;
+use crate::sizes::BEFORE_FIRST;
 use crate::sizes::NO_CONNECTION;
 use crate::sizes::PAYLOAD;
 use crate::sizes::Strings;
 use crate::sizes::Words;
+use crate::tables::ASYNCHRONOUS;
 use crate::tables::CLIENT_SIZE;
-use crate::tables::NUMBER;
+use crate::tables::LAST_NUMBER;
+use crate::tables::SYNCHRONOUS;
 use crate::tables::VENDOR;
 
-// The word of a fresh server at a place: an exchange has the client's size, a slot no connections, all else is 0.
+// A field of a slot that is free: it has no connections, and no message acted.
+fn fresh_entry(f: usize) -> u64
+    ensures { λ r. ⌜ r ≡ freshEntry f ⌝ }
+{
+    if f == LAST_NUMBER {
+        return BEFORE_FIRST;
+    }
+    if f == SYNCHRONOUS {
+        return NO_CONNECTION;
+    }
+    if f == ASYNCHRONOUS {
+        return NO_CONNECTION;
+    }
+    0
+}
+
+// The word of a fresh server at a place: an exchange has the client's size, a slot is free, all else is 0.
 fn fresh_word(at: usize) -> u64
     ensures { λ r. ⌜ r ≡ freshWord at ⌝ }
 {
@@ -37,10 +56,7 @@ fn fresh_word(at: usize) -> u64
         return 0;
     }
     if at < REQUESTS {
-        if (at - ENTRIES) % ENTRY == NUMBER {
-            return 0;
-        }
-        return NO_CONNECTION;
+        return fresh_entry((at - ENTRIES) % ENTRY);
     }
     0
 }

@@ -28,10 +28,10 @@ pub const KEY: usize = SHARERS + 1;
 // how many requests wait
 pub const COUNT: usize = KEY + 1;
 
-// a row for each slot: SessionID, synchronous and asynchronous connection
+// a row for each slot: SessionID, synchronous and asynchronous connection, the number of the last message, the release that stands
 pub const ENTRIES: usize = COUNT + 1;
 
-pub const ENTRY: usize = 3;
+pub const ENTRY: usize = 5;
 
 // a row for each slot: its request's deadline, the length of its string
 pub const REQUESTS: usize = ENTRIES + SESSION_LIMIT * ENTRY;

@@ -33,12 +33,17 @@ pub const IS_OPEN: usize = 0;
 
 pub const REMAINDER: usize = 1;
 
-// The fields of a slot of the table of sessions: its SessionID, its connections.
+// The fields of a slot of the table of sessions: its SessionID, its connections, the number of its last message, its release that stands
+// (0: none; else, less 1: the number that it waits for, and above 32 bits which lock it frees).
 pub const NUMBER: usize = 0;
 
 pub const SYNCHRONOUS: usize = 1;
 
 pub const ASYNCHRONOUS: usize = 2;
+
+pub const LAST_NUMBER: usize = 3;
+
+pub const STANDING: usize = 4;
 
 // The single values: the vendor number, the instrument's status byte, the SessionID issued last, the three remote/local flags.
 pub const VENDOR: usize = 0;
@@ -85,14 +90,14 @@ pub fn set_connection(w: &mut Words, i: usize, f: usize, v: u64)
 
 // A slot of the table of sessions.
 pub fn entry(w: &Words, i: usize, f: usize) -> u64
-    requires { ⌜ (i < sessionLimit) × (f < 3) ⌝ }
+    requires { ⌜ (i < sessionLimit) × (f < 5) ⌝ }
     ensures { λ r. ⌜ ((s : List ℕ) → entryWith f r (at (locksOf (now (w .entry)) s .entries) i) ≡ at (locksOf (now (w .entry)) s .entries) i) × (r ≡ entryWord (now (w .entry)) i f) ⌝ }
 {
     w[ENTRIES + i * ENTRY + f]
 }
 
 pub fn set_entry(w: &mut Words, i: usize, f: usize, v: u64)
-    requires { ⌜ (i < sessionLimit) × (f < 3) ⌝ }
+    requires { ⌜ (i < sessionLimit) × (f < 5) ⌝ }
     ensures { λ _. ⌜ ((s : List ℕ) → view (memory (now (w .exit)) s) ≡ onEntry (view (memory (now (w .entry)) s)) i (entryWith f v)) ⌝ }
 {
     store(w, ENTRIES + i * ENTRY + f, v);

@@ -1,6 +1,7 @@
 -- `fresh::fresh_word` meets its contract: by the part that the place is in.
 use Prim.Native.Nat.{ℕ, _-_, _%_}
 use native.Mathlib.Omega.{arith}
+use borrow.Author.Needs.{needs}
 use borrow.Author.Tests.{lt-ltb, le-ltb, eq-eqb, ne-eqb}
 use Rattle.state.specs.Fresh.{freshWord}
 use Rattle.state.specs.Layout.{CONNECTIONS, ENTRIES, ENTRY, EXCHANGE, EXCHANGES, REQUESTS}
@@ -25,15 +26,11 @@ returns-4 c = let i : ℕ = c .before .before .before .args .at in rw (le-ltb i 
 
 returns-5 : tie.Need-returns-5
 unfolding freshWord
-returns-5 c = let i : ℕ = c .before .before .before .before .before .args .at in rw (le-ltb i EXCHANGES (omega arith), le-ltb i CONNECTIONS (omega arith), le-ltb i ENTRIES (omega arith), lt-ltb i REQUESTS (omega arith), eq-eqb ((i - ENTRIES) % ENTRY) 0 (c .if6 .taken))
+returns-5 c = let i : ℕ = c .before .before .before .before .before .args .at in rw (le-ltb i EXCHANGES (omega arith), le-ltb i CONNECTIONS (omega arith), le-ltb i ENTRIES (omega arith), lt-ltb i REQUESTS (omega arith)) (c .fresh-entry .ensures)
 
 returns-6 : tie.Need-returns-6
 unfolding freshWord
-returns-6 c = let i : ℕ = c .before .before .before .before .before .args .at in rw (le-ltb i EXCHANGES (omega arith), le-ltb i CONNECTIONS (omega arith), le-ltb i ENTRIES (omega arith), lt-ltb i REQUESTS (omega arith), ne-eqb ((i - ENTRIES) % ENTRY) 0 (c .if6 .left))
-
-returns-7 : tie.Need-returns-7
-unfolding freshWord
-returns-7 c = let i : ℕ = c .before .before .before .before .args .at in rw (le-ltb i EXCHANGES (omega arith), le-ltb i CONNECTIONS (omega arith), le-ltb i ENTRIES (omega arith), le-ltb i REQUESTS (omega arith))
+returns-6 c = let i : ℕ = c .before .before .before .before .args .at in rw (le-ltb i EXCHANGES (omega arith), le-ltb i CONNECTIONS (omega arith), le-ltb i ENTRIES (omega arith), le-ltb i REQUESTS (omega arith))
 
 pub fresh-word-spec : {M : Type 1} → statement M
-fresh-word-spec = tie.close (tie.spec returns returns-2 returns-3 returns-4 returns-5 returns-6 returns-7)
+fresh-word-spec = tie.close (tie.spec returns returns-2 returns-3 returns-4 (λ c κs. search needs) returns-5 returns-6)
