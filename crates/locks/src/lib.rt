@@ -2,10 +2,12 @@
 // memory and the output what the model says of one lock event.
 pub mod access;
 pub mod answers;
+pub mod complete;
 pub mod grant_pass;
 pub mod granting;
 pub mod info;
 pub mod release;
 pub mod request;
 pub mod sessions;
+pub mod standing;
 pub mod waiting;

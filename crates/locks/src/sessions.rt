@@ -11,6 +11,7 @@ ghost use mathlib.Core.Path.{_≡_};
 ghost use Rattle.model.specs.Sizes.{sessionLimit};
 use crate::waiting::drop_request;
 use state::holders;
+use state::sizes::BEFORE_FIRST;
 use state::sizes::Words;
 use state::tables;
 
@@ -24,6 +25,8 @@ fn renew(w: &mut Words, i: usize, n: u64, a: u64, b: u64)
     tables::set_entry(w, i, tables::NUMBER, n);
     tables::set_entry(w, i, tables::SYNCHRONOUS, a);
     tables::set_entry(w, i, tables::ASYNCHRONOUS, b);
+    tables::set_entry(w, i, tables::LAST_NUMBER, BEFORE_FIRST);
+    tables::set_entry(w, i, tables::STANDING, 0);
     holders::drop_exclusive(w, i);
     holders::drop_shared(w, i);
 }
@@ -44,7 +47,7 @@ pub fn join_slot(w: &mut Words, i: usize, c: u64)
     tables::set_entry(w, i, tables::ASYNCHRONOUS, c);
 }
 
-// The session of slot i closes: its locks and its waiting request go, and nobody is told.
+// The session of slot i closes: its locks, its waiting request and a release that stands go, and nobody is told.
 pub fn close_slot(w: &mut Words, i: usize)
     requires { ⌜ i < sessionLimit ⌝ }
     ensures { λ _. ⌜ ((s : List ℕ) → Quiet (change (locksOf (now (w .entry)) s) (close i)) (memory (now (w .entry)) s) (memory (now (w .exit)) s)) ⌝ }

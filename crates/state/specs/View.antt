@@ -2,8 +2,8 @@
 -- Every later answer depends on the memory through this view alone. Assumes nothing.
 use mathlib.Core.Bool.{Bool, true, false, cond}
 use mathlib.Core.List.{List, [], _∷_}
-use Prim.Native.Nat.{ℕ, zero, suc, _+_, _*_, _-_, _/_, _%_, _^_, min}
-use lib.Dec.{eqb}
+use Prim.Native.Nat.{ℕ, zero, suc, _+_, _*_, _-_, _%_, _^_, min}
+use lib.Dec.{eqb, ltb}
 use lib.ListN.{getD, take}
 use Rattle.model.specs.Sizes.{sessionLimit, connectionLimit, stringLimit}
 use Rattle.model.specs.State.{Entry, Kind.exclusive-lock, Kind.shared-lock, Standing, Standing.no-release, Standing.release-of, Waiting, Locks, Asked, Asked.none, Asked.some, Exchange, Connection, RemoteLocal, Rest, Server}
@@ -33,7 +33,7 @@ keyOf w s = word s 0 ∷ take (word w KEY) (part s 1 63)
 
 -- 0: no release stands; else, less 1: its number, and above it which lock it frees
 abbrev pub standingOf : ℕ → Standing
-standingOf x = cond (eqb x 0) no-release (release-of (cond (eqb ((x - 1) / 2 ^ 32) 0) exclusive-lock shared-lock) ((x - 1) % 2 ^ 32))
+standingOf x = cond (eqb x 0) no-release (release-of (cond (ltb (x - 1) (2 ^ 32)) exclusive-lock shared-lock) ((x - 1) % 2 ^ 32))
 
 -- slot i: its SessionID and connections stand in a row of words; exclusive and shared in words that all slots have in common
 abbrev pub entryFrom : (ℕ → ℕ) → Bool → List ℕ → Entry
