@@ -101,7 +101,7 @@ told-locks : (xs : List Answer) → map toldFrame (map toldOf xs) ≡ map lockFr
 told-locks [] = refl
 told-locks (x ∷ xs) = ap (λ l. lockFrame x ∷ l) (told-locks xs)
 
-frames-append : (xs ys : List Answer) → map lockFrame (xs ++ ys) ≡ map lockFrame xs ++ map lockFrame ys
+pub frames-append : (xs ys : List Answer) → map lockFrame (xs ++ ys) ≡ map lockFrame xs ++ map lockFrame ys
 frames-append [] ys = refl
 frames-append (x ∷ xs) ys = ap (λ l. lockFrame x ∷ l) (frames-append xs ys)
 
