@@ -32,7 +32,7 @@ use Rattle.model.proofs.Events.{Fit, change-sound}
 use Rattle.model.proofs.Fits.{plan-fit}
 use Rattle.model.proofs.Place.{async-live}
 use Rattle.model.proofs.Scanning.{whole-scan}
-use Rattle.model.proofs.Agreement.{plan-no, keep-append, keep-locks}
+use Rattle.model.proofs.Agreement.{frames-locks}
 use Rattle.model.proofs.GrantingRule.{nil→}
 use Rattle.model.proofs.Closing.{told, looked-both, looked-each, looked-get, pass-looks, good-live}
 use Rattle.model.proofs.Fewer.{request-step, step-request}
@@ -261,10 +261,8 @@ later-holds d v j e aw real a = go (refusal d e) refl a
         let ev = (plan d e) .event in
         let c = change (d .locks) ev in
         let s = settle (frees (d .locks) ev) (c .locks) in
-        let locks : keep isLock (map lockFrame (c .answers) ++ ((plan d e) .said ++ map lockFrame (s .answers))) ≡ map lockFrame (c .answers) ++ map lockFrame (s .answers) =
-        keep-append (map lockFrame (c .answers)) _ ∙ ap₂ _++_ (keep-locks (c .answers)) (keep-append ((plan d e) .said) (map lockFrame (s .answers)) ∙ ap₂ _++_ (plan-no d e) (keep-locks (s .answers))) in
         let none : (all (spare y) (c .answers) && all (spare y) (s .answers)) ≡ false =
-        sym (ap₂ _&&_ (all-answers y (c .answers)) (all-answers y (s .answers))) ∙ sym (all-append (free y) (map lockFrame (c .answers)) (map lockFrame (s .answers))) ∙ ap (all (free y)) (sym locks)
+        sym (ap₂ _&&_ (all-answers y (c .answers)) (all-answers y (s .answers))) ∙ sym (all-append (free y) (map lockFrame (c .answers)) (map lockFrame (s .answers))) ∙ ap (all (free y)) (sym (frames-locks d e (c .answers) (s .answers)))
         ∙ sym (all-locks y (map lockFrame (c .answers) ++ ((plan d e) .said ++ map lockFrame (s .answers)))) ∙ not-of _ a in
         let r = event-got (d .locks) v j aw real ev f (ap (λ (b : Bool). b && all (spare y) (s .answers)) (sym (change-spare (d .locks) v j aw real ev f)) ∙ none) in
         record { number = r .0; exclusive = r .1 }

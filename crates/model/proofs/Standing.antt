@@ -1,5 +1,5 @@
 -- Q, proved: which events leave a release standing, and that the others are those of the statement.
-use mathlib.Core.Path.{_≡_, refl, sym, ap, subst, _∙_}
+use mathlib.Core.Path.{_≡_, refl, sym, ap, ap₂, subst, _∙_}
 use mathlib.Core.Bool.{Bool, true, false, not, _&&_, _||_, cond, false≢true, true≢false}
 use mathlib.Core.List.{List, [], _∷_, _++_}
 use mathlib.Core.Logic.{_⊎_, inl, inr}
@@ -7,9 +7,9 @@ use Prim.Native.Nat.{ℕ, zero, suc, _+_}
 use native.Mathlib.Omega.{arith}
 use lib.Dec.{eqb, ltb}
 use lib.ListN.{set, length}
-use borrow.Author.Tests.{eqb-true}
+use borrow.Author.Tests.{eqb-true, eq-eqb}
 use Rattle.wire.specs.declared.Header.{Header}
-use Rattle.wire.specs.Message.{header}
+use Rattle.wire.specs.Message.{header, messageOf}
 use Rattle.wire.specs.Class.{one-of}
 use Rattle.model.specs.Sizes.{beforeFirst, stringLimit}
 use Rattle.model.specs.MessageTypes.{AsyncLock, AsyncDeviceClear, commands}
@@ -25,8 +25,12 @@ use Rattle.model.specs.Acts
 use Rattle.model.specs.Refusals.{refusal}
 use Rattle.model.specs.Step.{plan, received, effect, answered, finish, step, final}
 use Rattle.model.specs.Closing.{Closes}
-use Rattle.model.specs.Standing.{heldKind, Stands, Answers, Completes, Completes.by-message, Completes.by-clear, Completes.by-closing, StandsOn}
-use Rattle.model.proofs.Basics.{and-l, and-r, or-r, same?, all-at, at-set}
+use Rattle.model.specs.Standing.{heldKind, Stands, freesFirst, Answers, Completes, Completes.by-message, Completes.by-clear, Completes.by-closing, StandsOn}
+use Rattle.model.specs.Happening.{Heard.silence, Action, Happening.message-acted, happened}
+use Rattle.model.specs.LocalityRows.{inSlot, number-row, standing-row}
+use Rattle.model.specs.Locality.{atCall}
+use Rattle.model.proofs.Basics.{and-l, and-r, or-r, same?, inside, all-at, at-set}
+use Rattle.model.proofs.Place.{async-live}
 use Rattle.model.proofs.Invariant.{Inv, Firm, clean, backing, backed-at}
 use Rattle.model.proofs.Events.{Fit}
 use Rattle.model.proofs.Fits.{plan-fit, inv-call, inv-run}
@@ -34,6 +38,7 @@ use Rattle.model.proofs.Fewer.{Request, step-request}
 use Rattle.model.proofs.Causes.{Mild, Acted, acted-reply, acted-sends, plan-cause}
 use Rattle.model.proofs.Simulation.{give-num}
 use Rattle.model.proofs.Looking.{pass-num}
+use Rattle.model.proofs.Locality.{locality}
 
 -- a grant keeps the release that stands
 give-standing : (k : List ℕ) (e : Entry) → (give k e) .standing ≡ e .standing
@@ -284,10 +289,29 @@ module _ (d : Server) (v : Inv (d .locks)) (j m : ℕ) (k : Kind) (h : (at (d .l
       acted-sends {d = d} {c = c} {bs = bs} {room = room} (record { rest = _; said = _; taken = _; number = _; does = lock-step d c bs room r t }) 3 ((at (d .locks .entries) j) .asynchronous) [] (Locks.tell (d .locks .entries) (slotOf d c) 3 (not (eqb (r .head .code) 0)))
       (answered-3 (eqb (r .head .code) 0) (slotOf d c) (sym q) (r .head) (r .string)) (ap (λ z. (at (d .locks .entries) z) .asynchronous) q) refl
 
+-- a release that sends nothing stands
+pub begins : (d : Server) → Inv (d .locks) → (j : ℕ) (k : Kind) (m c : ℕ) (bs : List ℕ) (room a b : ℕ) → slotOf d c ≡ j → (step d (delivery c bs room)) .reply ≡ took acted a b → (header bs) .kind ≡ AsyncLock → (header bs) .code ≡ 0
+    → (step d (delivery c bs room)) .frames ≡ [] → (header bs) .param ≡ m → freesFirst (at (d .locks .entries) j) ≡ k → Stands ((at (d .locks .entries) j) .number) j k m ((step d (delivery c bs room)) .server)
+begins d v j k m c bs room a b q r t o f p w =
+    let es = d .locks .entries in
+    let e = delivery c bs room in
+    let local = (locality d e) .local in
+    let x : Action = record { connection = c; message = messageOf (header bs) bs; session = b; told = silence } in
+    let seen : atCall d e ≡ message-acted x = ap₂ (happened e) r f in
+    let alive : live (at es j) ≡ true = ap (λ i. live (at es i)) (sym q) ∙ async-live es c ((step-request d c bs room a b r t) .role) in
+    let within = inside live es j refl alive in
+    let here : eqb j (slotOf d c) ≡ true = eq-eqb j (slotOf d c) (sym q) in
+    let stays : (at ((step d e) .server .locks .entries) j) .number ≡ (at es j) .number =
+    local .number j within ∙ ap (λ h. inSlot number-row es j h ((at es j) .number)) seen ∙ rw (t, here) in
+    let stood : (at ((step d e) .server .locks .entries) j) .standing ≡ release-of k m =
+    local .standing j within ∙ ap (λ h. inSlot (standing-row (at es j)) es j h ((at es j) .standing)) seen ∙ rw (t, o, here, w, p) in
+    record { number = stays; release = stood; held = held-kind ((step d e) .server .locks .entries) j m k ((inv-call d e v) .sound .firm) stood }
+
 -- after any list from the fresh server
 pub stands-on : (v : ℕ) (es : List Event) (j : ℕ) (k : Kind) (m : ℕ) → StandsOn v es j k m
 stands-on v es j k m =
     record {
+      begins = λ c bs room a b q r t o f p w. begins (final (fresh v) es) (inv-run v es) j k m c bs room a b q r t o f p w;
       held = held-kind ((final (fresh v) es) .locks .entries) j m k ((inv-run v es) .sound .firm);
       until = λ n e s. until (final (fresh v) es) (inv-run v es) n j k m e s;
       gets-3 = λ n c bs room a b s q r t. gets-3 (final (fresh v) es) (inv-run v es) j m k (s .release) c bs room a b q r t;

@@ -2,8 +2,8 @@
 -- takes effect ..) or the session closes", "Which lock it frees is fixed when it arrives", "A further AsyncLock while it stands gets 3".
 -- Assumes nothing.
 use mathlib.Core.Path.{_≡_}
-use mathlib.Core.Bool.{Bool, true, not, _&&_}
-use mathlib.Core.List.{List}
+use mathlib.Core.Bool.{Bool, true, not, _&&_, cond}
+use mathlib.Core.List.{List, []}
 use mathlib.Core.Logic.{_⊎_}
 use Prim.Native.Nat.{ℕ}
 use lib.Dec.{eqb}
@@ -30,6 +30,10 @@ pub record Stands (n j : ℕ) (k : Kind) (m : ℕ) (d : Server) : Type 0 where
   pub release : (at (d .locks .entries) j) .standing ≡ release-of k m
   pub held : heldKind k (at (d .locks .entries) j) ≡ true
 
+-- the lock that a release frees: exclusive first
+abbrev pub freesFirst : Entry → Kind
+freesFirst e = cond (e .exclusive) exclusive-lock shared-lock
+
 -- AsyncLockResponse with a code, to a connection
 abbrev pub answerTo : ℕ → ℕ → Frame → Bool
 answerTo n x f = (eqb (f .message .kind) AsyncLockResponse && eqb (f .message .code) n) && eqb (f .to) x
@@ -47,9 +51,15 @@ pub data Completes (d : Server) (j : ℕ) (k : Kind) (m : ℕ) : Event → Type 
       → Answers d j (releaseCode k) (delivery c bs room) → Completes d j k m (delivery c bs room)
   by-closing : {e : Event} (c : ℕ) → slotOf d c ≡ j → Closes d e c → Completes d j k m e
 
--- after any list from the fresh server: one call ends it so, or leaves it standing for the same lock, which is still held
+-- after any list from the fresh server
 pub record StandsOn (v : ℕ) (es : List Event) (j : ℕ) (k : Kind) (m : ℕ) : Type 0 where
+  -- it begins with a release, AsyncLock with code 0, that acts and sends nothing
+  pub begins : (c : ℕ) (bs : List ℕ) (room a b : ℕ) → slotOf (final (fresh v) es) c ≡ j → (step (final (fresh v) es) (delivery c bs room)) .reply ≡ took acted a b
+      → (header bs) .kind ≡ AsyncLock → (header bs) .code ≡ 0 → (step (final (fresh v) es) (delivery c bs room)) .frames ≡ []
+      → (header bs) .param ≡ m → freesFirst (at ((final (fresh v) es) .locks .entries) j) ≡ k
+      → Stands ((at ((final (fresh v) es) .locks .entries) j) .number) j k m ((step (final (fresh v) es) (delivery c bs room)) .server)
   pub held : (at ((final (fresh v) es) .locks .entries) j) .standing ≡ release-of k m → heldKind k (at ((final (fresh v) es) .locks .entries) j) ≡ true
+  -- one call ends it, or leaves it standing for the same message and lock, which is still held
   pub until : (n : ℕ) (e : Event) → Stands n j k m (final (fresh v) es) → Completes (final (fresh v) es) j k m e ⊎ Stands n j k m ((step (final (fresh v) es) e) .server)
   -- while it stands, an AsyncLock of the session that acts is answered 3
   pub gets-3 : (n c : ℕ) (bs : List ℕ) (room a b : ℕ) → Stands n j k m (final (fresh v) es) → slotOf (final (fresh v) es) c ≡ j
