@@ -90,7 +90,7 @@ extern "C" {
 #endif
 
 /* Sizes. */
-#define HISLIP_WORDS 235          /* uint64_t to lend as `words`: what hislip_words() tells         */
+#define HISLIP_WORDS 267          /* uint64_t to lend as `words`: what hislip_words() tells         */
 #define HISLIP_STRING_BYTES 1088  /* bytes to lend as `strings`: what hislip_string_bytes() tells   */
 #define HISLIP_SESSIONS 16        /* live sessions, half-open ones included                         */
 #define HISLIP_CONNECTIONS 32     /* connections are numbered 0 to 31                               */
