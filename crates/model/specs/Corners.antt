@@ -193,6 +193,10 @@ sent = exclusive ++ (send 0 (message 6 0 0xffffff00 cal) ∷ [])
 abbrev stood : List Event
 stood = sent ++ (releaseOf 1 0xffffff02 ∷ [])
 
+-- A exclusive, in a clear; then a release of message 8
+abbrev clearing : List Event
+clearing = exclusive ++ (send 1 (message 19 0 0 []) ∷ releaseOf 1 8 ∷ [])
+
 pub releases : List Corner
 releases =
     -- at once: the last one's number; fffffefe hex where none acted; not an older one, and not fffffefe hex after one acted
@@ -212,13 +216,21 @@ releases =
     ∷ corner stood (send 0 (message 6 0 0xffffff04 cal)) (took acted 19 1) []
     ∷ corner stood (send 0 (message 6 7 0xffffff02 cal)) (took error-sent 19 0) (plain 0 3 2)
     ∷ corner (stood ++ (send 0 (message 6 7 0xffffff02 cal) ∷ [])) (releaseOf 1 0xffffff00) (took acted 16 1) (plain 1 5 3)
+    ∷ corner (stood ++ (send 0 (message 6 0 0xffffff02 (replicate 1025 7)) ∷ [])) (releaseOf 1 0xffffff00) (took acted 16 1) (plain 1 5 3)
+    ∷ corner (shared ++ (request 3 0 [] ∷ releaseOf 1 8 ∷ [])) (send 0 (message 6 0 8 [])) (took held 0 0) []
+    ∷ corner (shared ++ (request 3 0 [] ∷ releaseOf 1 8 ∷ send 0 (message 6 0 8 []) ∷ [])) (releaseOf 1 8) (took acted 16 1) (plain 1 5 3)
     ∷ corner (stood ++ (request 3 9 [] ∷ [])) (send 0 (message 6 0 0xffffff02 cal)) (took acted 19 1) (plain 1 5 1 ++ plain 3 5 1)
     ∷ corner stood (send 0 (message 7 0 0xffffff02 [])) (took acted 16 1) (plain 1 5 1)
     ∷ corner stood (send 0 (message 12 0 0xffffff02 [])) (took acted 16 1) (plain 1 5 1)
+    -- a malformed AsyncLock gets its Error, not 3
+    ∷ corner stood (send 1 (message 4 2 0 [])) (took error-sent 16 0) (plain 1 3 2)
     -- AsyncDeviceClear: the waiting request's 0, the release's answer, the acknowledgement, the grants; then none has acted
     ∷ corner (three ++ (request 1 0 cal ∷ request 3 0 cal ∷ request 5 90 Cal ∷ releaseOf 3 8 ∷ cut 1 2048 ∷ [])) (send 3 (message 19 0 0 [])) (took acted 16 2) (plain 3 5 2 ++ (plain 3 23 0 ++ plain 5 5 1))
     ∷ corner (three ++ (request 1 0 cal ∷ request 3 0 cal ∷ request 1 0 [] ∷ request 3 90 [] ∷ releaseOf 3 8 ∷ [])) (send 3 (message 19 0 0 [])) (took acted 16 2) (plain 3 5 0 ++ (plain 3 5 2 ++ plain 3 23 0))
     ∷ corner (sent ++ (send 1 (message 19 0 0 []) ∷ send 0 (message 8 0 0 []) ∷ [])) (release 1) (took acted 16 1) (plain 1 5 1)
+    -- a release in a clear stands through it: an ignored message does not act, DeviceClearComplete leaves it
+    ∷ corner (clearing ++ (send 0 (message 6 0 8 []) ∷ [])) (releaseOf 1 8) (took acted 16 1) (plain 1 5 3)
+    ∷ corner (clearing ++ (send 0 (message 8 0 0 []) ∷ [])) (send 0 (message 6 0 8 [])) (took acted 16 1) (plain 1 5 1)
     -- which lock it frees is fixed when it arrives: exclusive is granted meanwhile, and shared goes. Then A is exclusive alone while B shares
     ∷ corner (shared ++ (request 3 0 [] ∷ request 1 90 [] ∷ releaseOf 1 8 ∷ release 3 ∷ [])) (send 0 (message 6 0 8 [])) (took acted 16 1) (plain 1 5 2)
     ∷ corner (shared ++ (request 3 0 [] ∷ request 1 90 [] ∷ releaseOf 1 8 ∷ release 3 ∷ send 0 (message 6 0 8 []) ∷ [])) (send 5 (message 24 0 0 [])) (took acted 16 3) (5 ∷ 0x48 ∷ 0x53 ∷ 25 ∷ 1 ∷ 0 ∷ 0 ∷ 0 ∷ 2 ∷ eightZeros)

@@ -53,7 +53,7 @@ rich =
     -- exclusive, two waiting, a device clear of one, its end
     ∷ request 1 0 [] ∷ request 3 70 [] ∷ request 7 70 [] ∷ send 2 (message 7 0 10 cal) ∷ send 3 (message 19 0 0 []) ∷ send 2 (message 6 0 0 [])
     ∷ send 2 (message 8 0 0 []) ∷ send 0 (message 7 0 0xffffff0a []) ∷ releaseOf 1 0xffffff0c ∷ send 7 (message 24 0 0 []) ∷ send 1 (message 19 0 0 []) ∷ answer 1 [] true 2048 ∷ send 1 (message 21 0 0 [])
-    ∷ request 1 0 cal ∷ request 3 99 cal ∷ status 0x41
+    ∷ release 7 ∷ request 1 0 [] ∷ request 7 70 [] ∷ request 1 0 cal ∷ request 3 99 cal ∷ status 0x41
     -- a cut that leaves a grant, a FatalError from a client; connections used again; a half-open session that goes on; a wrong prologue
     ∷ cut 0 2048 ∷ send 1 [] ∷ send 3 (message 2 0 0 []) ∷ opening 0 ∷ opening 1 ∷ send 0 initialize ∷ send 0 (message 6 0 0 []) ∷ opening 0
     ∷ send 0 initialize ∷ send 1 (asyncInitialize 6) ∷ send 4 (message 7 0 12 []) ∷ send 5 (replicate 16 0) ∷ send 7 (message 24 0 0 []) ∷ release 7
@@ -120,12 +120,22 @@ codeOf l = replyCode (l .reply) + 1000 * length (l .frames)
 
 pub codes : List ℕ
 codes =
-    50 ∷ 50 ∷ 50 ∷ 50 ∷ 50 ∷ 50 ∷ 1006 ∷ 1006 ∷ 1006 ∷ 1006 ∷ 1006 ∷ 1006 ∷ 102 ∷ 50 ∷ 50 ∷ 50 ∷ 101 ∷ 101
-    ∷ 0 ∷ 1006 ∷ 1005 ∷ 50 ∷ 1006 ∷ 0 ∷ 1006 ∷ 1006 ∷ 1006 ∷ 1006 ∷ 6 ∷ 6 ∷ 6 ∷ 1006 ∷ 2 ∷ 6 ∷ 1050 ∷ 1050
-    ∷ 105 ∷ 105 ∷ 108 ∷ 50 ∷ 1050 ∷ 103 ∷ 107 ∷ 2006 ∷ 6 ∷ 2 ∷ 6 ∷ 1006 ∷ 1006 ∷ 1050 ∷ 50 ∷ 1004 ∷ 1 ∷ 1
-    ∷ 6 ∷ 1006 ∷ 1006 ∷ 1006 ∷ 6 ∷ 6 ∷ 1050 ∷ 1006 ∷ 6 ∷ 6 ∷ 2 ∷ 2006 ∷ 3 ∷ 1006 ∷ 6 ∷ 6 ∷ 1006 ∷ 3006
-    ∷ 105 ∷ 1006 ∷ 1006 ∷ 6 ∷ 50 ∷ 50 ∷ 101 ∷ 5 ∷ 50 ∷ 50 ∷ 1006 ∷ 1005 ∷ 50 ∷ 1006 ∷ 1006 ∷ 2 ∷ 2005 ∷ 1006
-    ∷ 1006 ∷ 1006 ∷ 6 ∷ 1050 ∷ 50
+    50 ∷ 50 ∷ 50 ∷ 50 ∷ 50 ∷ 50 ∷ 1006 ∷ 1006 ∷ 1006 ∷ 1006 ∷ 1006 ∷ 1006
+    ∷ 102 ∷ 50 ∷ 50 ∷ 50 ∷ 101 ∷ 101
+    ∷ 0 ∷ 1006 ∷ 1005 ∷ 50 ∷ 1006
+    ∷ 0 ∷ 1006 ∷ 1006 ∷ 1006 ∷ 1006
+    ∷ 6 ∷ 6 ∷ 6 ∷ 1006 ∷ 2 ∷ 6
+    ∷ 1050 ∷ 1050 ∷ 105 ∷ 105 ∷ 108
+    ∷ 50 ∷ 1050 ∷ 103 ∷ 107
+    ∷ 2006 ∷ 6 ∷ 2 ∷ 6 ∷ 1006 ∷ 1006 ∷ 1050 ∷ 50
+    ∷ 1004 ∷ 1 ∷ 1 ∷ 6 ∷ 1006
+    ∷ 1006 ∷ 1006 ∷ 6 ∷ 6 ∷ 1050
+    ∷ 1006 ∷ 6 ∷ 6 ∷ 2 ∷ 2006 ∷ 3
+    ∷ 1006 ∷ 6 ∷ 6 ∷ 1006 ∷ 3006 ∷ 105 ∷ 1006
+    ∷ 1006 ∷ 1006 ∷ 6 ∷ 1006 ∷ 6 ∷ 50
+    ∷ 1050 ∷ 101 ∷ 5 ∷ 50 ∷ 50 ∷ 1006 ∷ 1005 ∷ 50
+    ∷ 1006 ∷ 1006 ∷ 2 ∷ 2005 ∷ 1006 ∷ 1006
+    ∷ 1006 ∷ 6 ∷ 1050 ∷ 50
     ∷ []
 
 pub codes-at : map codeOf (log d₀ rich) ≡ codes
