@@ -33,6 +33,7 @@ use Rattle.model.proofs.ReadBack.{reads-back}
 use Rattle.model.proofs.Permitted.{permitted-acts}
 use Rattle.model.proofs.Opening.{sessions-open}
 use Rattle.model.proofs.Locality.{local-run}
+use Rattle.model.proofs.Standing.{stands-on}
 use Rattle.model.proofs.Tied.{tie}
 use Rattle.model.proofs.IsolationRun.{isolation-run}
 use Rattle.state.specs.View.{Memory, view}
@@ -228,5 +229,6 @@ program =
       opens = λ v m m′ ss f g c bs room. subst (λ (d : Server). Opens d v c bs room) (sym (left v m m′ ss f g)) (sessions-open v (seenEvents ss) .opens-next c bs room);
       locality = λ m m′ ss g. local-run (view m) (seenEvents ss);
       tie = tied;
+      stands = λ v m m′ ss f g j k n. stands-on v (seenEvents ss) j k n;
       isolation = isolated;
     }
