@@ -26,7 +26,7 @@ use Rattle.model.proofs.GrantingRule.{ready, nil→}
 use Rattle.model.proofs.Events.{change-sound, inv-fresh}
 use Rattle.model.proofs.Fits.{inv-call}
 use Rattle.model.proofs.Place.{place-sound}
-use Rattle.model.proofs.Agreement.{plan-no, keep-append, keep-locks}
+use Rattle.model.proofs.Agreement.{frames-locks}
 use Rattle.model.proofs.Replies.{closed-by}
 
 -- who a session is does not change by a grant
@@ -210,15 +210,14 @@ module _ (d : Server) (e : Event) (c : ℕ) (v : Inv (d .locks)) (z : refusal d 
 
   leaves : (step d e) .server .locks ≡ record { clock = d .locks .clock; entries = left .entries; waiting = left .waiting }
   unfolding step answered finish change grantPass
-  leaves = ap (λ n. (answered n d e) .server .locks) z ∙ ap (λ x. (settle (frees x) ((change (d .locks) x) .locks)) .locks) p
+  leaves = ap (λ n. (answered n d e) .server .locks) z ∙ ap (λ x. (settle (frees (d .locks) x) ((change (d .locks) x) .locks)) .locks) p
 
   sends : keep isLock ((step d e) .frames) ≡ map lockFrame (left .answers)
   unfolding step answered finish change grantPass
   sends =
       ap (λ n. keep isLock ((answered n d e) .frames)) z
-      ∙ ap (λ x. keep isLock (map lockFrame ((change (d .locks) x) .answers) ++ ((plan d e) .said ++ map lockFrame ((settle (frees x) ((change (d .locks) x) .locks)) .answers)))) p
-      ∙ keep-append ((plan d e) .said) (map lockFrame (left .answers))
-      ∙ ap₂ _++_ (plan-no d e) (keep-locks (left .answers))
+      ∙ ap (λ x. keep isLock (map lockFrame ((change (d .locks) x) .answers) ++ ((plan d e) .said ++ map lockFrame ((settle (frees (d .locks) x) ((change (d .locks) x) .locks)) .answers)))) p
+      ∙ frames-locks d e [] (left .answers)
 
   -- without a session the pass has nothing to do
   still : live (entryOf d c) ≡ false → (record { clock = d .locks .clock; entries = left .entries; waiting = left .waiting } ≡ d .locks) × (left .answers ≡ [])

@@ -8,9 +8,9 @@ use native.Mathlib.Omega.{arith}
 use lib.Dec.{eqb}
 use lib.ListN.{set}
 use Rattle.wire.specs.declared.Header.{Header}
-use Rattle.model.specs.Sizes.{noConnection}
+use Rattle.model.specs.Sizes.{noConnection, beforeFirst}
 use Rattle.model.specs.Lists.{tally}
-use Rattle.model.specs.State.{Locks, Entry, Waiting, blank, at, live, Server, fresh}
+use Rattle.model.specs.State.{Locks, Entry, Waiting, Kind.exclusive-lock, Kind.shared-lock, Standing.no-release, Standing.release-of, blank, at, live, Server, fresh}
 use Rattle.model.specs.Interface.{Event, Event.opening, Event.delivery, Event.cut, Event.clock, Event.answer, Event.status}
 use Rattle.model.specs.Scan.{Scan, Scan.empty, Scan.few, Scan.wrong, Scan.skipping, Scan.long, Scan.part, Scan.whole}
 use Rattle.model.specs.Place.{slotIn, onConnection, slotOf, Role, Role.r-none, Role.r-halfOpen, Role.r-synchronous, Role.r-asynchronous}
@@ -25,13 +25,13 @@ use Rattle.model.specs.Agreement.{asSession, feed, Agrees}
 use Rattle.model.specs.Count.{locksOf, locksHeld, isGrant, isRelease, count, locksOn, lost, dropped, Balanced, Count}
 use Rattle.model.proofs.Basics.{and-l, and-r, both, not-of, isn't, inside, all-at}
 use Rattle.model.proofs.Place.{place-sound, place-complete}
-use Rattle.model.proofs.Invariant.{Inv, Good, Firm, clean, good-apart}
+use Rattle.model.proofs.Invariant.{Inv, Good, Firm, clean, backed-at, good-apart}
+use Rattle.model.proofs.Releasing.{Owed, owed-at, owed-any}
 use Rattle.model.proofs.Events.{Fit, change-sound, always-settled, inv-fresh}
 use Rattle.model.proofs.Fits.{plan-fit, inv-call, real-delivery, real-cut}
 use Rattle.model.proofs.Tallies.{one, lower, tally-seen, tallyBut, tally-split, tally-cong, tallyBut-cong}
 use Rattle.model.proofs.Seen.{Same, while, on-seen}
-use Rattle.model.proofs.Simulation.{toldOf}
-use Rattle.model.proofs.Looking.{map-append}
+use Rattle.model.proofs.Simulation.{toldOf, map-append}
 use Rattle.model.proofs.Agreement.{call-core, call-locks, fresh-agrees}
 
 -- a store at a slot: of a live session; of as many locks; of none
@@ -106,13 +106,31 @@ lostIn es Locks.nothing = 0
 lostIn es (Locks.enter i n c) = 0
 lostIn es (Locks.join i c) = 0
 lostIn es (Locks.request i t k) = 0
-lostIn es (Locks.release i) = 0
+lostIn es (Locks.release i n) = 0
+lostIn es (Locks.command i n) = 0
 lostIn es (Locks.clear i) = 0
 lostIn es (Locks.close i) = locksOf (at es i)
 lostIn es (Locks.reading t) = 0
 
 abbrev Even : Locks → List Entry → List Answer → ℕ → Type 0
 Even l es xs n = locksHeld (l .entries) + count isGrant (map toldOf xs) ≡ count isRelease (map toldOf xs) + n + locksHeld es
+
+-- releases: a lock that is freed and answered was held
+free-even : (l : Locks) (i n : ℕ) (t x s b : Bool) → live (at (l .entries) i) ≡ true → (at (l .entries) i) .exclusive ≡ x → noShared (at (l .entries) i) ≡ s
+    → Even l ((Locks.released (Locks.releasing t x s b) l i n) .locks .entries) ((Locks.released (Locks.releasing t x s b) l i n) .answers) 0
+unfolding count
+free-even l i n true x s b v ex es = omega arith
+free-even l i n false true s true v ex es = omega (arith, rw ex at (held-set (l .entries) i (Locks.without exclusive-lock (at (l .entries) i)) v))
+free-even l i n false true s false v ex es = omega (arith, held-same (l .entries) i (Locks.withOrder ((at (l .entries) i) .last) (release-of exclusive-lock n) (at (l .entries) i)) refl)
+free-even l i n false false false true v ex es = omega (arith, rw es at (held-set (l .entries) i (Locks.without shared-lock (at (l .entries) i)) v))
+free-even l i n false false false false v ex es = omega (arith, held-same (l .entries) i (Locks.withOrder ((at (l .entries) i) .last) (release-of shared-lock n) (at (l .entries) i)) refl)
+free-even l i n false false true b v ex es = omega arith
+
+complete-even : (l : Locks) (i n : ℕ) (u : Locks.Due) → live (at (l .entries) i) ≡ true → Owed u (at (l .entries) i) → Even l ((Locks.completed u l i n) .locks .entries) ((Locks.completed u l i n) .answers) 0
+unfolding count
+complete-even l i n Locks.not-due v o = omega (arith, held-same (l .entries) i (Locks.withOrder n ((at (l .entries) i) .standing) (at (l .entries) i)) refl)
+complete-even l i n (Locks.due-now exclusive-lock) v o = omega (arith, rw o at (held-set (l .entries) i (Locks.withOrder n no-release (Locks.without exclusive-lock (at (l .entries) i))) v))
+complete-even l i n (Locks.due-now shared-lock) v o = omega (arith, rw o at (held-set (l .entries) i (Locks.withOrder n no-release (Locks.without shared-lock (at (l .entries) i))) v))
 
 module _ (l : Locks) (g : Good (l .entries) (l .waiting)) (f : Firm (l .entries)) where
   abbrev EvenL : LockResult → ℕ → Type 0
@@ -127,12 +145,6 @@ module _ (l : Locks) (g : Good (l .entries) (l .waiting)) (f : Firm (l .entries)
   ask-even i t k false true false false true v eh = omega arith
   ask-even i t k false true false false false v eh = omega arith
 
-  free-even : (i : ℕ) (x s : Bool) → live (at (l .entries) i) ≡ true → (at (l .entries) i) .exclusive ≡ x → noShared (at (l .entries) i) ≡ s → EvenL (Locks.released x s l i) 0
-  unfolding count
-  free-even i true s v ex es = omega (arith, rw ex at (held-set (l .entries) i (Locks.withoutExclusive (at (l .entries) i)) v))
-  free-even i false false v ex es = omega (arith, rw es at (held-set (l .entries) i (Locks.withoutShared (at (l .entries) i)) v))
-  free-even i false true v ex es = omega arith
-
   vacant-none : (e : Entry) → live e ≡ false → clean e ≡ true → locksOf e ≡ 0
   vacant-none e v c =
       let b : (Locks.noExclusive e && noShared e) ≡ true = rw v at c in
@@ -144,8 +156,14 @@ module _ (l : Locks) (g : Good (l .entries) (l .waiting)) (f : Firm (l .entries)
   change-even (Locks.enter i n c) x = omega (arith, held-same (l .entries) i (Locks.opened n c) (sym (vacant-none (at (l .entries) i) (x .vacant) (all-at clean (l .entries) i refl (f .clean-all)))))
   change-even (Locks.join i c) x = omega (arith, held-same (l .entries) i (Locks.joined c (at (l .entries) i)) refl)
   change-even (Locks.request i t k) x = ask-even i t k (holds k (at (l .entries) i)) _ _ _ _ x refl
-  change-even (Locks.release i) x = free-even i ((at (l .entries) i) .exclusive) (noShared (at (l .entries) i)) x refl refl
-  change-even (Locks.clear i) x = let r = refuse-none (l .entries) (elsewhere i) (l .waiting) in omega arith
+  change-even (Locks.release i n) x = free-even l i n (Locks.stands ((at (l .entries) i) .standing)) ((at (l .entries) i) .exclusive) (noShared (at (l .entries) i)) (eqb ((at (l .entries) i) .last) n) x refl refl
+  change-even (Locks.command i n) x = complete-even l i n (Locks.dueAt n ((at (l .entries) i) .standing)) x (owed-at n ((at (l .entries) i) .standing) (at (l .entries) i) (backed-at (l .entries) i f))
+  change-even (Locks.clear i) x =
+      let u = Locks.dueAny ((at (l .entries) i) .standing) in
+      let l′ = Locks.withWaiting l (Rattle.model.specs.Lists.keep (elsewhere i) (l .waiting)) in
+      let r = refuse-none (l .entries) (elsewhere i) (l .waiting) in
+      let h = complete-even l′ i beforeFirst u x (owed-any ((at (l .entries) i) .standing) (at (l .entries) i) (backed-at (l .entries) i f)) in
+      rw (map-append (refuse (l .entries) (elsewhere i) (l .waiting)) ((Locks.completed u l′ i beforeFirst) .answers), count-append isGrant (map toldOf (refuse (l .entries) (elsewhere i) (l .waiting))), count-append isRelease (map toldOf (refuse (l .entries) (elsewhere i) (l .waiting)))) (omega arith)
   change-even (Locks.close i) x = omega (arith, held-blank (l .entries) i)
   change-even (Locks.reading t) x = let r = refuse-none (l .entries) (Locks.unexpired t) (l .waiting) in omega arith
 
@@ -224,11 +242,17 @@ module _ (d : Server) (m : Model) (a : Agrees (d .locks) m) (i : Inv (d .locks))
   async-lost Acts.k-statusQuery j h p = refl
   async-lost Acts.k-lockInfo j h p = refl
 
+  sync-lost : (k : Acts.SynchronousKind) (j : ℕ) (h : Header) → 0 ≡ lostIn (d .locks .entries) (Acts.synchronousEvent k j h)
+  sync-lost Acts.k-data j h = refl
+  sync-lost Acts.k-dataEnd j h = refl
+  sync-lost Acts.k-trigger j h = refl
+  sync-lost Acts.k-clearComplete j h = refl
+
   acts-lost : (r : Role) (c j : ℕ) (h : Header) (p bs : List ℕ) (room : ℕ) → Lost (feed (delivery c bs room) ((Acts.acts r d j c h p) .reply)) ((Acts.acts r d j c h p) .event)
   unfolding Acts.acts
   acts-lost r-none c j h p bs room = opens-lost (eqb (h .kind) 0) c h bs room
   acts-lost r-halfOpen c j h p bs room = refl
-  acts-lost r-synchronous c j h p bs room = refl
+  acts-lost r-synchronous c j h p bs room = sync-lost (Acts.synchronousKind (h .kind)) j h
   acts-lost r-asynchronous c j h p bs room = async-lost (Acts.asynchronousKind (h .kind)) j h p
 
   effect-lost : (c : ℕ) (bs : List ℕ) (room : ℕ) → (c ≡ noConnection → ⊥) → (v : Verdict) (s : Scan) (r : Role)

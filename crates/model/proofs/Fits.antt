@@ -20,7 +20,7 @@ use Rattle.model.specs.Acts
 use Rattle.model.specs.Refusals.{Cause, firstCause, causes, refusal}
 use Rattle.model.specs.Step.{effect, received, plan, answered, finish, step, final}
 use Rattle.model.proofs.Basics.{and-l, and-r, not-of, not-off, pos-passes}
-use Rattle.model.proofs.Place.{no-role, async-live, place-unique}
+use Rattle.model.proofs.Place.{no-role, sync-live, async-live, place-unique}
 use Rattle.model.proofs.Invariant.{Inv}
 use Rattle.model.proofs.Numbers.{issues}
 use Rattle.model.proofs.Events.{Fit, always-settled, inv-event, inv-fresh}
@@ -134,12 +134,19 @@ async-fit es Acts.k-deviceClear i h p v = v
 async-fit es Acts.k-statusQuery i h p v = tt
 async-fit es Acts.k-lockInfo i h p v = tt
 
+-- and on the synchronous one
+sync-fit : (es : List Entry) (k : Acts.SynchronousKind) (i : ℕ) (h : Header) → live (at es i) ≡ true → Fit es (Acts.synchronousEvent k i h)
+sync-fit es Acts.k-data i h v = v
+sync-fit es Acts.k-dataEnd i h v = v
+sync-fit es Acts.k-trigger i h v = v
+sync-fit es Acts.k-clearComplete i h v = tt
+
 acts-fit : (d : Server) (c : ℕ) (h : Header) (p : List ℕ) (r : Role) → roleOf (d .locks .entries) c ≡ r → (c ≡ noConnection → ⊥) → Inv (d .locks)
     → judged r d (slotOf d c) h p ≡ v-acts → Fit (d .locks .entries) ((Acts.acts r d (slotOf d c) c h p) .event)
 unfolding Acts.acts
 acts-fit d c h p r-none e r i q = opens-fit d c h p (eqb (h .kind) 0) refl r i e (opening-passed d h p q)
 acts-fit d c h p r-halfOpen e r i q = tt
-acts-fit d c h p r-synchronous e r i q = tt
+acts-fit d c h p r-synchronous e r i q = sync-fit (d .locks .entries) (Acts.synchronousKind (h .kind)) (slotOf d c) h (sync-live (d .locks .entries) c e)
 acts-fit d c h p r-asynchronous e r i q = async-fit (d .locks .entries) (Acts.asynchronousKind (h .kind)) (slotOf d c) h p (async-live (d .locks .entries) c e)
 
 effect-fit : (d : Server) (c : ℕ) (v : Verdict) (s : Scan) (r : Role) → roleOf (d .locks .entries) c ≡ r → (c ≡ noConnection → ⊥) → Inv (d .locks)

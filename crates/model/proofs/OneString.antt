@@ -8,9 +8,9 @@ use native.Mathlib.Omega.{arith}
 use lib.Dec.{eqb, leb, ltb}
 use lib.ListN.{set, length}
 use borrow.Author.Tests.{eqb-false, leb-true, leb-false, le-leb, lt-ltb}
-use Rattle.model.specs.Sizes.{stringLimit}
+use Rattle.model.specs.Sizes.{stringLimit, beforeFirst}
 use Rattle.model.specs.Lists.{all, keep, same}
-use Rattle.model.specs.State.{Locks, Entry, Waiting, blank, at, Server, fresh}
+use Rattle.model.specs.State.{Locks, Entry, Waiting, Kind, Kind.exclusive-lock, Kind.shared-lock, Standing, Standing.no-release, Standing.release-of, blank, at, Server, fresh}
 use Rattle.model.specs.Interface.{Event}
 use Rattle.model.specs.Locks
 use Rattle.model.specs.Locks.{LockEvent, noShared, fits, mayGrant, give, grant, holds, elsewhere, unexpired, after, put, passOver, grantPass, change, settle, frees, noPlace}
@@ -94,26 +94,39 @@ no-or : (a b : Bool) → (a || b) ≡ false → a ≡ false
 no-or true b e = e
 no-or false b e = refl
 
+-- without a lock; with another order
+without-strings : (l : Locks) (i n : ℕ) (r : Standing) (k : Kind) → Strings l → Strings (Locks.withEntries l (set (l .entries) i (Locks.withOrder n r (Locks.without k (at (l .entries) i)))))
+without-strings l i n r exclusive-lock s = record { strung = strung-same (l .entries) i _ refl (s .strung); shortly = s .shortly; timely = s .timely }
+without-strings l i n r shared-lock s = record { strung = strung-less (l .entries) i _ refl (s .strung); shortly = s .shortly; timely = s .timely }
+
+order-strings : (l : Locks) (i n : ℕ) (r : Standing) → Strings l → Strings (Locks.withEntries l (set (l .entries) i (Locks.withOrder n r (at (l .entries) i))))
+order-strings l i n r s = record { strung = strung-same (l .entries) i _ refl (s .strung); shortly = s .shortly; timely = s .timely }
+
+release-strings : (l : Locks) (i n : ℕ) (u : Locks.Releasing) → Strings l → Strings ((Locks.released u l i n) .locks)
+release-strings l i n Locks.r-invalid s = s
+release-strings l i n (Locks.r-now exclusive-lock) s = without-strings l i ((at (l .entries) i) .last) ((at (l .entries) i) .standing) exclusive-lock s
+release-strings l i n (Locks.r-now shared-lock) s = without-strings l i ((at (l .entries) i) .last) ((at (l .entries) i) .standing) shared-lock s
+release-strings l i n (Locks.r-stands k) s = order-strings l i ((at (l .entries) i) .last) (release-of k n) s
+
+complete-strings : (l : Locks) (i n : ℕ) (u : Locks.Due) → Strings l → Strings ((Locks.completed u l i n) .locks)
+complete-strings l i n Locks.not-due s = order-strings l i n ((at (l .entries) i) .standing) s
+complete-strings l i n (Locks.due-now k) s = without-strings l i n no-release k s
+
 -- each event
 module _ (l : Locks) (s : Strings l) where
-  ask-strings : (i t : ℕ) (k : List ℕ) (h a x m z : Bool) → leb (suc stringLimit) (length k) ≡ x → mayGrant (l .entries) i k ≡ m → (z ≡ false → eqb t 0 ≡ false) → Strings ((Locks.respond (Locks.ruling h a x m z) l i t k) .locks)
+  ask-strings : (i t : ℕ) (k : List ℕ) (h a x m z : Bool) → (x ≡ false → leb (suc stringLimit) (length k) ≡ false) → mayGrant (l .entries) i k ≡ m → (z ≡ false → eqb t 0 ≡ false) → Strings ((Locks.respond (Locks.ruling h a x m z) l i t k) .locks)
   ask-strings i t k true a x m z ex em ez = s
   ask-strings i t k false false x m z ex em ez = s
   ask-strings i t k false true true m z ex em ez = s
   ask-strings i t k false true false true z ex em ez =
-      record { strung = strung-give (l .entries) i k em (le-leb (length k) stringLimit (omega (arith, leb-false (suc stringLimit) (length k) ex))) (s .strung); shortly = s .shortly; timely = s .timely }
+      record { strung = strung-give (l .entries) i k em (le-leb (length k) stringLimit (omega (arith, leb-false (suc stringLimit) (length k) (ex refl)))) (s .strung); shortly = s .shortly; timely = s .timely }
   ask-strings i t k false true false false true ex em ez = s
   ask-strings i t k false true false false false ex em ez =
       record {
         strung = s .strung;
-        shortly = all-snoc short (l .waiting) _ (s .shortly) (le-leb (length k) stringLimit (omega (arith, leb-false (suc stringLimit) (length k) ex)));
+        shortly = all-snoc short (l .waiting) _ (s .shortly) (le-leb (length k) stringLimit (omega (arith, leb-false (suc stringLimit) (length k) (ex refl))));
         timely = all-snoc (ahead (l .clock)) (l .waiting) _ (s .timely) (lt-ltb (l .clock) (l .clock + t) (omega (arith, eqb-false t 0 (ez refl))));
       }
-
-  free-strings : (i : ℕ) (x n : Bool) → Strings ((Locks.released x n l i) .locks)
-  free-strings i true n = record { strung = strung-same (l .entries) i (Locks.withoutExclusive (at (l .entries) i)) refl (s .strung); shortly = s .shortly; timely = s .timely }
-  free-strings i false false = record { strung = strung-less (l .entries) i (Locks.withoutShared (at (l .entries) i)) refl (s .strung); shortly = s .shortly; timely = s .timely }
-  free-strings i false true = s
 
   unexpired-ahead : (t : ℕ) (ws : List Waiting) → all (ahead t) (keep (unexpired t) ws) ≡ true
   unexpired-ahead t [] = refl
@@ -128,9 +141,12 @@ module _ (l : Locks) (s : Strings l) where
   change-strings Locks.nothing = s
   change-strings (Locks.enter i n c) = record { strung = strung-less (l .entries) i (Locks.opened n c) refl (s .strung); shortly = s .shortly; timely = s .timely }
   change-strings (Locks.join i c) = record { strung = strung-same (l .entries) i (Locks.joined c (at (l .entries) i)) refl (s .strung); shortly = s .shortly; timely = s .timely }
-  change-strings (Locks.request i t k) = ask-strings i t k (holds k (at (l .entries) i)) (all (elsewhere i) (l .waiting)) (leb (suc stringLimit) (length k)) (mayGrant (l .entries) i k) (eqb t 0 || noPlace (l .waiting)) refl refl (no-or (eqb t 0) _)
-  change-strings (Locks.release i) = free-strings i ((at (l .entries) i) .exclusive) (noShared (at (l .entries) i))
-  change-strings (Locks.clear i) = record { strung = s .strung; shortly = all-keep short (elsewhere i) (l .waiting) (s .shortly); timely = all-keep (ahead (l .clock)) (elsewhere i) (l .waiting) (s .timely) }
+  change-strings (Locks.request i t k) = ask-strings i t k (holds k (at (l .entries) i)) (all (elsewhere i) (l .waiting)) (Locks.invalidBy k (at (l .entries) i)) (mayGrant (l .entries) i k) (eqb t 0 || noPlace (l .waiting)) (no-or _ _) refl (no-or (eqb t 0) _)
+  change-strings (Locks.release i n) = release-strings l i n (Locks.releasingOf (at (l .entries) i) n) s
+  change-strings (Locks.command i n) = complete-strings l i n (Locks.dueAt n ((at (l .entries) i) .standing)) s
+  change-strings (Locks.clear i) =
+      complete-strings (Locks.withWaiting l (keep (elsewhere i) (l .waiting))) i beforeFirst (Locks.dueAny ((at (l .entries) i) .standing))
+      record { strung = s .strung; shortly = all-keep short (elsewhere i) (l .waiting) (s .shortly); timely = all-keep (ahead (l .clock)) (elsewhere i) (l .waiting) (s .timely) }
   change-strings (Locks.close i) =
       record {
         strung = strung-less (l .entries) i blank refl (s .strung);
@@ -151,7 +167,7 @@ unfolding step answered finish
 step-strings d e s = go (refusal d e)
   where
     go : (n : ℕ) → Strings ((answered n d e) .server .locks)
-    go zero = settle-strings (frees ((plan d e) .event)) ((change (d .locks) ((plan d e) .event)) .locks) (change-strings (d .locks) s ((plan d e) .event))
+    go zero = settle-strings (frees (d .locks) ((plan d e) .event)) ((change (d .locks) ((plan d e) .event)) .locks) (change-strings (d .locks) s ((plan d e) .event))
     go (suc n) = s
 
 run-strings : (es : List Event) (d : Server) → Strings (d .locks) → Strings ((final d es) .locks)

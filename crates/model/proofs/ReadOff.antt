@@ -12,6 +12,7 @@ use Rattle.wire.specs.declared.Header.{Header}
 use Rattle.wire.specs.Message.{header}
 use Rattle.wire.specs.Class.{one-of, synchronous, asynchronous}
 use Rattle.model.specs.Sizes.{noConnection}
+use Rattle.model.specs.MessageTypes.{commands}
 use Rattle.model.specs.State.{Locks, at, live, slotOfNumber, Server, connectionAt}
 use Rattle.model.specs.Interface.{Event, Event.opening, Event.delivery, Event.cut, Event.clock, Event.answer, Event.status, Outcome.acted, Reply}
 use Rattle.model.specs.Scan.{Scan, Scan.empty, Scan.few, Scan.wrong, Scan.skipping, Scan.long, Scan.part, Scan.whole, scan}
@@ -28,13 +29,13 @@ use Rattle.model.specs.Agreement.{feed, Agrees}
 use Rattle.model.proofs.Classes.{synchronousTypes, asynchronousTypes}
 use Rattle.model.proofs.Basics.{not-off, or→}
 use Rattle.model.proofs.Scanning.{header-cut, payload-cut}
-use Rattle.model.proofs.Place.{async-live}
+use Rattle.model.proofs.Place.{sync-live, async-live}
 use Rattle.model.proofs.Classes.{acted-class}
 use Rattle.model.proofs.Invariant.{Inv}
 use Rattle.model.proofs.Numbers.{live-found}
 use Rattle.model.proofs.Events.{Pairs}
 use Rattle.model.proofs.Fits.{Passes, opening-passed, sync-passed, async-passed, opens-fit, real-delivery, real-cut}
-use Rattle.model.proofs.Simulation.{Alike, sim-ask, sim-free, sim-clear, sim-tick, sim-enter, sim-pair, sim-drop}
+use Rattle.model.proofs.Simulation.{Alike, sim-ask, sim-free, sim-command, sim-clear, sim-tick, sim-enter, sim-pair, sim-drop}
 
 -- a number of a list is one of its numbers
 abbrev Each : (ℕ → Type 0) → List ℕ → Type 0
@@ -58,9 +59,17 @@ actFor Acts.k-maximumSize = LockModel.a-none
 actFor Acts.k-statusQuery = LockModel.a-none
 actFor Acts.k-lockInfo = LockModel.a-none
 
-sync-act : (t : ℕ) → one-of synchronousTypes t ≡ true → eqb t 0 ≡ false → actOf t ≡ LockModel.a-none
+syncActFor : Acts.SynchronousKind → Act
+syncActFor Acts.k-data = LockModel.a-message
+syncActFor Acts.k-dataEnd = LockModel.a-message
+syncActFor Acts.k-trigger = LockModel.a-message
+syncActFor Acts.k-clearComplete = LockModel.a-none
+
+-- FatalError and Error never act
+sync-act : (t : ℕ) → one-of synchronousTypes t ≡ true → eqb t 2 ≡ false → eqb t 3 ≡ false → eqb t 0 ≡ false → actOf t ≡ syncActFor (Acts.synchronousKind t)
+unfolding syncActFor
 sync-act t e =
-    each-of (λ t. eqb t 0 ≡ false → actOf t ≡ LockModel.a-none) synchronousTypes ((λ z. absurd (true≢false z)), ((λ z. refl), ((λ z. refl), ((λ z. refl), ((λ z. refl), ((λ z. refl), ((λ z. refl), tt))))))) t e
+    each-of (λ t. eqb t 2 ≡ false → eqb t 3 ≡ false → eqb t 0 ≡ false → actOf t ≡ syncActFor (Acts.synchronousKind t)) synchronousTypes ((λ a b z. absurd (true≢false z)), ((λ a b z. absurd (true≢false a)), ((λ a b z. absurd (true≢false b)), ((λ a b z. refl), ((λ a b z. refl), ((λ a b z. refl), ((λ a b z. refl), tt))))))) t e
 
 async-act : (t : ℕ) → one-of asynchronousTypes t ≡ true → eqb t 17 ≡ false → actOf t ≡ actFor (Acts.asynchronousKind t)
 unfolding actFor
@@ -90,7 +99,7 @@ module _ (d : Server) (m : Model) (a : Agrees (d .locks) m) (i : Inv (d .locks))
   opens-alike : (b : Bool) → eqb (h .kind) 0 ≡ b → roleOf (d .locks .entries) c ≡ r-none → Passes (Checks.openingRules d h p)
       → Acted (numberIn ((Acts.opens b d c h) .reply)) ((Acts.opens b d c h) .event)
   opens-alike true t r q =
-      by-act _ _ LockModel.a-enter (ap (λ (x : Bool). cond x LockModel.a-enter (cond (eqb (h .kind) 17) LockModel.a-join (cond (eqb (h .kind) 4) LockModel.a-lock (cond (eqb (h .kind) 19) LockModel.a-clear LockModel.a-none)))) t) (sim-enter (d .locks) m a (i .sound .good) (i .sound .firm) (slotOfNumber (d .locks .entries) 0) _ c (opens-fit d c h p true t real i r q))
+      by-act _ _ LockModel.a-enter (ap (λ (x : Bool). cond x LockModel.a-enter (cond (eqb (h .kind) 17) LockModel.a-join (cond (eqb (h .kind) 4) LockModel.a-lock (cond (eqb (h .kind) 19) LockModel.a-clear (cond (one-of commands (h .kind)) LockModel.a-message LockModel.a-none))))) t) (sim-enter (d .locks) m a (i .sound .good) (i .sound .firm) (slotOfNumber (d .locks .entries) 0) _ c (opens-fit d c h p true t real i r q))
   opens-alike false t r q =
       let es = d .locks .entries in
       let x = at es (slotOfNumber es (h .param)) in
@@ -101,7 +110,7 @@ module _ (d : Server) (m : Model) (a : Agrees (d .locks) m) (i : Inv (d .locks))
 
   lock-alike : (b : Bool) → live (at (d .locks .entries) (slotOf d c)) ≡ true
       → Alike (change (d .locks) (Acts.lockEvent b (slotOf d c) h p)) (LockModel.lockMessage b ((at (d .locks .entries) (slotOf d c)) .number) h bs m)
-  lock-alike true v = sim-free (d .locks) m a (i .sound .good) (i .sound .firm) (slotOf d c) v
+  lock-alike true v = sim-free (d .locks) m a (i .sound .good) (i .sound .firm) (slotOf d c) v (h .param)
   lock-alike false v = rw ep (sim-ask (d .locks) m a (i .sound .good) (i .sound .firm) (slotOf d c) v (h .param) p)
 
   async-alike : (k : Acts.AsynchronousKind) → live (at (d .locks .entries) (slotOf d c)) ≡ true
@@ -114,6 +123,14 @@ module _ (d : Server) (m : Model) (a : Agrees (d .locks) m) (i : Inv (d .locks))
   async-alike Acts.k-statusQuery v = none-alike
   async-alike Acts.k-lockInfo v = none-alike
 
+  sync-alike : (k : Acts.SynchronousKind) → live (at (d .locks .entries) (slotOf d c)) ≡ true
+      → Alike (change (d .locks) (Acts.synchronousEvent k (slotOf d c) h)) (doAct (syncActFor k) c ((at (d .locks .entries) (slotOf d c)) .number) h bs m)
+  unfolding syncActFor
+  sync-alike Acts.k-data v = sim-command (d .locks) m a (i .sound .good) (i .sound .firm) (slotOf d c) v (h .param)
+  sync-alike Acts.k-dataEnd v = sim-command (d .locks) m a (i .sound .good) (i .sound .firm) (slotOf d c) v (h .param)
+  sync-alike Acts.k-trigger v = sim-command (d .locks) m a (i .sound .good) (i .sound .firm) (slotOf d c) v (h .param)
+  sync-alike Acts.k-clearComplete v = none-alike
+
   acts-alike : (r : Role) → roleOf (d .locks .entries) c ≡ r → judged r d (slotOf d c) h p ≡ v-acts
       → Acted (numberIn ((Acts.acts r d (slotOf d c) c h p) .reply)) ((Acts.acts r d (slotOf d c) c h p) .event)
   unfolding Acts.acts
@@ -121,7 +138,7 @@ module _ (d : Server) (m : Model) (a : Agrees (d .locks) m) (i : Inv (d .locks))
   acts-alike r-halfOpen e q = absurd (let z : _≡_ {A = ℕ} 0 1 = cc in omega arith)
   acts-alike r-synchronous e q =
       let t = sync-passed d (slotOf d c) h p q in
-      by-act _ LockEvent.nothing LockModel.a-none (sync-act (h .kind) (acted-class synchronous (h .kind) (t .1 .1 .1 .0) (t .1 .1 .1 .1 .0)) (t .1 .1 .1 .1 .1 .0)) none-alike
+      by-act _ _ (syncActFor (Acts.synchronousKind (h .kind))) (sync-act (h .kind) (acted-class synchronous (h .kind) (t .1 .1 .1 .0) (t .1 .1 .1 .1 .0)) (t .0) (t .1 .0) (t .1 .1 .1 .1 .1 .0)) (sync-alike (Acts.synchronousKind (h .kind)) (sync-live (d .locks .entries) c e))
   acts-alike r-asynchronous e q =
       let t = async-passed h p q in
       by-act _ _ (actFor (Acts.asynchronousKind (h .kind))) (async-act (h .kind) (acted-class asynchronous (h .kind) (t .1 .1 .0) (t .1 .1 .1 .0)) (t .1 .1 .1 .1 .0)) (async-alike (Acts.asynchronousKind (h .kind)) (async-live (d .locks .entries) c e))

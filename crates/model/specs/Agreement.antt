@@ -9,10 +9,10 @@ use Rattle.wire.specs.Frame.{Frame, frameOf}
 use Rattle.model.specs.Sizes.{noConnection}
 use Rattle.model.specs.MessageTypes.{AsyncLockResponse}
 use Rattle.model.specs.Lists.{tally, keep}
-use Rattle.model.specs.State.{Locks, Entry, Waiting, at, live, Server}
+use Rattle.model.specs.State.{Locks, Entry, Waiting, Kind.exclusive-lock, Kind.shared-lock, Standing, Standing.no-release, Standing.release-of, at, live, Server}
 use Rattle.model.specs.Interface.{Event, Event.opening, Event.delivery, Event.cut, Event.clock, Event.answer, Event.status, Reply, Reply.refused, Reply.done, Reply.took}
 use Rattle.model.specs.Step.{Line, final, log}
-use Rattle.model.specs.LockModel.{Session, Request, Model, Told, Fed, Fed.f-refused, Fed.f-other, Fed.f-cut, Fed.f-clock, Fed.f-delivery, modelRun}
+use Rattle.model.specs.LockModel.{Session, Pending, Pending.none-pending, Pending.exclusive-until, Pending.shared-until, Request, Model, Told, Fed, Fed.f-refused, Fed.f-other, Fed.f-cut, Fed.f-clock, Fed.f-delivery, modelRun}
 
 -- a call that was not refused and is no delivery: cuts and clock readings matter, the others do not
 abbrev pub fedCall : Event → Fed
@@ -39,8 +39,13 @@ feeds [] = []
 feeds (l ∷ ls) = feed (l .event) (l .reply) ∷ feeds ls
 
 -- the server's live sessions and waiting requests, in the lock model's terms
+abbrev pub asPending : Standing → Pending
+asPending no-release = none-pending
+asPending (release-of exclusive-lock n) = exclusive-until n
+asPending (release-of shared-lock n) = shared-until n
+
 abbrev pub asSession : Entry → Session
-asSession e = record { number = e .number; connections = e .synchronous ∷ cond (eqb (e .asynchronous) noConnection) [] (e .asynchronous ∷ []); exclusive = e .exclusive; shared = e .shared }
+asSession e = record { number = e .number; connections = e .synchronous ∷ cond (eqb (e .asynchronous) noConnection) [] (e .asynchronous ∷ []); exclusive = e .exclusive; shared = e .shared; heard = e .last; pending = asPending (e .standing) }
 
 abbrev pub asSessions : List Entry → List Session
 asSessions [] = []

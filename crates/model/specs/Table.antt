@@ -4,7 +4,7 @@ use mathlib.Core.List.{List, [], _∷_, map}
 use Prim.Native.Nat.{ℕ}
 use Rattle.wire.specs.Message.{encode}
 use Rattle.wire.specs.Frame.{bytesOf}
-use Rattle.model.specs.Sizes.{outputMinimum}
+use Rattle.model.specs.Sizes.{outputMinimum, beforeFirst}
 use Rattle.model.specs.State.{fresh}
 use Rattle.model.specs.Interface.{Event, Event.opening, Event.delivery, Outcome.acted, Reply, Reply.done, Reply.took}
 use Rattle.model.specs.Step.{Line, step, final, log}
@@ -57,12 +57,15 @@ message t k p x = encode record { kind = t; code = k; param = p; payload = x }
 abbrev pub send : ℕ → List ℕ → Event
 send c bs = delivery c bs outputMinimum
 
--- AsyncLock: a request with a timeout and a string, a release
+-- AsyncLock: a request with a timeout and a string; a release that names a number, or fffffefe hex (02, Q-3: "document 01's bench releases name fffffefe hex")
 abbrev pub request : ℕ → ℕ → List ℕ → Event
 request c t k = send c (message 4 1 t k)
 
+abbrev pub releaseOf : ℕ → ℕ → Event
+releaseOf c n = send c (message 4 0 n [])
+
 abbrev pub release : ℕ → Event
-release c = send c (message 4 0 0 [])
+release c = releaseOf c beforeFirst
 
 -- "cal", "Cal"
 abbrev pub cal : List ℕ
