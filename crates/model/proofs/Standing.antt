@@ -308,7 +308,7 @@ begins d v j k m c bs room a b q r t o f p w =
     record { number = stays; release = stood; held = held-kind ((step d e) .server .locks .entries) j m k ((inv-call d e v) .sound .firm) stood }
 
 -- after any list from the fresh server
-pub stands-on : (v : ℕ) (es : List Event) (j : ℕ) (k : Kind) (m : ℕ) → StandsOn v es j k m
+pub stands-on : (v : ℕ) (es : List Event) (j : ℕ) (k : Kind) (m : ℕ) → StandsOn (final (fresh v) es) j k m
 stands-on v es j k m =
     record {
       begins = λ c bs room a b q r t o f p w. begins (final (fresh v) es) (inv-run v es) j k m c bs room a b q r t o f p w;

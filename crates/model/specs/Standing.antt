@@ -12,11 +12,11 @@ use Rattle.wire.specs.Frame.{Frame}
 use Rattle.wire.specs.Class.{one-of}
 use Rattle.model.specs.MessageTypes.{AsyncLock, AsyncLockResponse, AsyncDeviceClear, commands}
 use Rattle.model.specs.Lists.{any}
-use Rattle.model.specs.State.{Entry, Kind, Kind.exclusive-lock, Kind.shared-lock, Standing.release-of, Server, at, fresh}
+use Rattle.model.specs.State.{Entry, Kind, Kind.exclusive-lock, Kind.shared-lock, Standing.release-of, Server, at}
 use Rattle.model.specs.Interface.{Event, Event.delivery, Outcome.acted, Reply.took}
 use Rattle.model.specs.Place.{slotOf}
 use Rattle.model.specs.Locks.{noShared, releaseCode}
-use Rattle.model.specs.Step.{step, final}
+use Rattle.model.specs.Step.{step}
 use Rattle.model.specs.Closing.{Closes}
 
 -- the lock of a kind is held
@@ -51,16 +51,17 @@ pub data Completes (d : Server) (j : ℕ) (k : Kind) (m : ℕ) : Event → Type 
       → Answers d j (releaseCode k) (delivery c bs room) → Completes d j k m (delivery c bs room)
   by-closing : {e : Event} (c : ℕ) → slotOf d c ≡ j → Closes d e c → Completes d j k m e
 
--- after any list from the fresh server
-pub record StandsOn (v : ℕ) (es : List Event) (j : ℕ) (k : Kind) (m : ℕ) : Type 0 where
+-- on server d (specs/Statements.antt: on every one that a list from the fresh server leaves)
+pub record StandsOn (d : Server) (j : ℕ) (k : Kind) (m : ℕ) : Type 0 where
   -- it begins with a release, AsyncLock with code 0, that acts and sends nothing
-  pub begins : (c : ℕ) (bs : List ℕ) (room a b : ℕ) → slotOf (final (fresh v) es) c ≡ j → (step (final (fresh v) es) (delivery c bs room)) .reply ≡ took acted a b
-      → (header bs) .kind ≡ AsyncLock → (header bs) .code ≡ 0 → (step (final (fresh v) es) (delivery c bs room)) .frames ≡ []
-      → (header bs) .param ≡ m → freesFirst (at ((final (fresh v) es) .locks .entries) j) ≡ k
-      → Stands ((at ((final (fresh v) es) .locks .entries) j) .number) j k m ((step (final (fresh v) es) (delivery c bs room)) .server)
-  pub held : (at ((final (fresh v) es) .locks .entries) j) .standing ≡ release-of k m → heldKind k (at ((final (fresh v) es) .locks .entries) j) ≡ true
+  pub begins : (c : ℕ) (bs : List ℕ) (room a b : ℕ) → slotOf d c ≡ j → (step d (delivery c bs room)) .reply ≡ took acted a b
+      → (header bs) .kind ≡ AsyncLock → (header bs) .code ≡ 0 → (step d (delivery c bs room)) .frames ≡ []
+      → (header bs) .param ≡ m → freesFirst (at (d .locks .entries) j) ≡ k
+      → Stands ((at (d .locks .entries) j) .number) j k m ((step d (delivery c bs room)) .server)
+  -- its lock is held
+  pub held : (at (d .locks .entries) j) .standing ≡ release-of k m → heldKind k (at (d .locks .entries) j) ≡ true
   -- one call ends it, or leaves it standing for the same message and lock, which is still held
-  pub until : (n : ℕ) (e : Event) → Stands n j k m (final (fresh v) es) → Completes (final (fresh v) es) j k m e ⊎ Stands n j k m ((step (final (fresh v) es) e) .server)
+  pub until : (n : ℕ) (e : Event) → Stands n j k m d → Completes d j k m e ⊎ Stands n j k m ((step d e) .server)
   -- while it stands, an AsyncLock of the session that acts is answered 3
-  pub gets-3 : (n c : ℕ) (bs : List ℕ) (room a b : ℕ) → Stands n j k m (final (fresh v) es) → slotOf (final (fresh v) es) c ≡ j
-      → (step (final (fresh v) es) (delivery c bs room)) .reply ≡ took acted a b → (header bs) .kind ≡ AsyncLock → Answers (final (fresh v) es) j 3 (delivery c bs room)
+  pub gets-3 : (n c : ℕ) (bs : List ℕ) (room a b : ℕ) → Stands n j k m d → slotOf d c ≡ j
+      → (step d (delivery c bs room)) .reply ≡ took acted a b → (header bs) .kind ≡ AsyncLock → Answers d j 3 (delivery c bs room)

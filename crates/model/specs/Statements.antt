@@ -74,7 +74,7 @@ pub record Demand2 : Type 0 where
   pub access : (d : Server) (c : ℕ) (bs : List ℕ) (room : ℕ) → Access d c bs room
   -- 02, Q-3: a release that is not answered at once stands until its message acts, a device clear acts or its session closes, and until
   -- then every AsyncLock of the session gets 3
-  pub standing : (v : ℕ) (es : List Event) (j : ℕ) (k : Kind) (m : ℕ) → StandsOn v es j k m
+  pub standing : (v : ℕ) (es : List Event) (j : ℕ) (k : Kind) (m : ℕ) → StandsOn (final (fresh v) es) j k m
   -- 02, Q-4: "With "more needed" the answer tells how many bytes are missing", and that many are enough
   pub missing : (d : Server) (c : ℕ) (bs : List ℕ) (room : ℕ) → TellsMissing d c bs room
 
