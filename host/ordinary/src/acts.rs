@@ -80,6 +80,13 @@ impl Server {
         }
     }
 
+    /// A message has acted that a standing release waited for.
+    #[cold]
+    pub(crate) fn release_after(&mut self, slot: u8, frames: &mut Frames) {
+        self.end_standing(slot, frames);
+        self.grant_pass(frames);
+    }
+
     /// A standing release takes effect, and is answered; true if there was one. Grants come after it.
     pub(crate) fn end_standing(&mut self, slot: u8, frames: &mut Frames) -> bool {
         let session = &mut self.sessions[usize::from(slot)];

@@ -74,8 +74,7 @@ impl Server {
         let (kind, code) = (header[2], header[3]);
         let parameter = u32::from_be_bytes([header[4], header[5], header[6], header[7]]);
         let length = u64::from_be_bytes(*header.last_chunk().expect("eight bytes"));
-        let here = &mut self.connections[usize::from(connection)];
-        let Connection { role, slot, .. } = *here;
+        let Connection { role, slot, .. } = self.connections[usize::from(connection)];
         match role {
             Role::Synchronous | Role::Asynchronous => {}
             Role::HalfOpen => {
@@ -85,12 +84,7 @@ impl Server {
         }
         // The length may be near 2^64: nothing is added to it before it is compared.
         if length > PAYLOAD as u64 {
-            here.skip = length;
-            if role == Role::Synchronous && is_counted(kind) {
-                let session = &mut self.sessions[usize::from(slot)];
-                let _ = !session.in_clear && session.in_step(parameter);
-            }
-            return send_error(connection, error::TOO_LARGE, HEADER, out);
+            return self.too_large(connection, kind, parameter, length, out);
         }
         let Some(payload) = rest.get(..length as usize) else {
             return more_needed(length - rest.len() as u64);
@@ -104,6 +98,25 @@ impl Server {
             payload,
         };
         self.whole(role, &message, out)
+    }
+
+    /// The payload is passed over; a message in step counts all the same.
+    #[cold]
+    fn too_large(
+        &mut self,
+        connection: u8,
+        kind: u8,
+        parameter: u32,
+        length: u64,
+        out: &mut [u8; OUTPUT],
+    ) -> Reply {
+        let here = &mut self.connections[usize::from(connection)];
+        here.skip = length;
+        let session = &mut self.sessions[usize::from(here.slot)];
+        if here.role == Role::Synchronous && is_counted(kind) && !session.in_clear {
+            session.in_step(parameter);
+        }
+        send_error(connection, error::TOO_LARGE, HEADER, out)
     }
 
     /// Check 6, then the rest by channel.
@@ -140,14 +153,12 @@ impl Server {
                 if message.kind == kind::TRIGGER && !message.payload.is_empty() {
                     return message.error(error::UNIDENTIFIED, out);
                 }
+                let number = session.number;
                 let mut frames = Frames::new(out);
-                let freed = session.act(message, &mut frames);
-                if freed {
-                    self.end_standing(message.slot, &mut frames);
-                    self.grant_pass(&mut frames);
+                if session.act(message, &mut frames) {
+                    self.release_after(message.slot, &mut frames);
                 }
-                let session = &self.sessions[usize::from(message.slot)];
-                acted_on(session.number, message.size(), frames.used())
+                acted_on(number, message.size(), frames.used())
             }
             kind::CLEAR_COMPLETE => {
                 if !session.in_clear || !message.payload.is_empty() {
@@ -264,7 +275,7 @@ impl Session {
 }
 
 /// Messages that carry a program's count.
-fn is_counted(kind: u8) -> bool {
+pub fn is_counted(kind: u8) -> bool {
     matches!(kind, kind::DATA | kind::DATA_END | kind::TRIGGER)
 }
 

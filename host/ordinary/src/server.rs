@@ -4,6 +4,7 @@ use reference::limits::{CLOCK, CONNECTIONS, OUTPUT, PAYLOAD, SESSIONS};
 use reference::wire::{kind, HEADER};
 use reference::{Mode, Refusal, Reply};
 
+use crate::delivery::is_counted;
 use crate::frames::Frames;
 use crate::locks::{Locks, Released};
 use crate::replies::{done, refused, withheld};
@@ -130,6 +131,7 @@ impl Session {
     }
 
     /// What was asked is forgotten, and the client is told on both channels which message interrupted.
+    #[cold]
     pub fn interrupt(&mut self, number: u32, frames: &mut Frames) {
         self.asked = None;
         self.message_available = false;
@@ -293,7 +295,6 @@ impl Server {
 /// The number of the Data, DataEND or Trigger that unread bytes begin with; a whole header will do.
 fn interrupting(shown: &[u8]) -> Option<u32> {
     let header = shown.first_chunk::<HEADER>()?;
-    let interrupts = matches!(header[2], kind::DATA | kind::DATA_END | kind::TRIGGER);
     let number = u32::from_be_bytes([header[4], header[5], header[6], header[7]]);
-    (header[..2] == *b"HS" && interrupts).then_some(number)
+    (header[..2] == *b"HS" && is_counted(header[2])).then_some(number)
 }
