@@ -10,7 +10,7 @@ use lib.Seq.{getD-set-same, getD-set-other, set-getD}
 use borrow.Author.Tests.{eq-eqb, ne-eqb}
 use Rattle.model.specs.Sizes.{noConnection}
 use Rattle.model.specs.Lists.{all, keep}
-use Rattle.model.specs.State.{Locks, Entry, Waiting, blank, at, live, Server, fresh}
+use Rattle.model.specs.State.{Locks, Entry, Waiting, blank, at, live, Server, fresh, Making}
 use Rattle.model.specs.Interface.{Event, Event.delivery, Event.cut}
 use Rattle.model.specs.Place.{onConnection, slotOf, entryOf}
 use Rattle.model.specs.Locks
@@ -275,5 +275,5 @@ closings-from : (es : List Event) (d : Server) → Inv (d .locks) → EachCloses
 closings-from [] d v = tt
 closings-from (e ∷ es) d v = (λ c x. closed-of d v x, closings-from es ((step d e) .server) (inv-call d e v))
 
-pub closings : (v : ℕ) (es : List Event) → Closings v es
+pub closings : (v : Making) (es : List Event) → Closings v es
 closings v es = record { each = closings-from es (fresh v) inv-fresh }

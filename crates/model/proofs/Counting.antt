@@ -10,7 +10,7 @@ use lib.ListN.{set}
 use Rattle.wire.specs.declared.Header.{Header}
 use Rattle.model.specs.Sizes.{noConnection, beforeFirst}
 use Rattle.model.specs.Lists.{tally}
-use Rattle.model.specs.State.{Locks, Entry, Waiting, Kind.exclusive-lock, Kind.shared-lock, Standing.no-release, Standing.release-of, blank, at, live, Server, fresh}
+use Rattle.model.specs.State.{Locks, Entry, Waiting, Kind.exclusive-lock, Kind.shared-lock, Standing.no-release, Standing.release-of, blank, at, live, Server, fresh, Making}
 use Rattle.model.specs.Interface.{Event, Event.opening, Event.delivery, Event.cut, Event.clock, Event.answer, Event.status}
 use Rattle.model.specs.Scan.{Scan, Scan.empty, Scan.few, Scan.wrong, Scan.skipping, Scan.long, Scan.part, Scan.whole}
 use Rattle.model.specs.Place.{slotIn, onConnection, slotOf, Role, Role.r-none, Role.r-halfOpen, Role.r-synchronous, Role.r-asynchronous}
@@ -305,6 +305,6 @@ balances (e ∷ es) d m a i =
     let ih = balances es ((step d e) .server) (x .model) (call-locks d m e a i) (inv-call d e i) in
     record { balance = rw (count-append isGrant (x .told), count-append isRelease (x .told)) (omega (arith, h, ih .balance)) }
 
-pub counted : (v : ℕ) (es : List Event) → Count v es
+pub counted : (v : Making) (es : List Event) → Count v es
 unfolding locksHeld
 counted v es = record { balance = omega (arith, (balances es (fresh v) freshModel (fresh-agrees v) inv-fresh) .balance) }

@@ -10,7 +10,7 @@ use borrow.Author.Tests.{eqb-true, eqb-false}
 use Rattle.wire.specs.declared.Header.{Header}
 use Rattle.model.specs.Sizes.{connectionLimit, noConnection}
 use Rattle.model.specs.Lists.{all}
-use Rattle.model.specs.State.{Entry, at, live, halfOpen, slotOfNumber, Server, connectionAt, fresh}
+use Rattle.model.specs.State.{Entry, at, live, halfOpen, slotOfNumber, Server, connectionAt, fresh, Making}
 use Rattle.model.specs.Interface.{Event, Event.opening, Event.delivery, Event.cut, Event.clock, Event.answer, Event.status}
 use Rattle.model.specs.Scan.{Scan, Scan.empty, Scan.few, Scan.wrong, Scan.skipping, Scan.long, Scan.part, Scan.whole, scan}
 use Rattle.model.specs.Place.{onConnection, slotOf, Role, Role.r-none, Role.r-halfOpen, Role.r-synchronous, Role.r-asynchronous, roleOf}
@@ -193,9 +193,9 @@ unfolding final
 inv-list [] d i = i
 inv-list (e ∷ es) d i = inv-list es ((step d e) .server) (inv-call d e i)
 
-pub inv-run : (v : ℕ) (es : List Event) → Inv ((final (fresh v) es) .locks)
+pub inv-run : (v : Making) (es : List Event) → Inv ((final (fresh v) es) .locks)
 inv-run v es = inv-list es (fresh v) inv-fresh
 
 -- so the session found is the only one on the connection
-pub found-run : (v : ℕ) (es : List Event) (c j : ℕ) → (c ≡ noConnection → ⊥) → onConnection c (at ((final (fresh v) es) .locks .entries) j) ≡ true → j ≡ slotOf (final (fresh v) es) c
+pub found-run : (v : Making) (es : List Event) (c j : ℕ) → (c ≡ noConnection → ⊥) → onConnection c (at ((final (fresh v) es) .locks .entries) j) ≡ true → j ≡ slotOf (final (fresh v) es) c
 found-run v es c j r h = place-unique ((final (fresh v) es) .locks .entries) c j ((inv-run v es) .sound .firm .connections c r) h

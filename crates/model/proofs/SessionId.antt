@@ -15,7 +15,7 @@ use Rattle.wire.specs.Class.{one-of, asynchronous}
 use Rattle.model.specs.Sizes.{sessionLimit, lastSessionId, protocolVersion}
 use Rattle.model.specs.MessageTypes.{Initialize, InitializeResponse}
 use Rattle.model.specs.Lists.{all}
-use Rattle.model.specs.State.{Entry, at, live, slotOfNumber, Server, connectionAt, fresh, Rest}
+use Rattle.model.specs.State.{Entry, at, live, slotOfNumber, Server, connectionAt, fresh, Making, Rest}
 use Rattle.model.specs.Interface.{Event, Event.opening, Event.delivery, Event.cut, Event.clock, Event.answer, Event.status, Outcome.more-needed, Outcome.skipped, Outcome.held, Outcome.ignored, Outcome.error-sent, Outcome.closed, Outcome.acted, Reply, Reply.refused, Reply.done, Reply.took}
 use Rattle.model.specs.Scan.{Scan, Scan.empty, Scan.few, Scan.wrong, Scan.skipping, Scan.long, Scan.part, Scan.whole, scan}
 use Rattle.model.specs.Place.{slotOf, Role, Role.r-none, Role.r-halfOpen, Role.r-synchronous, Role.r-asynchronous, roleOf}
@@ -23,6 +23,7 @@ use Rattle.model.specs.Locks.{candidate, isLive, issued}
 use Rattle.model.specs.Checks.{Verdict, Verdict.v-more, Verdict.v-skipped, Verdict.v-held, Verdict.v-ignored, Verdict.v-closed, Verdict.v-acts, Verdict.v-error, Verdict.v-fatal, verdict, judged}
 use Rattle.model.specs.Acts
 use Rattle.model.specs.Refusals.{refusal}
+use Rattle.model.specs.Acts.{preference}
 use Rattle.model.specs.Step.{Result, effect, received, plan, answered, finish, step, final, log}
 use Rattle.model.specs.SessionId.{next, onward, inUse, FirstFree, SessionId, byLine, lastInLog, SessionIds, NumbersIssued}
 use Rattle.model.proofs.Classes.{asynchronousTypes, acted-class}
@@ -161,7 +162,7 @@ module _ (d : Server) (c : ℕ) (bs : List ℕ) (room : ℕ) where
       replied : (a : Acting d c bs room) → (Acts.acts (roleOf (d .locks .entries) c) d (slotOf d c) c (a .head) (a .payload)) .reply ≡ took acted k n
       replied a = ap (λ (r : Result). r .reply) (sym (a .does)) ∙ e
 
-  open-frames : (n : ℕ) → Opened n → (step d (delivery c bs room)) .frames ≡ frameOf c InitializeResponse 0 (min ((header bs) .param / 65536) protocolVersion * 65536 + n) [] ∷ []
+  open-frames : (n : ℕ) → Opened n → (step d (delivery c bs room)) .frames ≡ frameOf c InitializeResponse (preference d) (min ((header bs) .param / 65536) protocolVersion * 65536 + n) [] ∷ []
   unfolding finish Rattle.model.specs.Locks.change
   open-frames n o = ap (λ (r : Result). r .frames) (o .2) ∙ rw (← o .1)
 
@@ -224,7 +225,7 @@ unfolding final
 last-bound [] d l = l
 last-bound (e ∷ es) d l = last-bound es ((step d e) .server) (rw (step-last d e) (line-bound d e ((step d e) .reply) refl l))
 
-pub session-ids : (v : ℕ) (es : List Event) → SessionIds v es
+pub session-ids : (v : Making) (es : List Event) → SessionIds v es
 session-ids v es =
     record {
       issues = λ c bs room k n e t.

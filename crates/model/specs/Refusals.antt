@@ -42,7 +42,7 @@ causes d (answer n p end room) =
     let x = exchangeAt (d .rest) i in
     smallRoom room
     ∷ record { test = not (live (at (d .locks .entries) i)); number = noSuchSession }
-    ∷ record { test = not (mayAnswer x); number = nothingAsked }
+    ∷ record { test = not (mayAnswer (at (d .locks .entries) i) x); number = nothingAsked }
     ∷ record { test = ltb payloadLimit (length p) || ltb (x .clientSize) (length p); number = answerTooLong }
     ∷ []
 causes d (status b) = []

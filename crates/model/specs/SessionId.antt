@@ -10,8 +10,9 @@ use Rattle.wire.specs.Frame.{frameOf}
 use Rattle.model.specs.Sizes.{sessionLimit, lastSessionId, protocolVersion}
 use Rattle.model.specs.MessageTypes.{Initialize, InitializeResponse}
 use Rattle.model.specs.Lists.{any}
-use Rattle.model.specs.State.{Entry, live, Server, fresh}
+use Rattle.model.specs.State.{Entry, live, Server, fresh, Making}
 use Rattle.model.specs.Interface.{Event, Event.opening, Event.delivery, Event.cut, Event.clock, Event.answer, Event.status, Outcome, Outcome.more-needed, Outcome.skipped, Outcome.held, Outcome.ignored, Outcome.error-sent, Outcome.closed, Outcome.acted, Reply, Reply.refused, Reply.done, Reply.took}
+use Rattle.model.specs.Acts.{preference}
 use Rattle.model.specs.Step.{Line, step, final, log}
 
 -- 01: "The first is 1; each later one is the next after the last issued, from 65,535 back to 1, passing over live ones"
@@ -40,7 +41,7 @@ pub record FirstFree (es : List Entry) (last n : ℕ) : Type 0 where
 pub record Issues (d : Server) (last c : ℕ) (bs : List ℕ) (room n : ℕ) : Type 0 where
   pub first-free : FirstFree (d .locks .entries) last n
   -- 01: "control 0; upper half the smaller of client version and 0100 hex; lower half the SessionID"
-  pub sent : (step d (delivery c bs room)) .frames ≡ frameOf c InitializeResponse 0 (min ((header bs) .param / 65536) protocolVersion * 65536 + n) [] ∷ []
+  pub sent : (step d (delivery c bs room)) .frames ≡ frameOf c InitializeResponse (preference d) (min ((header bs) .param / 65536) protocolVersion * 65536 + n) [] ∷ []
   pub remembered : (step d (delivery c bs room)) .server .rest .lastIssued ≡ n
 
 -- on any server
@@ -76,11 +77,11 @@ lastInLog [] last = last
 lastInLog (l ∷ ls) last = lastInLog ls (byLine (l .event) (l .reply) last)
 
 -- after any list from the fresh server
-pub record SessionIds (v : ℕ) (es : List Event) : Type 0 where
+pub record SessionIds (v : Making) (es : List Event) : Type 0 where
   pub issues : (c : ℕ) (bs : List ℕ) (room k n : ℕ) → (step (final (fresh v) es) (delivery c bs room)) .reply ≡ took acted k n → (header bs) .kind ≡ Initialize
       → Issues (final (fresh v) es) (lastInLog (log (fresh v) es) 0) c bs room n
 
 -- and on any server that has its slots and whose last number is a SessionID, or 0
 pub record NumbersIssued : Type 0 where
   pub any-server : (d : Server) → length (d .locks .entries) ≡ sessionLimit → d .rest .lastIssued ≤ lastSessionId → SessionId d
-  pub any-run : (v : ℕ) (es : List Event) → SessionIds v es
+  pub any-run : (v : Making) (es : List Event) → SessionIds v es
