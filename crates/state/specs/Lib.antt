@@ -14,4 +14,5 @@ pub mod Sharing
 pub mod Search
 pub mod Fresh
 pub mod Tidy
+pub mod FreshTidy
 pub mod OneMemory
