@@ -91,7 +91,7 @@ extern "C" {
 #endif
 
 /* Sizes. */
-#define HISLIP_WORDS 523          /* uint64_t to lend as `words`: what hislip_words() tells         */
+#define HISLIP_WORDS 587          /* uint64_t to lend as `words`: what hislip_words() tells         */
 #define HISLIP_STRING_BYTES 8448  /* bytes to lend as `strings`: what hislip_string_bytes() tells   */
 #define HISLIP_SESSIONS 32        /* live sessions, half-open ones included                         */
 #define HISLIP_CONNECTIONS 64     /* connections are numbered 0 to 63                               */
@@ -196,14 +196,19 @@ hislip_done hislip_open(uint64_t *words, uint8_t *strings, uint32_t connection);
 
 /* Unread bytes of a connection: all of them, from the first one not yet taken. At most one message is
  * taken; deliver again while bytes are taken and some are left. Refusals, in this order: 7 (`out_len`
- * under 2,048), 1 (above 63, or not open). Outcomes: all seven. `len` may be 0 (more needed). */
+ * under 2,048), 1 (above 63, or not open). Outcomes: all seven. `len` may be 0 (more needed).
+ * A release (AsyncLock, code 0) that is acted on with no output stands: it waits for the message that
+ * it names. Its answer, and the grants behind it, are in the output of the Data, DataEND or Trigger of
+ * that number, or of a device clear. A client that names any other number (some send 0 before their
+ * first message, or an old number after a clear) is answered at a device clear or never. */
 HISLIP_NOT_NULL HISLIP_USE_RESULT
 hislip_delivery hislip_deliver(uint64_t *words, uint8_t *strings, uint32_t connection,
                                const uint8_t *bytes, size_t len, uint8_t *out, size_t out_len);
 
 /* A connection is cut. Its session, if it has one, closes with both connections, its locks and its
- * waiting request; the output holds the lock answers of others who are now granted. The number may be
- * opened again at once. Refusals, in this order: 7, 1 (above 63, or not open). */
+ * waiting request, and a release that stands is not answered; the output holds the lock answers of
+ * others who are now granted. The number may be opened again at once. Refusals, in this order: 7, 1
+ * (above 63, or not open). */
 HISLIP_NOT_NULL HISLIP_USE_RESULT
 hislip_done hislip_cut(uint64_t *words, uint8_t *strings, uint32_t connection,
                        uint8_t *out, size_t out_len);

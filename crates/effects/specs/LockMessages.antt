@@ -1,21 +1,20 @@
 -- Device clear and the lock messages: the answers of the lock event, what is said, and the answers of the grant pass. Assumes nothing.
-use mathlib.Core.Path.{_≡_, refl, sym, ap, ap₂, _∙_}
+use mathlib.Core.Path.{_≡_, refl, sym, ap, ap₂, subst, _∙_}
 use mathlib.Core.Bool.{Bool, true, false, cond}
-use mathlib.Core.List.{List, [], _∷_, _++_, map, append-nil, append-assoc}
-use Prim.Native.Nat.{ℕ, suc, _+_, _*_, _≤_}
+use mathlib.Core.List.{List, [], _∷_, _++_, map, map-append, append-nil, append-assoc}
+use Prim.Native.Nat.{ℕ, _+_, _≤_}
 use native.Mathlib.Omega.{arith}
-use native.Mathlib.Nat.{min-le-right}
+use native.Mathlib.Nat.{zero-add}
 use lib.ListN.{length, length-append}
 use borrow.Author.Tests.{eq-eqb, ne-eqb}
-use Rattle.wire.specs.Frame.{Frame, frameOf, frameBytes, bytesOf, written, length-frame, bytes-one}
+use Rattle.wire.specs.Frame.{Frame, frameOf, frameBytes, bytesOf, written, bytes-one}
 use Rattle.wire.specs.Splice.{splice, splice-splice}
-use Rattle.model.specs.Sizes.{sessionLimit}
-use Rattle.model.specs.Bound.{answersRoom}
-use Rattle.model.specs.State.{Entry, Waiting, Locks, Rest, Server, at, exchangeAt, withExchange}
+use Rattle.model.specs.State.{Locks, Rest, Server, Standing, Standing.no-release, Standing.release-of, at, exchangeAt, withExchange}
+use Rattle.model.specs.Interface.{Reply.took, Outcome.acted}
 use Rattle.model.specs.Exchange.{enterClear}
-use Rattle.model.specs.Locks.{Answer, LockEvent.request, LockEvent.release, LockEvent.clear, LockResult, elsewhere, noShared, tell, refuse, released, change, grantPass}
+use Rattle.model.specs.Locks.{LockEvent, LockEvent.request, LockEvent.release, LockEvent.clear, LockResult, stands, isDue, dueAny, change, frees, settle, grantPass}
 use Rattle.model.specs.Acts.{AsynchronousKind.k-lock, AsynchronousKind.k-deviceClear, asynchronousRest, asynchronousSaid, asynchronousEvent}
-use Rattle.model.specs.Step.{finish, lockFrame}
+use Rattle.model.specs.Step.{Result, finish, lockFrame}
 use Rattle.state.specs.Grid.{upd-upd}
 use Rattle.state.specs.Change.{onExchange, exchangeWith, entryWith}
 use Rattle.state.specs.View.{Memory, memory, view, restOf, locksOf}
@@ -24,13 +23,7 @@ use Rattle.effects.specs.declared.Delivery.{Delivery}
 use Rattle.effects.specs.Asynchronous.{DidKind, delivered, planWith, did-with, one-length}
 use Rattle.effects.specs.Synchronous.{slot-changed}
 use Rattle.locks.specs.Outcome.{Met}
-use Rattle.state.specs.Queue.{count-is}
-use Rattle.state.specs.Requests.{countOf}
-
-pub bytesOf-append : (xs ys : List Frame) → bytesOf (xs ++ ys) ≡ bytesOf xs ++ bytesOf ys
-unfolding bytesOf
-bytesOf-append [] ys = refl
-bytesOf-append (x ∷ xs) ys = ap (λ (l : List ℕ). frameBytes x ++ l) (bytesOf-append xs ys) ∙ sym (append-assoc (frameBytes x) (bytesOf xs) (bytesOf ys))
+use Rattle.locks.specs.Settled.{bytesOf-append, settled}
 
 -- frames behind frames
 module _ (xs ys : List Frame) (a : ℕ) (e : a ≡ 0 + length (bytesOf xs)) where
@@ -42,78 +35,94 @@ module _ (xs ys : List Frame) (a : ℕ) (e : a ≡ 0 + length (bytesOf xs)) wher
   pub behind-length : (r : ℕ) → r ≡ a + length (bytesOf ys) → r ≡ length (bytesOf (xs ++ ys))
   behind-length r p = omega (arith, ap length (bytesOf-append xs ys), length-append (bytesOf xs) (bytesOf ys))
 
--- how long the answers are
-pub answers-length : (xs : List Answer) → length (bytesOf (map lockFrame xs)) ≡ 17 * length xs
-unfolding bytesOf
-answers-length [] = refl
-answers-length (x ∷ xs) = omega (arith, length-append (frameBytes (lockFrame x)) (bytesOf (map lockFrame xs)), length-frame (lockFrame x), answers-length xs)
-
-refuse-length : (es : List Entry) (p : Waiting → Bool) (ws : List Waiting) → length (refuse es p ws) ≤ length ws
-refuse-length es p [] = omega arith
-refuse-length es p (w ∷ ws) = by (p w) (refuse-length es p ws)
-  where
-    by : (b : Bool) → length (refuse es p ws) ≤ length ws → length (cond b (refuse es p ws) (tell es (w .slot) 0 true ∷ refuse es p ws)) ≤ suc (length ws)
-    by true h = omega arith
-    by false h = omega arith
-
-pub clear-short : (w s : List ℕ) (m m′ : Memory) (i : ℕ) (out out′ : List ℕ) (a : ℕ) → Met (change (locksOf w s) (clear i)) m m′ out out′ 0 a → a ≤ answersRoom
-unfolding change
-clear-short w s m m′ i out out′ a x =
-    let es : List Entry = locksOf w s .entries in
-    let ws : List Waiting = locksOf w s .waiting in
-    let l : countOf w ≤ sessionLimit = min-le-right _ _ in
-    omega (arith, x .place, answers-length (refuse es (elsewhere i) ws), refuse-length es (elsewhere i) ws, count-is w s)
-
-one-answer : (l : Locks) (i : ℕ) (x y : Bool) → length ((released x y l i) .answers) ≡ 1
-one-answer l i true y = refl
-one-answer l i false false = refl
-one-answer l i false true = refl
-
-pub release-short : (l : Locks) (m m′ : Memory) (i : ℕ) (out out′ : List ℕ) (a : ℕ) → Met (change l (release i)) m m′ out out′ 0 a → a ≡ 17
-unfolding change
-release-short l m m′ i out out′ a x =
-    let y : LockResult = released ((at (l .entries) i) .exclusive) (noShared (at (l .entries) i)) l i in
-    omega (arith, x .place, answers-length (y .answers), one-answer l i ((at (l .entries) i) .exclusive) (noShared (at (l .entries) i)))
-
 -- three stores enter device clear
 pub clear-entered : (i : ℕ) (d d₁ d₂ d₃ : Server) → d₁ ≡ onExchange d i (exchangeWith 0 1) → d₂ ≡ onExchange d₁ i (exchangeWith 1 0) → d₃ ≡ onExchange d₂ i (exchangeWith 2 0)
     → d₃ ≡ onExchange d i enterClear
 clear-entered i d d₁ d₂ d₃ e₁ e₂ e₃ = rw (e₃, e₂, e₁, upd-upd, upd-upd)
 
-module _ (w s w₁ out out₁ out′ : List ℕ) (i c n a : ℕ) (e : entryWith 0 n (at (locksOf w s .entries) i) ≡ at (locksOf w s .entries) i) (fits : a ≤ length out) (told : Delivery) where
-  pub clear-told : (w′ : List ℕ) (code param len : ℕ) (p : List ℕ) → told ≡ delivered n len (a + 17) → Met (change (locksOf w s) (clear i)) (memory w s) (memory w₁ s) out out₁ 0 a
-      → view (memory w′ s) ≡ onExchange (view (memory w₁ s)) i enterClear
-      → out′ ≡ splice out₁ a (frameBytes (frameOf c 23 0 0 []))
-      → DidKind k-deviceClear i c code param len p told (memory w s) (memory w′ s) out out′
-  unfolding finish change asynchronousRest asynchronousSaid asynchronousEvent
-  clear-told w′ code param len p z x v o t =
-      let d : Server = view (memory w s) in
-      let q : Rest = withExchange (d .rest) i (enterClear (exchangeAt (d .rest) i)) in
-      let f : Frame = frameOf c 23 0 0 [] in
-      let xs : List Frame = map lockFrame ((change (locksOf w s) (clear i)) .answers) in
-      let u : view (memory w′ s) ≡ record { locks = (change (locksOf w s) (clear i)) .locks; rest = q } =
-      v ∙ slot-changed (view (memory w₁ s)) i enterClear ∙ (λ j. record { locks = x .locks j; rest = ap (λ (r : Rest). withExchange r i (enterClear (exchangeAt r i))) (x .rest) j }) in
-      did-with d i n len (a + 17) q (f ∷ []) (clear i) told (memory w s) (memory w′ s) out out′ (xs ++ (f ∷ [])) z e refl u
-      (behind xs (f ∷ []) a (x .place) out out₁ out′ fits (x .buffer) (o ∙ ap (splice out₁ a) (sym (bytes-one f))))
-      (behind-length xs (f ∷ []) a (x .place) (a + 17) (ap (λ (y : ℕ). a + y) (one-length f 0 refl)))
+-- an event that says nothing but its answers, with the pass behind it; other stores came first
+pub did-settled : (m m₁ m′ : Memory) (out out′ : List ℕ) (i n len r : ℕ) (q : Rest) (v : LockEvent) (told : Delivery) → told ≡ delivered n len r
+    → entryWith 0 n (at (view m .locks .entries) i) ≡ at (view m .locks .entries) i → view m₁ ≡ record { locks = view m .locks; rest = q }
+    → Met (settled (view m₁ .locks) v) m₁ m′ out out′ 0 r → Did (finish (view m) (planWith (view m) i len q [] v)) told m m′ out out′
+unfolding finish
+did-settled m m₁ m′ out out′ i n len r q v told z e f x =
+    let d : Server = view m in
+    let y : Met (settled (d .locks) v) m₁ m′ out out′ 0 r = subst (λ (l : Locks). Met (settled l v) m₁ m′ out out′ 0 r) (ap (λ (k : Server). k .locks) f) x in
+    let xs : LockResult = change (d .locks) v in
+    let ys : LockResult = settle (frees (d .locks) v) (xs .locks) in
+    did-with d i n len r q [] v told m m′ out out′ (map lockFrame (xs .answers ++ ys .answers)) z e (sym (map-append lockFrame (xs .answers) (ys .answers)))
+    (λ j. record { locks = y .locks j; rest = (y .rest ∙ ap (λ (k : Server). k .rest) f) j }) (y .buffer) (y .place ∙ zero-add _)
 
-  pub release-told : (w′ s′ : List ℕ) (code param len r : ℕ) (p : List ℕ) → told ≡ delivered n len r → code ≡ 0 → Met (change (locksOf w s) (release i)) (memory w s) (memory w₁ s) out out₁ 0 a
-      → Met (grantPass (locksOf w₁ s)) (memory w₁ s) (memory w′ s′) out₁ out′ a r
-      → DidKind k-lock i c code param len p told (memory w s) (memory w′ s′) out out′
-  unfolding finish asynchronousRest asynchronousSaid asynchronousEvent
-  release-told w′ s′ code param len r p q z x y t =
-      let d : Server = view (memory w s) in
-      let l : Locks = (change (locksOf w s) (release i)) .locks in
-      let xs : List Frame = map lockFrame ((change (locksOf w s) (release i)) .answers) in
-      let ys : List Frame = map lockFrame ((grantPass (locksOf w₁ s)) .answers) in
-      let u : view (memory w′ s′) ≡ record { locks = (grantPass l) .locks; rest = restOf w } =
-      (λ j. record { locks = (y .locks ∙ ap (λ (k : Locks). (grantPass k) .locks) (x .locks)) j; rest = (y .rest ∙ x .rest) j }) in
-      let g : Did (finish d (planWith d i len (restOf w) [] (release i))) told (memory w s) (memory w′ s′) out out′ =
-      did-with d i n len r (restOf w) [] (release i) told (memory w s) (memory w′ s′) out out′ (xs ++ ys) q e
-      (ap (λ (k : Locks). xs ++ map lockFrame ((grantPass k) .answers)) (sym (x .locks))) u
-      (behind xs ys a (x .place) out out₁ out′ fits (x .buffer) (y .buffer))
-      (behind-length xs ys a (x .place) r (y .place)) in
-      rw (eq-eqb code 0 z) g
+-- a release of slot i stands: one is due at a device clear
+stood-due : (x : Standing) (b : Bool) → stands x ≡ b → isDue (dueAny x) ≡ b
+stood-due no-release b e = e
+stood-due (release-of k n) b e = e
+
+module _ (w s w₁ w₂ out out₁ out₂ : List ℕ) (i c n a len : ℕ) (e : entryWith 0 n (at (locksOf w s .entries) i) ≡ at (locksOf w s .entries) i) (fits : a + 17 ≤ length out)
+    (told : Delivery) (x : Met (change (locksOf w s) (clear i)) (memory w s) (memory w₁ s) out out₁ 0 a)
+    (v : view (memory w₂ s) ≡ onExchange (view (memory w₁ s)) i enterClear) (o : out₂ ≡ splice out₁ a (frameBytes (frameOf c 23 0 0 []))) where
+  abbrev d : Server
+  d = view (memory w s)
+
+  abbrev left : LockResult
+  left = change (locksOf w s) (clear i)
+
+  abbrev q : Rest
+  q = withExchange (d .rest) i (enterClear (exchangeAt (d .rest) i))
+
+  abbrev f : Frame
+  f = frameOf c 23 0 0 []
+
+  abbrev xs : List Frame
+  xs = map lockFrame (left .answers)
+
+  entered : view (memory w₂ s) ≡ record { locks = left .locks; rest = q }
+  entered = v ∙ slot-changed (view (memory w₁ s)) i enterClear ∙ (λ j. record { locks = x .locks j; rest = ap (λ (r : Rest). withExchange r i (enterClear (exchangeAt r i))) (x .rest) j })
+
+  -- the plan's result, by whether a release stood
+  result : (b : Bool) → stands ((at (locksOf w s .entries) i) .standing) ≡ b
+      → finish d (planWith d i len q (f ∷ []) (clear i)) ≡ record { server = record { locks = (settle b (left .locks)) .locks; rest = q }; reply = took acted (16 + len) ((at (d .locks .entries) i) .number); frames = xs ++ ((f ∷ []) ++ map lockFrame ((settle b (left .locks)) .answers)) }
+  unfolding finish
+  result b h =
+      ap (λ (y : Bool). record { server = record { locks = (settle y (left .locks)) .locks; rest = q }; reply = took acted (16 + len) ((at (d .locks .entries) i) .number); frames = xs ++ ((f ∷ []) ++ map lockFrame ((settle y (left .locks)) .answers)) })
+      (stood-due ((at (locksOf w s .entries) i) .standing) b h)
+
+  -- the answers and the acknowledgement behind them
+  acknowledged : out₂ ≡ written out (xs ++ (f ∷ []))
+  acknowledged = behind xs (f ∷ []) a (x .place) out out₁ out₂ (omega arith) (x .buffer) (o ∙ ap (splice out₁ a) (sym (bytes-one f)))
+
+  acknowledged-length : a + 17 ≡ length (bytesOf (xs ++ (f ∷ [])))
+  acknowledged-length = behind-length xs (f ∷ []) a (x .place) (a + 17) (ap (λ (y : ℕ). a + y) (one-length f 0 refl))
+
+  pub clear-told : (code param : ℕ) (p : List ℕ) → told ≡ delivered n len (a + 17) → stands ((at (locksOf w s .entries) i) .standing) ≡ false
+      → DidKind k-deviceClear i c code param len p told (memory w s) (memory w₂ s) out out₂
+  unfolding asynchronousRest asynchronousSaid asynchronousEvent
+  clear-told code param p z h t =
+      did-with d i n len (a + 17) q (f ∷ []) (clear i) told (memory w s) (memory w₂ s) out out₂ (xs ++ (f ∷ [])) z e (ap (λ (y : Result). y .frames) (result false h))
+      (entered ∙ sym (ap (λ (y : Result). y .server) (result false h))) acknowledged acknowledged-length
+
+  pub clear-granted : (w′ s′ out′ : List ℕ) (r code param : ℕ) (p : List ℕ) → told ≡ delivered n len r → stands ((at (locksOf w s .entries) i) .standing) ≡ true
+      → Met (grantPass (locksOf w₂ s)) (memory w₂ s) (memory w′ s′) out₂ out′ (a + 17) r → DidKind k-deviceClear i c code param len p told (memory w s) (memory w′ s′) out out′
+  unfolding asynchronousRest asynchronousSaid asynchronousEvent
+  clear-granted w′ s′ out′ r code param p z h y t =
+      let g : locksOf w₂ s ≡ left .locks = ap (λ (k : Server). k .locks) entered in
+      let y′ : Met (grantPass (left .locks)) (memory w₂ s) (memory w′ s′) out₂ out′ (a + 17) r = subst (λ (l : Locks). Met (grantPass l) (memory w₂ s) (memory w′ s′) out₂ out′ (a + 17) r) g y in
+      let ys : List Frame = map lockFrame ((grantPass (left .locks)) .answers) in
+      let u : view (memory w′ s′) ≡ record { locks = (grantPass (left .locks)) .locks; rest = q } = (λ j. record { locks = y′ .locks j; rest = (y′ .rest ∙ ap (λ (k : Server). k .rest) entered) j }) in
+      did-with d i n len r q (f ∷ []) (clear i) told (memory w s) (memory w′ s′) out out′ ((xs ++ (f ∷ [])) ++ ys) z e
+      (ap (λ (k : Result). k .frames) (result true h) ∙ sym (append-assoc xs (f ∷ []) ys))
+      (u ∙ sym (ap (λ (k : Result). k .server) (result true h)))
+      (behind (xs ++ (f ∷ [])) ys (a + 17) (acknowledged-length ∙ sym (zero-add _)) out out₂ out′ fits acknowledged (y′ .buffer))
+      (behind-length (xs ++ (f ∷ [])) ys (a + 17) (acknowledged-length ∙ sym (zero-add _)) r (y′ .place))
+
+pub release-told : (w s w′ s′ out out′ : List ℕ) (i c n code param len r : ℕ) (p : List ℕ) (told : Delivery) → told ≡ delivered n len r → entryWith 0 n (at (locksOf w s .entries) i) ≡ at (locksOf w s .entries) i
+    → code ≡ 0 → Met (settled (locksOf w s) (release i param)) (memory w s) (memory w′ s′) out out′ 0 r
+    → DidKind k-lock i c code param len p told (memory w s) (memory w′ s′) out out′
+unfolding asynchronousRest asynchronousSaid asynchronousEvent
+release-told w s w′ s′ out out′ i c n code param len r p told q e z x t =
+    let g : Did (finish (view (memory w s)) (planWith (view (memory w s)) i len (restOf w) [] (release i param))) told (memory w s) (memory w′ s′) out out′ =
+    did-settled (memory w s) (memory w s) (memory w′ s′) out out′ i n len r (restOf w) (release i param) told q e refl x in
+    rw (eq-eqb code 0 z) g
 
 pub request-told : (w s w′ s′ out out′ : List ℕ) (i c n code param len r : ℕ) (p : List ℕ) (told : Delivery) → told ≡ delivered n len r → entryWith 0 n (at (locksOf w s .entries) i) ≡ at (locksOf w s .entries) i
     → (code ≡ 0 → ⊥) → Met (change (locksOf w s) (request i param p)) (memory w s) (memory w′ s′) out out′ 0 r

@@ -35,7 +35,7 @@ abbrev pub changed : Server → LockEvent → Rest → Server
 changed d e q = record { locks = (change (d .locks) e) .locks; rest = q }
 
 -- an event without answers that frees nothing: what is said is all that is sent
-pub finish-quietly : (d : Server) (y : Reply) (q : Rest) (fs : List Frame) (e : LockEvent) → (change (d .locks) e) .answers ≡ [] → frees e ≡ false
+pub finish-quietly : (d : Server) (y : Reply) (q : Rest) (fs : List Frame) (e : LockEvent) → (change (d .locks) e) .answers ≡ [] → frees (d .locks) e ≡ false
     → finish d (planned y q fs e) ≡ resulting y ((change (d .locks) e) .locks) q fs
 unfolding finish
 finish-quietly d y q fs e a f =
@@ -45,7 +45,7 @@ finish-quietly d y q fs e a f =
     ∙ ap (resulting y (x .locks) q) (append-nil fs)
 
 pub did-quietly : (d : Server) (y : Reply) (q : Rest) (fs : List Frame) (e : LockEvent) (r : Delivery) (m m′ : Memory) (out out′ : List ℕ)
-    → (change (d .locks) e) .answers ≡ [] → frees e ≡ false
+    → (change (d .locks) e) .answers ≡ [] → frees (d .locks) e ≡ false
     → numbersOf r ≡ deliveryAnswer y (length (bytesOf fs)) 0 → view m′ ≡ changed d e q → out′ ≡ written out fs → omits y ≡ false
     → Did (finish d (planned y q fs e)) r m m′ out out′
 did-quietly d y q fs e r m m′ out out′ a f n v b o =
@@ -60,7 +60,7 @@ did-quietly d y q fs e r m m′ out out′ a f n v b o =
 
 -- a message that acts, of session n, with k bytes taken and one frame without payload sent
 pub did-with-frame : (d : Server) (k n : ℕ) (q : Rest) (c t code p : ℕ) (e : LockEvent) (r : Delivery) (m m′ : Memory) (out out′ : List ℕ)
-    → (change (d .locks) e) .answers ≡ [] → frees e ≡ false
+    → (change (d .locks) e) .answers ≡ [] → frees (d .locks) e ≡ false
     → numbersOf r ≡ record { refusal = 0; outcome = 6; session = n; taken = k; output = 17; missing = 0 }
     → view m′ ≡ changed d e q
     → out′ ≡ splice out 0 (frameBytes (frameOf c t code p []))

@@ -1,7 +1,7 @@
 -- Messages that act on the synchronous channel: what their stores do to the session's exchange, and the model's plan by kind.
 -- Assumes nothing.
 use mathlib.Core.Path.{_≡_, refl, sym, ap, ap₂, subst, _∙_}
-use mathlib.Core.Bool.{Bool, true, false, not, _&&_, cond}
+use mathlib.Core.Bool.{Bool, true, false, not, _&&_, _||_, cond, true≢false}
 use mathlib.Core.Logic.{_⊎_, inl, inr, ⊎-elim}
 use Rattle.wire.specs.Frame
 use mathlib.Core.List.{List, [], _∷_}
@@ -17,13 +17,15 @@ use Rattle.model.specs.State.{Server, Rest, Exchange, Asked, Asked.none, Asked.
 use Rattle.model.specs.Interface.{Reply.took, Outcome.acted}
 use Rattle.model.specs.Exchange.{afterRmt, noteRmt, ask, leaveClear}
 use Rattle.model.specs.Place.{Role.r-synchronous}
-use Rattle.model.specs.Acts.{Plan, say, SynchronousKind, SynchronousKind.k-data, SynchronousKind.k-dataEnd, SynchronousKind.k-trigger, SynchronousKind.k-clearComplete, synchronousKind, synchronousExchange, synchronousSaid, acts}
+use Rattle.model.specs.Locks.{LockEvent.nothing, LockEvent.command}
+use Rattle.model.specs.Acts.{Plan, say, SynchronousKind, SynchronousKind.k-data, SynchronousKind.k-dataEnd, SynchronousKind.k-trigger, SynchronousKind.k-clearComplete, synchronousKind, synchronousExchange, synchronousSaid, synchronousEvent, acts}
 use Rattle.state.specs.Grid.{upd, upd-upd, upd-set}
 use Rattle.state.specs.Change.{onRest, onExchange, exchangeWith}
 use Rattle.state.specs.View.{Memory, view, askedOf}
 use Rattle.model.specs.Step.{finish}
 use Rattle.effects.specs.declared.Delivery.{Delivery}
-use Rattle.effects.specs.Did.{Did, numbersOf, plainly, did-plainly}
+use Rattle.effects.specs.Asynchronous.{planWith}
+use Rattle.effects.specs.Did.{Did}
 
 -- the session's exchange changed by g
 abbrev pub withSlot : ℕ → (Exchange → Exchange) → Rest → Rest
@@ -73,28 +75,61 @@ asked-told d d₁ d₂ i code p h e₁ e₂ =
     slot-twice d d₁ d₂ i (exchangeWith 1 (p + 1)) (noteRmt code) e₁ e₂
     ∙ ap (λ (y : Asked). onRest d (withSlot i (λ (x : Exchange). record { inClear = x .inClear; asked = y; messageAvailable = afterRmt code (x .messageAvailable); clientSize = x .clientSize }))) (asked-stored p h)
 
--- the plan of a message that acts, by its kind
-abbrev pub actPlan : Server → ℕ → ℕ → (Exchange → Exchange) → List Frame.Frame → Plan
-actPlan d i k g fs = plainly (took acted k ((at (d .locks .entries) i) .number)) (withSlot i g (d .rest)) fs
+-- a Data, DataEND or Trigger, and what it notes
+abbrev pub isCommand : ℕ → Bool
+isCommand t = eqb t Data || (eqb t DataEND || eqb t Trigger)
 
+abbrev pub commandNotes : ℕ → ℕ → ℕ → Exchange → Exchange
+commandNotes t code n x = cond (eqb t Data) (noteRmt code x) (ask code n x)
+
+module _ (t : ℕ) where
+  pub command-data : t ≡ Data → isCommand t ≡ true
+  command-data e = rw (eq-eqb t Data e)
+
+  pub command-end : (t ≡ Data → ⊥) → t ≡ DataEND → isCommand t ≡ true
+  command-end o e = rw (ne-eqb t Data o, eq-eqb t DataEND e)
+
+  pub command-trigger : (t ≡ Data → ⊥) → (t ≡ DataEND → ⊥) → isCommand t ≡ eqb t Trigger
+  command-trigger o p = rw (ne-eqb t Data o, ne-eqb t DataEND p)
+
+module _ (d : Server) (i t code n : ℕ) where
+  pub notes-data : t ≡ Data → onRest d (withSlot i (noteRmt code)) ≡ onRest d (withSlot i (commandNotes t code n))
+  notes-data e = ap (λ (b : Bool). onRest d (withSlot i (λ (x : Exchange). cond b (noteRmt code x) (ask code n x)))) (sym (eq-eqb t Data e))
+
+  pub notes-ask : (t ≡ Data → ⊥) → onRest d (withSlot i (ask code n)) ≡ onRest d (withSlot i (commandNotes t code n))
+  notes-ask o = ap (λ (b : Bool). onRest d (withSlot i (λ (x : Exchange). cond b (noteRmt code x) (ask code n x)))) (sym (ne-eqb t Data o))
+
+-- the plan of a message that acts: a command's, and that of DeviceClearComplete
 module _ (d : Server) (i c : ℕ) (h : Header) (p : List ℕ) where
-  pub plan-data : h .kind ≡ Data → acts r-synchronous d i c h p ≡ actPlan d i (16 + h .len) (noteRmt (h .code)) []
-  unfolding acts synchronousExchange synchronousSaid
-  plan-data e = rw (eq-eqb (h .kind) Data e)
+  -- by the three tests of the kind
+  abbrev kinds : Bool → Bool → Bool → SynchronousKind
+  kinds x y z = cond x k-data (cond y k-dataEnd (cond z k-trigger k-clearComplete))
 
-  pub plan-ask : (h .kind ≡ DataEND) ⊎ (h .kind ≡ Trigger) → acts r-synchronous d i c h p ≡ actPlan d i (16 + h .len) (ask (h .code) (h .param)) []
-  unfolding acts synchronousExchange synchronousSaid
-  plan-ask = ⊎-elim (λ (e : h .kind ≡ DataEND). rw (ne-eqb (h .kind) Data (omega arith), eq-eqb (h .kind) DataEND e)) (λ (e : h .kind ≡ Trigger). rw (ne-eqb (h .kind) Data (omega arith), ne-eqb (h .kind) DataEND (omega arith), eq-eqb (h .kind) Trigger e))
+  abbrev planBy : SynchronousKind → Plan
+  planBy k = planWith d i (h .len) (withSlot i (synchronousExchange k h) (d .rest)) (synchronousSaid k c) (synchronousEvent k i h)
 
-  pub plan-complete : (h .kind ≡ Data → ⊥) → (h .kind ≡ DataEND → ⊥) → (h .kind ≡ Trigger → ⊥) → acts r-synchronous d i c h p ≡ actPlan d i (16 + h .len) leaveClear (say c DeviceClearAcknowledge 0 0)
+  pub plan-command : isCommand (h .kind) ≡ true
+      → acts r-synchronous d i c h p ≡ planWith d i (h .len) (withSlot i (commandNotes (h .kind) (h .code) (h .param)) (d .rest)) [] (command i (h .param))
   unfolding acts synchronousExchange synchronousSaid
-  plan-complete q r t = rw (ne-eqb (h .kind) Data q, ne-eqb (h .kind) DataEND r, ne-eqb (h .kind) Trigger t)
+  plan-command = by (eqb (h .kind) Data) (eqb (h .kind) DataEND) (eqb (h .kind) Trigger)
+    where
+      by : (x y z : Bool) → (x || (y || z)) ≡ true
+          → planBy (kinds x y z) ≡ planWith d i (h .len) (withSlot i (λ (e : Exchange). cond x (noteRmt (h .code) e) (ask (h .code) (h .param) e)) (d .rest)) [] (command i (h .param))
+      by true y z q = refl
+      by false true z q = refl
+      by false false true q = refl
+      by false false false q = absurd (true≢false (sym q))
 
--- a message acts: from its plan, its numbers, its stores and its frames
-pub did-act : (d : Server) (i k : ℕ) (g : Exchange → Exchange) (fs : List Frame.Frame) (x : Plan) (session output : ℕ) (r : Delivery) (m m′ : Memory) (out out′ : List ℕ)
-    → x ≡ actPlan d i k g fs → r ≡ record { refusal = 0; outcome = 6; session = session; taken = k; output = output; missing = 0 } → (at (d .locks .entries) i) .number ≡ session
-    → output ≡ length (Frame.bytesOf fs) → view m′ ≡ onRest d (withSlot i g) → out′ ≡ Frame.written out fs → Did (finish d x) r m m′ out out′
-did-act d i k g fs x session output r m m′ out out′ e q n l v b =
-    subst (λ (y : Plan). Did (finish d y) r m m′ out out′) (sym e)
-    (did-plainly d (took acted k ((at (d .locks .entries) i) .number)) (withSlot i g (d .rest)) fs r m m′ out out′
-    (ap numbersOf q ∙ ap₂ (λ (y z : ℕ). record { refusal = 0; outcome = 6; session = y; taken = k; output = z; missing = 0 }) (sym n) l) v b refl)
+  pub plan-complete : isCommand (h .kind) ≡ false → acts r-synchronous d i c h p ≡ planWith d i (h .len) (withSlot i leaveClear (d .rest)) (say c DeviceClearAcknowledge 0 0) nothing
+  unfolding acts synchronousExchange synchronousSaid
+  plan-complete = by (eqb (h .kind) Data) (eqb (h .kind) DataEND) (eqb (h .kind) Trigger)
+    where
+      by : (x y z : Bool) → (x || (y || z)) ≡ false → planBy (kinds x y z) ≡ planWith d i (h .len) (withSlot i leaveClear (d .rest)) (say c DeviceClearAcknowledge 0 0) nothing
+      by true y z q = absurd (true≢false q)
+      by false true z q = absurd (true≢false q)
+      by false false true q = absurd (true≢false q)
+      by false false false q = refl
+
+-- what is done by a plan is done by the message
+pub did-plan : (d : Server) (x y : Plan) (r : Delivery) (m m′ : Memory) (out out′ : List ℕ) → x ≡ y → Did (finish d y) r m m′ out out′ → Did (finish d x) r m m′ out out′
+did-plan d x y r m m′ out out′ e q = subst (λ (z : Plan). Did (finish d z) r m m′ out out′) (sym e) q

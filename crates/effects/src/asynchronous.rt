@@ -21,11 +21,12 @@ use crate::Delivery;
 use crate::answer;
 use crate::synchronous::note_rmt;
 use crate::synchronous::same_number;
+use locks::complete;
 use locks::grant_pass;
 use locks::info;
 use locks::release;
 use locks::request;
-use locks::waiting;
+use locks::standing;
 use remote::RemoteLocal;
 use remote::commanded;
 use state::sizes::Strings;
@@ -150,13 +151,22 @@ fn enter_clear(w: &mut Words, i: usize)
     tables::set_exchange(w, i, tables::AVAILABLE, 0);
 }
 
-// AsyncDeviceClear: a waiting request is answered first.
-fn clear(w: &mut Words, out: &mut [u8], c: u64, i: usize, len: u64) -> Delivery
+// AsyncDeviceClear: the answers to a request that waits and to a release that stands, the acknowledgement, and, where a lock was freed,
+// those that wait are looked at.
+fn clear(
+    w: &mut Words,
+    strings: &mut Strings,
+    out: &mut [u8],
+    c: u64,
+    i: usize,
+    len: u64,
+) -> Delivery
     requires { ⌜ (i < sessionLimit) × (c < connectionLimit) × (len ≤ payloadLimit) × (outputMinimum ≤ length (now out)) ⌝ }
-    ensures { λ r. ⌜ ((s p : List ℕ) (code param : ℕ) → DidKind k-deviceClear i c code param len p r (memory (now (w .entry)) s) (memory (now (w .exit)) s) (now (out .entry)) (now (out .exit))) ⌝ }
+    ensures { λ r. ⌜ ((p : List ℕ) (code param : ℕ) → DidKind k-deviceClear i c code param len p r (memory (now (w .entry)) (now (strings .entry))) (memory (now (w .exit)) (now (strings .exit))) (now (out .entry)) (now (out .exit))) ⌝ }
 {
     let n = tables::entry(w, i, tables::NUMBER);
-    let at = waiting::clear_request(w, out, 0, i);
+    let stood = standing::stands(w, i);
+    let at = complete::at_clear(w, out, 0, i);
     enter_clear(w, i);
     frame::put_frame(
         out,
@@ -166,10 +176,15 @@ fn clear(w: &mut Words, out: &mut [u8], c: u64, i: usize, len: u64) -> Delivery
         0,
         0,
     );
-    answer::acted(n, len, (at + 17) as u64)
+    let end = at + 17;
+    if stood {
+        let last = grant_pass::grant_waiting(w, strings, out, end);
+        return answer::acted(n, len, last as u64);
+    }
+    answer::acted(n, len, end as u64)
 }
 
-// AsyncLock: code 0 releases, and then those that wait are looked at; any other code requests.
+// AsyncLock: code 0 releases, with the parameter as the number of the message named; any other code requests.
 fn lock(
     w: &mut Words,
     strings: &mut Strings,
@@ -185,8 +200,7 @@ fn lock(
 {
     let n = tables::entry(w, i, tables::NUMBER);
     if code == 0 {
-        let at = release::release_lock(w, out, 0, i);
-        let end = grant_pass::grant_waiting(w, strings, out, at);
+        let end = release::release_lock(w, strings, out, 0, i, param);
         return answer::acted(n, len, end as u64);
     }
     let end = request::request_lock(w, strings, out, 0, i, param, payload);
@@ -219,7 +233,7 @@ pub fn act_asynchronous(
         return note_size(w, out, c, i, len, payload);
     }
     if kind == types::ASYNC_DEVICE_CLEAR {
-        return clear(w, out, c, i, len);
+        return clear(w, strings, out, c, i, len);
     }
     if kind == types::ASYNC_STATUS_QUERY {
         return query_status(w, out, c, i, code, len);

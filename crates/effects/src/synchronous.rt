@@ -1,7 +1,7 @@
 // Messages that act on the synchronous channel: Data, DataEND, Trigger, DeviceClearComplete.
 ghost use Prim.Native.Nat.{ℕ, _+_, _<_, _≤_};
 ghost use Rattle.effects.specs.Did.{Did};
-ghost use Rattle.effects.specs.Synchronous.{withSlot};
+ghost use Rattle.effects.specs.Synchronous.{commandNotes, isCommand, withSlot};
 ghost use Rattle.model.specs.Acts.{acts};
 ghost use Rattle.model.specs.Exchange.{ask, leaveClear, noteRmt};
 ghost use Rattle.model.specs.Place.{Role.r-synchronous};
@@ -16,6 +16,8 @@ ghost use mathlib.Core.Path.{_≡_};
 ghost use Rattle.model.specs.Sizes.{connectionLimit, outputMinimum, payloadLimit, sessionLimit};
 use crate::Delivery;
 use crate::answer;
+use locks::complete;
+use state::sizes::Strings;
 use state::sizes::Words;
 use state::tables;
 use wire::frame;
@@ -72,9 +74,35 @@ fn leave_clear(w: &mut Words, i: usize)
     tables::set_exchange(w, i, tables::IN_CLEAR, 0);
 }
 
-// A message of a kind that passed all checks acts.
+// Is this a Data, DataEND or Trigger?
+fn is_command(kind: u8) -> bool
+    ensures { λ r. ⌜ isCommand kind ≡ r ⌝ }
+{
+    if kind == types::DATA {
+        return true;
+    }
+    if kind == types::DATA_END {
+        return true;
+    }
+    kind == types::TRIGGER
+}
+
+// What a Data notes, and what a DataEND or Trigger does.
+fn note_command(w: &mut Words, i: usize, kind: u8, code: u8, param: u32)
+    requires { ⌜ i < sessionLimit ⌝ }
+    ensures { λ _. ⌜ ((s : List ℕ) → view (memory (now (w .exit)) s) ≡ onRest (view (memory (now (w .entry)) s)) (withSlot i (commandNotes kind code param))) ⌝ }
+{
+    if kind == types::DATA {
+        note_rmt(w, i, code);
+        return;
+    }
+    note_asked(w, i, code, MessageId::new(param));
+}
+
+// A message of a kind that passed all checks acts; a release that waits for it takes effect behind it.
 pub fn act_synchronous(
     w: &mut Words,
+    strings: &mut Strings,
     out: &mut [u8],
     c: u64,
     i: usize,
@@ -84,20 +112,13 @@ pub fn act_synchronous(
     len: u64,
 ) -> Delivery
     requires { ⌜ (c < connectionLimit) × (i < sessionLimit) × (len ≤ payloadLimit) × (outputMinimum ≤ length (now out)) ⌝ }
-    ensures { λ r. ⌜ ((s p : List ℕ) → Did (finish (view (memory (now (w .entry)) s)) (acts r-synchronous (view (memory (now (w .entry)) s)) i c (record { kind = kind; code = code; param = param; len = len }) p)) r (memory (now (w .entry)) s) (memory (now (w .exit)) s) (now (out .entry)) (now (out .exit))) ⌝ }
+    ensures { λ r. ⌜ ((p : List ℕ) → Did (finish (view (memory (now (w .entry)) (now (strings .entry)))) (acts r-synchronous (view (memory (now (w .entry)) (now (strings .entry)))) i c (record { kind = kind; code = code; param = param; len = len }) p)) r (memory (now (w .entry)) (now (strings .entry))) (memory (now (w .exit)) (now (strings .exit))) (now (out .entry)) (now (out .exit))) ⌝ }
 {
     let session = tables::entry(w, i, tables::NUMBER);
-    if kind == types::DATA {
-        note_rmt(w, i, code);
-        return answer::acted(session, len, 0);
-    }
-    if kind == types::DATA_END {
-        note_asked(w, i, code, MessageId::new(param));
-        return answer::acted(session, len, 0);
-    }
-    if kind == types::TRIGGER {
-        note_asked(w, i, code, MessageId::new(param));
-        return answer::acted(session, len, 0);
+    if is_command(kind) {
+        note_command(w, i, kind, code, param);
+        let end = complete::at_message(w, strings, out, 0, i, param);
+        return answer::acted(session, len, end as u64);
     }
     leave_clear(w, i);
     frame::put_frame(out, 0, c as u8, types::DEVICE_CLEAR_ACKNOWLEDGE, 0, 0);

@@ -10,7 +10,7 @@ use borrow.Author.Tests.{lt-ltb, le-ltb, eq-eqb, ne-eqb, ltb-false, leb-false}
 use Rattle.model.specs.Sizes.{sessionLimit, stringLimit}
 use Rattle.model.specs.Lists.{all}
 use Rattle.model.specs.State.{Entry, Waiting, Locks, Server, at, blank}
-use Rattle.model.specs.Locks.{LockResult, LockEvent.request, noShared, mayGrant, give, holds, tell, withEntries, withWaiting, unanswered, elsewhere, noPlace, Ruling, Ruling.invalid, ruling, respond, change}
+use Rattle.model.specs.Locks.{LockResult, LockEvent.request, noShared, mayGrant, give, holds, tell, withEntries, withWaiting, unanswered, elsewhere, noPlace, invalidBy, stands, Ruling, Ruling.invalid, ruling, respond, change}
 use Rattle.state.specs.Grid.{upd, upd-set}
 use Rattle.state.specs.Queue.{noRequest, onWaiting, count-is}
 use Rattle.state.specs.Requests.{countOf}
@@ -18,9 +18,9 @@ use Rattle.state.specs.View.{Memory, memory, locksOf, view}
 use Rattle.locks.specs.Outcome.{Met, ends, ends-nil, met, told}
 use Rattle.locks.specs.Waiting.{next}
 
--- answered 3: that kind is held, a request waits, or the string is too long
+-- answered 3: that kind is held, a request waits, the string is too long, or a release stands
 unfoldable pub unable : Locks → ℕ → List ℕ → Bool
-unable l i k = ltb stringLimit (length k) || (holds k (at (l .entries) i) || not (all (elsewhere i) (l .waiting)))
+unable l i k = invalidBy k (at (l .entries) i) || (holds k (at (l .entries) i) || not (all (elsewhere i) (l .waiting)))
 
 -- what becomes of a request that is not
 unfoldable pub decided : Locks → ℕ → ℕ → List ℕ → LockResult
@@ -32,13 +32,18 @@ module _ (l : Locks) (i : ℕ) (k : List ℕ) where
   unfolding unable
   unable-long h = rw (lt-ltb stringLimit (length k) h)
 
-  pub unable-holds : length k ≤ stringLimit → holds k (at (l .entries) i) ≡ true → unable l i k ≡ true
+  pub unable-stands : length k ≤ stringLimit → stands ((at (l .entries) i) .standing) ≡ true → unable l i k ≡ true
   unfolding unable
-  unable-holds h e = rw (le-ltb stringLimit (length k) h, e)
+  unable-stands h t = rw (le-ltb stringLimit (length k) h, t)
 
-  pub unable-waits : (b : Bool) → length k ≤ stringLimit → holds k (at (l .entries) i) ≡ false → all (elsewhere i) (l .waiting) ≡ b → unable l i k ≡ not b
+  pub unable-holds : length k ≤ stringLimit → stands ((at (l .entries) i) .standing) ≡ false → holds k (at (l .entries) i) ≡ true → unable l i k ≡ true
   unfolding unable
-  unable-waits b h e o = rw (le-ltb stringLimit (length k) h, e, o)
+  unable-holds h t e = rw (le-ltb stringLimit (length k) h, t, e)
+
+  pub unable-waits : (b : Bool) → length k ≤ stringLimit → stands ((at (l .entries) i) .standing) ≡ false → holds k (at (l .entries) i) ≡ false → all (elsewhere i) (l .waiting) ≡ b
+      → unable l i k ≡ not b
+  unfolding unable
+  unable-waits b h t e o = rw (le-ltb stringLimit (length k) h, t, e, o)
 
   -- what they say together
   short-of : (s h a : Bool) → (s || (h || not a)) ≡ false → s ≡ false
@@ -59,11 +64,15 @@ module _ (l : Locks) (i : ℕ) (k : List ℕ) where
 
   pub able-short : unable l i k ≡ false → length k ≤ stringLimit
   unfolding unable
-  able-short e = ltb-false stringLimit (length k) (short-of (ltb stringLimit (length k)) (holds k (at (l .entries) i)) (all (elsewhere i) (l .waiting)) e)
+  able-short e = ltb-false stringLimit (length k) (or-first (ltb stringLimit (length k)) (stands ((at (l .entries) i) .standing)) (short-of (invalidBy k (at (l .entries) i)) (holds k (at (l .entries) i)) (all (elsewhere i) (l .waiting)) e))
+    where
+      or-first : (p q : Bool) → (p || q) ≡ false → p ≡ false
+      or-first true q e = e
+      or-first false q e = refl
 
   pub able-idle : unable l i k ≡ false → all (elsewhere i) (l .waiting) ≡ true
   unfolding unable
-  able-idle e = idle-of (ltb stringLimit (length k)) (holds k (at (l .entries) i)) (all (elsewhere i) (l .waiting)) e
+  able-idle e = idle-of (invalidBy k (at (l .entries) i)) (holds k (at (l .entries) i)) (all (elsewhere i) (l .waiting)) e
 
   ruled-out : (s h a m z : Bool) → (s || (h || not a)) ≡ true → ruling h a s m z ≡ invalid
   ruled-out s true a m z e = refl
@@ -82,13 +91,13 @@ module _ (l : Locks) (i : ℕ) (k : List ℕ) where
     unfolding change unable
     request-invalid e =
         ap (λ (r : Ruling). respond r l i t k)
-        (ruled-out (ltb stringLimit (length k)) (holds k (at (l .entries) i)) (all (elsewhere i) (l .waiting)) (mayGrant (l .entries) i k) (eqb t 0 || noPlace (l .waiting)) e)
+        (ruled-out (invalidBy k (at (l .entries) i)) (holds k (at (l .entries) i)) (all (elsewhere i) (l .waiting)) (mayGrant (l .entries) i k) (eqb t 0 || noPlace (l .waiting)) e)
 
     pub request-decided : unable l i k ≡ false → change l (request i t k) ≡ decided l i t k
     unfolding change unable decided
     request-decided e =
         ap (λ (r : Ruling). respond r l i t k)
-        (ruled (ltb stringLimit (length k)) (holds k (at (l .entries) i)) (all (elsewhere i) (l .waiting)) (mayGrant (l .entries) i k) (eqb t 0 || noPlace (l .waiting)) e)
+        (ruled (invalidBy k (at (l .entries) i)) (holds k (at (l .entries) i)) (all (elsewhere i) (l .waiting)) (mayGrant (l .entries) i k) (eqb t 0 || noPlace (l .waiting)) e)
 
     pub decided-granted : mayGrant (l .entries) i k ≡ true → decided l i t k ≡ told (withEntries l (upd (l .entries) i (give k))) (tell (l .entries) i 1 true)
     unfolding decided

@@ -1,24 +1,25 @@
 -- Opening a session, its second connection and its closing, as changes of one slot. Assumes nothing.
 use mathlib.Core.Path.{_≡_, refl, sym, ap, _∙_}
 use Prim.Native.Nat.{ℕ}
-use Rattle.model.specs.Sizes.{noConnection}
 use Rattle.model.specs.Lists.{keep}
-use Rattle.model.specs.State.{Entry, Server, blank}
-use Rattle.model.specs.Locks.{LockEvent.enter, LockEvent.join, LockEvent.close, elsewhere, withoutExclusive, withoutShared, opened, joined, change}
+use Rattle.model.specs.Sizes.{noConnection, beforeFirst}
+use Rattle.model.specs.State.{Entry, Server, Standing.no-release, blank}
+use Rattle.model.specs.Locks.{LockEvent.enter, LockEvent.join, LockEvent.close, elsewhere, withoutExclusive, withoutShared, withOrder, opened, joined, change}
 use Rattle.state.specs.Grid.{upd-upd, upd-set}
-use Rattle.state.specs.Change.{onEntry}
+use Rattle.state.specs.Change.{onEntry, orderWith}
 use Rattle.state.specs.Channels.{withRow}
 use Rattle.state.specs.Queue.{onWaiting}
 use Rattle.state.specs.View.{Memory, view}
 use Rattle.locks.specs.Outcome.{Quiet}
 
--- a slot without its locks
+-- a slot without its locks, where no message acted and no release stands
 abbrev pub withoutLocks : Entry → Entry
-withoutLocks e = withoutShared (withoutExclusive e)
+withoutLocks e = withOrder beforeFirst no-release (withoutShared (withoutExclusive e))
 
--- two stores drop them
-pub unlocked : (i : ℕ) (d d₁ d₂ : Server) → d₁ ≡ onEntry d i withoutExclusive → d₂ ≡ onEntry d₁ i withoutShared → d₂ ≡ onEntry d i withoutLocks
-unlocked i d d₁ d₂ e₁ e₂ = rw (e₂, e₁, upd-upd)
+-- four stores make it so
+pub unlocked : (i : ℕ) (d d₁ d₂ d₃ d₄ : Server) → d₁ ≡ onEntry d i (orderWith 0 beforeFirst) → d₂ ≡ onEntry d₁ i (orderWith 1 0) → d₃ ≡ onEntry d₂ i withoutExclusive → d₄ ≡ onEntry d₃ i withoutShared
+    → d₄ ≡ onEntry d i withoutLocks
+unlocked i d d₁ d₂ d₃ d₄ e₁ e₂ e₃ e₄ = rw (e₄, e₃, e₂, e₁, upd-upd, upd-upd, upd-upd)
 
 -- another row without locks
 pub renewed : (i n a b : ℕ) (d d₁ d₂ : Server) → d₁ ≡ onEntry d i (withRow n a b) → d₂ ≡ onEntry d₁ i withoutLocks → d₂ ≡ onEntry d i (λ (e : Entry). withoutLocks (withRow n a b e))

@@ -2,6 +2,7 @@
 // memory and the output what the model says of one lock event.
 pub mod access;
 pub mod answers;
+pub mod complete;
 pub mod deadline;
 pub mod grant_pass;
 pub mod granting;
@@ -9,4 +10,5 @@ pub mod info;
 pub mod release;
 pub mod request;
 pub mod sessions;
+pub mod standing;
 pub mod waiting;

@@ -16,6 +16,7 @@ ghost use mathlib.Core.Path.{_≡_};
 ghost use Rattle.model.specs.Sizes.{sessionLimit, stringLimit};
 use crate::answers::put_answer;
 use crate::granting;
+use crate::standing;
 use state::holders;
 use state::requests;
 use state::sizes::SESSION_LIMIT;
@@ -56,6 +57,9 @@ fn is_invalid(w: &Words, i: usize, n: usize) -> bool
     ensures { λ r. ⌜ ((s k : List ℕ) → length k ≡ n → unable (locksOf (now (w .entry)) s) i k ≡ r) ⌝ }
 {
     if n > STRING_LIMIT {
+        return true;
+    }
+    if standing::stands(w, i) {
         return true;
     }
     if holds_kind(w, i, n) {

@@ -13,13 +13,17 @@ ghost use Rattle.model.specs.Sizes.{connectionLimit, sessionLimit};
 use crate::waiting::drop_request;
 use state::channels;
 use state::holders;
+use state::sizes::BEFORE_FIRST;
 use state::sizes::Words;
+use state::tables;
 
-// A slot that opens or closes has no locks.
+// A slot that opens or closes has no locks, no message acted in it, and no release stands.
 fn drop_locks(w: &mut Words, i: usize)
     requires { ⌜ i < sessionLimit ⌝ }
     ensures { λ _. ⌜ ((s : List ℕ) → view (memory (now (w .exit)) s) ≡ onEntry (view (memory (now (w .entry)) s)) i withoutLocks) ⌝ }
 {
+    tables::set_order(w, i, tables::LAST_NUMBER, BEFORE_FIRST);
+    tables::set_order(w, i, tables::STANDING, 0);
     holders::drop_exclusive(w, i);
     holders::drop_shared(w, i);
 }
@@ -41,7 +45,7 @@ pub fn join_slot(w: &mut Words, i: usize, c: u64)
     channels::join_session(w, i, c);
 }
 
-// The session of slot i closes: its locks and its waiting request go, and nobody is told.
+// The session of slot i closes: its locks, its waiting request and a release that stands go, and nobody is told.
 pub fn close_slot(w: &mut Words, i: usize)
     requires { ⌜ i < sessionLimit ⌝ }
     ensures { λ _. ⌜ ((s : List ℕ) → Quiet (change (locksOf (now (w .entry)) s) (close i)) (memory (now (w .entry)) s) (memory (now (w .exit)) s)) ⌝ }

@@ -1,10 +1,11 @@
 // The queue of those that wait, swept: requests whose deadline is reached, or the request of one slot, leave it.
 ghost use Prim.Native.Nat.{ℕ, _+_, _<_, _≤_};
 ghost use Rattle.locks.specs.Outcome.{Met, ends, spot};
+ghost use Rattle.locks.specs.Sweep.{turnedAway};
 ghost use Rattle.locks.specs.Waiting.{stays, swept};
 ghost use Rattle.model.specs.Bound.{answersRoom};
 ghost use Rattle.model.specs.Lists.{keep};
-ghost use Rattle.model.specs.Locks.LockEvent.{clear, reading};
+ghost use Rattle.model.specs.Locks.LockEvent.{reading};
 ghost use Rattle.model.specs.Locks.{change, elsewhere, refuse};
 ghost use Rattle.state.specs.Queue.{onWaiting};
 ghost use Rattle.state.specs.View.{locksOf, memory, requestAt, view};
@@ -82,10 +83,10 @@ fn sweep(w: &mut Words, out: &mut [u8], at: usize, i: usize, t: u64) -> usize
     r
 }
 
-// A device clear: the request of slot i is answered 0.
+// The request of slot i is answered 0.
 pub fn clear_request(w: &mut Words, out: &mut [u8], at: usize, i: usize) -> usize
     requires { ⌜ (i < sessionLimit) × (at + answersRoom ≤ length (now out)) ⌝ }
-    ensures { λ r. ⌜ ((s : List ℕ) → Met (change (locksOf (now (w .entry)) s) (clear i)) (memory (now (w .entry)) s) (memory (now (w .exit)) s) (now (out .entry)) (now (out .exit)) at r) ⌝ }
+    ensures { λ r. ⌜ ((s : List ℕ) → Met (turnedAway (locksOf (now (w .entry)) s) i) (memory (now (w .entry)) s) (memory (now (w .exit)) s) (now (out .entry)) (now (out .exit)) at r) ⌝ }
 {
     sweep(w, out, at, i, 0)
 }

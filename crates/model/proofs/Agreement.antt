@@ -74,7 +74,7 @@ effect-no v-acts (long h) r d i c = refl
 effect-no v-acts (part h) r d i c = refl
 effect-no v-acts (whole h p) r d i c = acts-no r d i c h p
 
-pub plan-no : (d : Server) (e : Event) → keep isLock ((plan d e) .said) ≡ []
+plan-no : (d : Server) (e : Event) → keep isLock ((plan d e) .said) ≡ []
 unfolding plan received
 plan-no d (opening c) = refl
 plan-no d (delivery c bs room) = effect-no _ _ _ d _ c
@@ -97,11 +97,16 @@ pub keep-locks : (xs : List Answer) → keep isLock (map lockFrame xs) ≡ map l
 keep-locks [] = refl
 keep-locks (x ∷ xs) = ap (λ l. lockFrame x ∷ l) (keep-locks xs)
 
+-- of all that a call sends, the lock answers are those of its event and of its pass
+pub frames-locks : (d : Server) (e : Event) (xs ys : List Answer) → keep isLock (map lockFrame xs ++ ((plan d e) .said ++ map lockFrame ys)) ≡ map lockFrame xs ++ map lockFrame ys
+frames-locks d e xs ys =
+    keep-append (map lockFrame xs) _ ∙ ap₂ _++_ (keep-locks xs) (keep-append ((plan d e) .said) (map lockFrame ys) ∙ ap₂ _++_ (plan-no d e) (keep-locks ys))
+
 told-locks : (xs : List Answer) → map toldFrame (map toldOf xs) ≡ map lockFrame xs
 told-locks [] = refl
 told-locks (x ∷ xs) = ap (λ l. lockFrame x ∷ l) (told-locks xs)
 
-frames-append : (xs ys : List Answer) → map lockFrame (xs ++ ys) ≡ map lockFrame xs ++ map lockFrame ys
+pub frames-append : (xs ys : List Answer) → map lockFrame (xs ++ ys) ≡ map lockFrame xs ++ map lockFrame ys
 frames-append [] ys = refl
 frames-append (x ∷ xs) ys = ap (λ l. lockFrame x ∷ l) (frames-append xs ys)
 
@@ -136,7 +141,7 @@ call-answers d m e a i = go (refusal d e) refl
         let y = grantPass (x .locks) in
         rw (always-settled (d .locks) i ((plan d e) .event) (plan-fit d e i z))
         (ap (map toldFrame) ((call-core d m e a i z) .told) ∙ told-locks (x .answers ++ y .answers) ∙ frames-append (x .answers) (y .answers)
-        ∙ sym (keep-append (map lockFrame (x .answers)) _ ∙ ap₂ _++_ (keep-locks (x .answers)) (keep-append ((plan d e) .said) (map lockFrame (y .answers)) ∙ ap₂ _++_ (plan-no d e) (keep-locks (y .answers)))))
+        ∙ sym (frames-locks d e (x .answers) (y .answers)))
     go (suc n) z = refl
 
 -- the whole list

@@ -4,16 +4,16 @@ use mathlib.Core.Bool.{Bool, true, false, not, _&&_, _||_, cond, false≢true, t
 use mathlib.Core.List.{List, [], _∷_, _++_, map, append-nil}
 use mathlib.Core.Logic.{_⊎_, inl, inr}
 use Prim.Native.Nat.{ℕ, zero, suc}
-use lib.Dec.{eqb, leb}
+use lib.Dec.{eqb}
 use lib.ListN.{set, length, take, drop}
 use lib.Seq.{getD-set-same, getD-set-other}
 use borrow.Author.Tests.{eqb-true, eq-eqb, ne-eqb}
 use Rattle.wire.specs.Message.{header}
 use Rattle.wire.specs.Frame.{Frame}
-use Rattle.model.specs.Sizes.{stringLimit, noConnection}
+use Rattle.model.specs.Sizes.{noConnection, beforeFirst}
 use Rattle.model.specs.MessageTypes.{AsyncLock}
 use Rattle.model.specs.Lists.{isNil, all, any, keep}
-use Rattle.model.specs.State.{Locks, Entry, Waiting, blank, at, live, Server}
+use Rattle.model.specs.State.{Locks, Entry, Waiting, Kind.exclusive-lock, Kind.shared-lock, blank, at, live, Server}
 use Rattle.model.specs.Interface.{Event, Event.delivery, Outcome.acted, Reply.took}
 use Rattle.model.specs.Place.{slotOf}
 use Rattle.model.specs.Locks
@@ -25,13 +25,14 @@ use Rattle.model.specs.Fewer.{answers1}
 use Rattle.model.specs.IsolationRun.{awaitsExclusive, Begins, Begins.at-once, Begins.later, Holder}
 use Rattle.model.specs.Closing.{Each}
 use Rattle.model.proofs.Basics.{and-l, and-r, both, not-of, or→, or-r, or-of, apart, inside, at-set, all-keep, all-kept}
-use Rattle.model.proofs.Invariant.{Inv, Good, good-keep}
+use Rattle.model.proofs.Invariant.{Inv, Good, backed-at, good-keep}
+use Rattle.model.proofs.Releasing.{Stores, release-stores, complete-stores, Owed, owed-at, owed-any}
 use Rattle.model.proofs.GrantingRule.{ready}
 use Rattle.model.proofs.Events.{Fit, change-sound}
 use Rattle.model.proofs.Fits.{plan-fit}
 use Rattle.model.proofs.Place.{async-live}
 use Rattle.model.proofs.Scanning.{whole-scan}
-use Rattle.model.proofs.Agreement.{plan-no, keep-append, keep-locks}
+use Rattle.model.proofs.Agreement.{frames-locks}
 use Rattle.model.proofs.GrantingRule.{nil→}
 use Rattle.model.proofs.Closing.{told, looked-both, looked-each, looked-get, pass-looks, good-live}
 use Rattle.model.proofs.Fewer.{request-step, step-request}
@@ -131,10 +132,23 @@ module _ (l : Locks) (v : Inv l) (j : ℕ) (aw : awaitsExclusive l j ≡ true) (
   ask-spare i t k false true false false true ea u = refl
   ask-spare i t k false true false false false ea u = refl
 
-  free-spare : (i : ℕ) (e s : Bool) → (at (l .entries) i) .exclusive ≡ e → live (at (l .entries) i) ≡ true → all (spare x) ((Locks.released e s l i) .answers) ≡ true
-  free-spare i true s ee u = other-spare i false u (λ q. true≢false (sym ee ∙ ap (λ z. (at (l .entries) z) .exclusive) q ∙ lacks))
-  free-spare i false false ee u = refl
-  free-spare i false true ee u = refl
+  -- it does not hold exclusive, so no release of it is answered 1
+  free-spare : (i n : ℕ) (t e s b : Bool) → (at (l .entries) i) .exclusive ≡ e → live (at (l .entries) i) ≡ true → all (spare x) ((Locks.released (Locks.releasing t e s b) l i n) .answers) ≡ true
+  free-spare i n true e s b ee u = refl
+  free-spare i n false true s true ee u = other-spare i false u (λ q. true≢false (sym ee ∙ ap (λ z. (at (l .entries) z) .exclusive) q ∙ lacks))
+  free-spare i n false true s false ee u = refl
+  free-spare i n false false false true ee u = refl
+  free-spare i n false false false false ee u = refl
+  free-spare i n false false true b ee u = refl
+
+  complete-spare : (ws : List Waiting) (i n : ℕ) (u : Locks.Due) → Owed u (at (l .entries) i) → live (at (l .entries) i) ≡ true → all (spare x) ((Locks.completed u (Locks.withWaiting l ws) i n) .answers) ≡ true
+  complete-spare ws i n Locks.not-due o u = refl
+  complete-spare ws i n (Locks.due-now exclusive-lock) o u = other-spare i false u (λ q. true≢false (sym o ∙ ap (λ z. (at (l .entries) z) .exclusive) q ∙ lacks))
+  complete-spare ws i n (Locks.due-now shared-lock) o u = refl
+
+  both-spare : (xs ys : List Answer) → all (spare x) xs ≡ true → all (spare x) ys ≡ true → all (spare x) (xs ++ ys) ≡ true
+  both-spare [] ys p q = q
+  both-spare (a ∷ xs) ys p q = both _ _ (and-l (spare x a) _ p) (both-spare xs ys (and-r (spare x a) _ p) q)
 
   refuse-spare : (p : Waiting → Bool) (ws : List Waiting) → all (spare x) (refuse (l .entries) p ws) ≡ true
   refuse-spare p [] = refl
@@ -149,9 +163,12 @@ module _ (l : Locks) (v : Inv l) (j : ℕ) (aw : awaitsExclusive l j ≡ true) (
   change-spare Locks.nothing f = refl
   change-spare (Locks.enter i n c) f = refl
   change-spare (Locks.join i c) f = refl
-  change-spare (Locks.request i t k) f = ask-spare i t k (holds k (at (l .entries) i)) (all (elsewhere i) (l .waiting)) (leb (suc stringLimit) (length k)) (mayGrant (l .entries) i k) (eqb t 0 || noPlace (l .waiting)) refl f
-  change-spare (Locks.release i) f = free-spare i ((at (l .entries) i) .exclusive) (noShared (at (l .entries) i)) refl f
-  change-spare (Locks.clear i) f = refuse-spare (elsewhere i) (l .waiting)
+  change-spare (Locks.request i t k) f = ask-spare i t k (holds k (at (l .entries) i)) (all (elsewhere i) (l .waiting)) (Locks.invalidBy k (at (l .entries) i)) (mayGrant (l .entries) i k) (eqb t 0 || noPlace (l .waiting)) refl f
+  change-spare (Locks.release i n) f = free-spare i n (Locks.stands ((at (l .entries) i) .standing)) ((at (l .entries) i) .exclusive) (noShared (at (l .entries) i)) (eqb ((at (l .entries) i) .last) n) refl f
+  change-spare (Locks.command i n) f = complete-spare (l .waiting) i n (Locks.dueAt n ((at (l .entries) i) .standing)) (owed-at n ((at (l .entries) i) .standing) (at (l .entries) i) (backed-at (l .entries) i (v .sound .firm))) f
+  change-spare (Locks.clear i) f =
+      both-spare (refuse (l .entries) (elsewhere i) (l .waiting)) _ (refuse-spare (elsewhere i) (l .waiting))
+      (complete-spare (keep (elsewhere i) (l .waiting)) i beforeFirst (Locks.dueAny ((at (l .entries) i) .standing)) (owed-any ((at (l .entries) i) .standing) (at (l .entries) i) (backed-at (l .entries) i (v .sound .firm))) f)
   change-spare (Locks.close i) f = refl
   change-spare (Locks.reading t) f = refuse-spare (unexpired t) (l .waiting)
 
@@ -194,24 +211,31 @@ module _ (l : Locks) (v : Inv l) (j : ℕ) (aw : awaitsExclusive l j ≡ true) (
   always [] = refl
   always (w ∷ ws) = always ws
 
-  freed-got : (i : ℕ) (e s : Bool) → Good ((Locks.released e s l i) .locks .entries) ((Locks.released e s l i) .locks .waiting) → all (spare x) ((grantPass ((Locks.released e s l i) .locks)) .answers) ≡ false
-      → Got ((grantPass ((Locks.released e s l i) .locks)) .locks .entries)
+  -- after a store that keeps who the session is
+  stores-got : (ws : List Waiting) (i : ℕ) (r : Locks.LockResult) → Stores (Locks.withWaiting l ws) i r → Good (l .entries) ws → Good (r .locks .entries) (r .locks .waiting) → all mine ws ≡ true
+      → all (spare x) ((grantPass (r .locks)) .answers) ≡ false → Got ((grantPass (r .locks)) .locks .entries)
   unfolding grantPass
-  freed-got i true s g n =
-      pass-got _ (l .waiting) g (good-live (l .entries) (l .waiting) (v .sound .good)) (each-all (Unmoved (set (l .entries) i (Locks.withoutExclusive (at (l .entries) i)))) (λ w. true) (l .waiting) (always (l .waiting)) (λ w t. kept-who i (Locks.withoutExclusive (at (l .entries) i)) refl refl w)) (have .1) n
-  freed-got i false false g n =
-      pass-got _ (l .waiting) g (good-live (l .entries) (l .waiting) (v .sound .good)) (each-all (Unmoved (set (l .entries) i (Locks.withoutShared (at (l .entries) i)))) (λ w. true) (l .waiting) (always (l .waiting)) (λ w t. kept-who i (Locks.withoutShared (at (l .entries) i)) refl refl w)) (have .1) n
-  freed-got i false true g n =
-      pass-got _ (l .waiting) g (good-live (l .entries) (l .waiting) (v .sound .good)) (each-all (Unmoved (l .entries)) (λ w. true) (l .waiting) (always (l .waiting)) (λ w t. (refl, refl))) (have .1) n
+  stores-got ws i r s g₀ g a n =
+      rw (s .locks)
+      (pass-got (set (l .entries) i (s .entry)) ws (rw (s .locks) at g) (good-live (l .entries) ws g₀) (each-all (Unmoved (set (l .entries) i (s .entry))) (λ w. true) ws (always ws) (λ w t. kept-who i (s .entry) (s .lesser .asynchronous) (s .lesser .number) w)) a (rw (s .locks) at n))
 
-  event-got : (e : LockEvent) → Fit (l .entries) e → all (spare x) ((settle (frees e) ((change l e) .locks)) .answers) ≡ false → Got ((settle (frees e) ((change l e) .locks)) .locks .entries)
+  settled-got : (b : Bool) (ws : List Waiting) (i : ℕ) (r : Locks.LockResult) → Stores (Locks.withWaiting l ws) i r → Good (l .entries) ws → Good (r .locks .entries) (r .locks .waiting) → all mine ws ≡ true
+      → all (spare x) ((settle b (r .locks)) .answers) ≡ false → Got ((settle b (r .locks)) .locks .entries)
+  settled-got true ws i r s g₀ g a n = stores-got ws i r s g₀ g a n
+  settled-got false ws i r s g₀ g a n = absurd (true≢false n)
+
+  event-got : (e : LockEvent) → Fit (l .entries) e → all (spare x) ((settle (frees l e) ((change l e) .locks)) .answers) ≡ false → Got ((settle (frees l e) ((change l e) .locks)) .locks .entries)
   unfolding change grantPass
   event-got Locks.nothing f n = absurd (true≢false n)
   event-got (Locks.enter i m c) f n = absurd (true≢false n)
   event-got (Locks.join i c) f n = absurd (true≢false n)
   event-got (Locks.request i t k) f n = absurd (true≢false n)
-  event-got (Locks.release i) f n = freed-got i ((at (l .entries) i) .exclusive) (noShared (at (l .entries) i)) ((change-sound l (v .sound .good) (v .sound .firm) (LockEvent.release i) f) .good) n
-  event-got (Locks.clear i) f n = absurd (true≢false n)
+  event-got (Locks.release i m) f n = settled-got (frees l (LockEvent.release i m)) (l .waiting) i _ (release-stores l i m (v .sound .firm)) (v .sound .good) ((change-sound l (v .sound .good) (v .sound .firm) (LockEvent.release i m) f) .good) (have .1) n
+  event-got (Locks.command i m) f n = settled-got (frees l (LockEvent.command i m)) (l .waiting) i _ (complete-stores l i m (v .sound .firm) (Locks.dueAt m ((at (l .entries) i) .standing))) (v .sound .good) ((change-sound l (v .sound .good) (v .sound .firm) (LockEvent.command i m) f) .good) (have .1) n
+  event-got (Locks.clear i) f n =
+      let ks = keep (elsewhere i) (l .waiting) in
+      settled-got (frees l (LockEvent.clear i)) ks i _ (complete-stores (Locks.withWaiting l ks) i beforeFirst (v .sound .firm) (Locks.dueAny ((at (l .entries) i) .standing))) (good-keep (l .entries) (elsewhere i) (l .waiting) (v .sound .good))
+      ((change-sound l (v .sound .good) (v .sound .firm) (LockEvent.clear i) f) .good) (all-keep mine (elsewhere i) (l .waiting) (have .1)) n
   event-got (Locks.close i) f n =
       let ks = keep (elsewhere i) (l .waiting) in
       pass-got (set (l .entries) i blank) ks ((change-sound l (v .sound .good) (v .sound .firm) (LockEvent.close i) tt) .good)
@@ -236,11 +260,9 @@ later-holds d v j e aw real a = go (refusal d e) refl a
         let f = plan-fit d e v z in
         let ev = (plan d e) .event in
         let c = change (d .locks) ev in
-        let s = settle (frees ev) (c .locks) in
-        let locks : keep isLock (map lockFrame (c .answers) ++ ((plan d e) .said ++ map lockFrame (s .answers))) ≡ map lockFrame (c .answers) ++ map lockFrame (s .answers) =
-        keep-append (map lockFrame (c .answers)) _ ∙ ap₂ _++_ (keep-locks (c .answers)) (keep-append ((plan d e) .said) (map lockFrame (s .answers)) ∙ ap₂ _++_ (plan-no d e) (keep-locks (s .answers))) in
+        let s = settle (frees (d .locks) ev) (c .locks) in
         let none : (all (spare y) (c .answers) && all (spare y) (s .answers)) ≡ false =
-        sym (ap₂ _&&_ (all-answers y (c .answers)) (all-answers y (s .answers))) ∙ sym (all-append (free y) (map lockFrame (c .answers)) (map lockFrame (s .answers))) ∙ ap (all (free y)) (sym locks)
+        sym (ap₂ _&&_ (all-answers y (c .answers)) (all-answers y (s .answers))) ∙ sym (all-append (free y) (map lockFrame (c .answers)) (map lockFrame (s .answers))) ∙ ap (all (free y)) (sym (frames-locks d e (c .answers) (s .answers)))
         ∙ sym (all-locks y (map lockFrame (c .answers) ++ ((plan d e) .said ++ map lockFrame (s .answers)))) ∙ not-of _ a in
         let r = event-got (d .locks) v j aw real ev f (ap (λ (b : Bool). b && all (spare y) (s .answers)) (sym (change-spare (d .locks) v j aw real ev f)) ∙ none) in
         record { number = r .0; exclusive = r .1 }
@@ -248,7 +270,7 @@ later-holds d v j e aw real a = go (refusal d e) refl a
 -- at once
 ask-yes : (l : Locks) (i t : ℕ) (k : List ℕ) → any answers1 (map lockFrame ((change l (LockEvent.request i t k)) .answers)) ≡ true → (change l (LockEvent.request i t k)) .locks .entries ≡ grant (l .entries) i k
 unfolding change
-ask-yes l i t k a = go (holds k (at (l .entries) i)) (all (elsewhere i) (l .waiting)) (leb (suc stringLimit) (length k)) (mayGrant (l .entries) i k) (eqb t 0 || noPlace (l .waiting)) a
+ask-yes l i t k a = go (holds k (at (l .entries) i)) (all (elsewhere i) (l .waiting)) (Locks.invalidBy k (at (l .entries) i)) (mayGrant (l .entries) i k) (eqb t 0 || noPlace (l .waiting)) a
   where
     go : (h a s m z : Bool) → any answers1 (map lockFrame ((Locks.respond (Locks.ruling h a s m z) l i t k) .answers)) ≡ true → (Locks.respond (Locks.ruling h a s m z) l i t k) .locks .entries ≡ grant (l .entries) i k
     go true a s m z q = absurd (false≢true q)

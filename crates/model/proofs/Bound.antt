@@ -10,7 +10,7 @@ use borrow.Author.Tests.{ltb-false}
 use Rattle.wire.specs.Field.{length-field}
 use Rattle.wire.specs.declared.Header.{Header}
 use Rattle.wire.specs.Frame.{Frame, bytesOf, frameOf, length-frame}
-use Rattle.model.specs.Sizes.{stringLimit, payloadLimit, sessionLimit, outputMinimum, noConnection}
+use Rattle.model.specs.Sizes.{beforeFirst, payloadLimit, sessionLimit, outputMinimum, noConnection}
 use Rattle.model.specs.MessageTypes.{FatalError}
 use Rattle.model.specs.Lists.{all, keep}
 use Rattle.model.specs.State.{Locks, Entry, Waiting, at, live, Server, fresh, blank}
@@ -55,6 +55,15 @@ keep-length p (w ∷ ws) = go (p w) (keep-length p ws)
     go true l = omega arith
     go false l = omega arith
 
+refuse-rest : (es : List Entry) (p : Waiting → Bool) (ws : List Waiting) → length (refuse es p ws) + length (keep p ws) ≡ length ws
+refuse-rest es p [] = refl
+refuse-rest es p (w ∷ ws) = go (p w) (refuse-rest es p ws)
+  where
+    go : (b : Bool) → length (refuse es p ws) + length (keep p ws) ≡ length ws
+        → length (cond b (refuse es p ws) (Locks.tell es (w .slot) 0 true ∷ refuse es p ws)) + length (cond b (w ∷ keep p ws) (keep p ws)) ≡ suc (length ws)
+    go true l = omega arith
+    go false l = omega arith
+
 pass-length : (ws : List Waiting) (es : List Entry) → length ((passOver ws es) .answers) ≤ length ws
 unfolding passOver
 pass-length [] es = omega arith
@@ -66,7 +75,7 @@ pass-length (w ∷ ws) es = go (mayGrant es (w .slot) (w .string)) (λ es. pass-
 
 -- of an event and its pass
 abbrev answers : Locks → LockEvent → ℕ
-answers l e = length ((change l e) .answers) + length ((settle (frees e) ((change l e) .locks)) .answers)
+answers l e = length ((change l e) .answers) + length ((settle (frees l e) ((change l e) .locks)) .answers)
 
 ask-length : (a : Locks.Ruling) (l : Locks) (i t : ℕ) (k : List ℕ) → length ((Locks.respond a l i t k) .answers) ≤ 1
 ask-length Locks.invalid l i t k = omega arith
@@ -74,10 +83,16 @@ ask-length Locks.granted l i t k = omega arith
 ask-length Locks.denied l i t k = omega arith
 ask-length Locks.queued l i t k = omega arith
 
-free-length : (x s : Bool) (l : Locks) (i : ℕ) → length ((Locks.released x s l i) .answers) + length ((passOver ((Locks.released x s l i) .locks .waiting) ((Locks.released x s l i) .locks .entries)) .answers) ≤ length (l .waiting) + 1
-free-length true s l i = omega (arith, pass-length (l .waiting) ((Locks.released true s l i) .locks .entries))
-free-length false false l i = omega (arith, pass-length (l .waiting) ((Locks.released false false l i) .locks .entries))
-free-length false true l i = omega (arith, pass-length (l .waiting) ((Locks.released false true l i) .locks .entries))
+release-length : (u : Locks.Releasing) (l : Locks) (i n : ℕ) → length ((Locks.released u l i n) .answers) + length ((settle (Locks.freesNow u) ((Locks.released u l i n) .locks)) .answers) ≤ length (l .waiting) + 1
+unfolding grantPass
+release-length Locks.r-invalid l i n = omega arith
+release-length (Locks.r-now k) l i n = omega (arith, pass-length (l .waiting) ((Locks.released (Locks.r-now k) l i n) .locks .entries))
+release-length (Locks.r-stands k) l i n = omega arith
+
+complete-length : (u : Locks.Due) (l : Locks) (i n : ℕ) → length ((Locks.completed u l i n) .answers) + length ((settle (Locks.isDue u) ((Locks.completed u l i n) .locks)) .answers) ≤ length (l .waiting) + 1
+unfolding grantPass
+complete-length Locks.not-due l i n = omega arith
+complete-length (Locks.due-now k) l i n = omega (arith, pass-length (l .waiting) ((Locks.completed (Locks.due-now k) l i n) .locks .entries))
 
 answers-bound : (l : Locks) (e : LockEvent) → answers l e ≤ length (l .waiting) + 1
 unfolding change grantPass
@@ -85,9 +100,13 @@ answers-bound l Locks.nothing = omega arith
 answers-bound l (Locks.enter i n c) = omega arith
 answers-bound l (Locks.join i c) = omega arith
 answers-bound l (Locks.request i t k) =
-    omega (arith, ask-length (Locks.ruling (holds k (at (l .entries) i)) (all (elsewhere i) (l .waiting)) (leb (suc stringLimit) (length k)) (mayGrant (l .entries) i k) (eqb t 0 || noPlace (l .waiting))) l i t k)
-answers-bound l (Locks.release i) = free-length ((at (l .entries) i) .exclusive) (noShared (at (l .entries) i)) l i
-answers-bound l (Locks.clear i) = omega (arith, refuse-length (l .entries) (elsewhere i) (l .waiting))
+    omega (arith, ask-length (Locks.ruling (holds k (at (l .entries) i)) (all (elsewhere i) (l .waiting)) (Locks.invalidBy k (at (l .entries) i)) (mayGrant (l .entries) i k) (eqb t 0 || noPlace (l .waiting))) l i t k)
+answers-bound l (Locks.release i n) = release-length (Locks.releasingOf (at (l .entries) i) n) l i n
+answers-bound l (Locks.command i n) = complete-length (Locks.dueAt n ((at (l .entries) i) .standing)) l i n
+answers-bound l (Locks.clear i) =
+    let u = Locks.dueAny ((at (l .entries) i) .standing) in
+    let l′ = Locks.withWaiting l (keep (elsewhere i) (l .waiting)) in
+    simp (length-append (refuse (l .entries) (elsewhere i) (l .waiting)) ((Locks.completed u l′ i beforeFirst) .answers)) (omega (arith, refuse-rest (l .entries) (elsewhere i) (l .waiting), complete-length u l′ i beforeFirst))
 answers-bound l (Locks.close i) = omega (arith, pass-length (keep (elsewhere i) (l .waiting)) (set (l .entries) i blank), keep-length (elsewhere i) (l .waiting))
 answers-bound l (Locks.reading t) = omega (arith, refuse-length (l .entries) (unexpired t) (l .waiting))
 
@@ -174,7 +193,7 @@ output d e = record { total = go (refusal d e) refl }
     go (suc n) z = omega arith
     go zero z =
         let x = change (d .locks) ((plan d e) .event) in
-        let y = settle (frees ((plan d e) .event)) (x .locks) in
+        let y = settle (frees (d .locks) ((plan d e) .event)) (x .locks) in
         omega (
           arith,
           bytes-append (map lockFrame (x .answers)) ((plan d e) .said ++ map lockFrame (y .answers)),

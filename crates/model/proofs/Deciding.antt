@@ -20,18 +20,18 @@ use Rattle.model.specs.Interface.{Event, Event.opening, Event.delivery, 
 use Rattle.model.specs.Scan.{Scan}
 use Rattle.model.specs.Place.{onConnection, slotIn, slotOf, entryOf, Role, Role.r-none, Role.r-halfOpen, Role.r-synchronous, Role.r-asynchronous, roleBy, roleOf}
 use Rattle.model.specs.Locks
-use Rattle.model.specs.Locks.{Answer, noExclusive, noShared, access, change, grantPass}
+use Rattle.model.specs.Locks.{Answer, noExclusive, noShared, access, change, settle, frees}
 use Rattle.model.specs.Checks.{Verdict.v-acts, isUnrecognised, verdict, judged, either}
 use Rattle.model.specs.Acts
 use Rattle.model.specs.Acts.{holder}
 use Rattle.model.specs.Refusals.{refusal}
 use Rattle.model.specs.Step.{Result, effect, received, plan, answered, finish, step, final, lockFrame}
 use Rattle.model.specs.LockModel
-use Rattle.model.specs.LockModel.{Session, Model, ModelResult, own, on, allowed, notShared, notExclusive, secondConnection, modelStep, delivered, look, looked, freshModel}
+use Rattle.model.specs.LockModel.{Session, Model, ModelResult, own, on, allowed, notShared, notExclusive, secondConnection, modelStep, delivered, looked, freshModel}
 use Rattle.model.specs.Agreement.{asSession, Agrees, feed, toldFrame, isLock}
 use Rattle.model.specs.Access.{Command, accessOf}
 use Rattle.model.specs.Granting.{ByHolders}
-use Rattle.model.specs.Deciding.{exclusiveHeld, lockHolders, mayAct, accessOn, requestCodes, releaseCode, releaseGrants, lockAnswer, modelAfter, Decides, Deciding, Decided, EachDecides}
+use Rattle.model.specs.Deciding.{exclusiveHeld, lockHolders, mayAct, accessOn, releasePends, requestCodes, releaseCodes, grantsAfter, lockAnswer, modelAfter, Decides, Deciding, Decided, EachDecides}
 use Rattle.model.proofs.Basics.{and-l, and-r, both, not-not, and-true, inside, all-split, allBut-cong, allBut-true}
 use Rattle.model.proofs.Place.{place-sound, place-role, async-live}
 use Rattle.model.proofs.Invariant.{Inv, Firm}
@@ -71,7 +71,7 @@ tally-alike : (p q : Session → Bool) → ((x : Session) → p x ≡ q x) → (
 tally-alike p q h [] = refl
 tally-alike p q h (x ∷ ss) = ap₂ (λ (b : Bool) (n : ℕ). cond b (suc n) n) (h x) (tally-alike p q h ss)
 
-told-frames : (xs : List Answer) → map toldFrame (map toldOf xs) ≡ map lockFrame xs
+pub told-frames : (xs : List Answer) → map toldFrame (map toldOf xs) ≡ map lockFrame xs
 told-frames [] = refl
 told-frames (x ∷ xs) = ap (λ l. lockFrame x ∷ l) (told-frames xs)
 
@@ -159,7 +159,7 @@ module _ (d : Server) (m : Model) (a : Agrees (d .locks) m) (v : Inv (d .locks))
 
   codes-are : (n t : ℕ) (k : List ℕ) → map toldFrame ((LockModel.request m n t k) .told) ≡ map (lockAnswer (secondConnection n (m .sessions))) (requestCodes m n t k)
   unfolding LockModel.request
-  codes-are n t k = go (own n (LockModel.has k) (m .sessions) || (any (λ w. eqb (w .number) n) (m .waiting) || ltb stringLimit (length k))) (allowed (m .sessions) n k) (eqb t 0)
+  codes-are n t k = go (own n (LockModel.has k) (m .sessions) || (any (λ w. eqb (w .number) n) (m .waiting) || (ltb stringLimit (length k) || releasePends m n))) (allowed (m .sessions) n k) (eqb t 0)
     where
       go : (x y z : Bool) → map toldFrame ((LockModel.decided x y z m n t k) .told) ≡ map (lockAnswer (secondConnection n (m .sessions))) (cond x (3 ∷ []) (cond y (1 ∷ []) (cond z (0 ∷ []) [])))
       go true y z = refl
@@ -192,7 +192,7 @@ module _ (d : Server) (m : Model) (a : Agrees (d .locks) m) (v : Inv (d .locks))
 
   -- a release
   abbrev freeing : ℕ → Header → Acts.Plan
-  freeing i h = record { reply = took acted (16 + h .len) ((at (d .locks .entries) i) .number); rest = d .rest; said = []; event = Locks.release i }
+  freeing i h = record { reply = took acted (16 + h .len) ((at (d .locks .entries) i) .number); rest = d .rest; said = []; event = Locks.release i (h .param) }
 
   release-step : (r : Request d c bs room) → (header bs) .kind ≡ AsyncLock → (header bs) .code ≡ 0 → R ≡ finish d (freeing (slotOf d c) (r .head))
   unfolding step answered plan received verdict effect Acts.acts Acts.asynchronousRest Acts.asynchronousSaid Acts.asynchronousEvent
@@ -211,21 +211,25 @@ module _ (d : Server) (m : Model) (a : Agrees (d .locks) m) (v : Inv (d .locks))
   all-locks : (i : ℕ) (h : Header) → keep isLock ((finish d (freeing i h)) .frames) ≡ (finish d (freeing i h)) .frames
   unfolding finish
   all-locks i h =
-      let x = change (d .locks) (Locks.release i) in
-      keep-append (map lockFrame (x .answers)) (map lockFrame ((grantPass (x .locks)) .answers)) ∙ ap₂ _++_ (keep-locks (x .answers)) (keep-locks ((grantPass (x .locks)) .answers))
+      let x = change (d .locks) (Locks.release i (h .param)) in
+      let y = settle (frees (d .locks) (Locks.release i (h .param))) (x .locks) in
+      keep-append (map lockFrame (x .answers)) (map lockFrame (y .answers)) ∙ ap₂ _++_ (keep-locks (x .answers)) (keep-locks (y .answers))
 
-  released-told : (n : ℕ) → map toldFrame ((looked (LockModel.release m n)) .told) ≡ lockAnswer (secondConnection n (m .sessions)) (releaseCode m n) ∷ map toldFrame (releaseGrants m n)
+  released-told : (n p : ℕ) → map toldFrame ((looked (LockModel.release m n p)) .told) ≡ map (lockAnswer (secondConnection n (m .sessions))) (releaseCodes m n p) ++ map toldFrame (grantsAfter (LockModel.release m n p))
   unfolding LockModel.release looked
-  released-told n = go (own n (λ s. s .exclusive) (m .sessions)) (own n (λ s. not (notShared s)) (m .sessions))
+  released-told n p = go (releasePends m n) (own n (λ s. s .exclusive) (m .sessions)) (own n (λ s. not (notShared s)) (m .sessions)) (own n (λ s. eqb (s .heard) p) (m .sessions))
     where
-      go : (x y : Bool) → map toldFrame ((looked (LockModel.freed x y m n)) .told)
-          ≡ lockAnswer (secondConnection n (m .sessions)) (cond x 1 (cond y 2 3)) ∷ map toldFrame ((look ((LockModel.freed x y m n) .model .waiting) ((LockModel.freed x y m n) .model .sessions)) .told)
-      go true y = refl
-      go false true = refl
-      go false false = refl
+      go : (t x y z : Bool) → map toldFrame ((looked (LockModel.freed t x y z m n p)) .told)
+          ≡ map (lockAnswer (secondConnection n (m .sessions))) (cond t (3 ∷ []) (cond x (cond z (1 ∷ []) []) (cond y (cond z (2 ∷ []) []) (3 ∷ [])))) ++ map toldFrame (grantsAfter (LockModel.freed t x y z m n p))
+      go true x y z = refl
+      go false true y true = refl
+      go false true y false = refl
+      go false false true true = refl
+      go false false true false = refl
+      go false false false z = refl
 
   freed-step : (k n : ℕ) → R .reply ≡ took acted k n → (header bs) .kind ≡ AsyncLock → (header bs) .code ≡ 0
-      → R .frames ≡ lockAnswer c (releaseCode m n) ∷ map toldFrame (releaseGrants m n)
+      → R .frames ≡ map (lockAnswer c) (releaseCodes m n ((header bs) .param)) ++ map toldFrame (grantsAfter (LockModel.release m n ((header bs) .param)))
   unfolding finish modelStep delivered
   freed-step k n e t o =
       let r = step-request d c bs room k n e t in
@@ -237,13 +241,14 @@ module _ (d : Server) (m : Model) (a : Agrees (d .locks) m) (v : Inv (d .locks))
       let t4 : h .kind ≡ AsyncLock = ap (λ (x : Header). x .kind) (sym (r .reads)) ∙ t in
       let k0 : h .code ≡ 0 = ap (λ (x : Header). x .code) (sym (r .reads)) ∙ o in
       let head-is : header (take k bs) ≡ h = ap (λ y. header (take y bs)) (sym k-is) ∙ header-cut _ bs h (r .string) (r .shows) in
-      let acts-so : looked (LockModel.release m n) ≡ modelStep m (feed (delivery c bs room) (took acted k n)) = rw (head-is, t4, k0) in
+      let p-is : (header bs) .param ≡ h .param = ap (λ (x : Header). x .param) (r .reads) in
+      let acts-so : looked (LockModel.release m n (h .param)) ≡ modelStep m (feed (delivery c bs room) (took acted k n)) = rw (head-is, t4, k0) in
       sym (ap (keep isLock) (ap (λ (x : Result). x .frames) one) ∙ all-locks (slotOf d c) h ∙ sym (ap (λ (x : Result). x .frames) one))
       ∙ sym (call-answers d m (delivery c bs room) a v)
       ∙ ap (λ (y : Reply). map toldFrame ((modelStep m (feed (delivery c bs room) y)) .told)) e
       ∙ ap (λ (y : ModelResult). map toldFrame (y .told)) (sym acts-so)
-      ∙ released-told n
-      ∙ ap (λ y. lockAnswer y (releaseCode m n) ∷ map toldFrame (releaseGrants m n)) (ap (λ y. secondConnection y (m .sessions)) (sym n-is) ∙ second-is r)
+      ∙ released-told n (h .param)
+      ∙ ap₂ (λ (y p : ℕ). map (lockAnswer y) (releaseCodes m n p) ++ map toldFrame (grantsAfter (LockModel.release m n p))) (ap (λ y. secondConnection y (m .sessions)) (sym n-is) ∙ second-is r) (sym p-is)
 
   pub decides : Decides d m c bs room
   decides =

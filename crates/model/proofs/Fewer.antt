@@ -117,13 +117,13 @@ module _ (l l′ : Locks) (i t : ℕ) (k : List ℕ) (f : Fewer i (l .entries) (
   ask-same g =
       let h = holds k (at (l .entries) i) in
       let a = all (elsewhere i) (l .waiting) in
-      let s = leb (suc stringLimit) (length k) in
+      let s = Locks.invalidBy k (at (l .entries) i) in
       let m = mayGrant (l .entries) i k in
       let m′ = mayGrant (l′ .entries) i k in
       let z = eqb t 0 || noPlace (l .waiting) in
       subst
       (λ (b : Locks.Ruling). Same (Locks.ruling h a s m z) b)
-      (sym (ap₂ (λ (x : Bool) (v : List Waiting). Locks.ruling x (all (elsewhere i) v) s m′ (eqb t 0 || noPlace v)) (ap (holds k) (f .own)) ws))
+      (sym (ap₂ (λ (x : Entry) (v : List Waiting). Locks.ruling (holds k x) (all (elsewhere i) v) (Locks.invalidBy k x) m′ (eqb t 0 || noPlace v)) (f .own) ws))
       (asked-same h a s m z m′ (may-fewer i (l .entries) (l′ .entries) f k) g)
 
 -- a request that acts, on any server: a whole AsyncLock with code 1 on the asynchronous connection, which the checks let pass

@@ -7,6 +7,7 @@ pub mod Place
 pub mod Exchange
 pub mod GrantingRule
 pub mod Invariant
+pub mod Releasing
 pub mod Waiting
 pub mod Events
 pub mod Numbers
@@ -28,7 +29,9 @@ pub mod SessionId
 pub mod Fewer
 pub mod Closing
 pub mod Bound
+pub mod Causes
 pub mod Exclusive
+pub mod Standing
 pub mod Beginning
 pub mod IsolationRun
 pub mod AlwaysRoom

@@ -10,10 +10,10 @@ use lib.Seq.{getD-set-same, getD-set-other}
 use borrow.Author.Tests.{eqb-true, eq-eqb, ne-eqb}
 use Rattle.model.specs.State.{Entry, Waiting, Exchange, at, blank, slotOfNumber}
 use Rattle.model.specs.Place.{slotIn}
-use Rattle.model.specs.Locks.{give}
+use Rattle.model.specs.Locks.{withLocks, give}
 use Rattle.model.specs.Closing.{OldestFirst, OldestFirst.pass-end, OldestFirst.pass-grant, OldestFirst.pass-wait}
 use Rattle.model.specs.Happening.{Action, Happening, Happening.unmoved, Happening.connected, Happening.disconnected, Happening.skipped-over, Happening.errored, Happening.message-acted, Happening.clock-read, Happening.status-set, Happening.answer-sent}
-use Rattle.model.specs.LocalityRows.{Row, inSlot, slotActed, clear-row, asked-row, available-row, size-row, number-row, synchronous-row, asynchronous-row, exclusive-row, shared-row}
+use Rattle.model.specs.LocalityRows.{Row, inSlot, slotActed, clear-row, asked-row, available-row, size-row, number-row, synchronous-row, asynchronous-row, exclusive-row, shared-row, last-row, standing-row}
 use Rattle.model.specs.Locality.{entryDue, givenExclusive, givenShared, Look}
 use Rattle.model.proofs.Basics.{same?}
 
@@ -90,14 +90,30 @@ exchangeRow =
 abbrev pub entryRow : Row Entry
 entryRow =
     record {
-      by-message = λ a x. record { number = number-row .by-message a (x .number); synchronous = synchronous-row .by-message a (x .synchronous); asynchronous = asynchronous-row .by-message a (x .asynchronous); exclusive = exclusive-row .by-message a (x .exclusive); shared = shared-row .by-message a (x .shared) };
+      by-message = λ a x. record {
+        number = number-row .by-message a (x .number);
+        synchronous = synchronous-row .by-message a (x .synchronous);
+        asynchronous = asynchronous-row .by-message a (x .asynchronous);
+        exclusive = (exclusive-row x) .by-message a (x .exclusive);
+        shared = (shared-row x) .by-message a (x .shared);
+        last = last-row .by-message a (x .last);
+        standing = (standing-row x) .by-message a (x .standing);
+      };
       by-answer = λ b x. x;
       once-closed = blank;
     }
 
 split-entry : (b : Bool) (u x : Entry)
     → cond b u x
-    ≡ record { number = cond b (u .number) (x .number); synchronous = cond b (u .synchronous) (x .synchronous); asynchronous = cond b (u .asynchronous) (x .asynchronous); exclusive = cond b (u .exclusive) (x .exclusive); shared = cond b (u .shared) (x .shared) }
+    ≡ record {
+      number = cond b (u .number) (x .number);
+      synchronous = cond b (u .synchronous) (x .synchronous);
+      asynchronous = cond b (u .asynchronous) (x .asynchronous);
+      exclusive = cond b (u .exclusive) (x .exclusive);
+      shared = cond b (u .shared) (x .shared);
+      last = cond b (u .last) (x .last);
+      standing = cond b (u .standing) (x .standing);
+    }
 split-entry true u x = refl
 split-entry false u x = refl
 
@@ -114,14 +130,14 @@ due-entry es i (answer-sent k p end) x = split-entry (eqb i (slotOfNumber es k))
 
 -- what a look leaves of an entry
 abbrev pub lookedAt : List Waiting → ℕ → Entry → Entry
-lookedAt gs i x = record { number = x .number; synchronous = x .synchronous; asynchronous = x .asynchronous; exclusive = givenExclusive gs i || x .exclusive; shared = givenShared gs i (x .shared) }
+lookedAt gs i x = withLocks (givenExclusive gs i || x .exclusive) (givenShared gs i (x .shared)) x
 
 or-true : (a : Bool) → (a || true) ≡ true
 or-true true = refl
 or-true false = refl
 
 grant-look : (w : Waiting) (gs : List Waiting) (i : ℕ) (x : Entry) (b : Bool) (k : List ℕ) → eqb (w .slot) i ≡ b → w .string ≡ k → lookedAt gs i (cond b (give k x) x) ≡ lookedAt (w ∷ gs) i x
-grant-look w gs i x true [] e q = rw (e, q) (λ j. record { number = x .number; synchronous = x .synchronous; asynchronous = x .asynchronous; exclusive = or-true (givenExclusive gs i) j; shared = givenShared gs i (x .shared) })
+grant-look w gs i x true [] e q = rw (e, q) (ap (λ b. withLocks b (givenShared gs i (x .shared)) x) (or-true (givenExclusive gs i)))
 grant-look w gs i x true (y ∷ k) e q = rw (e, q)
 grant-look w gs i x false k e q = rw e
 

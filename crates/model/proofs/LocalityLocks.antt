@@ -1,20 +1,22 @@
 -- Locality of the locks: what each lock event and its look leave of the slots and of the requests, and what they answer.
 use mathlib.Core.Path.{_≡_, refl, sym, ap, _∙_}
-use mathlib.Core.Bool.{Bool, true, false, not, cond}
+use mathlib.Core.Bool.{Bool, true, false, not, _||_, cond}
 use mathlib.Core.List.{List, [], _∷_, map}
 use Prim.Native.Nat.{ℕ}
 use lib.Dec.{eqb}
 use lib.ListN.{set, length-set}
 use Rattle.wire.specs.Frame.{Frame}
 use Rattle.model.specs.Lists.{keep}
-use Rattle.model.specs.State.{Server, Locks, Entry, Waiting, at, blank, slotOfNumber}
+use Rattle.model.specs.State.{Server, Locks, Entry, Waiting, Kind.exclusive-lock, Kind.shared-lock, Standing, Standing.no-release, Standing.release-of, at, blank, slotOfNumber}
 use Rattle.model.specs.Place.{slotOf}
 use Rattle.model.specs.Locks
-use Rattle.model.specs.Locks.{tell, refuse, unexpired, elsewhere, passOver}
+use Rattle.model.specs.Locks.{withLocks, withOrder, tell, refuse, unexpired, elsewhere, isDue, passOver, grantPass, settle}
 use Rattle.model.specs.Step.{lockFrame}
 use Rattle.model.specs.Happening.{Heard, Action, Happening.unmoved, Happening.connected, Happening.disconnected, Happening.skipped-over, Happening.errored, Happening.message-acted, Happening.clock-read, Happening.status-set, Happening.answer-sent}
-use Rattle.model.specs.LocalityRows.{kindOf}
-use Rattle.model.specs.LocalityReplies.{answerTo}
+use Rattle.model.specs.LocalityRows.{kindOf, slotActed, isCode, isSilence, codeWhere, requestsLeft, looksAfter}
+use Rattle.model.specs.LocalityReplies.{saidTo, answerTo}
+use Rattle.model.specs.Locality.{Look}
+use Rattle.model.proofs.Simulation.{dueBy}
 use Rattle.model.proofs.Closing.{told, pass-looks}
 use Rattle.model.proofs.LocalityLists.{set-at, same-both, row-message, row-kept, entryRow}
 use Rattle.model.proofs.LocalityParts.{LocksPart}
@@ -47,13 +49,14 @@ module _ (d : Server) where
   pub locks-clock : (t : ℕ) → LocksPart d (clock-read t) record { clock = t; entries = d .locks .entries; waiting = keep (unexpired t) (d .locks .waiting) } (d .locks .entries) []
   locks-clock t = record { clock = refl; rows = record { size = refl; each = λ i l. refl }; look = (refl, refl, refl) }
 
-  -- a message that is neither Initialize nor AsyncInitialize, AsyncLock, AsyncDeviceClear
-  pub locks-kept : (a : Action) → eqb (kindOf a) 0 ≡ false → eqb (kindOf a) 4 ≡ false → eqb (kindOf a) 17 ≡ false → eqb (kindOf a) 19 ≡ false → LocksPart d (message-acted a) (d .locks) (d .locks .entries) []
-  locks-kept a q0 q4 q17 q19 =
+  -- a message that is neither Initialize nor AsyncInitialize, AsyncLock, AsyncDeviceClear, Data, DataEND, Trigger
+  pub locks-kept : (a : Action) → eqb (kindOf a) 0 ≡ false → eqb (kindOf a) 4 ≡ false → eqb (kindOf a) 17 ≡ false → eqb (kindOf a) 19 ≡ false → eqb (kindOf a) 6 ≡ false → eqb (kindOf a) 7 ≡ false → eqb (kindOf a) 12 ≡ false
+      → LocksPart d (message-acted a) (d .locks) (d .locks .entries) []
+  locks-kept a q0 q4 q17 q19 q6 q7 q12 =
       record {
         clock = refl;
-        rows = row-kept blank entryRow (d .locks .entries) (d .locks .entries) a (λ x. rw (q0, q4, q17));
-        look = rw (q4, q19) (refl, refl, refl);
+        rows = row-kept blank entryRow (d .locks .entries) (d .locks .entries) a (λ x. rw (q0, q4, q17, q19, q6, q7, q12));
+        look = rw (q4, q19, q6, q7, q12) (refl, refl, refl);
       }
 
 -- answers, as frames
@@ -109,11 +112,64 @@ locks-join d a e =
       look = rw e (refl, refl, refl);
     }
 
--- a device clear
-pub locks-clear : (d : Server) (a : Action) → kindOf a ≡ 19 → LocksPart d (message-acted a) (Locks.withWaiting (d .locks) (keep (elsewhere (slotOf d (a .connection))) (d .locks .waiting))) (d .locks .entries) []
-locks-clear d a e =
+-- what a message leaves of its session that is the last with number n, and ends a standing release whose number passes test t
+abbrev pub ended : (ℕ → Bool) → ℕ → Entry → Entry
+ended t n x =
+    let r = codeWhere t (x .standing) in
+    withOrder n (cond (not (isSilence r)) no-release (x .standing)) (withLocks (cond (isCode 1 r) false (x .exclusive)) (cond (isCode 2 r) [] (x .shared)) x)
+
+-- whom the look after it grants, if there is one
+abbrev pub grantsBy : Bool → List Waiting → List Entry → List Waiting
+grantsBy true ws es = (pass-looks ws es) .grants
+grantsBy false ws es = []
+
+pub settle-frames : (b : Bool) (l : Locks) → map lockFrame ((settle b l) .answers) ≡ map (answerTo 1 (l .entries)) (grantsBy b (l .waiting) (l .entries))
+unfolding grantPass
+settle-frames true l = pass-frames (l .waiting) (l .entries)
+settle-frames false l = refl
+
+settle-looks : (b : Bool) (l : Locks) → Look b (l .entries) (l .waiting) ((settle b l) .locks .entries) ((settle b l) .locks .waiting) (grantsBy b (l .waiting) (l .entries))
+unfolding grantPass
+settle-looks true l = (pass-looks (l .waiting) (l .entries)) .looked
+settle-looks false l = (refl, refl, refl)
+
+settle-clock : (b : Bool) (l : Locks) → (settle b l) .locks .clock ≡ l .clock
+unfolding grantPass
+settle-clock true l = refl
+settle-clock false l = refl
+
+-- by the release that stood in slot i
+module _ (l : Locks) (i n : ℕ) (t : ℕ → Bool) where
+  abbrev x₀ : Entry
+  x₀ = at (l .entries) i
+
+  abbrev Completes : Standing → Type 0
+  Completes s =
+      ((Locks.completed (dueBy t s) l i n) .locks ≡ Locks.withEntries l (set (l .entries) i (ended t n x₀)))
+      × (map lockFrame ((Locks.completed (dueBy t s) l i n) .answers) ≡ saidTo (codeWhere t s) 5 (x₀ .asynchronous ∷ []))
+      × (isDue (dueBy t s) ≡ (isCode 1 (codeWhere t s) || isCode 2 (codeWhere t s)))
+
+  pub completes : (s : Standing) → x₀ .standing ≡ s → Completes s
+  completes no-release e = (ap (λ y. Locks.withEntries l (set (l .entries) i y)) (rw e), refl, refl)
+  completes (release-of exclusive-lock m) e = go (t m) refl
+    where
+      go : (b : Bool) → t m ≡ b → Completes (release-of exclusive-lock m)
+      go true q = rw q (ap (λ y. Locks.withEntries l (set (l .entries) i y)) (rw (e, q)), refl, refl)
+      go false q = rw q (ap (λ y. Locks.withEntries l (set (l .entries) i y)) (rw (e, q)), refl, refl)
+  completes (release-of shared-lock m) e = go (t m) refl
+    where
+      go : (b : Bool) → t m ≡ b → Completes (release-of shared-lock m)
+      go true q = rw q (ap (λ y. Locks.withEntries l (set (l .entries) i y)) (rw (e, q)), refl, refl)
+      go false q = rw q (ap (λ y. Locks.withEntries l (set (l .entries) i y)) (rw (e, q)), refl, refl)
+
+-- the part of a message that is the last with number n
+pub locks-ended : (d : Server) (a : Action) (t : ℕ → Bool) (n : ℕ) (ws : List Waiting) (b : Bool)
+    → ((x : Entry) → entryRow .by-message a x ≡ ended t n x) → looksAfter (d .locks .entries) (message-acted a) ≡ b → requestsLeft (d .locks .entries) (d .locks .clock) (message-acted a) (d .locks .waiting) ≡ ws
+    → (i : ℕ) → i ≡ slotActed (d .locks .entries) a → (y : List Entry) → y ≡ set (d .locks .entries) i (ended t n (at (d .locks .entries) i))
+    → LocksPart d (message-acted a) ((settle b (Locks.withEntries (Locks.withWaiting (d .locks) ws) y)) .locks) y (grantsBy b ws y)
+locks-ended d a t n ws b row eb ew i ei y ey =
     record {
-      clock = refl;
-      rows = row-kept blank entryRow (d .locks .entries) (d .locks .entries) a (λ x. rw e);
-      look = rw e (refl, refl, refl);
+      clock = settle-clock b _;
+      rows = rw ey (row-message blank entryRow (d .locks .entries) (d .locks .entries) a i _ ei (sym (row (at (d .locks .entries) i))));
+      look = rw (eb, ew) (settle-looks b (Locks.withEntries (Locks.withWaiting (d .locks) ws) y));
     }

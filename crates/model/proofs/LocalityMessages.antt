@@ -1,36 +1,39 @@
 -- Locality of a message that acted, type by type.
-use mathlib.Core.Path.{_≡_, refl, ap, ap₂, _∙_}
+use mathlib.Core.Path.{_≡_, refl, sym, ap, ap₂, _∙_}
 use mathlib.Core.Bool.{Bool, true, false, not, _&&_, _||_, cond}
 use mathlib.Core.List.{List, [], _∷_, _++_, map}
 use Prim.Native.Nat.{ℕ, suc, _+_}
 use native.Mathlib.Omega.{arith}
 use lib.Dec.{eqb, ltb}
-use lib.ListN.{set, length}
+use lib.ListN.{set}
 use Rattle.wire.specs.Field.{field, number}
 use Rattle.wire.specs.declared.Header.{Header}
 use Rattle.wire.specs.Frame.{Frame, frameOf}
 use Rattle.wire.specs.Class.{one-of}
-use Rattle.model.specs.Sizes.{stringLimit, sessionLimit}
-use Rattle.model.specs.Lists.{isNil, all, tally}
-use Rattle.model.specs.State.{Server, Entry, Exchange, Asked, Asked.some, at, blank, exchangeAt, slotOfNumber, withExchange}
+use Rattle.model.specs.Sizes.{sessionLimit, beforeFirst}
+use Rattle.model.specs.Lists.{isNil, all, keep, tally}
+use Rattle.model.specs.State.{Server, Rest, Entry, Waiting, Exchange, Kind, Kind.exclusive-lock, Kind.shared-lock, Standing.release-of, Asked, Asked.some, at, blank, exchangeAt, slotOfNumber, withExchange}
 use Rattle.model.specs.Interface.{Outcome.acted, Reply.took}
 use Rattle.model.specs.Place.{slotOf}
 use Rattle.model.specs.Locks
-use Rattle.model.specs.Locks.{LockEvent, give, noExclusive, noShared, grantPass, change}
+use Rattle.model.specs.Locks.{Answer, give, noExclusive, noShared, isDue, grantPass, change, settle}
 use Rattle.model.specs.Exchange
 use Rattle.model.specs.Exchange.{statusByte, availableAt}
 use Rattle.model.specs.Acts
 use Rattle.model.specs.Acts.{Plan, holder}
 use Rattle.model.specs.Step.{Result, finish, lockFrame}
 use Rattle.model.specs.Happening.{Heard, Heard.silence, Heard.with-code, Action, Happening.message-acted, heard}
-use Rattle.model.specs.LocalityReplies.{with16, holdsAny}
+use Rattle.model.specs.LocalityReplies.{with16, holdsAny, saidTo, direct, answeredFirst, sessionSaid}
+use Rattle.model.specs.LocalityRows.{slotActed, isCode, codeWhere, releasedWith, requestsLeft, looksAfter}
 use Rattle.model.specs.Locality.{Local}
 use Rattle.model.proofs.ReadOff.{each-of}
+use Rattle.model.proofs.Simulation.{dueBy, due-at, due-any}
+use Rattle.model.proofs.Agreement.{frames-append}
 use Rattle.model.proofs.Closing.{pass-looks}
 use Rattle.model.proofs.LocalityLists.{row-message, row-kept, entryRow}
-use Rattle.model.proofs.LocalityParts.{assemble}
+use Rattle.model.proofs.LocalityParts.{RestPart, assemble}
 use Rattle.model.proofs.LocalityRest.{rest-touched, rest-kept, rest-flags, rest-enter}
-use Rattle.model.proofs.LocalityLocks.{locks-kept, locks-enter, locks-join, locks-clear, pass-frames, refused-frames}
+use Rattle.model.proofs.LocalityLocks.{locks-kept, locks-enter, locks-join, ended, grantsBy, settle-frames, completes, locks-ended, pass-frames, refused-frames}
 
 rmt : (b a : Bool) → (not b && a) ≡ cond b false a
 rmt true a = refl
@@ -55,7 +58,7 @@ count-same : (es : List Entry) → tally holder es ≡ tally holdsAny es
 count-same [] = refl
 count-same (e ∷ es) = ap₂ (λ (b : Bool) (n : ℕ). cond b (suc n) n) (holder-same e) (count-same es)
 
-give-row : (p : List ℕ) (x : Entry) → give p x ≡ record { number = x .number; synchronous = x .synchronous; asynchronous = x .asynchronous; exclusive = cond (isNil p) true (x .exclusive); shared = cond (not (isNil p)) p (x .shared) }
+give-row : (p : List ℕ) (x : Entry) → give p x ≡ Locks.withLocks (cond (isNil p) true (x .exclusive)) (cond (not (isNil p)) p (x .shared)) x
 give-row [] x = refl
 give-row (y ∷ p) x = refl
 
@@ -84,42 +87,81 @@ module _ (d : Server) (c : ℕ) (h : Header) (p : List ℕ) where
         reply = took acted (16 + h .len) num;
         rest = withExchange (d .rest) (slotOf d c) (Acts.synchronousExchange (Acts.synchronousKind t) h ours);
         said = Acts.synchronousSaid (Acts.synchronousKind t) c;
-        event = LockEvent.nothing;
+        event = Acts.synchronousEvent (Acts.synchronousKind t) (slotOf d c) h;
       }
+
+  -- Data, DataEND, Trigger and a device clear: the last number becomes n, and a standing release whose number passes test t ends. Requests
+  -- ws are left, and zs answered first
+  abbrev endingBy : Locks.Due → List Waiting → ℕ → List Answer → Rest → List Frame → Result
+  endingBy u ws n zs rest said =
+      let x = Locks.completed u (Locks.withWaiting (d .locks) ws) (slotOf d c) n in
+      let y = settle (isDue u) (x .locks) in
+      record {
+        server = record { locks = y .locks; rest = rest };
+        reply = took acted (16 + h .len) num;
+        frames = map lockFrame (zs ++ x .answers) ++ (said ++ map lockFrame (y .answers));
+      }
+
+  ending-local : (k : ℕ) (q : Heard) (t : ℕ → Bool) (ws : List Waiting) (n : ℕ) (zs : List Answer) (rest : Rest) (said : List Frame)
+      → RestPart d (message-acted (action k num q)) rest
+      → ((x : Entry) → entryRow .by-message (action k num q) x ≡ ended t n x)
+      → slotOf d c ≡ slotActed (d .locks .entries) (action k num q)
+      → releasedWith (at (d .locks .entries) (slotActed (d .locks .entries) (action k num q))) (action k num q) ≡ codeWhere t ((at (d .locks .entries) (slotOf d c)) .standing)
+      → requestsLeft (d .locks .entries) (d .locks .clock) (message-acted (action k num q)) (d .locks .waiting) ≡ ws
+      → answeredFirst d (message-acted (action k num q)) ≡ map lockFrame zs ++ saidTo (codeWhere t ((at (d .locks .entries) (slotOf d c)) .standing)) 5 ((at (d .locks .entries) (slotOf d c)) .asynchronous ∷ [])
+      → direct d (message-acted (action k num q)) ≡ said
+      → ((o : _) (j m : ℕ) → took acted (16 + h .len) num ≡ took o j m → m ≡ sessionSaid d (message-acted (action k num q)) m)
+      → Local d (message-acted (action k num q)) (endingBy (dueBy t ((at (d .locks .entries) (slotOf d c)) .standing)) ws n zs rest said)
+  ending-local k q t ws n zs rest said r row ei er ew ef es ss =
+      let l = Locks.withWaiting (d .locks) ws in
+      let i = slotOf d c in
+      let s = (at (d .locks .entries) i) .standing in
+      let y = set (d .locks .entries) i (ended t n (at (d .locks .entries) i)) in
+      let z = completes l i n t s refl in
+      let b = isCode 1 (codeWhere t s) || isCode 2 (codeWhere t s) in
+      let eb : looksAfter (d .locks .entries) (message-acted (action k num q)) ≡ b = ap (λ (x : Heard). isCode 1 x || isCode 2 x) er in
+      let left : settle (isDue (dueBy t s)) ((Locks.completed (dueBy t s) l i n) .locks) ≡ settle b (Locks.withEntries l y) = ap₂ settle (z .2) (z .0) in
+      assemble d _ (endingBy (dueBy t s) ws n zs rest said) y (grantsBy b ws y) r
+      (rw left (locks-ended d (action k num q) t n ws b row eb ew i ei y refl))
+      (ap₂ _++_ (frames-append zs ((Locks.completed (dueBy t s) l i n) .answers) ∙ ap (λ (fs : List Frame). map lockFrame zs ++ fs) (z .1) ∙ sym ef)
+      (ap₂ _++_ (sym es) (ap (λ (x : Locks.LockResult). map lockFrame (x .answers)) left ∙ settle-frames b (Locks.withEntries l y))))
+      ss
+
+  commands-local : (k : ℕ) (q : Heard) (rest : Rest) → RestPart d (message-acted (action k num q)) rest → one-of (6 ∷ 7 ∷ 12 ∷ []) k ≡ true
+      → Local d (message-acted (action k num q)) (endingBy (Locks.dueAt (h .param) ((at (d .locks .entries) (slotOf d c)) .standing)) (d .locks .waiting) (h .param) [] rest [])
+  commands-local k q rest r e =
+      rw (due-at (h .param) ((at (d .locks .entries) (slotOf d c)) .standing))
+      (each-of
+      (λ k. RestPart d (message-acted (action k num q)) rest → Local d (message-acted (action k num q)) (endingBy (dueBy (λ m. eqb m (h .param)) ((at (d .locks .entries) (slotOf d c)) .standing)) (d .locks .waiting) (h .param) [] rest []))
+      (6 ∷ 7 ∷ 12 ∷ []) (
+        (λ r. ending-local 6 q (λ m. eqb m (h .param)) (d .locks .waiting) (h .param) [] rest [] r (λ x. refl) refl refl refl refl refl (λ o j m e. cc)),
+        (
+          (λ r. ending-local 7 q (λ m. eqb m (h .param)) (d .locks .waiting) (h .param) [] rest [] r (λ x. refl) refl refl refl refl refl (λ o j m e. cc)),
+          ((λ r. ending-local 12 q (λ m. eqb m (h .param)) (d .locks .waiting) (h .param) [] rest [] r (λ x. refl) refl refl refl refl refl (λ o j m e. cc)), tt),
+        ),
+      )
+      k
+      e
+      r)
 
   local-6 : LocalBy 6 num (synchronously 6)
   unfolding finish change Acts.synchronousExchange Acts.synchronousSaid
-  local-6 =
-      assemble d _ (finish d (synchronously 6)) (d .locks .entries) []
-      (rest-touched d (action 6 num _) refl refl refl (Acts.synchronousExchange (Acts.synchronousKind 6) h ours) (rmt-row (ours .asked)))
-      (locks-kept d (action 6 num _) refl refl refl refl)
-      refl
-      (λ o k n e. cc)
+  local-6 = commands-local 6 _ _ (rest-touched d (action 6 num _) refl refl refl (Acts.synchronousExchange (Acts.synchronousKind 6) h ours) (rmt-row (ours .asked))) refl
 
   local-7 : LocalBy 7 num (synchronously 7)
   unfolding finish change Acts.synchronousExchange Acts.synchronousSaid
-  local-7 =
-      assemble d _ (finish d (synchronously 7)) (d .locks .entries) []
-      (rest-touched d (action 7 num _) refl refl refl (Acts.synchronousExchange (Acts.synchronousKind 7) h ours) (rmt-row (some (h .param))))
-      (locks-kept d (action 7 num _) refl refl refl refl)
-      refl
-      (λ o k n e. cc)
+  local-7 = commands-local 7 _ _ (rest-touched d (action 7 num _) refl refl refl (Acts.synchronousExchange (Acts.synchronousKind 7) h ours) (rmt-row (some (h .param)))) refl
 
   local-12 : LocalBy 12 num (synchronously 12)
   unfolding finish change Acts.synchronousExchange Acts.synchronousSaid
-  local-12 =
-      assemble d _ (finish d (synchronously 12)) (d .locks .entries) []
-      (rest-touched d (action 12 num _) refl refl refl (Acts.synchronousExchange (Acts.synchronousKind 12) h ours) (rmt-row (some (h .param))))
-      (locks-kept d (action 12 num _) refl refl refl refl)
-      refl
-      (λ o k n e. cc)
+  local-12 = commands-local 12 _ _ (rest-touched d (action 12 num _) refl refl refl (Acts.synchronousExchange (Acts.synchronousKind 12) h ours) (rmt-row (some (h .param)))) refl
 
   local-8 : LocalBy 8 num (synchronously 8)
   unfolding finish change Acts.synchronousExchange Acts.synchronousSaid
   local-8 =
       assemble d _ (finish d (synchronously 8)) (d .locks .entries) []
       (rest-touched d (action 8 num _) refl refl refl (Acts.synchronousExchange (Acts.synchronousKind 8) h ours) refl)
-      (locks-kept d (action 8 num _) refl refl refl refl)
+      (locks-kept d (action 8 num _) refl refl refl refl refl refl refl)
       refl
       (λ o k n e. cc)
 
@@ -141,7 +183,7 @@ module _ (d : Server) (c : ℕ) (h : Header) (p : List ℕ) where
   local-10 l =
       assemble d _ (finish d (asynchronously 10)) (d .locks .entries) []
       (rest-flags d (action 10 num _) refl l)
-      (locks-kept d (action 10 num _) refl refl refl refl)
+      (locks-kept d (action 10 num _) refl refl refl refl refl refl refl)
       refl
       (λ o k n e. cc)
 
@@ -150,25 +192,31 @@ module _ (d : Server) (c : ℕ) (h : Header) (p : List ℕ) where
   local-15 =
       assemble d _ (finish d (asynchronously 15)) (d .locks .entries) []
       (rest-touched d (action 15 num _) refl refl refl (Exchange.withClientSize (number p) ours) refl)
-      (locks-kept d (action 15 num _) refl refl refl refl)
+      (locks-kept d (action 15 num _) refl refl refl refl refl refl refl)
       refl
       (λ o k n e. cc)
 
   local-19 : LocalBy 19 num (asynchronously 19)
   unfolding finish change Acts.asynchronousRest Acts.asynchronousSaid Acts.asynchronousEvent
   local-19 =
-      assemble d _ (finish d (asynchronously 19)) (d .locks .entries) []
+      let i = slotOf d c in
+      rw (due-any ((at (d .locks .entries) (slotOf d c)) .standing))
+      (ending-local 19 _ (λ m. true) (keep (Locks.elsewhere i) (d .locks .waiting)) beforeFirst (Locks.refuse (d .locks .entries) (Locks.elsewhere i) (d .locks .waiting)) _ (frameOf c 23 0 0 [] ∷ [])
       (rest-touched d (action 19 num _) refl refl refl (Exchange.enterClear ours) refl)
-      (locks-clear d (action 19 num _) refl)
-      (ap (λ (fs : List Frame). fs ++ frameOf c 23 0 0 [] ∷ []) (refused-frames (d .locks .entries) (λ w. eqb (w .slot) (slotOf d c)) (d .locks .waiting)))
-      (λ o k n e. cc)
+      (λ x. refl)
+      refl
+      refl
+      refl
+      (ap (λ (fs : List Frame). fs ++ saidTo (codeWhere (λ m. true) ((at (d .locks .entries) i) .standing)) 5 ((at (d .locks .entries) i) .asynchronous ∷ [])) (sym (refused-frames (d .locks .entries) (λ w. eqb (w .slot) i) (d .locks .waiting))))
+      refl
+      (λ o j m e. cc))
 
   local-21 : LocalBy 21 num (asynchronously 21)
   unfolding finish change Acts.asynchronousRest Acts.asynchronousSaid Acts.asynchronousEvent availableAt
   local-21 =
       assemble d _ (finish d (asynchronously 21)) (d .locks .entries) []
       (rest-touched d (action 21 num _) refl refl refl (Exchange.noteRmt (h .code) ours) (rmt-row (ours .asked)))
-      (locks-kept d (action 21 num _) refl refl refl refl)
+      (locks-kept d (action 21 num _) refl refl refl refl refl refl refl)
       (ap (λ b. frameOf c 22 b 0 [] ∷ []) (ap (statusByte (d .rest .status)) (rmt (eqb (h .code) 1) (ours .messageAvailable)) ∙ status-same (d .rest .status) (cond (eqb (h .code) 1) false (ours .messageAvailable))))
       (λ o k n e. cc)
 
@@ -177,7 +225,7 @@ module _ (d : Server) (c : ℕ) (h : Header) (p : List ℕ) where
   local-24 =
       assemble d _ (finish d (asynchronously 24)) (d .locks .entries) []
       (rest-kept d (action 24 num _) refl refl (λ x. refl))
-      (locks-kept d (action 24 num _) refl refl refl refl)
+      (locks-kept d (action 24 num _) refl refl refl refl refl refl refl)
       (ap₂ (λ (a n : ℕ). frameOf c 25 a n [] ∷ []) (held-same (all noExclusive (d .locks .entries))) (count-same (d .locks .entries)))
       (λ o k n e. cc)
 
@@ -186,23 +234,27 @@ module _ (d : Server) (c : ℕ) (h : Header) (p : List ℕ) where
     abbrev es : List Entry
     es = d .locks .entries
 
-    -- a release, by the tests: exclusive is held, no shared is
-    abbrev afterRelease : Bool → Bool → Locks.LockResult
-    afterRelease x s = Locks.released x s (d .locks) (slotOf d c)
+    -- a release, by what becomes of it
+    abbrev afterRelease : Locks.Releasing → Locks.LockResult
+    afterRelease u = Locks.released u (d .locks) (slotOf d c) (h .param)
 
-    abbrev releasing : Bool → Bool → Result
-    releasing x s =
+    abbrev releasing : Locks.Releasing → Result
+    releasing u =
+        let y = settle (Locks.freesNow u) ((afterRelease u) .locks) in
         record {
-          server = record { locks = (grantPass ((afterRelease x s) .locks)) .locks; rest = d .rest };
+          server = record { locks = y .locks; rest = d .rest };
           reply = took acted (16 + h .len) num;
-          frames = map lockFrame ((afterRelease x s) .answers) ++ map lockFrame ((grantPass ((afterRelease x s) .locks)) .answers);
+          frames = map lockFrame ((afterRelease u) .answers) ++ map lockFrame (y .answers);
         }
 
-    released-by : eqb (h .code) 0 ≡ true → (x s : Bool) → Local d (message-acted (action 4 num (heard 5 ((releasing x s) .frames)))) (releasing x s)
+    abbrev ReleasedBy : Locks.Releasing → Type 0
+    ReleasedBy u = Local d (message-acted (action 4 num (heard 5 ((releasing u) .frames)))) (releasing u)
+
+    freed-now : eqb (h .code) 0 ≡ true → (k : Kind) → ReleasedBy (Locks.r-now k)
     unfolding grantPass
-    released-by q true s =
+    freed-now q exclusive-lock =
         let y = Locks.update es (slotOf d c) Locks.withoutExclusive in
-        assemble d _ (releasing true s) y ((pass-looks (d .locks .waiting) y) .grants)
+        assemble d _ (releasing (Locks.r-now exclusive-lock)) y ((pass-looks (d .locks .waiting) y) .grants)
         (rest-kept d (action 4 num (with-code 1)) refl refl (λ x. refl))
         record {
           clock = refl;
@@ -211,9 +263,9 @@ module _ (d : Server) (c : ℕ) (h : Header) (p : List ℕ) where
         }
         (ap₂ (λ (a : ℕ) (fs : List Frame). frameOf a 5 1 0 [] ∷ fs) mine (pass-frames (d .locks .waiting) y))
         (λ o k n e. cc)
-    released-by q false false =
+    freed-now q shared-lock =
         let y = Locks.update es (slotOf d c) Locks.withoutShared in
-        assemble d _ (releasing false false) y ((pass-looks (d .locks .waiting) y) .grants)
+        assemble d _ (releasing (Locks.r-now shared-lock)) y ((pass-looks (d .locks .waiting) y) .grants)
         (rest-kept d (action 4 num (with-code 2)) refl refl (λ x. refl))
         record {
           clock = refl;
@@ -222,12 +274,34 @@ module _ (d : Server) (c : ℕ) (h : Header) (p : List ℕ) where
         }
         (ap₂ (λ (a : ℕ) (fs : List Frame). frameOf a 5 2 0 [] ∷ fs) mine (pass-frames (d .locks .waiting) y))
         (λ o k n e. cc)
-    released-by q false true =
-        assemble d _ (releasing false true) es ((pass-looks (d .locks .waiting) es) .grants)
+
+    not-freed : eqb (h .code) 0 ≡ true → ReleasedBy Locks.r-invalid
+    not-freed q =
+        assemble d _ (releasing Locks.r-invalid) es []
         (rest-kept d (action 4 num (with-code 3)) refl refl (λ x. refl))
-        record { clock = refl; rows = row-kept blank entryRow es es (action 4 num (with-code 3)) (λ x. rw q); look = rw q ((pass-looks (d .locks .waiting) es) .looked) }
-        (ap₂ (λ (a : ℕ) (fs : List Frame). frameOf a 5 3 0 [] ∷ fs) mine (pass-frames (d .locks .waiting) es))
+        record { clock = refl; rows = row-kept blank entryRow es es (action 4 num (with-code 3)) (λ x. rw q); look = rw q (refl, refl, refl) }
+        (ap (λ (a : ℕ). frameOf a 5 3 0 [] ∷ []) mine)
         (λ o k n e. cc)
+
+    stands-on : eqb (h .code) 0 ≡ true → (k : Kind) → cond ((at es (slotOf d c)) .exclusive) exclusive-lock shared-lock ≡ k → ReleasedBy (Locks.r-stands k)
+    stands-on q k ek =
+        assemble d _ (releasing (Locks.r-stands k)) (Locks.update es (slotOf d c) (λ e. Locks.withOrder (e .last) (release-of k (h .param)) e)) []
+        (rest-kept d (action 4 num silence) refl refl (λ x. refl))
+        record {
+          clock = refl;
+          rows = row-message blank entryRow es es (action 4 num silence) (slotOf d c) _ refl (rw (q, ek));
+          look = rw q (refl, refl, refl);
+        }
+        refl
+        (λ o k n e. cc)
+
+    released-by : eqb (h .code) 0 ≡ true → (t x s b : Bool) → (at es (slotOf d c)) .exclusive ≡ x → ReleasedBy (Locks.releasing t x s b)
+    released-by q true x s b ex = not-freed q
+    released-by q false true s true ex = freed-now q exclusive-lock
+    released-by q false true s false ex = stands-on q exclusive-lock (rw ex)
+    released-by q false false false true ex = freed-now q shared-lock
+    released-by q false false false false ex = stands-on q shared-lock (rw ex)
+    released-by q false false true b ex = not-freed q
 
     -- a request, by its ruling
     abbrev afterRequest : Locks.Ruling → Locks.LockResult
@@ -279,11 +353,11 @@ module _ (d : Server) (c : ℕ) (h : Header) (p : List ℕ) where
         by b = record { reply = took acted (16 + h .len) num; rest = d .rest; said = []; event = Acts.lockEvent b (slotOf d c) h p }
 
         go : (b : Bool) → eqb (h .code) 0 ≡ b → LocalBy 4 num (by b)
-        go true q = released-by q ((at es (slotOf d c)) .exclusive) (noShared (at es (slotOf d c)))
+        go true q = released-by q (Locks.stands ((at es (slotOf d c)) .standing)) ((at es (slotOf d c)) .exclusive) (noShared (at es (slotOf d c))) (eqb ((at es (slotOf d c)) .last) (h .param)) refl
         go false q =
             requested-by
             q
-            (Locks.ruling (Locks.holds p (at es (slotOf d c))) (all (Locks.elsewhere (slotOf d c)) (d .locks .waiting)) (ltb stringLimit (length p)) (Locks.mayGrant es (slotOf d c) p) (eqb (h .param) 0 || Locks.noPlace (d .locks .waiting)))
+            (Locks.ruling (Locks.holds p (at es (slotOf d c))) (all (Locks.elsewhere (slotOf d c)) (d .locks .waiting)) (Locks.invalidBy p (at es (slotOf d c))) (Locks.mayGrant es (slotOf d c) p) (eqb (h .param) 0 || Locks.noPlace (d .locks .waiting)))
 
     pub local-asynchronous : (t : ℕ) → one-of (4 ∷ 10 ∷ 15 ∷ 19 ∷ 21 ∷ 24 ∷ []) t ≡ true → (eqb t 10 && ltb 6 (h .code)) ≡ false → LocalBy t num (asynchronously t)
     local-asynchronous t e =

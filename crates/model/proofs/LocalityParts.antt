@@ -36,7 +36,7 @@ pub record RestPart (d : Server) (h : Happening) (r : Rest) : Type 0 where
 pub record LocksPart (d : Server) (h : Happening) (l : Locks) (due : List Entry) (granted : List Waiting) : Type 0 where
   pub clock : l .clock ≡ singly clock-row h (d .locks .clock)
   pub rows : Rowed blank entryRow (d .locks .entries) h (d .locks .entries) due
-  pub look : Look (looksAfter h) due (requestsLeft (d .locks .entries) (d .locks .clock) h (d .locks .waiting)) (l .entries) (l .waiting) granted
+  pub look : Look (looksAfter (d .locks .entries) h) due (requestsLeft (d .locks .entries) (d .locks .clock) h (d .locks .waiting)) (l .entries) (l .waiting) granted
 
 pub assemble : (d : Server) (h : Happening) (r : Result) (due : List Entry) (granted : List Waiting) → RestPart d h (r .server .rest) → LocksPart d h (r .server .locks) due granted
     → r .frames ≡ answeredFirst d h ++ (direct d h ++ map (answerTo 1 due) granted) → ((o : Outcome) (k n : ℕ) → r .reply ≡ took o k n → n ≡ sessionSaid d h n) → Local d h r
@@ -57,13 +57,15 @@ assemble d h r due granted p l f s =
       connection-places = p .connections .size;
       is-open = λ x q. ap (λ (y : Connection). y .isOpen) (p .connections .each x q);
       remainder = λ x q. ap (λ (y : Connection). y .remainder) (p .connections .each x q);
-      slots = look-sized due (r .server .locks .entries) _ (r .server .locks .waiting) granted (looksAfter h) (l .look) ∙ l .rows .size;
+      slots = look-sized due (r .server .locks .entries) _ (r .server .locks .waiting) granted (looksAfter es h) (l .look) ∙ l .rows .size;
       number = λ i q. ap (λ (x : Entry). x .number) (ends i q);
       synchronous = λ i q. ap (λ (x : Entry). x .synchronous) (ends i q);
       asynchronous = λ i q. ap (λ (x : Entry). x .asynchronous) (ends i q);
       granted = granted;
       exclusive = λ i q. ap (λ (x : Entry). x .exclusive) (ends i q);
       shared = λ i q. ap (λ (x : Entry). x .shared) (ends i q);
+      last = λ i q. ap (λ (x : Entry). x .last) (ends i q);
+      standing = λ i q. ap (λ (x : Entry). x .standing) (ends i q);
       due = due;
       due-slots = l .rows .size;
       due-is = λ i q. begins i q;
@@ -79,4 +81,4 @@ assemble d h r due granted p l f s =
     begins i q = l .rows .each i q ∙ due-entry es i h (at es i)
 
     ends : (i : ℕ) → i < length es → at (r .server .locks .entries) i ≡ lookedAt granted i (entryDue es h i (at es i))
-    ends i q = look-each due (r .server .locks .entries) _ (r .server .locks .waiting) granted (looksAfter h) (l .look) i (rw (l .rows .size) q) ∙ ap (lookedAt granted i) (begins i q)
+    ends i q = look-each due (r .server .locks .entries) _ (r .server .locks .waiting) granted (looksAfter es h) (l .look) i (rw (l .rows .size) q) ∙ ap (lookedAt granted i) (begins i q)

@@ -45,7 +45,7 @@ module _ (d : Server) (h : Happening) (r r′ : Result) (a : Local d h r) (b : L
 
   same-locks : (r .server .locks .entries ≡ r′ .server .locks .entries) × (r .server .locks .waiting ≡ r′ .server .locks .waiting) × (a .granted ≡ b .granted)
   same-locks =
-      look-same (looksAfter h) (b .due) (requestsLeft (d .locks .entries) (d .locks .clock) h (d .locks .waiting)) (r .server .locks .entries) (r′ .server .locks .entries) (r .server .locks .waiting) (r′ .server .locks .waiting) (a .granted) (b .granted)
+      look-same (looksAfter (d .locks .entries) h) (b .due) (requestsLeft (d .locks .entries) (d .locks .clock) h (d .locks .waiting)) (r .server .locks .entries) (r′ .server .locks .entries) (r .server .locks .waiting) (r′ .server .locks .waiting) (a .granted) (b .granted)
       (rw same-due at (a .waiting))
       (b .waiting)
 

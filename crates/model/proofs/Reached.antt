@@ -1,16 +1,15 @@
 -- The connections that the locks name are single bytes, and so are the codes of the answers, through each lock event and grant pass.
 use mathlib.Core.Path.{_≡_, refl}
 use mathlib.Core.Bool.{Bool, true, false, _&&_, _||_, cond}
-use mathlib.Core.List.{List, [], _∷_}
-use Prim.Native.Nat.{ℕ, suc, _<_}
-use lib.Dec.{eqb, leb, ltb}
-use lib.ListN.{length}
+use mathlib.Core.List.{List, [], _∷_, _++_}
+use Prim.Native.Nat.{ℕ, _<_}
+use lib.Dec.{eqb, ltb}
 use borrow.Author.Tests.{lt-ltb}
-use Rattle.model.specs.Sizes.{stringLimit}
-use Rattle.model.specs.Lists.{all}
-use Rattle.model.specs.State.{Locks, Entry, Waiting, at, blank}
+use Rattle.model.specs.Sizes.{beforeFirst}
+use Rattle.model.specs.Lists.{all, keep}
+use Rattle.model.specs.State.{Locks, Entry, Waiting, Kind, Kind.exclusive-lock, Kind.shared-lock, at, blank}
 use Rattle.model.specs.Locks
-use Rattle.model.specs.Locks.{Answer, LockEvent, LockResult, Passed, elsewhere, holds, noShared, noPlace, give, grant, mayGrant, tell, refuse, unexpired, after, put, passOver, grantPass, change, settle}
+use Rattle.model.specs.Locks.{Answer, LockEvent, LockResult, Passed, elsewhere, holds, invalidBy, noPlace, give, without, releaseCode, grant, mayGrant, tell, refuse, unexpired, after, put, passOver, grantPass, change, settle}
 use Rattle.model.proofs.Basics.{and-l, and-r, both, all-set, all-at}
 
 abbrev pub reachable : Entry → Bool
@@ -31,7 +30,8 @@ Brings Locks.nothing = Unit {0}
 Brings (Locks.enter i n c) = c < 256
 Brings (Locks.join i c) = c < 256
 Brings (Locks.request i t k) = Unit {0}
-Brings (Locks.release i) = Unit {0}
+Brings (Locks.release i n) = Unit {0}
+Brings (Locks.command i n) = Unit {0}
 Brings (Locks.clear i) = Unit {0}
 Brings (Locks.close i) = Unit {0}
 Brings (Locks.reading t) = Unit {0}
@@ -67,10 +67,28 @@ respond-kept Locks.granted l i t k h = record { entries = grant-reach (l .entrie
 respond-kept Locks.denied l i t k h = record { entries = h; answers = one-fits (l .entries) i 0 true h refl }
 respond-kept Locks.queued l i t k h = record { entries = h; answers = refl }
 
-released-kept : (x s : Bool) (l : Locks) (i : ℕ) → Reachable (l .entries) → Kept (Locks.released x s l i)
-released-kept true s l i h = record { entries = all-set reachable (l .entries) i _ (all-at reachable (l .entries) i refl h) h; answers = one-fits (l .entries) i 1 false h refl }
-released-kept false false l i h = record { entries = all-set reachable (l .entries) i _ (all-at reachable (l .entries) i refl h) h; answers = one-fits (l .entries) i 2 false h refl }
-released-kept false true l i h = record { entries = h; answers = one-fits (l .entries) i 3 false h refl }
+without-reach : (k : Kind) (e : Entry) → reachable e ≡ true → reachable (without k e) ≡ true
+without-reach exclusive-lock e h = h
+without-reach shared-lock e h = h
+
+code-fits : (k : Kind) → ltb (releaseCode k) 256 ≡ true
+code-fits exclusive-lock = refl
+code-fits shared-lock = refl
+
+released-kept : (u : Locks.Releasing) (l : Locks) (i n : ℕ) → Reachable (l .entries) → Kept (Locks.released u l i n)
+released-kept Locks.r-invalid l i n h = record { entries = h; answers = one-fits (l .entries) i 3 false h refl }
+released-kept (Locks.r-now k) l i n h =
+    record { entries = all-set reachable (l .entries) i _ (without-reach k (at (l .entries) i) (all-at reachable (l .entries) i refl h)) h; answers = one-fits (l .entries) i (releaseCode k) false h (code-fits k) }
+released-kept (Locks.r-stands k) l i n h = record { entries = all-set reachable (l .entries) i _ (all-at reachable (l .entries) i refl h) h; answers = refl }
+
+completed-kept : (u : Locks.Due) (l : Locks) (i n : ℕ) → Reachable (l .entries) → Kept (Locks.completed u l i n)
+completed-kept Locks.not-due l i n h = record { entries = all-set reachable (l .entries) i _ (all-at reachable (l .entries) i refl h) h; answers = refl }
+completed-kept (Locks.due-now k) l i n h =
+    record { entries = all-set reachable (l .entries) i _ (without-reach k (at (l .entries) i) (all-at reachable (l .entries) i refl h)) h; answers = one-fits (l .entries) i (releaseCode k) false h (code-fits k) }
+
+both-fit : (xs ys : List Answer) → AnswersFit xs → AnswersFit ys → AnswersFit (xs ++ ys)
+both-fit [] ys p q = q
+both-fit (x ∷ xs) ys p q = both _ _ (and-l (answerFits x) _ p) (both-fit xs ys (and-r (answerFits x) _ p) q)
 
 pub change-kept : (l : Locks) (e : LockEvent) → Brings e → Reachable (l .entries) → Kept (change l e)
 unfolding change
@@ -79,9 +97,12 @@ change-kept l (Locks.enter i n c) b h = record { entries = all-set reachable (l 
 change-kept l (Locks.join i c) b h =
     record { entries = all-set reachable (l .entries) i _ (both _ _ (and-l (ltb ((at (l .entries) i) .synchronous) 256) _ (all-at reachable (l .entries) i refl h)) (lt-ltb c 256 b)) h; answers = refl }
 change-kept l (Locks.request i t k) b h =
-    respond-kept (Locks.ruling (holds k (at (l .entries) i)) (all (elsewhere i) (l .waiting)) (leb (suc stringLimit) (length k)) (mayGrant (l .entries) i k) (eqb t 0 || noPlace (l .waiting))) l i t k h
-change-kept l (Locks.release i) b h = released-kept ((at (l .entries) i) .exclusive) (noShared (at (l .entries) i)) l i h
-change-kept l (Locks.clear i) b h = record { entries = h; answers = refuse-fits (l .entries) (elsewhere i) (l .waiting) h }
+    respond-kept (Locks.ruling (holds k (at (l .entries) i)) (all (elsewhere i) (l .waiting)) (invalidBy k (at (l .entries) i)) (mayGrant (l .entries) i k) (eqb t 0 || noPlace (l .waiting))) l i t k h
+change-kept l (Locks.release i n) b h = released-kept (Locks.releasingOf (at (l .entries) i) n) l i n h
+change-kept l (Locks.command i n) b h = completed-kept (Locks.dueAt n ((at (l .entries) i) .standing)) l i n h
+change-kept l (Locks.clear i) b h =
+    let x = completed-kept (Locks.dueAny ((at (l .entries) i) .standing)) (Locks.withWaiting l (keep (elsewhere i) (l .waiting))) i beforeFirst h in
+    record { entries = x .entries; answers = both-fit (refuse (l .entries) (elsewhere i) (l .waiting)) _ (refuse-fits (l .entries) (elsewhere i) (l .waiting) h) (x .answers) }
 change-kept l (Locks.close i) b h = record { entries = all-set reachable (l .entries) i blank refl h; answers = refl }
 change-kept l (Locks.reading t) b h = record { entries = h; answers = refuse-fits (l .entries) (unexpired t) (l .waiting) h }
 

@@ -1,7 +1,8 @@
 -- What each message that acted sends: by its type, which tells its channel.
 use mathlib.Core.Path.{_≡_, refl, sym, ap, ap₂, _∙_}
 use mathlib.Core.Bool.{Bool, true, false, not, _&&_, _||_, cond, true≢false}
-use mathlib.Core.List.{List, [], _∷_, _++_, map, append-nil}
+use mathlib.Core.List.{List, [], _∷_, _++_, map, append-assoc}
+use mathlib.Core.Logic.{_⊎_, inl, inr}
 use Prim.Native.Nat.{ℕ, _+_}
 use native.Mathlib.Omega.{arith}
 use lib.Dec.{eqb}
@@ -11,29 +12,34 @@ use Rattle.wire.specs.Field.{field}
 use Rattle.wire.specs.Message.{header, payloadOf}
 use Rattle.wire.specs.Class.{one-of, classOf, synchronous, asynchronous}
 use Rattle.wire.specs.Frame.{Frame, frameOf}
+use Rattle.model.specs.Sizes.{beforeFirst}
 use Rattle.model.specs.MessageTypes.{DeviceClearComplete, AsyncDeviceClear, AsyncDeviceClearAcknowledge, commands}
 use Rattle.model.specs.Lists.{all, any, keep}
-use Rattle.model.specs.State.{Entry, Waiting, at, live, Server, fresh}
+use Rattle.model.specs.State.{Entry, Waiting, Kind.exclusive-lock, Kind.shared-lock, Standing, Standing.no-release, Standing.release-of, at, live, Server, fresh}
 use Rattle.model.specs.Interface.{Event, Event.delivery, Outcome.acted, Reply.took}
 use Rattle.model.specs.Place.{slotOf, entryOf, Role, Role.r-none, Role.r-halfOpen, Role.r-synchronous, Role.r-asynchronous, roleOf}
-use Rattle.model.specs.Locks.{Answer, elsewhere, refuse, tell, change}
+use Rattle.model.specs.Locks
+use Rattle.model.specs.Locks.{Answer, LockEvent, LockResult, elsewhere, refuse, tell, change, grantPass, settle, frees}
 use Rattle.model.specs.Exchange.{availableAt}
 use Rattle.model.specs.Checks.{Verdict.v-acts, isUnrecognised, judged, either}
 use Rattle.model.specs.Acts
 use Rattle.model.specs.Step.{Result, finish, step, final, lockFrame}
 use Rattle.model.specs.LockModel
-use Rattle.model.specs.LockModel.{Session, Request, Model, Told, zeros}
-use Rattle.model.specs.Agreement.{Agrees}
-use Rattle.model.specs.Deciding.{lockAnswer, modelAfter}
+use Rattle.model.specs.LockModel.{Model, ModelResult, endsExclusive, endsShared, secondConnection}
+use Rattle.model.specs.Agreement.{Agrees, asPending, toldFrame}
+use Rattle.model.specs.Deciding.{lockAnswer, modelAfter, endedCodes, grantsAfter}
 use Rattle.model.specs.Sending.{Sends, Sending}
 use Rattle.model.proofs.Basics.{and-l, and-r, not-off, not-not}
 use Rattle.model.proofs.Invariant.{Inv, Good}
+use Rattle.model.proofs.Events.{Fit, change-sound, always-settled}
+use Rattle.model.proofs.Seen.{own-seen, channel-seen}
 use Rattle.model.proofs.Fits.{opening-passed, sync-passed, async-passed, inv-run}
 use Rattle.model.proofs.ReadOff.{each-of}
-use Rattle.model.proofs.Place.{async-live}
-use Rattle.model.proofs.Agreement.{agreement}
-use Rattle.model.proofs.Simulation.{toldOf, sim-clear}
-use Rattle.model.proofs.Deciding.{async-own}
+use Rattle.model.proofs.Place.{sync-live, async-live}
+use Rattle.model.proofs.Agreement.{frames-append, agreement}
+use Rattle.model.proofs.Simulation.{Alike, dueBy, due-at, due-any, waits-seen, sim-command, sim-clear}
+use Rattle.model.proofs.Looking.{grants-seen}
+use Rattle.model.proofs.Deciding.{async-own, told-frames}
 use Rattle.model.proofs.Forms.{_also_}
 use Rattle.model.proofs.Permitted.{shows}
 
@@ -66,20 +72,6 @@ one-refused es i (w ∷ ws) g = go (elsewhere i w) refl (one-refused es i ws (g 
         let here : w .slot ≡ i = eqb-true (w .slot) i (not-off _ e) in
         ap₂ (λ (j : ℕ) (xs : List Answer). tell es j 0 true ∷ xs) here (r ∙ ap (λ b. cond b [] (tell es i 0 true ∷ [])) (rw here at (g .1)))
 
--- the lock model finds one to answer just where the server does
-some : List Told → Bool
-some [] = false
-some (x ∷ xs) = true
-
-found-some : (ss : List Session) (p : Request → Bool) (ws : List Request) → any p ws ≡ some (zeros ss (keep p ws))
-unfolding some
-found-some ss p [] = refl
-found-some ss p (w ∷ ws) = go (p w) (found-some ss p ws)
-  where
-    go : (b : Bool) → any p ws ≡ some (zeros ss (keep p ws)) → not (not b && all (λ x. not (p x)) ws) ≡ some (zeros ss (cond b (w ∷ keep p ws) (keep p ws)))
-    go true r = refl
-    go false r = r
-
 module _ (d : Server) (m : Model) (a : Agrees (d .locks) m) (v : Inv (d .locks)) (c : ℕ) (bs : List ℕ) (room : ℕ) where
   abbrev R : Result
   R = step d (delivery c bs room)
@@ -92,8 +84,11 @@ module _ (d : Server) (m : Model) (a : Agrees (d .locks) m) (v : Inv (d .locks))
   sent r t k n e q er =
       ap (λ (x : Result). x .frames) ((shows d c bs room k n e) .does) ∙ ap (λ x. acts-as x ((header bs) .kind)) er ∙ ap (acts-as r) q
 
+  sync-role : (t k n : ℕ) → R .reply ≡ took acted k n → (header bs) .kind ≡ t → OnlyOn asynchronous t → roleOf (d .locks .entries) c ≡ r-synchronous
+  sync-role t k n e q o = sync-alone d c (header bs) (payloadOf (header bs) bs) (roleOf (d .locks .entries) c) (rw q o) ((shows d c bs room k n e) .passes)
+
   on-sync : (t k n : ℕ) → R .reply ≡ took acted k n → (header bs) .kind ≡ t → OnlyOn asynchronous t → R .frames ≡ acts-as r-synchronous t
-  on-sync t k n e q o = sent r-synchronous t k n e q (sync-alone d c (header bs) (payloadOf (header bs) bs) (roleOf (d .locks .entries) c) (rw q o) ((shows d c bs room k n e) .passes))
+  on-sync t k n e q o = sent r-synchronous t k n e q (sync-role t k n e q o)
 
   async-role : (t k n : ℕ) → R .reply ≡ took acted k n → (header bs) .kind ≡ t → OnlyOn synchronous t → roleOf (d .locks .entries) c ≡ r-asynchronous
   async-role t k n e q o = async-alone d c (header bs) (payloadOf (header bs) bs) (roleOf (d .locks .entries) c) (rw q o) ((shows d c bs room k n e) .passes)
@@ -101,39 +96,133 @@ module _ (d : Server) (m : Model) (a : Agrees (d .locks) m) (v : Inv (d .locks))
   on-async : (t k n : ℕ) → R .reply ≡ took acted k n → (header bs) .kind ≡ t → OnlyOn synchronous t → R .frames ≡ acts-as r-asynchronous t
   on-async t k n e q o = sent r-asynchronous t k n e q (async-role t k n e q o)
 
-  command : (k n : ℕ) → R .reply ≡ took acted k n → one-of commands ((header bs) .kind) ≡ true → R .frames ≡ []
-  unfolding finish Acts.acts Acts.synchronousSaid change classOf
-  command k n e o =
-      each-of (λ t. (header bs) .kind ≡ t → R .frames ≡ []) commands
-      ((λ q. on-sync 6 k n e q (refl, refl)) also (λ q. on-sync 7 k n e q (refl, refl)) also (λ q. on-sync 12 k n e q (refl, refl)) also tt)
+  -- the session's number in the reply
+  by-session : (r : Role) (k n : ℕ) → R .reply ≡ took acted k n → roleOf (d .locks .entries) c ≡ r → (r ≡ r-synchronous) ⊎ (r ≡ r-asynchronous) → (entryOf d c) .number ≡ n
+  unfolding finish Acts.acts
+  by-session r k n e er w =
+      let replied : (Acts.acts r d (slotOf d c) c (header bs) (payloadOf (header bs) bs)) .reply ≡ took acted k n =
+      ap (λ x. (Acts.acts x d (slotOf d c) c (header bs) (payloadOf (header bs) bs)) .reply) (sym er) ∙ ap (λ (x : Result). x .reply) (sym ((shows d c bs room k n e) .does)) ∙ e in
+      go r w replied
+    where
+      go : (r : Role) → (r ≡ r-synchronous) ⊎ (r ≡ r-asynchronous) → (Acts.acts r d (slotOf d c) c (header bs) (payloadOf (header bs) bs)) .reply ≡ took acted k n → (entryOf d c) .number ≡ n
+      go r-none (inl q) x = absurd (let y : _≡_ {A = ℕ} 0 1 = cc in omega arith)
+      go r-none (inr q) x = absurd (let y : _≡_ {A = ℕ} 0 1 = cc in omega arith)
+      go r-halfOpen (inl q) x = absurd (let y : _≡_ {A = ℕ} 0 1 = cc in omega arith)
+      go r-halfOpen (inr q) x = absurd (let y : _≡_ {A = ℕ} 0 1 = cc in omega arith)
+      go r-synchronous w x = cc
+      go r-asynchronous w x = cc
+
+  -- the answer of a standing release whose number passes a test
+  module _ (i : ℕ) (u : live (at (d .locks .entries) i) ≡ true) where
+    ended-frames : (t : ℕ → Bool) (n : ℕ) (ws : List Waiting)
+        → map lockFrame ((Locks.completed (dueBy t ((at (d .locks .entries) i) .standing)) (Locks.withWaiting (d .locks) ws) i n) .answers)
+        ≡ map (lockAnswer ((at (d .locks .entries) i) .asynchronous)) (endedCodes m ((at (d .locks .entries) i) .number) t)
+    ended-frames t n ws =
+        rw (own-seen (m .sessions) (d .locks .entries) (a .sessions) (v .sound .firm) i u (λ s. endsExclusive t (s .pending)), own-seen (m .sessions) (d .locks .entries) (a .sessions) (v .sound .firm) i u (λ s. endsShared t (s .pending)))
+        (go ((at (d .locks .entries) i) .standing))
+      where
+        go : (s : Standing) → map lockFrame ((Locks.completed (dueBy t s) (Locks.withWaiting (d .locks) ws) i n) .answers)
+            ≡ map (lockAnswer ((at (d .locks .entries) i) .asynchronous)) (cond (endsExclusive t (asPending s)) (1 ∷ []) (cond (endsShared t (asPending s)) (2 ∷ []) []))
+        go no-release = refl
+        go (release-of exclusive-lock q) = by (t q)
+          where
+            by : (b : Bool) → map lockFrame ((Locks.completed (cond b (Locks.due-now exclusive-lock) Locks.not-due) (Locks.withWaiting (d .locks) ws) i n) .answers) ≡ map (lockAnswer ((at (d .locks .entries) i) .asynchronous)) (cond b (1 ∷ []) [])
+            by true = refl
+            by false = refl
+        go (release-of shared-lock q) = by (t q)
+          where
+            by : (b : Bool) → map lockFrame ((Locks.completed (cond b (Locks.due-now shared-lock) Locks.not-due) (Locks.withWaiting (d .locks) ws) i n) .answers) ≡ map (lockAnswer ((at (d .locks .entries) i) .asynchronous)) (cond b (2 ∷ []) [])
+            by true = refl
+            by false = refl
+
+    -- whom the look after an event grants
+    granted-frames : (e : LockEvent) (o : ModelResult) → Fit (d .locks .entries) e → Alike (change (d .locks) e) o
+        → map lockFrame ((settle (frees (d .locks) e) ((change (d .locks) e) .locks)) .answers) ≡ map toldFrame (grantsAfter o)
+    granted-frames e o f h =
+        ap (λ (x : LockResult). map lockFrame (x .answers)) (always-settled (d .locks) v e f)
+        ∙ sym (told-frames ((grantPass ((change (d .locks) e) .locks)) .answers))
+        ∙ ap (map toldFrame) (sym (grants-seen (change (d .locks) e) o h (change-sound (d .locks) (v .sound .good) (v .sound .firm) e f)))
+
+  -- Data, DataEND, Trigger
+  abbrev commanded : List Frame
+  commanded =
+      let ev = Locks.command (slotOf d c) ((header bs) .param) in
+      map lockFrame ((change (d .locks) ev) .answers) ++ map lockFrame ((settle (frees (d .locks) ev) ((change (d .locks) ev) .locks)) .answers)
+
+  commanded-is : (k n : ℕ) → R .reply ≡ took acted k n → one-of commands ((header bs) .kind) ≡ true → (R .frames ≡ commanded) × (roleOf (d .locks .entries) c ≡ r-synchronous)
+  unfolding finish Acts.acts Acts.synchronousSaid classOf
+  commanded-is k n e o =
+      each-of (λ t. (header bs) .kind ≡ t → (R .frames ≡ commanded) × (roleOf (d .locks .entries) c ≡ r-synchronous)) commands
+      ((λ q. (on-sync 6 k n e q (refl, refl), sync-role 6 k n e q (refl, refl))) also (λ q. (on-sync 7 k n e q (refl, refl), sync-role 7 k n e q (refl, refl))) also (λ q. (on-sync 12 k n e q (refl, refl), sync-role 12 k n e q (refl, refl))) also tt)
       ((header bs) .kind) o refl
 
-  -- a device clear
-  waits : (i : ℕ) → live (at (d .locks .entries) i) ≡ true → any (λ w. eqb (w .number) ((at (d .locks .entries) i) .number)) (m .waiting) ≡ not (all (elsewhere i) (d .locks .waiting))
-  unfolding some change LockModel.clearing
-  waits i u =
-      found-some (m .sessions) (λ w. eqb (w .number) ((at (d .locks .entries) i) .number)) (m .waiting)
-      ∙ ap some ((sim-clear (d .locks) m a (v .sound .good) (v .sound .firm) i u) .told ∙ ap (map toldOf) (one-refused (d .locks .entries) i (d .locks .waiting) (v .sound .good)))
-      ∙ go (all (elsewhere i) (d .locks .waiting))
-    where
-      go : (b : Bool) → some (map toldOf (cond b [] (tell (d .locks .entries) i 0 true ∷ []))) ≡ not b
-      go true = refl
-      go false = refl
+  command : (k n : ℕ) → R .reply ≡ took acted k n → one-of commands ((header bs) .kind) ≡ true
+      → R .frames ≡ map (lockAnswer (secondConnection n (m .sessions))) (endedCodes m n (λ p. eqb p ((header bs) .param))) ++ map toldFrame (grantsAfter (LockModel.message m n ((header bs) .param)))
+  unfolding change
+  command k n e o =
+      let i = slotOf d c in
+      let p = (header bs) .param in
+      let es = d .locks .entries in
+      let w = commanded-is k n e o in
+      let u = sync-live es c (w .1) in
+      let n-is : (entryOf d c) .number ≡ n = by-session r-synchronous k n e (w .1) (inl refl) in
+      let second = channel-seen (m .sessions) es (a .sessions) (v .sound .firm) i u in
+      w .0
+      ∙ ap₂ _++_
+      (ap (λ x. map lockFrame ((Locks.completed x (d .locks) i p) .answers)) (due-at p ((at es i) .standing)) ∙ ended-frames i u (λ q. eqb q p) p (d .locks .waiting)
+      ∙ ap (λ y. map (lockAnswer y) (endedCodes m ((at es i) .number) (λ q. eqb q p))) (sym second))
+      (granted-frames i u (Locks.command i p) (LockModel.message m ((at es i) .number) p) u (sim-command (d .locks) m a (v .sound .good) (v .sound .firm) i u p))
+      ∙ ap (λ x. map (lockAnswer (secondConnection x (m .sessions))) (endedCodes m x (λ q. eqb q p)) ++ map toldFrame (grantsAfter (LockModel.message m x p))) n-is
 
+  some : List Frame → Bool
+  some [] = false
+  some (x ∷ xs) = true
+
+  quiet : (y : Locks.Due) (i p : ℕ) → map lockFrame ((Locks.completed y (d .locks) i p) .answers) ≡ []
+      → map lockFrame ((Locks.completed y (d .locks) i p) .answers) ++ map lockFrame ((settle (Locks.isDue y) ((Locks.completed y (d .locks) i p) .locks)) .answers) ≡ []
+  unfolding some
+  quiet Locks.not-due i p q = refl
+  quiet (Locks.due-now x) i p q = absurd (true≢false (ap some q))
+
+  alone : (k n : ℕ) → R .reply ≡ took acted k n → one-of commands ((header bs) .kind) ≡ true → endedCodes m n (λ p. eqb p ((header bs) .param)) ≡ [] → R .frames ≡ []
+  unfolding change
+  alone k n e o z =
+      let i = slotOf d c in
+      let p = (header bs) .param in
+      let es = d .locks .entries in
+      let w = commanded-is k n e o in
+      let n-is : (entryOf d c) .number ≡ n = by-session r-synchronous k n e (w .1) (inl refl) in
+      w .0
+      ∙ quiet (Locks.dueAt p ((at es i) .standing)) i p
+      (ap (λ x. map lockFrame ((Locks.completed x (d .locks) i p) .answers)) (due-at p ((at es i) .standing)) ∙ ended-frames i (sync-live es c (w .1)) (λ q. eqb q p) p (d .locks .waiting)
+      ∙ ap (map (lockAnswer ((at es i) .asynchronous))) (ap (λ x. endedCodes m x (λ q. eqb q p)) n-is ∙ z))
+
+  -- a device clear
   cleared : (k n : ℕ) → R .reply ≡ took acted k n → (header bs) .kind ≡ AsyncDeviceClear
-      → R .frames ≡ cond (any (λ w. eqb (w .number) n) (m .waiting)) (lockAnswer c 0 ∷ []) [] ++ (frameOf c AsyncDeviceClearAcknowledge 0 0 [] ∷ [])
+      → R .frames ≡ cond (any (λ w. eqb (w .number) n) (m .waiting)) (lockAnswer c 0 ∷ []) []
+      ++ (map (lockAnswer c) (endedCodes m n (λ p. true)) ++ (frameOf c AsyncDeviceClearAcknowledge 0 0 [] ∷ map toldFrame (grantsAfter (LockModel.clearing n m))))
   unfolding finish Acts.acts Acts.asynchronousSaid Acts.asynchronousEvent change classOf
   cleared k n e q =
       let i = slotOf d c in
+      let es = d .locks .entries in
       let o : OnlyOn synchronous AsyncDeviceClear = (refl, refl) in
       let er = async-role AsyncDeviceClear k n e q o in
-      let replied : (Acts.acts (roleOf (d .locks .entries) c) d i c (header bs) (payloadOf (header bs) bs)) .reply ≡ took acted k n = ap (λ (x : Result). x .reply) (sym ((shows d c bs room k n e) .does)) ∙ e in
-      let own : took acted (16 + (header bs) .len) ((entryOf d c) .number) ≡ took acted k n = ap (λ x. (Acts.acts x d i c (header bs) (payloadOf (header bs) bs)) .reply) (sym er) ∙ replied in
-      let n-is : (entryOf d c) .number ≡ n = cc in
+      let u = async-live es c er in
+      let mine = async-own es c er in
+      let n-is : (entryOf d c) .number ≡ n = by-session r-asynchronous k n e er (inr refl) in
+      let x = Locks.completed (Locks.dueAny ((at es i) .standing)) (Locks.withWaiting (d .locks) (keep (elsewhere i) (d .locks .waiting))) i beforeFirst in
+      let zs = refuse es (elsewhere i) (d .locks .waiting) in
+      let zeros-are : map lockFrame zs ≡ cond (any (λ w. eqb (w .number) ((at es i) .number)) (m .waiting)) (lockAnswer c 0 ∷ []) [] =
+      ap (map lockFrame) (one-refused es i (d .locks .waiting) (v .sound .good)) ∙ go (all (elsewhere i) (d .locks .waiting)) mine
+      ∙ ap (λ b. cond b (lockAnswer c 0 ∷ []) []) (sym (waits-seen (d .locks) m a (v .sound .good) (v .sound .firm) i u)) in
+      let release-is : map lockFrame (x .answers) ≡ map (lockAnswer c) (endedCodes m ((at es i) .number) (λ p. true)) =
+      ap (λ y. map lockFrame ((Locks.completed y (Locks.withWaiting (d .locks) (keep (elsewhere i) (d .locks .waiting))) i beforeFirst) .answers)) (due-any ((at es i) .standing))
+      ∙ ended-frames i u (λ p. true) beforeFirst (keep (elsewhere i) (d .locks .waiting)) ∙ ap (λ y. map (lockAnswer y) (endedCodes m ((at es i) .number) (λ p. true))) mine in
       on-async AsyncDeviceClear k n e q o
-      ∙ ap (λ xs. map lockFrame xs ++ (frameOf c AsyncDeviceClearAcknowledge 0 0 [] ∷ [])) (one-refused (d .locks .entries) i (d .locks .waiting) (v .sound .good))
-      ∙ ap (λ xs. xs ++ (frameOf c AsyncDeviceClearAcknowledge 0 0 [] ∷ [])) (go (all (elsewhere i) (d .locks .waiting)) (async-own (d .locks .entries) c er))
-      ∙ ap (λ b. cond b (lockAnswer c 0 ∷ []) [] ++ (frameOf c AsyncDeviceClearAcknowledge 0 0 [] ∷ [])) (sym (waits i (async-live (d .locks .entries) c er)) ∙ ap (λ x. any (λ w. eqb (w .number) x) (m .waiting)) n-is)
+      ∙ ap (λ (fs : List Frame). fs ++ (frameOf c AsyncDeviceClearAcknowledge 0 0 [] ∷ map lockFrame ((settle (frees (d .locks) (Locks.clear i)) ((change (d .locks) (Locks.clear i)) .locks)) .answers))) (frames-append zs (x .answers))
+      ∙ append-assoc (map lockFrame zs) (map lockFrame (x .answers)) _
+      ∙ ap₂ _++_ zeros-are (ap₂ _++_ release-is (ap (λ (fs : List Frame). frameOf c AsyncDeviceClearAcknowledge 0 0 [] ∷ fs) (granted-frames i u (Locks.clear i) (LockModel.clearing ((at es i) .number) m) u (sim-clear (d .locks) m a (v .sound .good) (v .sound .firm) i u))))
+      ∙ ap (λ x. cond (any (λ w. eqb (w .number) x) (m .waiting)) (lockAnswer c 0 ∷ []) [] ++ (map (lockAnswer c) (endedCodes m x (λ p. true)) ++ (frameOf c AsyncDeviceClearAcknowledge 0 0 [] ∷ map toldFrame (grantsAfter (LockModel.clearing x m))))) n-is
     where
       go : (b : Bool) → (entryOf d c) .asynchronous ≡ c → map lockFrame (cond b [] (tell (d .locks .entries) (slotOf d c) 0 true ∷ [])) ≡ cond (not b) (lockAnswer c 0 ∷ []) []
       go true x = refl
@@ -144,6 +233,7 @@ module _ (d : Server) (m : Model) (a : Agrees (d .locks) m) (v : Inv (d .locks))
   sends =
       record {
         command = command;
+        command-alone = alone;
         clear-complete = λ k n e q. on-sync 8 k n e q (refl, refl);
         remote-local = λ k n e q. on-async 10 k n e q (refl, refl);
         maximum-size = λ k n e q. on-async 15 k n e q (refl, refl);

@@ -208,13 +208,19 @@ module _ (d : Server) (g : InRange d) (c : ℕ) (small : c < 256) where
   async-brings Acts.k-statusQuery i h p = tt
   async-brings Acts.k-lockInfo i h p = tt
 
+  sync-brings : (k : Acts.SynchronousKind) (i : ℕ) (h : Header) → Brings (Acts.synchronousEvent k i h)
+  sync-brings Acts.k-data i h = tt
+  sync-brings Acts.k-dataEnd i h = tt
+  sync-brings Acts.k-trigger i h = tt
+  sync-brings Acts.k-clearComplete i h = tt
+
   acts-fit : (r : Role) (i : ℕ) (h : Header) (p : List ℕ) → h .param < 2 ^ 32 → PlanFits (Acts.acts r d i c h p)
   unfolding Acts.acts
   acts-fit r-none i h p l = opens-fit (eqb (h .kind) 0) h
   acts-fit r-halfOpen i h p l = record { said = tt; rest = g .rest; brings = tt }
   acts-fit r-synchronous i h p l =
       let k = Acts.synchronousKind (h .kind) in
-      record { said = sync-said k; rest = with-exchange i _ (sync-exchange k h (exchangeAt (d .rest) i) l (own-exchange i)); brings = tt }
+      record { said = sync-said k; rest = with-exchange i _ (sync-exchange k h (exchangeAt (d .rest) i) l (own-exchange i)); brings = sync-brings k i h }
   acts-fit r-asynchronous i h p l =
       let k = Acts.asynchronousKind (h .kind) in
       record { said = async-said k i h; rest = async-rest k i h p; brings = async-brings k i h p }
@@ -311,9 +317,9 @@ step-fits d e g q = let r = go (refusal d e) refl (inv-call d e (g .inv)) in rec
         let f = plan-fits d e g q z in
         let ev = (plan d e) .event in
         let x = change-kept (d .locks) ev (f .brings) (g .entries) in
-        let y = settle-kept (frees ev) ((change (d .locks) ev) .locks) (x .entries) in
+        let y = settle-kept (frees (d .locks) ev) ((change (d .locks) ev) .locks) (x .entries) in
         let xs = (change (d .locks) ev) .answers in
-        let ys = (settle (frees ev) ((change (d .locks) ev) .locks)) .answers in (
+        let ys = (settle (frees (d .locks) ev) ((change (d .locks) ev) .locks)) .answers in (
           fit-append (map lockFrame xs) ((plan d e) .said ++ map lockFrame ys) (lock-fit xs (x .answers)) (fit-append ((plan d e) .said) (map lockFrame ys) (f .said) (lock-fit ys (y .answers))),
           record { inv = v; entries = y .entries; rest = f .rest },
         )

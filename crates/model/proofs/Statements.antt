@@ -15,6 +15,7 @@ use Rattle.model.proofs.Canonical.{canonical-history}
 use Rattle.model.proofs.FixedPoint.{fixed-point}
 use Rattle.model.proofs.OnlyWhole.{taken-whole}
 use Rattle.model.proofs.Outcomes.{outcomes-tell}
+use Rattle.model.proofs.Standing.{stands-on}
 use Rattle.model.proofs.Missing.{tells-missing}
 use Rattle.model.proofs.Agreement.{agreement}
 use Rattle.model.proofs.Deciding.{deciding, run-decides}
@@ -47,6 +48,7 @@ statements =
         exclusive-rule = λ es i. (may-exclusive es i, exclusive-may es i);
         shared-rule = λ es i x k. (may-shared es i x k, shared-may es i x k);
         access = accessed;
+        standing = stands-on;
         missing = λ d c bs room. tells-missing d c room bs;
       };
       demand3 = record {

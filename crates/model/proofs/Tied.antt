@@ -47,6 +47,12 @@ async-calm Acts.k-deviceClear i h p = tt
 async-calm Acts.k-statusQuery i h p = tt
 async-calm Acts.k-lockInfo i h p = tt
 
+sync-calm : (k : Acts.SynchronousKind) (i : ℕ) (h : Header) → Calm (Acts.synchronousEvent k i h)
+sync-calm Acts.k-data i h = tt
+sync-calm Acts.k-dataEnd i h = tt
+sync-calm Acts.k-trigger i h = tt
+sync-calm Acts.k-clearComplete i h = tt
+
 -- after a plan
 pub record After (d : Server) (p : Plan) (f : ℕ → Asked) : Type 0 where
   pub tied : Tied (ends (d .locks) (p .event)) (p .rest) f
@@ -103,7 +109,7 @@ module _ (d : Server) (f : ℕ → Asked) (i : Inv (d .locks)) (z : length (d .r
         let x = Acts.synchronousExchange s h (exchangeAt (d .rest) k) in
         record {
           tied =
-              touch (d .locks .entries) (ends (d .locks) LockEvent.nothing) (d .rest) (withExchange (d .rest) k x) f _ k (syncPending s (h .param)) (i .sound .firm) v (calm-num (d .locks) LockEvent.nothing tt)
+              touch (d .locks .entries) (ends (d .locks) (Acts.synchronousEvent s k h)) (d .rest) (withExchange (d .rest) k x) f _ k (syncPending s (h .param)) (i .sound .firm) v (calm-num (d .locks) (Acts.synchronousEvent s k h) (sync-calm s k h))
               (ap (λ (y : Exchange). y .asked) (extra-here (d .rest) k x (within k v)) ∙ sync-extra s h (exchangeAt (d .rest) k))
               (λ j n. ap (λ (y : Exchange). y .asked) (extra-there (d .rest) k x j n))
               (λ n. heads ((at (d .locks .entries) k) .number) n ∙ ap (λ (y : Asked). cond (eqb ((at (d .locks .entries) k) .number) n) y (f n)) (sync-follows (h .param) (f n) (h .kind) (acted-class synchronous (h .kind) (g .1 .1 .1 .0) (g .1 .1 .1 .1 .0)) (g .1 .1 .1 .1 .1 .0)))

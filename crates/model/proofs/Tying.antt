@@ -11,8 +11,8 @@ use borrow.Author.Tests.{eq-eqb, ne-eqb}
 use Rattle.wire.specs.Field.{number}
 use Rattle.wire.specs.declared.Header.{Header}
 use Rattle.wire.specs.Class.{one-of}
-use Rattle.model.specs.Sizes.{stringLimit}
-use Rattle.model.specs.Lists.{all}
+use Rattle.model.specs.Sizes.{beforeFirst}
+use Rattle.model.specs.Lists.{all, keep}
 use Rattle.model.specs.State.{Locks, Entry, blank, at, live, Rest, Exchange, Asked, Asked.none, Asked.some, exchangeAt, freshExchange, withExchange}
 use Rattle.model.specs.Locks
 use Rattle.model.specs.Locks.{LockEvent, give, mayGrant, grantPass, change, settle, frees}
@@ -22,6 +22,7 @@ use Rattle.model.specs.Tie.{follows}
 use Rattle.model.proofs.Classes.{synchronousTypes, asynchronousTypes}
 use Rattle.model.proofs.Basics.{both, same?}
 use Rattle.model.proofs.Invariant.{Firm}
+use Rattle.model.proofs.Releasing.{without-num}
 use Rattle.model.proofs.Events.{Enters}
 use Rattle.model.proofs.ReadOff.{each-of}
 use Rattle.model.proofs.Simulation.{num-same, give-num}
@@ -74,39 +75,45 @@ Calm Locks.nothing = Unit {0}
 Calm (Locks.enter i n c) = ⊥
 Calm (Locks.join i c) = Unit {0}
 Calm (Locks.request i t k) = Unit {0}
-Calm (Locks.release i) = Unit {0}
+Calm (Locks.release i n) = Unit {0}
+Calm (Locks.command i n) = Unit {0}
 Calm (Locks.clear i) = Unit {0}
 Calm (Locks.close i) = ⊥
 Calm (Locks.reading t) = Unit {0}
+
+release-num : (l : Locks) (i n : ℕ) (u : Locks.Releasing) → Nums (l .entries) ((Locks.released u l i n) .locks .entries)
+release-num l i n Locks.r-invalid j = refl
+release-num l i n (Locks.r-now k) j = num-same (l .entries) i _ (without-num k (at (l .entries) i)) j
+release-num l i n (Locks.r-stands k) j = num-same (l .entries) i _ refl j
+
+complete-num : (l : Locks) (i n : ℕ) (u : Locks.Due) → Nums (l .entries) ((Locks.completed u l i n) .locks .entries)
+complete-num l i n Locks.not-due j = num-same (l .entries) i _ refl j
+complete-num l i n (Locks.due-now k) j = num-same (l .entries) i _ (without-num k (at (l .entries) i)) j
 
 change-calm : (l : Locks) (e : LockEvent) → Calm e → Nums (l .entries) ((change l e) .locks .entries)
 unfolding change
 change-calm l Locks.nothing x j = refl
 change-calm l (Locks.enter i n c) x j = absurd x
 change-calm l (Locks.join i c) x j = num-same (l .entries) i (Locks.joined c (at (l .entries) i)) refl j
-change-calm l (Locks.request i t k) x j = asked-num (Locks.ruling (Locks.holds k (at (l .entries) i)) (all (Locks.elsewhere i) (l .waiting)) (lib.Dec.ltb stringLimit (length k)) (mayGrant (l .entries) i k) (eqb t 0 || Locks.noPlace (l .waiting)))
+change-calm l (Locks.request i t k) x j = asked-num (Locks.ruling (Locks.holds k (at (l .entries) i)) (all (Locks.elsewhere i) (l .waiting)) (Locks.invalidBy k (at (l .entries) i)) (mayGrant (l .entries) i k) (eqb t 0 || Locks.noPlace (l .waiting)))
   where
     asked-num : (a : Locks.Ruling) → (at ((Locks.respond a l i t k) .locks .entries) j) .number ≡ (at (l .entries) j) .number
     asked-num Locks.invalid = refl
     asked-num Locks.granted = num-same (l .entries) i (give k (at (l .entries) i)) (give-num k (at (l .entries) i)) j
     asked-num Locks.denied = refl
     asked-num Locks.queued = refl
-change-calm l (Locks.release i) x j = freed-num ((at (l .entries) i) .exclusive) (Locks.noShared (at (l .entries) i))
-  where
-    freed-num : (a b : Bool) → (at ((Locks.released a b l i) .locks .entries) j) .number ≡ (at (l .entries) j) .number
-    freed-num true b = num-same (l .entries) i (Locks.withoutExclusive (at (l .entries) i)) refl j
-    freed-num false false = num-same (l .entries) i (Locks.withoutShared (at (l .entries) i)) refl j
-    freed-num false true = refl
-change-calm l (Locks.clear i) x j = refl
+change-calm l (Locks.release i n) x j = release-num l i n (Locks.releasingOf (at (l .entries) i) n) j
+change-calm l (Locks.command i n) x j = complete-num l i n (Locks.dueAt n ((at (l .entries) i) .standing)) j
+change-calm l (Locks.clear i) x j = complete-num (Locks.withWaiting l (keep (Locks.elsewhere i) (l .waiting))) i beforeFirst (Locks.dueAny ((at (l .entries) i) .standing)) j
 change-calm l (Locks.close i) x j = absurd x
 change-calm l (Locks.reading t) x j = refl
 
 -- what an event leaves, with its pass if it has one
 abbrev pub ends : Locks → LockEvent → List Entry
-ends l e = (settle (frees e) ((change l e) .locks)) .locks .entries
+ends l e = (settle (frees l e) ((change l e) .locks)) .locks .entries
 
 pub calm-num : (l : Locks) (e : LockEvent) → Calm e → Nums (l .entries) (ends l e)
-calm-num l e x j = settle-num (frees e) ((change l e) .locks) j ∙ change-calm l e x j
+calm-num l e x j = settle-num (frees l e) ((change l e) .locks) j ∙ change-calm l e x j
 
 blank-set : (es : List Entry) (i : ℕ) → at (set es i blank) i ≡ blank
 blank-set [] i = refl

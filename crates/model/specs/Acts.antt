@@ -13,7 +13,7 @@ use Rattle.model.specs.MessageTypes.{Initialize, InitializeResponse, Asy
 use Rattle.model.specs.State.{Server, Rest, Entry, Exchange, at, slotOfNumber, exchangeAt, withExchange, withRemoteLocal, withSession}
 use Rattle.model.specs.Interface.{Reply, Reply.took, Outcome.acted}
 use Rattle.model.specs.Place.{Role, Role.r-none, Role.r-halfOpen, Role.r-synchronous, Role.r-asynchronous}
-use Rattle.model.specs.Locks.{LockEvent, LockEvent.nothing, LockEvent.enter, LockEvent.join, LockEvent.request, LockEvent.release, LockEvent.clear, noExclusive, noShared, issued}
+use Rattle.model.specs.Locks.{LockEvent, LockEvent.nothing, LockEvent.enter, LockEvent.join, LockEvent.request, LockEvent.release, LockEvent.command, LockEvent.clear, noExclusive, noShared, issued}
 use Rattle.model.specs.Exchange.{noteRmt, ask, enterClear, leaveClear, withClientSize, availableAt, statusByte, controlled}
 
 -- what a call does: its reply, all but the locks, what it says directly, and its event for the locks
@@ -68,6 +68,13 @@ synchronousSaid k-dataEnd c = []
 synchronousSaid k-trigger c = []
 synchronousSaid k-clearComplete c = say c DeviceClearAcknowledge 0 0
 
+-- 02, Q-3: a Data, DataEND or Trigger of its number
+abbrev pub synchronousEvent : SynchronousKind → ℕ → Header → LockEvent
+synchronousEvent k-data i h = command i (h .param)
+synchronousEvent k-dataEnd i h = command i (h .param)
+synchronousEvent k-trigger i h = command i (h .param)
+synchronousEvent k-clearComplete i h = nothing
+
 -- AsyncLock, remote/local, maximum message size, device clear, status query, lock info
 pub data AsynchronousKind : Type 0 where
   k-lock k-remoteLocal k-maximumSize k-deviceClear k-statusQuery k-lockInfo : AsynchronousKind
@@ -100,9 +107,9 @@ asynchronousSaid k-deviceClear d i c h = say c AsyncDeviceClearAcknowledge 0 0
 asynchronousSaid k-statusQuery d i c h = say c AsyncStatusResponse (statusByte (d .rest .status) (availableAt h (exchangeAt (d .rest) i))) 0
 asynchronousSaid k-lockInfo d i c h = say c AsyncLockInfoResponse (cond (all noExclusive (d .locks .entries)) 0 1) (tally holder (d .locks .entries))
 
--- AsyncLock: code 0 (true) releases; 1 requests, with the parameter as timeout and the payload as string
+-- AsyncLock: code 0 (true) releases, with the parameter as the number named; 1 requests, with the parameter as timeout and the payload as string
 abbrev pub lockEvent : Bool → ℕ → Header → List ℕ → LockEvent
-lockEvent true i h p = release i
+lockEvent true i h p = release i (h .param)
 lockEvent false i h p = request i (h .param) p
 
 unfoldable pub asynchronousEvent : AsynchronousKind → ℕ → Header → List ℕ → LockEvent
@@ -123,7 +130,7 @@ acts r-synchronous d i c h p =
       reply = took acted (16 + h .len) ((at (d .locks .entries) i) .number);
       rest = withExchange (d .rest) i (synchronousExchange k h (exchangeAt (d .rest) i));
       said = synchronousSaid k c;
-      event = nothing;
+      event = synchronousEvent k i h;
     }
 acts r-asynchronous d i c h p =
     let k = asynchronousKind (h .kind) in

@@ -16,7 +16,7 @@ use Rattle.model.specs.State.{Server, Entry, at, fresh}
 use Rattle.model.specs.Interface.{Event, Event.opening, Event.delivery, Event.cut, Event.clock, Event.answer, Event.status, Outcome.more-needed, Outcome.skipped, Outcome.held, Outcome.ignored, Outcome.error-sent, Outcome.closed, Outcome.acted, Reply, Reply.refused, Reply.done, Reply.took}
 use Rattle.model.specs.Scan.{freshScan, scan}
 use Rattle.model.specs.Place.{placeOf}
-use Rattle.model.specs.Locks.{mayGrant, access, elsewhere, passOver, grantPass, change}
+use Rattle.model.specs.Locks.{mayGrant, access, elsewhere, opened, joined, withLocks, passOver, grantPass, change}
 use Rattle.model.specs.Exchange.{controlled, mayAnswer, answerNumber, availableAt}
 use Rattle.model.specs.Checks.{verdict}
 use Rattle.model.specs.Acts.{acts, synchronousExchange, synchronousSaid, asynchronousRest, asynchronousSaid, asynchronousEvent}
@@ -160,7 +160,7 @@ isolation-cases =
 
 -- H. The other session holds fewer locks in the second list: S, in slot 0, is no worse off
 entry : ℕ → Bool → List ℕ → Entry
-entry n x k = record { number = n; synchronous = 2 * n; asynchronous = 2 * n + 1; exclusive = x; shared = k }
+entry n x k = withLocks x k (joined (2 * n + 1) (opened n (2 * n)))
 
 implies : Bool → Bool → Bool
 implies a b = not a || b
@@ -182,7 +182,7 @@ sharing : List ℕ → Server
 sharing k =
     let d = final (fresh 0x4141) three in
     let b = at (d .locks .entries) 1 in
-    let e : Entry = record { number = b .number; synchronous = b .synchronous; asynchronous = b .asynchronous; exclusive = b .exclusive; shared = k } in
+    let e : Entry = withLocks (b .exclusive) k b in
     record { locks = record { clock = d .locks .clock; entries = set (d .locks .entries) 1 e; waiting = d .locks .waiting }; rest = d .rest }
 
 -- A's request, if granted at once where B shares "cal", is so where B holds nothing

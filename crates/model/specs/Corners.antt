@@ -20,7 +20,7 @@ use Rattle.model.specs.Checks.{verdict}
 use Rattle.model.specs.Acts.{acts, synchronousExchange, synchronousSaid, asynchronousRest, asynchronousSaid, asynchronousEvent}
 use Rattle.model.specs.Refusals.{refusal, causes}
 use Rattle.model.specs.Step.{final, log, step, answered, plan, finish, received, effect}
-use Rattle.model.specs.Table.{Corner, corner, found, sought, message, send, request, release, cal, Cal, eightZeros, initialize, asyncInitialize, three}
+use Rattle.model.specs.Table.{Corner, corner, found, sought, message, send, request, release, releaseOf, cal, Cal, eightZeros, initialize, asyncInitialize, three}
 
 -- a message without payload and with parameter 0, to a connection
 abbrev plain : ℕ → ℕ → ℕ → List ℕ
@@ -194,6 +194,63 @@ locks =
 pub locks-hold : map found locks ≡ map sought locks
 unfolding locks log final step refusal causes answered plan finish received effect verdict placeOf acts synchronousExchange synchronousSaid asynchronousRest asynchronousSaid asynchronousEvent controlled mayAnswer answerNumber availableAt scan freshScan header field encode headerBytes frameBytes bytesOf classOf mayGrant access passOver grantPass change
 locks-hold = refl
+
+-- 02, Q-3: a release waits for the message that it names
+-- A exclusive, one command sent; A's release of a message still to come
+abbrev sent : List Event
+sent = exclusive ++ (send 0 (message 6 0 0xffffff00 cal) ∷ [])
+
+abbrev stood : List Event
+stood = sent ++ (releaseOf 1 0xffffff02 ∷ [])
+
+-- A exclusive, in a clear; then a release of message 8
+abbrev clearing : List Event
+clearing = exclusive ++ (send 1 (message 19 0 0 []) ∷ releaseOf 1 8 ∷ [])
+
+pub releases : List Corner
+releases =
+    -- at once: the last one's number; fffffefe hex where none acted; not an older one, and not fffffefe hex after one acted
+    corner sent (releaseOf 1 0xffffff00) (took acted 16 1) (plain 1 5 1)
+    ∷ corner exclusive (releaseOf 1 0xfffffefe) (took acted 16 1) (plain 1 5 1)
+    ∷ corner exclusive (releaseOf 1 0xffffff00) (took acted 16 1) []
+    ∷ corner (sent ++ (send 0 (message 6 0 0xffffff02 cal) ∷ [])) (releaseOf 1 0xffffff00) (took acted 16 1) []
+    ∷ corner sent (release 1) (took acted 16 1) []
+    -- nothing held: 3 at once, whatever it names
+    ∷ corner three (releaseOf 1 7) (took acted 16 1) (plain 1 5 3)
+    -- while it stands: the lock counts as held, every AsyncLock gets 3
+    ∷ corner stood (send 5 (message 24 0 0 [])) (took acted 16 3) (5 ∷ 0x48 ∷ 0x53 ∷ 25 ∷ 1 ∷ 0 ∷ 0 ∷ 0 ∷ 1 ∷ eightZeros)
+    ∷ corner stood (send 2 (message 6 0 0 cal)) (took held 0 0) []
+    ∷ corner stood (releaseOf 1 0xffffff00) (took acted 16 1) (plain 1 5 3)
+    ∷ corner stood (request 1 9 cal) (took acted 19 1) (plain 1 5 3)
+    -- another number, an error, a held and a too large message leave it; Data, DataEND or Trigger of its number ends it, then grants
+    ∷ corner stood (send 0 (message 6 0 0xffffff04 cal)) (took acted 19 1) []
+    ∷ corner stood (send 0 (message 6 7 0xffffff02 cal)) (took error-sent 19 0) (plain 0 3 2)
+    ∷ corner (stood ++ (send 0 (message 6 7 0xffffff02 cal) ∷ [])) (releaseOf 1 0xffffff00) (took acted 16 1) (plain 1 5 3)
+    ∷ corner (stood ++ (send 0 (message 6 0 0xffffff02 (replicate 1025 7)) ∷ [])) (releaseOf 1 0xffffff00) (took acted 16 1) (plain 1 5 3)
+    ∷ corner (shared ++ (request 3 0 [] ∷ releaseOf 1 8 ∷ [])) (send 0 (message 6 0 8 [])) (took held 0 0) []
+    ∷ corner (shared ++ (request 3 0 [] ∷ releaseOf 1 8 ∷ send 0 (message 6 0 8 []) ∷ [])) (releaseOf 1 8) (took acted 16 1) (plain 1 5 3)
+    ∷ corner (stood ++ (request 3 9 [] ∷ [])) (send 0 (message 6 0 0xffffff02 cal)) (took acted 19 1) (plain 1 5 1 ++ plain 3 5 1)
+    ∷ corner stood (send 0 (message 7 0 0xffffff02 [])) (took acted 16 1) (plain 1 5 1)
+    ∷ corner stood (send 0 (message 12 0 0xffffff02 [])) (took acted 16 1) (plain 1 5 1)
+    -- a malformed AsyncLock gets its Error, not 3
+    ∷ corner stood (send 1 (message 4 2 0 [])) (took error-sent 16 0) (plain 1 3 2)
+    -- AsyncDeviceClear: the waiting request's 0, the release's answer, the acknowledgement, the grants; then none has acted
+    ∷ corner (three ++ (request 1 0 cal ∷ request 3 0 cal ∷ request 5 90 Cal ∷ releaseOf 3 8 ∷ cut 1 2048 ∷ [])) (send 3 (message 19 0 0 [])) (took acted 16 2) (plain 3 5 2 ++ (plain 3 23 0 ++ plain 5 5 1))
+    ∷ corner (three ++ (request 1 0 cal ∷ request 3 0 cal ∷ request 1 0 [] ∷ request 3 90 [] ∷ releaseOf 3 8 ∷ [])) (send 3 (message 19 0 0 [])) (took acted 16 2) (plain 3 5 0 ++ (plain 3 5 2 ++ plain 3 23 0))
+    ∷ corner (sent ++ (send 1 (message 19 0 0 []) ∷ send 0 (message 8 0 0 []) ∷ [])) (release 1) (took acted 16 1) (plain 1 5 1)
+    -- a release in a clear stands through it: an ignored message does not act, DeviceClearComplete leaves it
+    ∷ corner (clearing ++ (send 0 (message 6 0 8 []) ∷ [])) (releaseOf 1 8) (took acted 16 1) (plain 1 5 3)
+    ∷ corner (clearing ++ (send 0 (message 8 0 0 []) ∷ [])) (send 0 (message 6 0 8 [])) (took acted 16 1) (plain 1 5 1)
+    -- which lock it frees is fixed when it arrives: exclusive is granted meanwhile, and shared goes. Then A is exclusive alone while B shares
+    ∷ corner (shared ++ (request 3 0 [] ∷ request 1 90 [] ∷ releaseOf 1 8 ∷ release 3 ∷ [])) (send 0 (message 6 0 8 [])) (took acted 16 1) (plain 1 5 2)
+    ∷ corner (shared ++ (request 3 0 [] ∷ request 1 90 [] ∷ releaseOf 1 8 ∷ release 3 ∷ send 0 (message 6 0 8 []) ∷ [])) (send 5 (message 24 0 0 [])) (took acted 16 3) (5 ∷ 0x48 ∷ 0x53 ∷ 25 ∷ 1 ∷ 0 ∷ 0 ∷ 0 ∷ 2 ∷ eightZeros)
+    -- a closing drops it, unanswered
+    ∷ corner (stood ++ (request 3 9 [] ∷ [])) (cut 0 2048) done (plain 3 5 1)
+    ∷ []
+
+pub releases-hold : map found releases ≡ map sought releases
+unfolding releases log final step refusal causes answered plan finish received effect verdict placeOf acts synchronousExchange synchronousSaid asynchronousRest asynchronousSaid asynchronousEvent controlled mayAnswer answerNumber availableAt scan freshScan header field encode headerBytes frameBytes bytesOf classOf mayGrant access passOver grantPass change
+releases-hold = refl
 
 -- clear, status, remote, sizes, answers
 pub exchanges : List Corner

@@ -21,7 +21,7 @@ unfoldable pub locksHeld : List Entry → ℕ
 locksHeld [] = 0
 locksHeld (e ∷ es) = locksOf e + locksHeld es
 
--- 01: granted counts answers 1 to requests; released answers 1 and 2 to releases
+-- 01: granted counts answers 1 to requests; released answers 1 and 2 to releases (02, Q-3: "The lock counts as released when its answer is sent")
 abbrev pub isGrant : Told → Bool
 isGrant a = a .request && eqb (a .code) 1
 

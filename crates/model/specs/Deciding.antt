@@ -2,7 +2,7 @@
 -- call does, by the lock model just before the call. Assumes nothing.
 use mathlib.Core.Path.{_≡_}
 use mathlib.Core.Bool.{Bool, false, not, _&&_, _||_, cond}
-use mathlib.Core.List.{List, [], _∷_, map}
+use mathlib.Core.List.{List, [], _∷_, _++_, map}
 use Prim.Native.Nat.{ℕ}
 use lib.Dec.{eqb, ltb}
 use lib.ListN.{length, take, drop}
@@ -16,7 +16,7 @@ use Rattle.model.specs.Interface.{Event, Event.opening, Event.delivery, 
 use Rattle.model.specs.Refusals.{refusal}
 use Rattle.model.specs.Step.{step, final, log}
 use Rattle.model.specs.LockModel
-use Rattle.model.specs.LockModel.{Session, Model, Told, own, has, on, allowed, notShared, look, modelStep, modelRun, freshModel}
+use Rattle.model.specs.LockModel.{Session, Model, ModelResult, Told, own, has, on, allowed, notShared, isPending, endsExclusive, endsShared, look, modelStep, modelRun, freshModel}
 use Rattle.model.specs.Agreement.{feed, feeds, toldFrame}
 use Rattle.model.specs.Access.{Command}
 
@@ -39,21 +39,37 @@ mayAct m s = s .exclusive || (not (exclusiveHeld m) && (not (notShared s) || all
 abbrev pub accessOn : Model → ℕ → Bool
 accessOn m c = any (λ s. on c s && mayAct m s) (m .sessions)
 
+-- a release of session n was not answered yet
+abbrev pub releasePends : Model → ℕ → Bool
+releasePends m n = own n (λ s. isPending (s .pending)) (m .sessions)
+
 -- 01: "Request answers, in this order: 3 if S already holds that kind, has a request waiting, or the string exceeds 64 [Q-6: 256]; 1 if
--- it may be granted, and it is; 0 if timeout is 0; else it waits". Of session n, with timeout t and string k: the codes sent at once
+-- it may be granted, and it is; 0 if timeout is 0; else it waits"; 02, Q-3: "A further AsyncLock while it stands gets 3". Of session n,
+-- with timeout t and string k: the codes sent at once
 abbrev pub requestCodes : Model → ℕ → ℕ → List ℕ → List ℕ
 requestCodes m n t k =
-    cond (own n (has k) (m .sessions) || (any (λ w. eqb (w .number) n) (m .waiting) || ltb stringLimit (length k))) (3 ∷ [])
+    cond (own n (has k) (m .sessions) || (any (λ w. eqb (w .number) n) (m .waiting) || (ltb stringLimit (length k) || releasePends m n))) (3 ∷ [])
     (cond (allowed (m .sessions) n k) (1 ∷ [])
     (cond (eqb t 0) (0 ∷ []) []))
 
--- 01: "Release frees exclusive first (1), then shared (2), with none held 3"
-abbrev pub releaseCode : Model → ℕ → ℕ
-releaseCode m n = cond (own n (λ s. s .exclusive) (m .sessions)) 1 (cond (own n (λ s. not (notShared s)) (m .sessions)) 2 3)
+-- 01: "Release frees exclusive first (1), then shared (2), with none held 3"; 02, Q-3: 3 too while one stands, and at once only if it names
+-- number p of the session's last Data, DataEND or Trigger. The codes sent at once
+abbrev pub releaseCodes : Model → ℕ → ℕ → List ℕ
+releaseCodes m n p =
+    let now = own n (λ s. eqb (s .heard) p) (m .sessions) in
+    cond (releasePends m n) (3 ∷ [])
+    (cond (own n (λ s. s .exclusive) (m .sessions)) (cond now (1 ∷ []) [])
+    (cond (own n (λ s. not (notShared s)) (m .sessions)) (cond now (2 ∷ []) []) (3 ∷ [])))
 
--- the answers to those whom the look after session n's release grants
-abbrev pub releaseGrants : Model → ℕ → List Told
-releaseGrants m n = let freed = (LockModel.release m n) .model in (look (freed .waiting) (freed .sessions)) .told
+-- 02, Q-3: the code with which a pending release is answered, if there is one and its number passes a test
+abbrev pub endedCodes : Model → ℕ → (ℕ → Bool) → List ℕ
+endedCodes m n t =
+    cond (own n (λ s. endsExclusive t (s .pending)) (m .sessions)) (1 ∷ [])
+    (cond (own n (λ s. endsShared t (s .pending)) (m .sessions)) (2 ∷ []) [])
+
+-- the answers to those whom the look after what a call itself does grants
+abbrev pub grantsAfter : ModelResult → List Told
+grantsAfter r = (look (r .model .waiting) (r .model .sessions)) .told
 
 -- AsyncLockResponse to connection c
 abbrev pub lockAnswer : ℕ → ℕ → Frame
@@ -70,9 +86,9 @@ pub record Decides (d : Server) (m : Model) (c : ℕ) (bs : List ℕ) (room : �
   -- a request that acted: all that is sent
   pub requests : (k n : ℕ) → (step d (delivery c bs room)) .reply ≡ took acted k n → (header bs) .kind ≡ AsyncLock → (header bs) .code ≡ 1
       → (step d (delivery c bs room)) .frames ≡ map (lockAnswer c) (requestCodes m n ((header bs) .param) (drop 16 (take k bs)))
-  -- a release that acted: its answer first, then those to whoever is granted
+  -- a release that acted: its answer first, if it does not stand, then those to whoever is granted
   pub releases : (k n : ℕ) → (step d (delivery c bs room)) .reply ≡ took acted k n → (header bs) .kind ≡ AsyncLock → (header bs) .code ≡ 0
-      → (step d (delivery c bs room)) .frames ≡ lockAnswer c (releaseCode m n) ∷ map toldFrame (releaseGrants m n)
+      → (step d (delivery c bs room)) .frames ≡ map (lockAnswer c) (releaseCodes m n ((header bs) .param)) ++ map toldFrame (grantsAfter (LockModel.release m n ((header bs) .param)))
 
 -- after any list from the fresh server, whatever is delivered next
 pub record Deciding (v : ℕ) (es : List Event) : Type 0 where

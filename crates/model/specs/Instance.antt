@@ -12,7 +12,7 @@ use Rattle.wire.specs.Frame.{Frame, frameOf, frameBytes, bytesOf}
 use Rattle.wire.specs.Class.{classOf, one-of}
 use Rattle.model.specs.Lists.{same, all, any, tally}
 use Rattle.model.specs.MessageTypes.{commands}
-use Rattle.model.specs.State.{Server, Rest, Locks, Entry, Waiting, Exchange, Asked, Asked.none, Asked.some, Connection, at, live, slotOfNumber, fresh}
+use Rattle.model.specs.State.{Server, Rest, Locks, Entry, Waiting, Kind.exclusive-lock, Kind.shared-lock, Standing, Standing.no-release, Standing.release-of, Exchange, Asked, Asked.none, Asked.some, Connection, at, live, slotOfNumber, fresh}
 use Rattle.model.specs.Interface.{Event, Event.opening, Event.delivery, Event.cut, Event.clock, Event.answer, Event.status, Outcome.more-needed, Outcome.skipped, Outcome.held, Outcome.ignored, Outcome.error-sent, Outcome.closed, Outcome.acted, Reply, Reply.refused, Reply.done, Reply.took, outcomeNumber}
 use Rattle.model.specs.Scan.{freshScan, scan}
 use Rattle.model.specs.Place.{placeOf}
@@ -24,12 +24,12 @@ use Rattle.model.specs.Refusals.{refusal, causes}
 use Rattle.model.specs.Step.{Line, final, log, step, answered, plan, finish, received, effect, answerType}
 use Rattle.model.specs.Canonical.{canonical, kept, omits, taken, showed}
 use Rattle.model.specs.LockModel
-use Rattle.model.specs.LockModel.{Session, Request, Model, freshModel, modelStep, modelRun, allowed, look, looked, notExclusive, notShared}
+use Rattle.model.specs.LockModel.{Session, Pending, Pending.none-pending, Pending.exclusive-until, Pending.shared-until, Request, Model, freshModel, modelStep, modelRun, allowed, look, looked, notExclusive, notShared}
 use Rattle.model.specs.Agreement.{feed, feeds, asSessions, asRequest, toldFrame, isLock}
 use Rattle.model.specs.Count.{count, isGrant, isRelease, dropped, locksHeld}
 use Rattle.model.specs.Granting.{hasAccess}
 use Rattle.model.specs.Tie.{askedBy}
-use Rattle.model.specs.Table.{message, send, request, release, cal, Cal, initialize, asyncInitialize, three}
+use Rattle.model.specs.Table.{message, send, request, release, releaseOf, cal, Cal, initialize, asyncInitialize, three}
 
 -- openings, refusals of every number, messages in pieces, bytes behind a message, a message too large, both locks, waiting, a deadline,
 -- releases, device clears, answers, a cut, FatalErrors from both sides, connections used again
@@ -44,15 +44,16 @@ rich =
     ∷ request 3 50 [] ∷ request 5 90 cal ∷ request 7 20 Cal ∷ request 7 20 [] ∷ send 2 (message 6 0 0 cal) ∷ send 0 (message 7 0 0xffffff00 cal)
     ∷ answer 1 (1 ∷ 2 ∷ []) false 2048 ∷ answer 1 (3 ∷ []) true 2048 ∷ answer 1 [] true 2048 ∷ answer 2 [] true 2048 ∷ answer 9 [] true 2048
     ∷ clock 10 2048 ∷ clock 20 2048 ∷ clock 4 2048 ∷ clock 30 2000
-    -- A releases exclusive: C is granted past B; two more releases; B is answered 0
-    ∷ release 1 ∷ send 0 (message 12 1 0xffffff02 []) ∷ send 2 (message 7 0 8 cal) ∷ release 1 ∷ release 1 ∷ clock 55 2048 ∷ clock 60 2048
+    -- A releases exclusive, by the number of its last message: C is granted past B; a release of shared that stands, with another and a
+    -- request behind it; B is answered 0
+    ∷ releaseOf 1 0xffffff00 ∷ send 0 (message 12 1 0xffffff02 []) ∷ send 2 (message 7 0 8 cal) ∷ releaseOf 1 0xffffff04 ∷ releaseOf 1 0xffffff02 ∷ request 1 0 [] ∷ clock 55 2048 ∷ clock 60 2048
     -- too large, skipped in two pieces, then whole again
-    ∷ send 0 (message 6 0 0 (replicate 1025 7)) ∷ send 0 (replicate 25 7) ∷ send 0 (replicate 1000 7) ∷ send 0 (message 12 0 0xffffff04 [])
+    ∷ send 0 (message 6 0 0 (replicate 1025 7)) ∷ send 0 (replicate 25 7) ∷ send 0 (replicate 1000 7) ∷ send 0 (message 12 0 0xffffff06 []) ∷ send 0 (message 12 0 0xffffff04 [])
     ∷ release 3 ∷ release 5 ∷ send 0 (message 12 0 0xffffff06 []) ∷ send 0 (message 6 0 0xffffff08 cal) ∷ answer 1 (4 ∷ []) true 2048
     -- exclusive, two waiting, a device clear of one, its end
     ∷ request 1 0 [] ∷ request 3 70 [] ∷ request 7 70 [] ∷ send 2 (message 7 0 10 cal) ∷ send 3 (message 19 0 0 []) ∷ send 2 (message 6 0 0 [])
-    ∷ send 2 (message 8 0 0 []) ∷ send 0 (message 7 0 0xffffff0a []) ∷ send 1 (message 19 0 0 []) ∷ answer 1 [] true 2048 ∷ send 1 (message 21 0 0 [])
-    ∷ request 1 0 cal ∷ request 3 99 cal ∷ status 0x41
+    ∷ send 2 (message 8 0 0 []) ∷ send 0 (message 7 0 0xffffff0a []) ∷ releaseOf 1 0xffffff0c ∷ send 7 (message 24 0 0 []) ∷ send 1 (message 19 0 0 []) ∷ answer 1 [] true 2048 ∷ send 1 (message 21 0 0 [])
+    ∷ release 7 ∷ request 1 0 [] ∷ request 7 70 [] ∷ request 1 0 cal ∷ request 3 99 cal ∷ status 0x41
     -- a cut that leaves a grant, a FatalError from a client; connections used again; a half-open session that goes on; a wrong prologue
     ∷ cut 0 2048 ∷ send 1 [] ∷ send 3 (message 2 0 0 []) ∷ opening 0 ∷ opening 1 ∷ send 0 initialize ∷ send 0 (message 6 0 0 []) ∷ opening 0
     ∷ send 0 initialize ∷ send 1 (asyncInitialize 6) ∷ send 4 (message 7 0 12 []) ∷ send 5 (replicate 16 0) ∷ send 7 (message 24 0 0 []) ∷ release 7
@@ -75,9 +76,14 @@ abbrev lineNumbers : List Line → List ℕ
 lineNumbers [] = []
 lineNumbers (l ∷ ls) = replyNumbers (l .reply) ++ (length (bytesOf (l .frames)) ∷ bytesOf (l .frames) ++ lineNumbers ls)
 
+abbrev standingNumbers : Standing → List ℕ
+standingNumbers no-release = 0 ∷ []
+standingNumbers (release-of exclusive-lock n) = 1 ∷ n ∷ []
+standingNumbers (release-of shared-lock n) = 2 ∷ n ∷ []
+
 abbrev entryNumbers : List Entry → List ℕ
 entryNumbers [] = 999 ∷ []
-entryNumbers (e ∷ es) = e .number ∷ e .synchronous ∷ e .asynchronous ∷ flag (e .exclusive) ∷ length (e .shared) ∷ e .shared ++ entryNumbers es
+entryNumbers (e ∷ es) = e .number ∷ e .synchronous ∷ e .asynchronous ∷ flag (e .exclusive) ∷ length (e .shared) ∷ e .last ∷ e .shared ++ (standingNumbers (e .standing) ++ entryNumbers es)
 
 abbrev waitingNumbers : List Waiting → List ℕ
 waitingNumbers [] = 999 ∷ []
@@ -121,12 +127,12 @@ codes =
     ∷ 6 ∷ 6 ∷ 6 ∷ 1006 ∷ 2 ∷ 6
     ∷ 1050 ∷ 1050 ∷ 105 ∷ 105 ∷ 108
     ∷ 50 ∷ 1050 ∷ 103 ∷ 107
-    ∷ 2006 ∷ 6 ∷ 2 ∷ 1006 ∷ 1006 ∷ 1050 ∷ 50
-    ∷ 1004 ∷ 1 ∷ 1 ∷ 2
+    ∷ 2006 ∷ 6 ∷ 2 ∷ 6 ∷ 1006 ∷ 1006 ∷ 1050 ∷ 50
+    ∷ 1004 ∷ 1 ∷ 1 ∷ 6 ∷ 1006
     ∷ 1006 ∷ 1006 ∷ 6 ∷ 6 ∷ 1050
     ∷ 1006 ∷ 6 ∷ 6 ∷ 2 ∷ 2006 ∷ 3
-    ∷ 1006 ∷ 6 ∷ 1006 ∷ 105 ∷ 1006
-    ∷ 1006 ∷ 6 ∷ 50
+    ∷ 1006 ∷ 6 ∷ 6 ∷ 1006 ∷ 3006 ∷ 105 ∷ 1006
+    ∷ 1006 ∷ 1006 ∷ 6 ∷ 1006 ∷ 6 ∷ 50
     ∷ 1050 ∷ 101 ∷ 5 ∷ 50 ∷ 50 ∷ 1006 ∷ 1005 ∷ 50
     ∷ 1006 ∷ 1006 ∷ 2 ∷ 2005 ∷ 1006 ∷ 1006
     ∷ 1006 ∷ 6 ∷ 1050 ∷ 50
@@ -169,8 +175,13 @@ unfolding rich log final step refusal causes answered plan finish received effec
 omitted-at = refl
 
 -- B: after each call the clock, the waiting requests and the sessions agree, and its lock answers are those sent
+abbrev pendingNumbers : Pending → List ℕ
+pendingNumbers none-pending = 0 ∷ []
+pendingNumbers (exclusive-until n) = 1 ∷ n ∷ []
+pendingNumbers (shared-until n) = 2 ∷ n ∷ []
+
 abbrev sessionNumbers : Session → List ℕ
-sessionNumbers s = s .number ∷ length (s .connections) ∷ s .connections ++ (flag (s .exclusive) ∷ s .shared)
+sessionNumbers s = s .number ∷ length (s .connections) ∷ s .heard ∷ s .connections ++ (pendingNumbers (s .pending) ++ (flag (s .exclusive) ∷ s .shared))
 
 abbrev sameSession : Session → Session → Bool
 sameSession a b = same (sessionNumbers a) (sessionNumbers b)
@@ -199,7 +210,7 @@ agreeing d m (e ∷ es) =
     && (same (bytesOf (map toldFrame (o .told))) (bytesOf (lockFrames (r .frames))) && agreeing (r .server) (o .model) es)
 
 pub agreement-at : agreeing d₀ freshModel rich ≡ true
-unfolding rich log final step refusal causes answered plan finish received effect verdict placeOf acts synchronousExchange synchronousSaid asynchronousRest asynchronousSaid asynchronousEvent controlled mayAnswer answerNumber availableAt scan freshScan header field encode headerBytes frameBytes bytesOf classOf mayGrant access passOver grantPass change modelStep LockModel.request LockModel.release LockModel.reading LockModel.clearing LockModel.removal LockModel.delivered look looked allowed
+unfolding rich log final step refusal causes answered plan finish received effect verdict placeOf acts synchronousExchange synchronousSaid asynchronousRest asynchronousSaid asynchronousEvent controlled mayAnswer answerNumber availableAt scan freshScan header field encode headerBytes frameBytes bytesOf classOf mayGrant access passOver grantPass change modelStep LockModel.request LockModel.release LockModel.message LockModel.reading LockModel.clearing LockModel.removal LockModel.delivered look looked allowed
 agreement-at = refl
 
 -- D: grants, access and AsyncLockInfo go by the lock model's holders, after each call, for every live slot
@@ -226,13 +237,13 @@ deciding d m (e ∷ es) =
     && (eqb (tally holder (r .server .locks .entries)) (tally (λ s. not (notExclusive s && notShared s)) (o .model .sessions)) && deciding (r .server) (o .model) es)
 
 pub decisions-at : deciding d₀ freshModel rich ≡ true
-unfolding rich log final step refusal causes answered plan finish received effect verdict placeOf acts synchronousExchange synchronousSaid asynchronousRest asynchronousSaid asynchronousEvent controlled mayAnswer answerNumber availableAt scan freshScan header field encode headerBytes frameBytes bytesOf classOf mayGrant access passOver grantPass change modelStep LockModel.request LockModel.release LockModel.reading LockModel.clearing LockModel.removal LockModel.delivered look looked allowed
+unfolding rich log final step refusal causes answered plan finish received effect verdict placeOf acts synchronousExchange synchronousSaid asynchronousRest asynchronousSaid asynchronousEvent controlled mayAnswer answerNumber availableAt scan freshScan header field encode headerBytes frameBytes bytesOf classOf mayGrant access passOver grantPass change modelStep LockModel.request LockModel.release LockModel.message LockModel.reading LockModel.clearing LockModel.removal LockModel.delivered look looked allowed
 decisions-at = refl
 
 -- C: the count
 pub count-at : count isGrant ((modelRun freshModel (feeds (log d₀ rich))) .told)
     ≡ count isRelease ((modelRun freshModel (feeds (log d₀ rich))) .told) + dropped freshModel (feeds (log d₀ rich)) + locksHeld ((final d₀ rich) .locks .entries)
-unfolding rich log final step refusal causes answered plan finish received effect verdict placeOf acts synchronousExchange synchronousSaid asynchronousRest asynchronousSaid asynchronousEvent controlled mayAnswer answerNumber availableAt scan freshScan header field encode headerBytes frameBytes bytesOf classOf mayGrant access passOver grantPass change modelRun modelStep LockModel.request LockModel.release LockModel.reading LockModel.clearing LockModel.removal LockModel.delivered look looked allowed count dropped locksHeld
+unfolding rich log final step refusal causes answered plan finish received effect verdict placeOf acts synchronousExchange synchronousSaid asynchronousRest asynchronousSaid asynchronousEvent controlled mayAnswer answerNumber availableAt scan freshScan header field encode headerBytes frameBytes bytesOf classOf mayGrant access passOver grantPass change modelRun modelStep LockModel.request LockModel.release LockModel.message LockModel.reading LockModel.clearing LockModel.removal LockModel.delivered look looked allowed count dropped locksHeld
 count-at = refl
 
 -- F: each answer that is sent carries the number that the log before it gives

@@ -1,5 +1,5 @@
--- N. Isolation over the run (01, "Access: the exclusive holder alone"): from the answer that grants S exclusive until its release or its
--- closing, every Data, DataEND and Trigger that acts is S's. Assumes nothing.
+-- N. Isolation over the run (01, "Access: the exclusive holder alone"): from the answer that grants S exclusive until the answer to its
+-- release or its closing, every Data, DataEND and Trigger that acts is S's. Assumes nothing.
 use mathlib.Core.Path.{_≡_}
 use mathlib.Core.Bool.{Bool, true, _&&_}
 use mathlib.Core.List.{List, [], _∷_}
@@ -10,11 +10,12 @@ use Rattle.wire.specs.Class.{one-of}
 use Rattle.model.specs.Sizes.{noConnection}
 use Rattle.model.specs.MessageTypes.{AsyncLock, commands}
 use Rattle.model.specs.Lists.{isNil, any}
-use Rattle.model.specs.State.{Locks, at, Server, fresh}
+use Rattle.model.specs.State.{Locks, Kind.exclusive-lock, Standing.no-release, Standing.release-of, at, Server, fresh}
 use Rattle.model.specs.Interface.{Event, Event.delivery, Outcome.acted, Reply.took}
 use Rattle.model.specs.Place.{slotOf}
 use Rattle.model.specs.Step.{Line, step, final, log}
 use Rattle.model.specs.Fewer.{answers1}
+use Rattle.model.specs.Standing.{Answers, Completes}
 use Rattle.model.specs.Closing.{Closes}
 
 -- how it begins, for the session in slot j: its AsyncLock with code 1 and an empty string acts and is answered 1; or it waits for
@@ -29,10 +30,14 @@ pub data Begins (d : Server) (j : ℕ) : Event → Type 0 where
   later : (e : Event) → awaitsExclusive (d .locks) j ≡ true → ((at (d .locks .entries) j) .asynchronous ≡ noConnection → ⊥)
       → any (λ f. answers1 f && eqb (f .to) ((at (d .locks .entries) j) .asynchronous)) ((step d e) .frames) ≡ true → Begins d j e
 
--- how it ends: its AsyncLock with code 0, a release, acts; or it closes
+-- how it ends, with answer 1 (02, Q-3: "The lock counts as released when its answer is sent"): its release, AsyncLock with code 0, acts at
+-- once, since none stands and it names the last message; or one that stands for the exclusive lock is completed; or it closes. The answer
+-- is its own release's: a grant to it in the same call ends nothing
 pub data Ends (d : Server) (j : ℕ) : Event → Type 0 where
-  releases : (c : ℕ) (bs : List ℕ) (room k n : ℕ) → slotOf d c ≡ j → (step d (delivery c bs room)) .reply ≡ took acted k n
-      → (header bs) .kind ≡ AsyncLock → (header bs) .code ≡ 0 → Ends d j (delivery c bs room)
+  released-now : (c : ℕ) (bs : List ℕ) (room k n : ℕ) → slotOf d c ≡ j → (step d (delivery c bs room)) .reply ≡ took acted k n → (header bs) .kind ≡ AsyncLock → (header bs) .code ≡ 0
+      → (at (d .locks .entries) j) .standing ≡ no-release → (at (d .locks .entries) j) .last ≡ (header bs) .param → Answers d j 1 (delivery c bs room)
+      → Ends d j (delivery c bs room)
+  released-later : {e : Event} (m : ℕ) → (at (d .locks .entries) j) .standing ≡ release-of exclusive-lock m → Completes d j exclusive-lock m e → Ends d j e
   closes : {e : Event} (c : ℕ) → slotOf d c ≡ j → Closes d e c → Ends d j e
 
 -- no call of the list ends it

@@ -29,6 +29,7 @@ pub mod Bound
 pub mod SessionId
 pub mod OneString
 pub mod IsolationRun
+pub mod Standing
 pub mod FixedPoint
 pub mod AlwaysRoom
 pub mod Demand3

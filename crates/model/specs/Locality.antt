@@ -15,7 +15,7 @@ use Rattle.model.specs.Interface.{Event, Event.delivery, Outcome, Outcom
 use Rattle.model.specs.Step.{Line, Result, step, final, log}
 use Rattle.model.specs.Closing.{OldestFirst}
 use Rattle.model.specs.Happening.{Happening, heard, happened}
-use Rattle.model.specs.LocalityRows.{Row, inSlot, clear-row, asked-row, available-row, size-row, number-row, synchronous-row, asynchronous-row, exclusive-row, shared-row, requestsLeft, looksAfter, open-row, remainder-row, isSilence, Single, singly, clock-row, status-row, vendor-row, issued-row, enable-row, lockout-row, remote-row}
+use Rattle.model.specs.LocalityRows.{Row, inSlot, clear-row, asked-row, available-row, size-row, number-row, synchronous-row, asynchronous-row, exclusive-row, shared-row, last-row, standing-row, requestsLeft, looksAfter, open-row, remainder-row, isSilence, Single, singly, clock-row, status-row, vendor-row, issued-row, enable-row, lockout-row, remote-row}
 use Rattle.model.specs.LocalityReplies.{direct, answeredFirst, answerTo, sessionSaid}
 
 -- what happened at a call, as the host sees it
@@ -29,8 +29,10 @@ entryDue es h i x =
       number = inSlot number-row es i h (x .number);
       synchronous = inSlot synchronous-row es i h (x .synchronous);
       asynchronous = inSlot asynchronous-row es i h (x .asynchronous);
-      exclusive = inSlot exclusive-row es i h (x .exclusive);
-      shared = inSlot shared-row es i h (x .shared);
+      exclusive = inSlot (exclusive-row x) es i h (x .exclusive);
+      shared = inSlot (shared-row x) es i h (x .shared);
+      last = inSlot last-row es i h (x .last);
+      standing = inSlot (standing-row x) es i h (x .standing);
     }
 
 -- what a grant makes of a session's locks: exclusive if the string is empty, else shared with that string
@@ -58,10 +60,11 @@ abbrev pub EachConnection : {A : Type 0} → Server → Happening → Result →
 EachConnection d h r field row =
     (x : ℕ) → x < length (d .rest .connections) → field (connectionAt (r .server .rest) x) ≡ row (d .locks .entries) x h (field (connectionAt (d .rest) x))
 
--- with what the requests that are granted then make of it
-abbrev pub EachSession : {A : Type 0} → Server → Happening → Result → (ℕ → A → A) → (Entry → A) → Row A → Type 0
+-- the row may go by the session's other fields; with what the requests that are granted then make of it
+abbrev pub EachSession : {A : Type 0} → Server → Happening → Result → (ℕ → A → A) → (Entry → A) → (Entry → Row A) → Type 0
 EachSession d h r given field row =
-    (i : ℕ) → i < length (d .locks .entries) → field (at (r .server .locks .entries) i) ≡ given i (inSlot row (d .locks .entries) i h (field (at (d .locks .entries) i)))
+    (i : ℕ) → i < length (d .locks .entries)
+    → field (at (r .server .locks .entries) i) ≡ given i (inSlot (row (at (d .locks .entries) i)) (d .locks .entries) i h (field (at (d .locks .entries) i)))
 
 -- h happened, and a call left server r .server and sent frames r .frames: one row for every field of the server
 pub record Local (d : Server) (h : Happening) (r : Result) : Type 0 where
@@ -85,16 +88,18 @@ pub record Local (d : Server) (h : Happening) (r : Result) : Type 0 where
   -- sessions; their locks: first the session's own doing, then the requests that are granted
   pub granted : List Waiting
   pub slots : length (r .server .locks .entries) ≡ length (d .locks .entries)
-  pub number : EachSession d h r (λ i n. n) (λ e. e .number) number-row
-  pub synchronous : EachSession d h r (λ i c. c) (λ e. e .synchronous) synchronous-row
-  pub asynchronous : EachSession d h r (λ i c. c) (λ e. e .asynchronous) asynchronous-row
+  pub number : EachSession d h r (λ i n. n) (λ e. e .number) (λ e. number-row)
+  pub synchronous : EachSession d h r (λ i c. c) (λ e. e .synchronous) (λ e. synchronous-row)
+  pub asynchronous : EachSession d h r (λ i c. c) (λ e. e .asynchronous) (λ e. asynchronous-row)
   pub exclusive : EachSession d h r (λ i b. givenExclusive granted i || b) (λ e. e .exclusive) exclusive-row
   pub shared : EachSession d h r (λ i s. givenShared granted i s) (λ e. e .shared) shared-row
+  pub last : EachSession d h r (λ i n. n) (λ e. e .last) (λ e. last-row)
+  pub standing : EachSession d h r (λ i s. s) (λ e. e .standing) standing-row
   -- requests: which are granted and which wait on. The look begins with the slots and the requests as the call itself leaves them
   pub due : List Entry
   pub due-slots : length due ≡ length (d .locks .entries)
   pub due-is : (i : ℕ) → i < length (d .locks .entries) → at due i ≡ entryDue (d .locks .entries) h i (at (d .locks .entries) i)
-  pub waiting : Look (looksAfter h) due (requestsLeft (d .locks .entries) (d .locks .clock) h (d .locks .waiting)) (r .server .locks .entries) (r .server .locks .waiting) granted
+  pub waiting : Look (looksAfter (d .locks .entries) h) due (requestsLeft (d .locks .entries) (d .locks .clock) h (d .locks .waiting)) (r .server .locks .entries) (r .server .locks .waiting) granted
   -- every frame: the lock answers that come first, direct replies, answers 1 to those granted
   pub frames : r .frames ≡ answeredFirst d h ++ (direct d h ++ map (answerTo 1 due) granted)
   -- the session's number in the reply

@@ -1,7 +1,7 @@
 -- The table of what a call sends: every field of every frame. Written from 01's sentences by type number, apart from the definitions of
 -- what a message does. Reply fields not named are 0.
 use mathlib.Core.Bool.{Bool, not, _||_, cond}
-use mathlib.Core.List.{List, [], _∷_, map}
+use mathlib.Core.List.{List, [], _∷_, _++_, map}
 use Prim.Native.Nat.{ℕ, _+_, _*_, _/_, _%_, min}
 use lib.Dec.{eqb}
 use Rattle.wire.specs.Frame.{Frame, frameOf}
@@ -9,7 +9,7 @@ use Rattle.model.specs.Lists.{isNil, any, keep, tally}
 use Rattle.model.specs.State.{Server, Entry, Waiting, Asked, Asked.none, Asked.some, at, live, slotOfNumber, exchangeAt}
 use Rattle.model.specs.Place.{slotIn}
 use Rattle.model.specs.Happening.{Heard, Heard.silence, Heard.with-code, Action, Happening, Happening.unmoved, Happening.connected, Happening.disconnected, Happening.skipped-over, Happening.errored, Happening.message-acted, Happening.clock-read, Happening.status-set, Happening.answer-sent}
-use Rattle.model.specs.LocalityRows.{kindOf, slotActed, available-row, requestsOf, reachedBy, connectionsOf}
+use Rattle.model.specs.LocalityRows.{kindOf, slotActed, available-row, endedWith, requestsOf, reachedBy, connectionsOf}
 
 -- a message to a connection with a type, code and parameter and no payload
 abbrev pub plainTo : ℕ → ℕ → ℕ → ℕ → Frame
@@ -86,7 +86,7 @@ abbrev pub answerTo : ℕ → List Entry → Waiting → Frame
 answerTo k es w = plainTo ((at es (w .slot)) .asynchronous) 5 k 0
 
 -- the lock answers that come before a direct reply: of AsyncLock (4) its own; of a clear (19) and a clock reading 0 to each request that
--- waits no more, oldest first
+-- waits no more, oldest first; then that of a standing release that the message ends (02, Q-3)
 abbrev pub answeredFirst : Server → Happening → List Frame
 answeredFirst d unmoved = []
 answeredFirst d (connected c) = []
@@ -94,8 +94,10 @@ answeredFirst d (disconnected c k) = []
 answeredFirst d (skipped-over c k) = []
 answeredFirst d (errored c n k) = []
 answeredFirst d (message-acted a) =
+    let es = d .locks .entries in
+    let e = at es (slotActed es a) in
     cond (eqb (kindOf a) 4) (saidTo (a .told) 5 (a .connection ∷ []))
-    (cond (eqb (kindOf a) 19) (map (answerTo 0 (d .locks .entries)) (keep (requestsOf (slotActed (d .locks .entries) a)) (d .locks .waiting))) [])
+    (cond (eqb (kindOf a) 19) (map (answerTo 0 es) (keep (requestsOf (slotActed es a)) (d .locks .waiting))) [] ++ saidTo (endedWith a (e .standing)) 5 (e .asynchronous ∷ []))
 answeredFirst d (clock-read t) = map (answerTo 0 (d .locks .entries)) (keep (reachedBy t) (d .locks .waiting))
 answeredFirst d (status-set b) = []
 answeredFirst d (answer-sent n p end) = []

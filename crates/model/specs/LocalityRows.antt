@@ -8,7 +8,7 @@ use Rattle.wire.specs.Field.{number}
 use Rattle.wire.specs.Class.{one-of}
 use Rattle.model.specs.Sizes.{noConnection}
 use Rattle.model.specs.Lists.{isNil, keep}
-use Rattle.model.specs.State.{Entry, Waiting, Asked, Asked.none, Asked.some, at, live, slotOfNumber}
+use Rattle.model.specs.State.{Entry, Waiting, Kind.exclusive-lock, Kind.shared-lock, Standing, Standing.no-release, Standing.release-of, Asked, Asked.none, Asked.some, at, live, slotOfNumber}
 use Rattle.model.specs.Place.{slotIn}
 use Rattle.model.specs.Happening.{Heard, Heard.silence, Heard.with-code, Action, Happening, Happening.unmoved, Happening.connected, Happening.disconnected, Happening.skipped-over, Happening.errored, Happening.message-acted, Happening.clock-read, Happening.status-set, Happening.answer-sent}
 
@@ -92,7 +92,7 @@ asynchronous-row =
       once-closed = noConnection;
     }
 
--- AsyncLock (4): a release (code 0) answered k; a request granted at once (answered 1) and one that is not answered, so waits
+-- AsyncLock (4): a release (code 0); a request granted at once (answered 1) and one that is not answered, so waits
 abbrev pub isCode : ℕ → Heard → Bool
 isCode k silence = false
 isCode k (with-code n) = eqb n k
@@ -101,8 +101,8 @@ abbrev pub isSilence : Heard → Bool
 isSilence silence = true
 isSilence (with-code n) = false
 
-abbrev pub releasedWith : ℕ → Action → Bool
-releasedWith k a = eqb (kindOf a) 4 && (eqb (a .message .code) 0 && isCode k (a .told))
+abbrev pub isRelease : Action → Bool
+isRelease a = eqb (kindOf a) 4 && eqb (a .message .code) 0
 
 abbrev pub obtains : Action → Bool
 obtains a = eqb (kindOf a) 4 && (not (eqb (a .message .code) 0) && isCode 1 (a .told))
@@ -110,22 +110,59 @@ obtains a = eqb (kindOf a) 4 && (not (eqb (a .message .code) 0) && isCode 1 (a .
 abbrev pub waits : Action → Bool
 waits a = eqb (kindOf a) 4 && (not (eqb (a .message .code) 0) && isSilence (a .told))
 
--- the session's own locks, before waiting requests are looked at. 01: exclusive has the empty string; release frees exclusive first (1),
--- then shared (2)
-abbrev pub exclusive-row : Row Bool
-exclusive-row =
+-- the code that answers a standing release whose number passes a test: 1 for exclusive, 2 for shared
+abbrev pub codeWhere : (ℕ → Bool) → Standing → Heard
+codeWhere t no-release = silence
+codeWhere t (release-of exclusive-lock n) = cond (t n) (with-code 1) silence
+codeWhere t (release-of shared-lock n) = cond (t n) (with-code 2) silence
+
+-- 02, Q-3: a standing release ends with a Data, DataEND or Trigger (6, 7, 12) of the number that it names, and with any AsyncDeviceClear
+-- (19)
+abbrev pub endedWith : Action → Standing → Heard
+endedWith a s = cond (one-of (6 ∷ 7 ∷ 12 ∷ []) (kindOf a)) (codeWhere (λ n. eqb n (a .message .param)) s) (cond (eqb (kindOf a) 19) (codeWhere (λ n. true) s) silence)
+
+-- the code with which a message answers a release of its session e: a release its own, if it is answered at once; else one that stood
+abbrev pub releasedWith : Entry → Action → Heard
+releasedWith e a = cond (isRelease a) (a .told) (endedWith a (e .standing))
+
+-- the locks of session e by its own doing, before waiting requests are looked at. 01: exclusive has the empty string; release frees
+-- exclusive first (1), then shared (2). 02, Q-3: a lock counts as released when its answer is sent
+abbrev pub exclusive-row : Entry → Row Bool
+exclusive-row e =
     record {
-      by-message = λ a b. cond (eqb (kindOf a) 0 || releasedWith 1 a) false (cond (obtains a && isNil (a .message .payload)) true b);
+      by-message = λ a b. cond (eqb (kindOf a) 0 || isCode 1 (releasedWith e a)) false (cond (obtains a && isNil (a .message .payload)) true b);
       by-answer = λ end b. b;
       once-closed = false;
     }
 
-abbrev pub shared-row : Row (List ℕ)
-shared-row =
+abbrev pub shared-row : Entry → Row (List ℕ)
+shared-row e =
     record {
-      by-message = λ a s. cond (eqb (kindOf a) 0 || releasedWith 2 a) [] (cond (obtains a && not (isNil (a .message .payload))) (a .message .payload) s);
+      by-message = λ a s. cond (eqb (kindOf a) 0 || isCode 2 (releasedWith e a)) [] (cond (obtains a && not (isNil (a .message .payload))) (a .message .payload) s);
       by-answer = λ end s. s;
       once-closed = [];
+    }
+
+-- 02, Q-3: the number of the last Data, DataEND or Trigger acted on since opening (0) or the last AsyncDeviceClear (19); before any,
+-- fffffefe hex
+abbrev pub last-row : Row ℕ
+last-row =
+    record {
+      by-message = λ a n. cond (one-of (6 ∷ 7 ∷ 12 ∷ []) (kindOf a)) (a .message .param) (cond (one-of (0 ∷ 19 ∷ []) (kindOf a)) 0xfffffefe n);
+      by-answer = λ end n. n;
+      once-closed = 0xfffffefe;
+    }
+
+-- 02, Q-3: a release that is not answered at once stands for the message that it names; "Which lock it frees is fixed when it arrives",
+-- exclusive first
+abbrev pub standing-row : Entry → Row Standing
+standing-row e =
+    record {
+      by-message = λ a s.
+          cond (isRelease a && isSilence (a .told)) (release-of (cond (e .exclusive) exclusive-lock shared-lock) (a .message .param))
+          (cond (eqb (kindOf a) 0 || not (isSilence (endedWith a s))) no-release s);
+      by-answer = λ end s. s;
+      once-closed = no-release;
     }
 
 -- REQUESTS, before they are looked at: one that waits is the last, until clock of arrival plus timeout; a clear (19) and a closing take
@@ -149,17 +186,18 @@ requestsLeft es now (clock-read t) ws = keep (λ w. not (reachedBy t w)) ws
 requestsLeft es now (status-set b) ws = ws
 requestsLeft es now (answer-sent n p end) ws = ws
 
--- they are looked at after a release and after a closing (that a look would grant nobody after any other call is `always-settled`)
-abbrev pub looksAfter : Happening → Bool
-looksAfter unmoved = false
-looksAfter (connected c) = false
-looksAfter (disconnected c k) = true
-looksAfter (skipped-over c k) = false
-looksAfter (errored c n k) = false
-looksAfter (message-acted a) = eqb (kindOf a) 4 && eqb (a .message .code) 0
-looksAfter (clock-read t) = false
-looksAfter (status-set b) = false
-looksAfter (answer-sent n p end) = false
+-- they are looked at where a release was answered 1 or 2, so a lock was freed, and after a closing (that a look would grant nobody after
+-- any other call is `always-settled`)
+abbrev pub looksAfter : List Entry → Happening → Bool
+looksAfter es unmoved = false
+looksAfter es (connected c) = false
+looksAfter es (disconnected c k) = true
+looksAfter es (skipped-over c k) = false
+looksAfter es (errored c n k) = false
+looksAfter es (message-acted a) = let r = releasedWith (at es (slotActed es a)) a in isCode 1 r || isCode 2 r
+looksAfter es (clock-read t) = false
+looksAfter es (status-set b) = false
+looksAfter es (answer-sent n p end) = false
 
 -- CONNECTIONS. A closing of connection c concerns c and each connection of its session
 abbrev pub connectionsOf : Entry → List ℕ

@@ -9,17 +9,25 @@ use lib.ListN.{getD, length, drop}
 use Rattle.wire.specs.declared.Header.{Header}
 use Rattle.wire.specs.Message.{header}
 use Rattle.wire.specs.Class.{one-of}
-use Rattle.model.specs.Sizes.{stringLimit, noConnection}
-use Rattle.model.specs.MessageTypes.{Initialize, AsyncInitialize, AsyncLock, AsyncDeviceClear}
+use Rattle.model.specs.Sizes.{stringLimit, noConnection, beforeFirst}
+use Rattle.model.specs.MessageTypes.{Initialize, AsyncInitialize, AsyncLock, AsyncDeviceClear, commands}
 use Rattle.model.specs.Lists.{isNil, same, all, any, keep}
 use Rattle.model.specs.Interface.{Outcome, Outcome.more-needed, Outcome.skipped, Outcome.held, Outcome.ignored, Outcome.error-sent, Outcome.closed, Outcome.acted}
 
--- a session: its number, its connections in the order in which they were entered, exclusive, the shared string (empty: none)
+-- a release that was not answered yet, of the exclusive or of the shared lock, and the number that it named
+pub data Pending : Type 0 where
+  none-pending : Pending
+  exclusive-until shared-until : ℕ → Pending
+
+-- a session: its number, its connections in the order in which they were entered, exclusive, the shared string (empty: none); the number
+-- of its last Data, DataEND or Trigger acted on (fffffefe hex before the first and after a device clear); the pending release
 pub record Session : Type 0 where
   pub number : ℕ
   pub connections : List ℕ
   pub exclusive : Bool
   pub shared : List ℕ
+  pub heard : ℕ
+  pub pending : Pending
 
 -- a waiting request of a session; an empty string asks for exclusive
 pub record Request : Type 0 where
@@ -75,18 +83,28 @@ abbrev pub has : List ℕ → Session → Bool
 has [] s = s .exclusive
 has (x ∷ k) s = not (notShared s)
 
+-- the same session with other locks, connections, number heard and pending release
+abbrev pub changed : Session → List ℕ → Bool → List ℕ → ℕ → Pending → Session
+changed s cs x k n p = record { number = s .number; connections = cs; exclusive = x; shared = k; heard = n; pending = p }
+
 abbrev pub withLock : List ℕ → Session → Session
-withLock [] s = record { number = s .number; connections = s .connections; exclusive = true; shared = s .shared }
-withLock (x ∷ k) s = record { number = s .number; connections = s .connections; exclusive = s .exclusive; shared = x ∷ k }
+withLock [] s = changed s (s .connections) true (s .shared) (s .heard) (s .pending)
+withLock (x ∷ k) s = changed s (s .connections) (s .exclusive) (x ∷ k) (s .heard) (s .pending)
 
 abbrev pub exclusiveFreed : Session → Session
-exclusiveFreed s = record { number = s .number; connections = s .connections; exclusive = false; shared = s .shared }
+exclusiveFreed s = changed s (s .connections) false (s .shared) (s .heard) (s .pending)
 
 abbrev pub sharedFreed : Session → Session
-sharedFreed s = record { number = s .number; connections = s .connections; exclusive = s .exclusive; shared = [] }
+sharedFreed s = changed s (s .connections) (s .exclusive) [] (s .heard) (s .pending)
 
 abbrev pub alsoOn : ℕ → Session → Session
-alsoOn c s = record { number = s .number; connections = s .connections ++ (c ∷ []); exclusive = s .exclusive; shared = s .shared }
+alsoOn c s = changed s (s .connections ++ (c ∷ [])) (s .exclusive) (s .shared) (s .heard) (s .pending)
+
+abbrev pub hearing : ℕ → Session → Session
+hearing n s = changed s (s .connections) (s .exclusive) (s .shared) n (s .pending)
+
+abbrev pub pends : Pending → Session → Session
+pends p s = changed s (s .connections) (s .exclusive) (s .shared) (s .heard) p
 
 -- a change of session n alone
 abbrev pub onNumber : ℕ → (Session → Session) → Session → Session
@@ -109,8 +127,13 @@ with-sessions m ss = record { clock = m .clock; sessions = ss; waiting = m .wait
 abbrev pub with-waiting : Model → List Request → Model
 with-waiting m ws = record { clock = m .clock; sessions = m .sessions; waiting = ws }
 
--- 01 and Q-6: 3 if S already holds that kind, has a request waiting, or the string exceeds 256; 1 if it may be granted, and it is;
--- 0 if timeout is 0; else it waits until clock of arrival plus timeout. By the tests: 3, may be granted, timeout 0
+abbrev pub isPending : Pending → Bool
+isPending none-pending = false
+isPending (exclusive-until p) = true
+isPending (shared-until p) = true
+
+-- 01, Q-6 and Q-3: 3 if S already holds that kind, has a request waiting, the string exceeds 256, or a release is pending; 1 if it may be
+-- granted, and it is; 0 if timeout is 0; else it waits until clock of arrival plus timeout. By the tests: 3, may be granted, timeout 0
 abbrev pub decided : Bool → Bool → Bool → Model → ℕ → ℕ → List ℕ → ModelResult
 decided true g z m n t k = record { model = m; told = tells (m .sessions) n 3 true ∷ [] }
 decided false true z m n t k = record { model = with-sessions m (alter n (withLock k) (m .sessions)); told = tells (m .sessions) n 1 true ∷ [] }
@@ -120,7 +143,7 @@ decided false false false m n t k = record { model = with-waiting m (m .waiting 
 unfoldable pub request : Model → ℕ → ℕ → List ℕ → ModelResult
 request m n t k =
     decided
-    (own n (has k) (m .sessions) || (any (λ w. eqb (w .number) n) (m .waiting) || ltb stringLimit (length k)))
+    (own n (has k) (m .sessions) || (any (λ w. eqb (w .number) n) (m .waiting) || (ltb stringLimit (length k) || own n (λ s. isPending (s .pending)) (m .sessions))))
     (allowed (m .sessions) n k)
     (eqb t 0)
     m
@@ -128,14 +151,49 @@ request m n t k =
     t
     k
 
--- 01: release frees exclusive first (1), then shared (2), with none held 3. By the tests: exclusive held, shared held
-abbrev pub freed : Bool → Bool → Model → ℕ → ModelResult
-freed true s m n = record { model = with-sessions m (alter n exclusiveFreed (m .sessions)); told = tells (m .sessions) n 1 false ∷ [] }
-freed false true m n = record { model = with-sessions m (alter n sharedFreed (m .sessions)); told = tells (m .sessions) n 2 false ∷ [] }
-freed false false m n = record { model = m; told = tells (m .sessions) n 3 false ∷ [] }
+-- 02, Q-3: a release is answered 3 while one is pending or with no lock held. It frees exclusive (1) before shared (2): at once if it
+-- names the number heard last, else it is pending. By the tests: one is pending, exclusive held, shared held, the number heard last
+abbrev pub freed : Bool → Bool → Bool → Bool → Model → ℕ → ℕ → ModelResult
+freed true x s a m n p = record { model = m; told = tells (m .sessions) n 3 false ∷ [] }
+freed false true s true m n p = record { model = with-sessions m (alter n exclusiveFreed (m .sessions)); told = tells (m .sessions) n 1 false ∷ [] }
+freed false true s false m n p = record { model = with-sessions m (alter n (pends (exclusive-until p)) (m .sessions)); told = [] }
+freed false false true true m n p = record { model = with-sessions m (alter n sharedFreed (m .sessions)); told = tells (m .sessions) n 2 false ∷ [] }
+freed false false true false m n p = record { model = with-sessions m (alter n (pends (shared-until p)) (m .sessions)); told = [] }
+freed false false false a m n p = record { model = m; told = tells (m .sessions) n 3 false ∷ [] }
 
-unfoldable pub release : Model → ℕ → ModelResult
-release m n = freed (own n (λ s. s .exclusive) (m .sessions)) (own n (λ s. not (notShared s)) (m .sessions)) m n
+unfoldable pub release : Model → ℕ → ℕ → ModelResult
+release m n p =
+    freed
+    (own n (λ s. isPending (s .pending)) (m .sessions))
+    (own n (λ s. s .exclusive) (m .sessions))
+    (own n (λ s. not (notShared s)) (m .sessions))
+    (own n (λ s. eqb (s .heard) p) (m .sessions))
+    m
+    n
+    p
+
+-- session n is heard of with number p; a pending release that this ends is answered. By the tests: it frees exclusive, it frees shared
+abbrev pub hears : Bool → Bool → Model → ℕ → ℕ → ModelResult
+hears true s m n p =
+    record { model = with-sessions m (alter n (λ s. hearing p (pends none-pending (exclusiveFreed s))) (m .sessions)); told = tells (m .sessions) n 1 false ∷ [] }
+hears false true m n p =
+    record { model = with-sessions m (alter n (λ s. hearing p (pends none-pending (sharedFreed s))) (m .sessions)); told = tells (m .sessions) n 2 false ∷ [] }
+hears false false m n p = record { model = with-sessions m (alter n (hearing p) (m .sessions)); told = [] }
+
+-- a pending release of exclusive, of shared, that passes a test of its number
+abbrev pub endsExclusive : (ℕ → Bool) → Pending → Bool
+endsExclusive t none-pending = false
+endsExclusive t (exclusive-until p) = t p
+endsExclusive t (shared-until p) = false
+
+abbrev pub endsShared : (ℕ → Bool) → Pending → Bool
+endsShared t none-pending = false
+endsShared t (exclusive-until p) = false
+endsShared t (shared-until p) = t p
+
+-- 02, Q-3: a Data, DataEND or Trigger acted on ends a pending release of its number
+unfoldable pub message : Model → ℕ → ℕ → ModelResult
+message m n p = hears (own n (λ s. endsExclusive (λ q. eqb q p) (s .pending)) (m .sessions)) (own n (λ s. endsShared (λ q. eqb q p) (s .pending)) (m .sessions)) m n p
 
 -- the waiting requests that a test finds are answered 0, oldest first, and wait no more
 abbrev pub zeros : List Session → List Request → List Told
@@ -151,9 +209,12 @@ reading t m =
     let r = answer0 (λ w. leb (w .deadline) t) m in
     record { model = record { clock = t; sessions = r .model .sessions; waiting = r .model .waiting }; told = r .told }
 
--- 01: AsyncDeviceClear acted on answers that session's request 0
+-- 01: AsyncDeviceClear acted on answers that session's request 0; 02, Q-3: and then ends a pending release, whatever its number
 unfoldable pub clearing : ℕ → Model → ModelResult
-clearing n m = answer0 (λ w. eqb (w .number) n) m
+clearing n m =
+    let r = answer0 (λ w. eqb (w .number) n) m in
+    let s = hears (own n (λ s. endsExclusive (λ q. true) (s .pending)) (m .sessions)) (own n (λ s. endsShared (λ q. true) (s .pending)) (m .sessions)) (r .model) n beforeFirst in
+    record { model = s .model; told = r .told ++ s .told }
 
 -- 01: removes that connection's session, if any, with its locks and request, unanswered
 abbrev pub on : ℕ → Session → Bool
@@ -172,7 +233,7 @@ removal c m =
 
 -- 01: type 0 or 17 acted on enters its connection under the session
 abbrev pub enters : ℕ → ℕ → Model → ModelResult
-enters n c m = record { model = with-sessions m (record { number = n; connections = c ∷ []; exclusive = false; shared = [] } ∷ m .sessions); told = [] }
+enters n c m = record { model = with-sessions m (record { number = n; connections = c ∷ []; exclusive = false; shared = []; heard = beforeFirst; pending = none-pending } ∷ m .sessions); told = [] }
 
 abbrev pub joins : ℕ → ℕ → Model → ModelResult
 joins n c m = record { model = with-sessions m (alter n (alsoOn c) (m .sessions)); told = [] }
@@ -180,22 +241,23 @@ joins n c m = record { model = with-sessions m (alter n (alsoOn c) (m .sessions)
 abbrev pub asBefore : Model → ModelResult
 asBefore m = record { model = m; told = [] }
 
--- AsyncLock acted on: code 0 releases, else a request with the parameter as timeout and the payload as string
+-- AsyncLock acted on: code 0 releases and names the parameter, else a request with the parameter as timeout and the payload as string
 abbrev pub lockMessage : Bool → ℕ → Header → List ℕ → Model → ModelResult
-lockMessage true n h bs m = release m n
+lockMessage true n h bs m = release m n (h .param)
 lockMessage false n h bs m = request m n (h .param) (drop 16 bs)
 
 pub data Act : Type 0 where
-  a-enter a-join a-lock a-clear a-none : Act
+  a-enter a-join a-lock a-clear a-message a-none : Act
 
 abbrev pub actOf : ℕ → Act
-actOf t = cond (eqb t Initialize) a-enter (cond (eqb t AsyncInitialize) a-join (cond (eqb t AsyncLock) a-lock (cond (eqb t AsyncDeviceClear) a-clear a-none)))
+actOf t = cond (eqb t Initialize) a-enter (cond (eqb t AsyncInitialize) a-join (cond (eqb t AsyncLock) a-lock (cond (eqb t AsyncDeviceClear) a-clear (cond (one-of commands t) a-message a-none))))
 
 abbrev pub doAct : Act → ℕ → ℕ → Header → List ℕ → Model → ModelResult
 doAct a-enter c n h bs m = enters n c m
 doAct a-join c n h bs m = joins n c m
 doAct a-lock c n h bs m = lockMessage (eqb (h .code) 0) n h bs m
 doAct a-clear c n h bs m = clearing n m
+doAct a-message c n h bs m = message m n (h .param)
 doAct a-none c n h bs m = asBefore m
 
 unfoldable pub delivered : Outcome → ℕ → ℕ → List ℕ → Model → ModelResult

@@ -6,8 +6,8 @@ use Prim.Native.Nat.{ℕ, zero, suc, _+_, _%_}
 use lib.Dec.{eqb, leb, ltb}
 use lib.ListN.{set, length}
 use Rattle.model.specs.Lists.{isNil, same, all, allBut, keep}
-use Rattle.model.specs.Sizes.{sessionLimit, stringLimit, lastSessionId, noConnection}
-use Rattle.model.specs.State.{Entry, Waiting, Locks, at, live, blank, slotOfNumber}
+use Rattle.model.specs.Sizes.{sessionLimit, stringLimit, lastSessionId, noConnection, beforeFirst}
+use Rattle.model.specs.State.{Entry, Waiting, Locks, Kind, Kind.exclusive-lock, Kind.shared-lock, Standing, Standing.no-release, Standing.release-of, at, live, blank, slotOfNumber}
 
 -- an answer (type 5): to which connection, the code, and whether it answers a request (true) or a release (false)
 pub record Answer : Type 0 where
@@ -25,9 +25,11 @@ pub data LockEvent : Type 0 where
   -- in slot i session n opens over connection c; connection c is the second of slot i
   enter : ℕ → ℕ → ℕ → LockEvent
   join : ℕ → ℕ → LockEvent
-  -- of slot i: a request with a timeout and a string; a release; a device clear; its closing
+  -- of slot i: a request with a timeout and a string; a release that names a number; a Data, DataEND or Trigger of a number that acts;
+  -- a device clear; its closing
   request : ℕ → ℕ → List ℕ → LockEvent
-  release clear close : ℕ → LockEvent
+  release command : ℕ → ℕ → LockEvent
+  clear close : ℕ → LockEvent
   -- the clock reads so many milliseconds
   reading : ℕ → LockEvent
 
@@ -66,21 +68,32 @@ access es i = (at es i) .exclusive || (all noExclusive es && (not (noShared (at 
 
 -- the entry of a session that opens; with its second connection
 abbrev pub opened : ℕ → ℕ → Entry
-opened n c = record { number = n; synchronous = c; asynchronous = noConnection; exclusive = false; shared = [] }
+opened n c = record { number = n; synchronous = c; asynchronous = noConnection; exclusive = false; shared = []; last = beforeFirst; standing = no-release }
 
 abbrev pub joined : ℕ → Entry → Entry
-joined c e = record { number = e .number; synchronous = e .synchronous; asynchronous = c; exclusive = e .exclusive; shared = e .shared }
+joined c e = record { number = e .number; synchronous = e .synchronous; asynchronous = c; exclusive = e .exclusive; shared = e .shared; last = e .last; standing = e .standing }
 
--- with the lock that a string asks for; without its exclusive lock; without its shared one
+-- with other locks; with another last number and standing release
+abbrev pub withLocks : Bool → List ℕ → Entry → Entry
+withLocks x k e = record { number = e .number; synchronous = e .synchronous; asynchronous = e .asynchronous; exclusive = x; shared = k; last = e .last; standing = e .standing }
+
+abbrev pub withOrder : ℕ → Standing → Entry → Entry
+withOrder n s e = record { number = e .number; synchronous = e .synchronous; asynchronous = e .asynchronous; exclusive = e .exclusive; shared = e .shared; last = n; standing = s }
+
+-- with the lock that a string asks for; without its exclusive lock; without its shared one; without the lock of a kind
 abbrev pub give : List ℕ → Entry → Entry
-give [] e = record { number = e .number; synchronous = e .synchronous; asynchronous = e .asynchronous; exclusive = true; shared = e .shared }
-give (x ∷ xs) e = record { number = e .number; synchronous = e .synchronous; asynchronous = e .asynchronous; exclusive = e .exclusive; shared = x ∷ xs }
+give [] e = withLocks true (e .shared) e
+give (x ∷ xs) e = withLocks (e .exclusive) (x ∷ xs) e
 
 abbrev pub withoutExclusive : Entry → Entry
-withoutExclusive e = record { number = e .number; synchronous = e .synchronous; asynchronous = e .asynchronous; exclusive = false; shared = e .shared }
+withoutExclusive e = withLocks false (e .shared) e
 
 abbrev pub withoutShared : Entry → Entry
-withoutShared e = record { number = e .number; synchronous = e .synchronous; asynchronous = e .asynchronous; exclusive = e .exclusive; shared = [] }
+withoutShared e = withLocks (e .exclusive) [] e
+
+abbrev pub without : Kind → Entry → Entry
+without exclusive-lock e = withoutExclusive e
+without shared-lock e = withoutShared e
 
 -- the kind that a string asks for is held
 abbrev pub holds : List ℕ → Entry → Bool
@@ -114,12 +127,14 @@ elsewhere i w = not (eqb (w .slot) i)
 abbrev pub noPlace : List Waiting → Bool
 noPlace ws = leb sessionLimit (length ws)
 
--- request answers, in this order: 3 if S already holds that kind, has a request waiting, or the string exceeds 256; 1 if it may be
--- granted, and it is; 0 if timeout is 0; also if no place is left to wait, which no run reaches (theorem AlwaysRoom); else it waits
+-- request answers, in this order: 3 if S already holds that kind, has a request waiting, or the string exceeds 256, and (02, Q-3) while a
+-- release of S stands; 1 if it may be granted, and it is; 0 if timeout is 0; also if no place is left to wait, which no run reaches
+-- (theorem AlwaysRoom); else it waits
 pub data Ruling : Type 0 where
   invalid granted denied queued : Ruling
 
--- by the tests: that kind is held, no request of the session waits, the string is too long, the granting rule, timeout 0 or no place
+-- by the tests: that kind is held, no request of the session waits, the string is too long or a release stands, the granting rule,
+-- timeout 0 or no place
 abbrev pub ruling : Bool → Bool → Bool → Bool → Bool → Ruling
 ruling true a s m z = invalid
 ruling false false s m z = invalid
@@ -135,11 +150,56 @@ respond granted l i t k = record { locks = withEntries l (grant (l .entries) i k
 respond denied l i t k = record { locks = l; answers = tell (l .entries) i 0 true ∷ [] }
 respond queued l i t k = unanswered (withWaiting l (l .waiting ++ record { slot = i; deadline = l .clock + t; string = k } ∷ []))
 
--- release frees exclusive first (1), then shared (2), with none held 3. By the tests: exclusive is held, no shared is
-abbrev pub released : Bool → Bool → Locks → ℕ → LockResult
-released true s l i = record { locks = withEntries l (update (l .entries) i withoutExclusive); answers = tell (l .entries) i 1 false ∷ [] }
-released false false l i = record { locks = withEntries l (update (l .entries) i withoutShared); answers = tell (l .entries) i 2 false ∷ [] }
-released false true l i = record { locks = l; answers = tell (l .entries) i 3 false ∷ [] }
+-- release frees exclusive first (1), then shared (2), with none held 3
+abbrev pub releaseCode : Kind → ℕ
+releaseCode exclusive-lock = 1
+releaseCode shared-lock = 2
+
+-- 02, Q-3: "A further AsyncLock while it stands gets 3"; "A release with no lock held is still 3 at once"; it "acts at once if that number is
+-- the last Data, DataEND or Trigger acted on"; "Otherwise it stands". "Which lock it frees is fixed when it arrives"
+pub data Releasing : Type 0 where
+  r-invalid : Releasing
+  r-now r-stands : Kind → Releasing
+
+abbrev pub stands : Standing → Bool
+stands no-release = false
+stands (release-of k n) = true
+
+-- by the tests: a release stands, exclusive is held, no shared is, the number is that of the last message
+abbrev pub releasing : Bool → Bool → Bool → Bool → Releasing
+releasing true x s a = r-invalid
+releasing false true s true = r-now exclusive-lock
+releasing false true s false = r-stands exclusive-lock
+releasing false false false true = r-now shared-lock
+releasing false false false false = r-stands shared-lock
+releasing false false true a = r-invalid
+
+abbrev pub releasingOf : Entry → ℕ → Releasing
+releasingOf e n = releasing (stands (e .standing)) (e .exclusive) (noShared e) (eqb (e .last) n)
+
+abbrev pub released : Releasing → Locks → ℕ → ℕ → LockResult
+released r-invalid l i n = record { locks = l; answers = tell (l .entries) i 3 false ∷ [] }
+released (r-now k) l i n = record { locks = withEntries l (update (l .entries) i (without k)); answers = tell (l .entries) i (releaseCode k) false ∷ [] }
+released (r-stands k) l i n = unanswered (withEntries l (update (l .entries) i (λ e. withOrder (e .last) (release-of k n) e)))
+
+-- 02, Q-3: "it stands until a Data, DataEND or Trigger of that number acts, an AsyncDeviceClear acts (the release then takes effect ..)"
+pub data Due : Type 0 where
+  not-due : Due
+  due-now : Kind → Due
+
+abbrev pub dueAt : ℕ → Standing → Due
+dueAt n no-release = not-due
+dueAt n (release-of k m) = cond (eqb m n) (due-now k) not-due
+
+abbrev pub dueAny : Standing → Due
+dueAny no-release = not-due
+dueAny (release-of k m) = due-now k
+
+-- the last message's number becomes n, and a release that is due takes effect
+abbrev pub completed : Due → Locks → ℕ → ℕ → LockResult
+completed not-due l i n = unanswered (withEntries l (update (l .entries) i (λ e. withOrder n (e .standing) e)))
+completed (due-now k) l i n =
+    record { locks = withEntries l (update (l .entries) i (λ e. withOrder n no-release (without k e))); answers = tell (l .entries) i (releaseCode k) false ∷ [] }
 
 -- the requests that pass stay; the others are answered 0, oldest first
 abbrev pub refuse : List Entry → (Waiting → Bool) → List Waiting → List Answer
@@ -150,17 +210,23 @@ refuse es p (w ∷ ws) = cond (p w) (refuse es p ws) (tell es (w .slot) 0 true �
 abbrev pub unexpired : ℕ → Waiting → Bool
 unexpired t w = not (leb (w .deadline) t)
 
+-- the string is too long, or a release stands
+abbrev pub invalidBy : List ℕ → Entry → Bool
+invalidBy k e = ltb stringLimit (length k) || stands (e .standing)
+
 unfoldable pub change : Locks → LockEvent → LockResult
 change l nothing = unanswered l
 change l (enter i n c) = unanswered (withEntries l (set (l .entries) i (opened n c)))
 change l (join i c) = unanswered (withEntries l (update (l .entries) i (joined c)))
 change l (request i t k) =
     let es = l .entries in
-    respond (ruling (holds k (at es i)) (all (elsewhere i) (l .waiting)) (ltb stringLimit (length k)) (mayGrant es i k) (eqb t 0 || noPlace (l .waiting))) l i t k
-change l (release i) = released ((at (l .entries) i) .exclusive) (noShared (at (l .entries) i)) l i
--- 01: AsyncDeviceClear: a waiting request is answered 0
+    respond (ruling (holds k (at es i)) (all (elsewhere i) (l .waiting)) (invalidBy k (at es i)) (mayGrant es i k) (eqb t 0 || noPlace (l .waiting))) l i t k
+change l (release i n) = released (releasingOf (at (l .entries) i) n) l i n
+change l (command i n) = completed (dueAt n ((at (l .entries) i) .standing)) l i n
+-- 01: AsyncDeviceClear: a waiting request is answered 0; 02, Q-3: then a release that stands takes effect
 change l (clear i) =
-    record { locks = withWaiting l (keep (elsewhere i) (l .waiting)); answers = refuse (l .entries) (elsewhere i) (l .waiting) }
+    let x = completed (dueAny ((at (l .entries) i) .standing)) (withWaiting l (keep (elsewhere i) (l .waiting))) i beforeFirst in
+    record { locks = x .locks; answers = refuse (l .entries) (elsewhere i) (l .waiting) ++ x .answers }
 -- a closing takes the session's locks and its waiting request, unanswered
 change l (close i) = unanswered record { clock = l .clock; entries = set (l .entries) i blank; waiting = keep (elsewhere i) (l .waiting) }
 change l (reading t) =
@@ -195,15 +261,25 @@ grantPass l =
 
 -- the events that free a lock: the server passes over the waiting requests only after these. That a pass would do nothing after any
 -- other event is a theorem (proofs/Events.antt, always-settled)
-abbrev pub frees : LockEvent → Bool
-frees nothing = false
-frees (enter i n c) = false
-frees (join i c) = false
-frees (request i t k) = false
-frees (release i) = true
-frees (clear i) = false
-frees (close i) = true
-frees (reading t) = false
+abbrev pub freesNow : Releasing → Bool
+freesNow r-invalid = false
+freesNow (r-now k) = true
+freesNow (r-stands k) = false
+
+abbrev pub isDue : Due → Bool
+isDue not-due = false
+isDue (due-now k) = true
+
+abbrev pub frees : Locks → LockEvent → Bool
+frees l nothing = false
+frees l (enter i n c) = false
+frees l (join i c) = false
+frees l (request i t k) = false
+frees l (release i n) = freesNow (releasingOf (at (l .entries) i) n)
+frees l (command i n) = isDue (dueAt n ((at (l .entries) i) .standing))
+frees l (clear i) = isDue (dueAny ((at (l .entries) i) .standing))
+frees l (close i) = true
+frees l (reading t) = false
 
 abbrev pub settle : Bool → Locks → LockResult
 settle true l = grantPass l

@@ -5,9 +5,9 @@ use mathlib.Core.List.{List, [], _∷_}
 use Prim.Native.Nat.{ℕ, _+_, _*_, _/_, min}
 use Rattle.wire.specs.Message.{header}
 use Rattle.wire.specs.Frame.{frameOf}
-use Rattle.model.specs.Sizes.{payloadLimit, protocolVersion, noConnection}
+use Rattle.model.specs.Sizes.{payloadLimit, protocolVersion, noConnection, beforeFirst}
 use Rattle.model.specs.MessageTypes.{Initialize, InitializeResponse, AsyncInitialize, AsyncInitializeResponse}
-use Rattle.model.specs.State.{Entry, Asked.none, at, live, halfOpen, Server, exchangeAt, fresh}
+use Rattle.model.specs.State.{Entry, Standing.no-release, Asked.none, at, live, halfOpen, Server, exchangeAt, fresh}
 use Rattle.model.specs.Interface.{Event, Event.delivery, Outcome.acted, Reply.took}
 use Rattle.model.specs.Step.{step, final}
 
@@ -18,17 +18,17 @@ pub record OnlySlot (d d′ : Server) (i : ℕ) : Type 0 where
   pub waiting-same : d′ .locks .waiting ≡ d .locks .waiting
   pub clock-same : d′ .locks .clock ≡ d .locks .clock
 
--- session n is opened over connection c: half-open, without locks, with nothing asked
+-- session n is opened over connection c: half-open, without locks, no message acted on, no release standing, with nothing asked
 pub record Opened (d d′ : Server) (c n : ℕ) : Type 0 where
   pub slot : ℕ
   pub was-free : live (at (d .locks .entries) slot) ≡ false
-  pub session : at (d′ .locks .entries) slot ≡ record { number = n; synchronous = c; asynchronous = noConnection; exclusive = false; shared = [] }
+  pub session : at (d′ .locks .entries) slot ≡ record { number = n; synchronous = c; asynchronous = noConnection; exclusive = false; shared = []; last = beforeFirst; standing = no-release }
   pub exchange : exchangeAt (d′ .rest) slot ≡ record { inClear = false; asked = none; messageAvailable = false; clientSize = payloadLimit }
   pub no-more : OnlySlot d d′ slot
 
 -- half-open session n gets connection c as its second one, and is otherwise as it was
 abbrev pub withSecond : ℕ → Entry → Entry
-withSecond c e = record { number = e .number; synchronous = e .synchronous; asynchronous = c; exclusive = e .exclusive; shared = e .shared }
+withSecond c e = record { number = e .number; synchronous = e .synchronous; asynchronous = c; exclusive = e .exclusive; shared = e .shared; last = e .last; standing = e .standing }
 
 pub record Joined (d d′ : Server) (c n : ℕ) : Type 0 where
   pub slot : ℕ

@@ -2,7 +2,7 @@
 -- specs/Deciding.antt. Assumes nothing.
 use mathlib.Core.Path.{_≡_}
 use mathlib.Core.Bool.{true, not, _&&_, cond}
-use mathlib.Core.List.{List, [], _∷_, _++_}
+use mathlib.Core.List.{List, [], _∷_, _++_, map}
 use Prim.Native.Nat.{ℕ}
 use lib.Dec.{eqb}
 use Rattle.wire.specs.Message.{header}
@@ -15,13 +15,20 @@ use Rattle.model.specs.Interface.{Event, Event.delivery, Outcome.acted, 
 use Rattle.model.specs.Place.{slotOf}
 use Rattle.model.specs.Exchange.{statusByte}
 use Rattle.model.specs.Step.{step, final}
-use Rattle.model.specs.LockModel.{Model}
-use Rattle.model.specs.Deciding.{modelAfter, lockAnswer}
+use Rattle.model.specs.LockModel
+use Rattle.model.specs.LockModel.{Model, secondConnection}
+use Rattle.model.specs.Agreement.{toldFrame}
+use Rattle.model.specs.Deciding.{modelAfter, lockAnswer, endedCodes, grantsAfter}
 
 -- a delivery that acted as a message of session n, with lock model m before it
 pub record Sends (d : Server) (m : Model) (c : ℕ) (bs : List ℕ) (room : ℕ) : Type 0 where
-  -- Data, DataEND, Trigger: nothing
-  pub command : (k n : ℕ) → (step d (delivery c bs room)) .reply ≡ took acted k n → one-of commands ((header bs) .kind) ≡ true → (step d (delivery c bs room)) .frames ≡ []
+  -- Data, DataEND, Trigger: the answer of a release that its number ends (02, Q-3), then those to whoever is granted
+  pub command : (k n : ℕ) → (step d (delivery c bs room)) .reply ≡ took acted k n → one-of commands ((header bs) .kind) ≡ true
+      → (step d (delivery c bs room)) .frames
+      ≡ map (lockAnswer (secondConnection n (m .sessions))) (endedCodes m n (λ p. eqb p ((header bs) .param))) ++ map toldFrame (grantsAfter (LockModel.message m n ((header bs) .param)))
+  -- with no such release, nothing
+  pub command-alone : (k n : ℕ) → (step d (delivery c bs room)) .reply ≡ took acted k n → one-of commands ((header bs) .kind) ≡ true → endedCodes m n (λ p. eqb p ((header bs) .param)) ≡ []
+      → (step d (delivery c bs room)) .frames ≡ []
   -- 01: "DeviceClearComplete ends it with type 9, code 0"
   pub clear-complete : (k n : ℕ) → (step d (delivery c bs room)) .reply ≡ took acted k n → (header bs) .kind ≡ DeviceClearComplete
       → (step d (delivery c bs room)) .frames ≡ frameOf c DeviceClearAcknowledge 0 0 [] ∷ []
@@ -30,9 +37,11 @@ pub record Sends (d : Server) (m : Model) (c : ℕ) (bs : List ℕ) (room : ℕ)
   -- 01: "the reply says 1,024", as eight bytes
   pub maximum-size : (k n : ℕ) → (step d (delivery c bs room)) .reply ≡ took acted k n → (header bs) .kind ≡ AsyncMaximumMessageSize
       → (step d (delivery c bs room)) .frames ≡ frameOf c AsyncMaximumMessageSizeResponse 0 0 (0 ∷ 0 ∷ 0 ∷ 0 ∷ 0 ∷ 0 ∷ 4 ∷ 0 ∷ []) ∷ []
-  -- 01: "AsyncDeviceClear: a waiting request is answered 0, then type 23 with code 0"
+  -- 01: "AsyncDeviceClear: a waiting request is answered 0, then type 23 with code 0"; 02, Q-3: "the release then takes effect, answered
+  -- after a waiting request's 0 and before the acknowledgement"; then those to whoever is granted
   pub device-clear : (k n : ℕ) → (step d (delivery c bs room)) .reply ≡ took acted k n → (header bs) .kind ≡ AsyncDeviceClear
-      → (step d (delivery c bs room)) .frames ≡ cond (any (λ w. eqb (w .number) n) (m .waiting)) (lockAnswer c 0 ∷ []) [] ++ (frameOf c AsyncDeviceClearAcknowledge 0 0 [] ∷ [])
+      → (step d (delivery c bs room)) .frames ≡ cond (any (λ w. eqb (w .number) n) (m .waiting)) (lockAnswer c 0 ∷ []) []
+      ++ (map (lockAnswer c) (endedCodes m n (λ p. true)) ++ (frameOf c AsyncDeviceClearAcknowledge 0 0 [] ∷ map toldFrame (grantsAfter (LockModel.clearing n m))))
   -- 01: "The status response is the meter's byte with value 16 replaced by" message available, off at RMT-delivered 1 "before its response is formed"
   pub status-query : (k n : ℕ) → (step d (delivery c bs room)) .reply ≡ took acted k n → (header bs) .kind ≡ AsyncStatusQuery
       → (step d (delivery c bs room)) .frames

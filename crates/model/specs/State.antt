@@ -6,16 +6,28 @@ use Prim.Native.Nat.{ℕ}
 use lib.Dec.{eqb}
 use lib.ListN.{getD, set, replicate}
 use Rattle.model.specs.Lists.{position}
-use Rattle.model.specs.Sizes.{sessionLimit, connectionLimit, payloadLimit, noConnection}
+use Rattle.model.specs.Sizes.{sessionLimit, connectionLimit, payloadLimit, noConnection, beforeFirst}
+
+-- the two kinds of lock
+pub data Kind : Type 0 where
+  exclusive-lock shared-lock : Kind
+
+-- 02, Q-3: a release that stands: which lock it frees (fixed when it arrives), and the number of the message that it waits for
+pub data Standing : Type 0 where
+  no-release : Standing
+  release-of : Kind → ℕ → Standing
 
 -- one slot of the table of sessions: the SessionID (0: the slot is free), the two connections (255: none), the exclusive lock,
--- the string of the shared lock (empty: none)
+-- the string of the shared lock (empty: none); the number of the last Data, DataEND or Trigger that acted since it opened or since
+-- its last AsyncDeviceClear (fffffefe hex: none), and the release that stands
 pub record Entry : Type 0 where
   pub number : ℕ
   pub synchronous : ℕ
   pub asynchronous : ℕ
   pub exclusive : Bool
   pub shared : List ℕ
+  pub last : ℕ
+  pub standing : Standing
 
 -- a waiting request: the slot of its session, its deadline, its string (empty: it asks for the exclusive lock)
 pub record Waiting : Type 0 where
@@ -68,7 +80,7 @@ pub record Server : Type 0 where
 
 -- a free slot
 abbrev pub blank : Entry
-blank = record { number = 0; synchronous = noConnection; asynchronous = noConnection; exclusive = false; shared = [] }
+blank = record { number = 0; synchronous = noConnection; asynchronous = noConnection; exclusive = false; shared = []; last = beforeFirst; standing = no-release }
 
 -- 01: a client's size starts at 1,024 per session
 abbrev pub freshExchange : Exchange

@@ -7,7 +7,7 @@ use mathlib.Core.List.{List, [], _∷_}
 use Prim.Native.Nat.{ℕ, suc}
 use Rattle.model.specs.Sizes.{noConnection}
 use Rattle.model.specs.Lists.{all}
-use Rattle.model.specs.State.{Server, Entry, at, fresh}
+use Rattle.model.specs.State.{Server, Entry, Kind, at, fresh}
 use Rattle.model.specs.Interface.{Event, Event.answer, Reply.refused}
 use Rattle.model.specs.Refusals.{refusal}
 use Rattle.model.specs.Place.{onConnection, slotOf}
@@ -27,6 +27,7 @@ use Rattle.model.specs.Canonical.{Canonical}
 use Rattle.model.specs.FixedPoint.{FixedPoint}
 use Rattle.model.specs.OnlyWhole.{TakenWhole}
 use Rattle.model.specs.Outcomes.{OutcomesTell}
+use Rattle.model.specs.Standing.{StandsOn}
 use Rattle.model.specs.Missing.{TellsMissing}
 use Rattle.model.specs.LockModel.{freshModel}
 use Rattle.model.specs.Agreement.{Agreement}
@@ -71,6 +72,9 @@ pub record Demand2 : Type 0 where
   pub shared-rule : (es : List Entry) (i x : ℕ) (k : List ℕ) → (mayGrant es i (x ∷ k) ≡ true) ↔ MayShared es i (x ∷ k)
   -- "While a program lacks access, its data and triggers of permitted size are held, neither acted on nor lost"
   pub access : (d : Server) (c : ℕ) (bs : List ℕ) (room : ℕ) → Access d c bs room
+  -- 02, Q-3: a release that is not answered at once stands until its message acts, a device clear acts or its session closes, and until
+  -- then every AsyncLock of the session gets 3
+  pub standing : (v : ℕ) (es : List Event) (j : ℕ) (k : Kind) (m : ℕ) → StandsOn (final (fresh v) es) j k m
   -- 02, Q-4: "With "more needed" the answer tells how many bytes are missing", and that many are enough
   pub missing : (d : Server) (c : ℕ) (bs : List ℕ) (room : ℕ) → TellsMissing d c bs room
 

@@ -115,7 +115,7 @@ lockFrame a = frameOf (a .to) AsyncLockResponse (a .code) 0 []
 unfoldable pub finish : Server → Plan → Result
 finish d p =
     let x = change (d .locks) (p .event) in
-    let y = settle (frees (p .event)) (x .locks) in
+    let y = settle (frees (d .locks) (p .event)) (x .locks) in
     record {
       server = record { locks = y .locks; rest = p .rest };
       reply = p .reply;

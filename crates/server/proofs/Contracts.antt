@@ -84,5 +84,6 @@ about-the-code =
       opens = λ v m m′ ss f g. program .opens v m m′ ss (fresh f) (runs g);
       locality = λ m m′ ss g. program .locality m m′ ss (runs g);
       tie = λ v m m′ m″ ss s f g g′. program .tie v m m′ m″ ss s (fresh f) (runs g) (runs g′);
+      standing = λ v m m′ ss f g. program .standing v m m′ ss (fresh f) (runs g);
       isolation = λ v m m′ m″ ss rs f g j h g′. program .isolation v m m′ m″ ss rs (fresh f) (runs g) j h (runs g′);
     }

@@ -27,12 +27,14 @@ use Rattle.model.proofs.Refused.{Took, effect-took}
 use Rattle.model.specs.SessionId.{lastInLog}
 use Rattle.model.specs.Permitted.{ActsExactly}
 use Rattle.model.specs.Opening.{Opens}
+use Rattle.model.specs.Standing.{StandsOn}
 use Rattle.model.proofs.Deciding.{run-decides}
 use Rattle.model.proofs.OnlyWhole.{taken-whole}
 use Rattle.model.proofs.ReadBack.{reads-back}
 use Rattle.model.proofs.Permitted.{permitted-acts}
 use Rattle.model.proofs.Opening.{sessions-open}
 use Rattle.model.proofs.Locality.{local-run}
+use Rattle.model.proofs.Standing.{stands-on}
 use Rattle.model.proofs.Tied.{tie}
 use Rattle.model.proofs.IsolationRun.{isolation-run}
 use Rattle.state.specs.View.{Memory, view}
@@ -228,5 +230,6 @@ program =
       opens = λ v m m′ ss f g c bs room. subst (λ (d : Server). Opens d v c bs room) (sym (left v m m′ ss f g)) (sessions-open v (seenEvents ss) .opens-next c bs room);
       locality = λ m m′ ss g. local-run (view m) (seenEvents ss);
       tie = tied;
+      standing = λ v m m′ ss f g j k n. subst (λ (d : Server). StandsOn d j k n) (sym (left v m m′ ss f g)) (stands-on v (seenEvents ss) j k n);
       isolation = isolated;
     }

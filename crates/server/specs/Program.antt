@@ -11,7 +11,7 @@ use Rattle.wire.specs.Class.{one-of}
 use Rattle.wire.specs.Frame.{frameOf, frameBytes}
 use Rattle.wire.specs.Message.{header}
 use Rattle.model.specs.Interface.{Event.opening, Event.delivery, Event.cut, Event.clock, Event.answer, Event.status, Outcome, Outcome.more-needed, Outcome.skipped, Outcome.held, Outcome.ignored, Outcome.error-sent, Outcome.closed, Outcome.acted, Reply, Reply.refused, Reply.done, Reply.took}
-use Rattle.model.specs.State.{Asked, Asked.none, Asked.some, at, fresh, slotOfNumber}
+use Rattle.model.specs.State.{Asked, Asked.none, Asked.some, Kind, at, fresh, slotOfNumber}
 use Rattle.model.specs.Step.{final, log, answerType}
 use Rattle.model.specs.Post.{Post}
 use Rattle.model.specs.MessageTypes.{commands}
@@ -28,6 +28,7 @@ use Rattle.model.specs.SessionId.{lastInLog}
 use Rattle.model.specs.Permitted.{ActsExactly}
 use Rattle.model.specs.Opening.{Opens}
 use Rattle.model.specs.Locality.{LocalRun}
+use Rattle.model.specs.Standing.{StandsOn}
 use Rattle.state.specs.View.{Memory, view}
 use Rattle.effects.specs.declared.Delivery.{Delivery}
 use Rattle.server.specs.declared.Done.{Done}
@@ -117,7 +118,9 @@ pub record Program (New : ℕ → Memory → Type 0) (Ran : Memory → List Seen
   -- of an answer that was not refused
   pub tie : (v : ℕ) (m m′ m″ : Memory) (ss : List Seen) (s : Seen) → New v m → Ran m ss m′ → Ran m′ (s ∷ []) m″
       → (n : ℕ) (payload : List ℕ) (end : Bool) (room : ℕ) → s .event ≡ answer n payload end room → s .reply ≡ done → Tied ss m′ n payload end (s .output)
-  -- N about the program: from where a session holds exclusive until its release or its closing, nobody else's command acts
+  -- Q about the program: a release that is not answered at once stands until its message, a device clear or its session's closing
+  pub standing : (v : ℕ) (m m′ : Memory) (ss : List Seen) → New v m → Ran m ss m′ → (j : ℕ) (k : Kind) (n : ℕ) → StandsOn (view m′) j k n
+  -- N about the program: from where a session holds exclusive until its release is answered or its closing, nobody else's command acts
   pub isolation : (v : ℕ) (m m′ m″ : Memory) (ss rs : List Seen) → New v m → Ran m ss m′
       → (j : ℕ) → (at (view m′ .locks .entries) j) .exclusive ≡ true → Ran m′ rs m″ → Undisturbed j (view m′) (seenEvents rs)
       → OnlyOf ((at (view m′ .locks .entries) j) .number) rs

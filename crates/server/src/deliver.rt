@@ -94,7 +94,7 @@ fn act(
     ensures { λ r. ⌜ ((ro : Role) → roleNumber ro ≡ role → Did (finish (view (memory (now (w .entry)) (now (strings .entry)))) (acts ro (view (memory (now (w .entry)) (now (strings .entry)))) i c (message kind code param len) (now (payload .entry)))) r (memory (now (w .entry)) (now (strings .entry))) (memory (now (w .exit)) (now (strings .exit))) (now (out .entry)) (now (out .exit))) ⌝ }
 {
     if role == ON_SYNCHRONOUS {
-        return synchronous::act_synchronous(w, out, c, i, kind, code, param, len);
+        return synchronous::act_synchronous(w, strings, out, c, i, kind, code, param, len);
     }
     if role == ON_ASYNCHRONOUS {
         return asynchronous::act_asynchronous(

@@ -13,11 +13,12 @@ use lib.Seq.{getD-set-same, getD-set-other}
 use borrow.Author.Tests.{eqb-true, eqb-false}
 use Rattle.model.specs.Sizes.{sessionLimit, connectionLimit, stringLimit}
 use Rattle.model.specs.State.{Entry, Waiting, Locks, Exchange, Connection, RemoteLocal, Rest, Server, blank, at, freshExchange, closedConnection, exchangeAt, connectionAt}
+use Rattle.model.specs.Locks.{withOrder}
 use Rattle.state.specs.Table.{tab, tab-same, tab-set, getD-tab, apart}
 use Rattle.state.specs.Grid.{upd, upd-set, part, grid, grid-set, grid-off, getD-grid, word-of}
 use Rattle.state.specs.Bits.{bit}
-use Rattle.state.specs.Layout.{LOCKS, CLOCK, VENDOR, STATUS, LAST, ENABLE, LOCKOUT, REMOTE, HOLDER, SHARERS, KEY, COUNT, ENTRIES, ENTRY, EXCHANGES, EXCHANGE, CONNECTIONS, CONNECTION, HOME, REQUESTS, REQUEST, QUEUE, WORDS}
-use Rattle.state.specs.View.{Memory, memory, word, flag, keyOf, rowWord, homeAt, homeOf, fieldOf, entryAt, entriesOf, slotAt, requestAt, waitingOf, locksOf, askedOf, exchangeFrom, exchangeOf, connectionFrom, connectionOf, restFrom, restOf, view}
+use Rattle.state.specs.Layout.{LOCKS, CLOCK, VENDOR, STATUS, LAST, ENABLE, LOCKOUT, REMOTE, HOLDER, SHARERS, KEY, COUNT, ENTRIES, ENTRY, ORDERS, ORDER, EXCHANGES, EXCHANGE, CONNECTIONS, CONNECTION, HOME, REQUESTS, REQUEST, QUEUE, WORDS}
+use Rattle.state.specs.View.{Memory, memory, standingOf, word, flag, keyOf, rowWord, homeAt, homeOf, fieldOf, orderWord, entryFrom, entryAt, entriesOf, slotAt, requestAt, waitingOf, locksOf, askedOf, exchangeFrom, exchangeOf, connectionFrom, connectionOf, restFrom, restOf, view}
 use Rattle.state.specs.Confirmed.{field-same, field-small}
 
 -- the word of a field, in the row of a slot or of a connection
@@ -39,9 +40,13 @@ connectionWith zero v x = record { isOpen = flag v; remainder = x .remainder }
 connectionWith (suc f) v x = record { isOpen = x .isOpen; remainder = v }
 
 abbrev pub entryWith : ℕ → ℕ → Entry → Entry
-entryWith zero v e = record { number = v; synchronous = e .synchronous; asynchronous = e .asynchronous; exclusive = e .exclusive; shared = e .shared }
-entryWith (suc zero) v e = record { number = e .number; synchronous = v % 256; asynchronous = e .asynchronous; exclusive = e .exclusive; shared = e .shared }
-entryWith (suc (suc f)) v e = record { number = e .number; synchronous = e .synchronous; asynchronous = v % 256; exclusive = e .exclusive; shared = e .shared }
+entryWith zero v e = record { number = v; synchronous = e .synchronous; asynchronous = e .asynchronous; exclusive = e .exclusive; shared = e .shared; last = e .last; standing = e .standing }
+entryWith (suc zero) v e = record { number = e .number; synchronous = v % 256; asynchronous = e .asynchronous; exclusive = e .exclusive; shared = e .shared; last = e .last; standing = e .standing }
+entryWith (suc (suc f)) v e = record { number = e .number; synchronous = e .synchronous; asynchronous = v % 256; exclusive = e .exclusive; shared = e .shared; last = e .last; standing = e .standing }
+
+abbrev pub orderWith : ℕ → ℕ → Entry → Entry
+orderWith zero v e = withOrder (v % 2 ^ 32) (e .standing) e
+orderWith (suc f) v e = withOrder (e .last) (standingOf v) e
 
 -- a single value of the rest, by its place: vendor number, status byte, last SessionID, the three flags
 abbrev pub flagsWith : ℕ → ℕ → RemoteLocal → RemoteLocal
@@ -127,6 +132,9 @@ module _ (w : List ℕ) where
       (λ g x. off a v (ENTRIES + i * ENTRY + g) (λ e. ⊎-elim (λ (y : a < ENTRIES). omega arith) (λ (y : REQUESTS ≤ a). omega arith) o))
       (λ c x. off a v (homeAt c) (n c x)) f l
 
+  order-off : (a v i f : ℕ) → i < sessionLimit → f < ORDER → (a < ENTRIES) ⊎ (REQUESTS ≤ a) → orderWord (set w a v) i f ≡ orderWord w i f
+  order-off a v i f h l o = off a v (ORDERS + i * ORDER + f) (λ e. ⊎-elim (λ (y : a < ENTRIES). omega arith) (λ (y : REQUESTS ≤ a). omega arith) o)
+
   pub entry-off : (key : List ℕ) (a v i : ℕ) → i < sessionLimit → (HOLDER ≡ a → ⊥) → (SHARERS ≡ a → ⊥) → Homeless a → (a < ENTRIES) ⊎ (REQUESTS ≤ a)
       → entryAt (set w a v) key i ≡ entryAt w key i
   unfolding entryAt
@@ -137,6 +145,8 @@ module _ (w : List ℕ) where
         asynchronous = field-off a v i 2 h (lit< tt) n o k;
         exclusive = eqb (off a v HOLDER p k) (i + 1);
         shared = cond (eqb (bit (off a v SHARERS q k) i) 1) key [];
+        last = order-off a v i 0 h (lit< tt) o k % 2 ^ 32;
+        standing = standingOf (order-off a v i 1 h (lit< tt) o k);
       }
 
   pub entries-off : (key : List ℕ) (a v : ℕ) → (HOLDER ≡ a → ⊥) → (SHARERS ≡ a → ⊥) → Homeless a → (a < ENTRIES) ⊎ (REQUESTS ≤ a)
@@ -255,6 +265,50 @@ module _ (w s : List ℕ) (i f v : ℕ) (long : length w ≡ WORDS) where
         };
       }
 
+-- of a slot, its last message and the release that stands
+order-by : (t : ℕ → ℕ) (x : Bool) (y : List ℕ) (r : ℕ → ℕ) (f v : ℕ) → f < ORDER
+    → entryFrom t (λ (g : ℕ). cond (eqb g f) v (r g)) x y ≡ orderWith f v (entryFrom t r x y)
+order-by t x y r zero v l = refl
+order-by t x y r (suc zero) v l = refl
+order-by t x y r (suc (suc f)) v l = absurd (omega arith)
+
+module _ (w key : List ℕ) (i f v : ℕ) (h : i < sessionLimit) (l : f < ORDER) where
+  abbrev ordered : List ℕ
+  ordered = set w (ORDERS + i * ORDER + f) v
+
+  -- no other part of the table is there
+  order-fields : (j g : ℕ) → j < sessionLimit → g < ENTRY → fieldOf ordered j g ≡ fieldOf w j g
+  order-fields j g m x =
+      field-same w ordered j (λ y z. off w (ORDERS + i * ORDER + f) v (ENTRIES + j * ENTRY + y) (omega arith)) (λ c z. off w (ORDERS + i * ORDER + f) v (homeAt c) (omega arith)) g x
+
+  entry-with : (j : ℕ) (r : ℕ → ℕ) → j < sessionLimit → orderWord ordered j 0 ≡ r 0 → orderWord ordered j 1 ≡ r 1
+      → entryAt ordered key j ≡ entryFrom (fieldOf w j) r (eqb (word w HOLDER) (j + 1)) (cond (eqb (bit (word w SHARERS) j) 1) key [])
+  unfolding entryAt
+  entry-with j r m p q =
+      let a : ℕ = ORDERS + i * ORDER + f in
+      λ k. record {
+        number = order-fields j 0 m (lit< tt) k;
+        synchronous = order-fields j 1 m (lit< tt) k;
+        asynchronous = order-fields j 2 m (lit< tt) k;
+        exclusive = eqb (off w a v HOLDER (omega arith) k) (j + 1);
+        shared = cond (eqb (bit (off w a v SHARERS (omega arith) k) j) 1) key [];
+        last = p k % 2 ^ 32;
+        standing = standingOf (q k);
+      }
+
+  order-row : length w ≡ WORDS → entryAt ordered key i ≡ orderWith f v (entryAt w key i)
+  unfolding entryAt
+  order-row n =
+      let b : ℕ = ORDERS + i * ORDER in
+      entry-with i (λ (g : ℕ). cond (eqb g f) v (orderWord w i g)) h (stored w b f v 0 (omega arith)) (stored w b f v 1 (omega arith))
+      ∙ order-by (fieldOf w i) (eqb (word w HOLDER) (i + 1)) (cond (eqb (bit (word w SHARERS) i) 1) key []) (orderWord w i) f v l
+
+  order-other : (j : ℕ) → j < sessionLimit → (j ≡ i → ⊥) → entryAt ordered key j ≡ entryAt w key j
+  unfolding entryAt
+  order-other j m o =
+      let n : (g : ℕ) → g < ORDER → orderWord ordered j g ≡ orderWord w j g = (λ g x. off w (ORDERS + i * ORDER + f) v (ORDERS + j * ORDER + g) (λ e. ⊎-elim (λ (y : j < i). omega arith) (λ (y : i < j). omega arith) (apart j i o))) in
+      entry-with j (orderWord w j) m (n 0 (lit< tt)) (n 1 (lit< tt))
+
 -- a memory whose table differs in slot i alone
 pub entries-change : (w w′ key key′ : List ℕ) (i : ℕ) (g : Entry → Entry) → i < sessionLimit
     → entryAt w′ key′ i ≡ g (entryAt w key i)
@@ -267,6 +321,21 @@ entries-change w w′ key key′ i g h e o =
     (λ j p q n. o j (omega arith) (λ e. n (e ∙ sym (zero-add i))))
     ∙ ap (λ (x : Entry). set (entriesOf w key) i (g x)) (sym (getD-tab (entryAt w key) 0 sessionLimit i blank h ∙ ap (entryAt w key) (zero-add i)))
     ∙ upd-set (entriesOf w key) i blank g
+
+pub order-stored : (w s : List ℕ) (i f v : ℕ) → length w ≡ WORDS → i < sessionLimit → f < ORDER
+    → view (memory (set w (ORDERS + i * ORDER + f) v) s) ≡ onEntry (view (memory w s)) i (orderWith f v)
+unfolding locksOf
+order-stored w s i f v n h l =
+    let a : ℕ = ORDERS + i * ORDER + f in
+    let key : List ℕ = keyOf w s in
+    λ k. record {
+      locks = record {
+        clock = off w a v CLOCK (omega arith) k % 2 ^ 63;
+        entries = (ap (entriesOf (set w a v)) (key-off w s a v (omega arith)) ∙ entries-change w (set w a v) key key i (orderWith f v) h (order-row w key i f v h l n) (order-other w key i f v h l)) k;
+        waiting = waiting-off w s a v (omega arith) (omega arith) k;
+      };
+      rest = rest-off w a v (omega arith) k;
+    }
 
 -- a field of a row, read: the word that stands there, stored again, changes nothing
 module _ (w : List ℕ) (i : ℕ) where
@@ -306,8 +375,8 @@ module _ (w : List ℕ) (i : ℕ) where
   entry-again : (key : List ℕ) (f : ℕ) → f < ENTRY → entryWith f (fieldOf w i f) (entryAt w key i) ≡ entryAt w key i
   unfolding entryAt
   entry-again key zero l = refl
-  entry-again key (suc zero) l = λ k. record { number = fieldOf w i 0; synchronous = mod-eq-of-lt (field-small w i 0) k; asynchronous = fieldOf w i 2; exclusive = (entryAt w key i) .exclusive; shared = (entryAt w key i) .shared }
-  entry-again key (suc (suc zero)) l = λ k. record { number = fieldOf w i 0; synchronous = fieldOf w i 1; asynchronous = mod-eq-of-lt (field-small w i 1) k; exclusive = (entryAt w key i) .exclusive; shared = (entryAt w key i) .shared }
+  entry-again key (suc zero) l = λ k. entryFrom (λ (f : ℕ). cond (eqb f 1) (mod-eq-of-lt (field-small w i 0) k) (fieldOf w i f)) (orderWord w i) ((entryAt w key i) .exclusive) ((entryAt w key i) .shared)
+  entry-again key (suc (suc zero)) l = λ k. entryFrom (λ (f : ℕ). cond (eqb f 2) (mod-eq-of-lt (field-small w i 1) k) (fieldOf w i f)) (orderWord w i) ((entryAt w key i) .exclusive) ((entryAt w key i) .shared)
   entry-again key (suc (suc (suc f))) l = absurd (omega arith)
 
   pub entry-read : (s : List ℕ) (f : ℕ) → i < sessionLimit → f < ENTRY → entryWith f (fieldOf w i f) (at (locksOf w s .entries) i) ≡ at (locksOf w s .entries) i
@@ -316,6 +385,15 @@ module _ (w : List ℕ) (i : ℕ) where
   pub entry-told : (f r : ℕ) → i < sessionLimit → f < ENTRY → r ≡ fieldOf w i f
       → ((s : List ℕ) → entryWith f r (at (locksOf w s .entries) i) ≡ at (locksOf w s .entries) i) × (r ≡ fieldOf w i f)
   entry-told f r h l e = (λ s. ap (λ (x : ℕ). entryWith f x (at (locksOf w s .entries) i)) e ∙ entry-read s f h l, e)
+
+  order-again : (key : List ℕ) (f : ℕ) → f < ORDER → orderWith f (orderWord w i f) (entryAt w key i) ≡ entryAt w key i
+  unfolding entryAt
+  order-again key zero l = refl
+  order-again key (suc zero) l = refl
+  order-again key (suc (suc f)) l = absurd (omega arith)
+
+  pub order-read : (s : List ℕ) (f : ℕ) → i < sessionLimit → f < ORDER → orderWith f (orderWord w i f) (at (locksOf w s .entries) i) ≡ at (locksOf w s .entries) i
+  order-read s f h l = ap (orderWith f (orderWord w i f)) (entry-at s h) ∙ order-again (keyOf w s) f l ∙ sym (entry-at s h)
 
 -- single values
 module _ (w s : List ℕ) (v : ℕ) (long : length w ≡ WORDS) where

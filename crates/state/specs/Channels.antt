@@ -14,14 +14,14 @@ use Rattle.model.specs.Locks.{joined}
 use Rattle.state.specs.Table.{tab-same}
 use Rattle.state.specs.Grid.{upd, upd-same, grid, grid-set, grid-off}
 use Rattle.state.specs.Bits.{bit}
-use Rattle.state.specs.Layout.{CLOCK, VENDOR, STATUS, LAST, ENABLE, LOCKOUT, REMOTE, HOLDER, SHARERS, ENTRIES, ENTRY, EXCHANGES, EXCHANGE, CONNECTIONS, CONNECTION, HOME, WORDS}
-use Rattle.state.specs.View.{memory, word, flag, keyOf, rowWord, homeIn, homeAt, homeOf, fieldOf, entryAt, entriesOf, locksOf, exchangeOf, connectionOf, restOf, view}
+use Rattle.state.specs.Layout.{CLOCK, VENDOR, STATUS, LAST, ENABLE, LOCKOUT, REMOTE, HOLDER, SHARERS, ENTRIES, ENTRY, ORDERS, ORDER, EXCHANGES, EXCHANGE, CONNECTIONS, CONNECTION, HOME, WORDS}
+use Rattle.state.specs.View.{memory, standingOf, word, flag, keyOf, orderWord, rowWord, homeIn, homeAt, homeOf, fieldOf, entryAt, entriesOf, locksOf, exchangeOf, connectionOf, restOf, view}
 use Rattle.state.specs.Confirmed.{field-same, field-else, field-number, field-free, field-past, field-shown, Shows, shows}
 use Rattle.state.specs.Change.{onEntry, off, here, key-off, waiting-off, rest-off, entries-change}
 
 -- a slot with another SessionID and other connections
 abbrev pub withRow : ℕ → ℕ → ℕ → Entry → Entry
-withRow n a b e = record { number = n; synchronous = a; asynchronous = b; exclusive = e .exclusive; shared = e .shared }
+withRow n a b e = record { number = n; synchronous = a; asynchronous = b; exclusive = e .exclusive; shared = e .shared; last = e .last; standing = e .standing }
 
 -- no slot shows connection c
 abbrev pub Unshown : List ℕ → ℕ → Type 0
@@ -77,11 +77,19 @@ home-stored w s c v long h =
     }
 
 -- slot j by the fields that it shows
-module _ (w w′ key : List ℕ) (j : ℕ) (holder : word w′ HOLDER ≡ word w HOLDER) (sharers : word w′ SHARERS ≡ word w SHARERS) where
+module _ (w w′ key : List ℕ) (j : ℕ) (holder : word w′ HOLDER ≡ word w HOLDER) (sharers : word w′ SHARERS ≡ word w SHARERS) (order : (f : ℕ) → orderWord w′ j f ≡ orderWord w j f) where
   entry-rowed : (n a b : ℕ) → fieldOf w′ j 0 ≡ n → fieldOf w′ j 1 ≡ a → fieldOf w′ j 2 ≡ b → entryAt w′ key j ≡ withRow n a b (entryAt w key j)
   unfolding entryAt
   entry-rowed n a b p q r =
-      λ k. record { number = p k; synchronous = q k; asynchronous = r k; exclusive = eqb (holder k) (j + 1); shared = cond (eqb (bit (sharers k) j) 1) key [] }
+      λ k. record {
+        number = p k;
+        synchronous = q k;
+        asynchronous = r k;
+        exclusive = eqb (holder k) (j + 1);
+        shared = cond (eqb (bit (sharers k) j) 1) key [];
+        last = order 0 k % 2 ^ 32;
+        standing = standingOf (order 1 k);
+      }
 
   entry-kept : ((f : ℕ) → f < ENTRY → fieldOf w′ j f ≡ fieldOf w j f) → entryAt w′ key j ≡ entryAt w key j
   unfolding entryAt
@@ -167,9 +175,9 @@ module _ (w s : List ℕ) (i n c : ℕ) (long : length w ≡ WORDS) (h : i < ses
       ∙ ap (λ (x : Server). withEntries x es) (row-stored w s i 0 n h (lit< tt))
       ∙ ap (λ (x : List Entry). withEntries d x)
       (entries-change w w₄ key key i (withRow n c noConnection) h
-      (entry-rowed w w₄ key i (same HOLDER (omega arith) (omega arith)) (same SHARERS (omega arith) (omega arith)) n c noConnection (field-number w₄ i ∙ number-here) first-shown second-none)
+      (entry-rowed w w₄ key i (same HOLDER (omega arith) (omega arith)) (same SHARERS (omega arith) (omega arith)) (λ f. same (ORDERS + i * ORDER + f) (omega arith) (omega arith)) n c noConnection (field-number w₄ i ∙ number-here) first-shown second-none)
       (λ j l o.
-      entry-kept w w₄ key j (same HOLDER (omega arith) (omega arith)) (same SHARERS (omega arith) (omega arith))
+      entry-kept w w₄ key j (same HOLDER (omega arith) (omega arith)) (same SHARERS (omega arith) (omega arith)) (λ f. same (ORDERS + j * ORDER + f) (omega arith) (omega arith))
       (keeps w w₄ c j few l lone
       (λ g m. same (ENTRIES + j * ENTRY + g) (λ f x e. o (let z : j ≡ i = omega arith in z)) (omega arith))
       (λ x m q. same (homeAt x) (λ f y e. omega arith) (λ e. q (let z : x ≡ c = omega arith in z)))
@@ -212,12 +220,12 @@ module _ (w s : List ℕ) (i c : ℕ) (long : length w ≡ WORDS) (h : i < sessi
       ∙ ap (λ (x : Server). withEntries x es) (row-stored w s i 2 c h (lit< tt))
       ∙ ap (λ (x : List Entry). withEntries d x)
       (entries-change w v₂ key key i (joined c) h
-      (entry-rowed w v₂ key i (still HOLDER (omega arith) (omega arith)) (still SHARERS (omega arith) (omega arith)) (fieldOf w i 0) (fieldOf w i 1) c
+      (entry-rowed w v₂ key i (still HOLDER (omega arith) (omega arith)) (still SHARERS (omega arith) (omega arith)) (λ f. still (ORDERS + i * ORDER + f) (omega arith) (omega arith)) (fieldOf w i 0) (fieldOf w i 1) c
       (field-number v₂ i ∙ alive ∙ sym (field-number w i))
       (field-else w v₂ i c 0 few alive (still (ENTRIES + i * ENTRY + 1) (omega arith) (omega arith)) other-homes (lone i 0 h (lit< tt)) (λ e. let y : homeIn i 2 ≡ homeIn i 1 = sym housed ∙ e in omega arith))
       (field-shown v₂ i 2 (omega arith) (λ e. lives (sym alive ∙ e)) (omega (arith, named)) (ap (homeOf v₂) named ∙ housed) ∙ named))
       (λ j l o.
-      entry-kept w v₂ key j (still HOLDER (omega arith) (omega arith)) (still SHARERS (omega arith) (omega arith))
+      entry-kept w v₂ key j (still HOLDER (omega arith) (omega arith)) (still SHARERS (omega arith) (omega arith)) (λ f. still (ORDERS + j * ORDER + f) (omega arith) (omega arith))
       (keeps w v₂ c j few l lone
       (λ g m. still (ENTRIES + j * ENTRY + g) (λ e. o (let z : j ≡ i = omega arith in z)) (omega arith))
       other-homes
@@ -239,10 +247,10 @@ module _ (w s : List ℕ) (i : ℕ) (long : length w ≡ WORDS) (h : i < session
       row-stored w s i 0 0 h (lit< tt)
       ∙ ap (λ (x : List Entry). withEntries (view (memory w s)) x)
       (entries-change w freed key key i (withRow 0 noConnection noConnection) h
-      (entry-rowed w freed key i (off w a 0 HOLDER (omega arith)) (off w a 0 SHARERS (omega arith)) 0 noConnection noConnection
+      (entry-rowed w freed key i (off w a 0 HOLDER (omega arith)) (off w a 0 SHARERS (omega arith)) (λ f. off w a 0 (ORDERS + i * ORDER + f) (omega arith)) 0 noConnection noConnection
       (field-number freed i ∙ free-here) (field-free freed i 1 (omega arith) free-here) (field-free freed i 2 (omega arith) free-here))
       (λ j l o.
-      entry-kept w freed key j (off w a 0 HOLDER (omega arith)) (off w a 0 SHARERS (omega arith))
+      entry-kept w freed key j (off w a 0 HOLDER (omega arith)) (off w a 0 SHARERS (omega arith)) (λ f. off w a 0 (ORDERS + j * ORDER + f) (omega arith))
       (field-same w freed j (λ g m. off w a 0 (ENTRIES + j * ENTRY + g) (λ e. o (let z : j ≡ i = omega arith in z))) (λ c m. off w a 0 (homeAt c) (omega arith)))))
 
 -- what is left of a free slot i is not seen: the words of its row, and the home of a connection there
@@ -274,7 +282,7 @@ module _ (w s : List ℕ) (i f : ℕ) (long : length w ≡ WORDS) (h : i < sessi
       row-stored w s i f 0 h l
       ∙ ap (λ (x : List Entry). withEntries (view (memory w s)) x)
       (tab-same (entryAt cleared key) (entryAt w key) 0 sessionLimit
-      (λ j p q. entry-kept w cleared key j (off w a 0 HOLDER (omega arith)) (off w a 0 SHARERS (omega arith)) (cleared-field j)))
+      (λ j p q. entry-kept w cleared key j (off w a 0 HOLDER (omega arith)) (off w a 0 SHARERS (omega arith)) (λ f. off w a 0 (ORDERS + j * ORDER + f) (omega arith)) (cleared-field j)))
 
   module _ (c : ℕ) (few : c < connectionLimit) (housed : homeOf w c ≡ homeIn i f) where
     abbrev homeless : List ℕ
@@ -302,7 +310,7 @@ module _ (w s : List ℕ) (i f : ℕ) (long : length w ≡ WORDS) (h : i < sessi
         ∙ ap (λ (x : List Entry). withEntries (view (memory w s)) x)
         (tab-same (entryAt homeless key) (entryAt w key) 0 sessionLimit
         (λ j p q.
-        entry-kept w homeless key j (off w a 0 HOLDER (omega arith)) (off w a 0 SHARERS (omega arith))
+        entry-kept w homeless key j (off w a 0 HOLDER (omega arith)) (off w a 0 SHARERS (omega arith)) (λ f. off w a 0 (ORDERS + j * ORDER + f) (omega arith))
         (keeps w homeless c j few (omega arith) unshown
         (λ g m. off w a 0 (ENTRIES + j * ENTRY + g) (omega arith))
         (λ x m r. off w a 0 (homeAt x) (λ e. r (let z : x ≡ c = omega arith in z)))

@@ -8,11 +8,11 @@ use native.Mathlib.Numerals.{add-one}
 use lib.Dec.{eqb, ltb}
 use lib.ListN.{length, getD, set, take, replicate}
 use lib.Seq.{take-all, take-suc, take-suc-set}
-use Rattle.model.specs.Sizes.{sessionLimit, connectionLimit, payloadLimit}
+use Rattle.model.specs.Sizes.{sessionLimit, connectionLimit, payloadLimit, beforeFirst}
 use Rattle.model.specs.State.{Server, Rest, fresh}
 use Rattle.state.specs.Table.{tab, getD-tab}
 use Rattle.state.specs.Grid.{grid}
-use Rattle.state.specs.Layout.{EXCHANGES, EXCHANGE, CONNECTIONS, CONNECTION, ENTRY, REQUEST, WORDS, STRINGS}
+use Rattle.state.specs.Layout.{EXCHANGES, EXCHANGE, CONNECTIONS, CONNECTION, ENTRY, ORDERS, ORDER, REQUESTS, REQUEST, WORDS, STRINGS}
 use Rattle.state.specs.View.{memory, view, keyOf, fieldOf, entryAt, entriesOf, waitingOf, locksOf, restOf}
 
 -- n rows alike
@@ -21,7 +21,7 @@ rows zero r = []
 rows (suc n) r = r ++ rows n r
 
 -- vendor number; status, last SessionID and the flags; exchanges (the client's size is 1,024); connections; clock, holder, sharers, key,
--- count; entries (free); requests; queue
+-- count; entries (free); orders (no message acted); requests; queue
 abbrev pub freshWords : ℕ → List ℕ
 freshWords v =
     v
@@ -30,13 +30,16 @@ freshWords v =
     ++ replicate (connectionLimit * CONNECTION) 0
     ++ replicate 5 0
     ++ replicate (sessionLimit * ENTRY) 0
+    ++ rows sessionLimit (beforeFirst ∷ 0 ∷ [])
     ++ replicate (sessionLimit * REQUEST) 0
     ++ replicate sessionLimit 0
 
 -- the word at a place
 unfoldable pub freshWord : ℕ → ℕ
 freshWord i =
-    cond (ltb i EXCHANGES) 0 (cond (ltb i CONNECTIONS) (cond (eqb ((i - EXCHANGES) % EXCHANGE) 3) payloadLimit 0) 0)
+    cond (ltb i EXCHANGES) 0
+    (cond (ltb i CONNECTIONS) (cond (eqb ((i - EXCHANGES) % EXCHANGE) 3) payloadLimit 0)
+    (cond (ltb i ORDERS) 0 (cond (ltb i REQUESTS) (cond (eqb ((i - ORDERS) % ORDER) 0) beforeFirst 0) 0)))
 
 -- it is that of the list: computed over every place
 fresh-table : tab freshWord 0 WORDS ≡ freshWords 0

@@ -14,14 +14,14 @@ use Rattle.model.specs.State.{Entry, at}
 use Rattle.model.specs.Locks.{give, withoutExclusive, withoutShared}
 use Rattle.state.specs.Grid.{upd}
 use Rattle.state.specs.Bits.{bit, without, with-bit, without-same, without-other, with-same, with-other, with-first}
-use Rattle.state.specs.Layout.{LOCKS, CLOCK, HOLDER, SHARERS, KEY, ENTRIES, ENTRY, WORDS}
-use Rattle.state.specs.View.{Memory, memory, word, keyOf, homeAt, fieldOf, entryFrom, entryAt, entriesOf, waitingOf, locksOf, view}
+use Rattle.state.specs.Layout.{LOCKS, CLOCK, HOLDER, SHARERS, KEY, ENTRIES, ENTRY, ORDERS, ORDER, WORDS}
+use Rattle.state.specs.View.{Memory, memory, standingOf, word, keyOf, homeAt, fieldOf, orderWord, entryFrom, entryAt, entriesOf, waitingOf, locksOf, view}
 use Rattle.state.specs.Confirmed.{field-same}
 use Rattle.state.specs.Change.{onEntry, off, here, key-off, waiting-off, rest-off, entries-change}
 
 -- slot j with another exclusive holder, with another set of sharers
 module _ (w key : List ℕ) (j : ℕ) (long : length w ≡ WORDS) where
-  entry-holder : (v : ℕ) → entryAt (set w HOLDER v) key j ≡ entryFrom (fieldOf w j) (eqb v (j + 1)) ((entryAt w key j) .shared)
+  entry-holder : (v : ℕ) → entryAt (set w HOLDER v) key j ≡ entryFrom (fieldOf w j) (orderWord w j) (eqb v (j + 1)) ((entryAt w key j) .shared)
   unfolding entryAt
   entry-holder v =
       let t : (f : ℕ) → f < ENTRY → fieldOf (set w HOLDER v) j f ≡ fieldOf w j f = field-same w (set w HOLDER v) j (λ g l. off w HOLDER v (ENTRIES + j * ENTRY + g) (omega arith)) (λ c l. off w HOLDER v (homeAt c) (omega arith)) in
@@ -31,9 +31,11 @@ module _ (w key : List ℕ) (j : ℕ) (long : length w ≡ WORDS) where
         asynchronous = t 2 (lit< tt) k;
         exclusive = eqb (here w HOLDER v (omega arith) k) (j + 1);
         shared = cond (eqb (bit (off w HOLDER v SHARERS (omega arith) k) j) 1) key [];
+        last = off w HOLDER v (ORDERS + j * ORDER + 0) (omega arith) k % 2 ^ 32;
+        standing = standingOf (off w HOLDER v (ORDERS + j * ORDER + 1) (omega arith) k);
       }
 
-  entry-sharers : (v : ℕ) → entryAt (set w SHARERS v) key j ≡ entryFrom (fieldOf w j) ((entryAt w key j) .exclusive) (cond (eqb (bit v j) 1) key [])
+  entry-sharers : (v : ℕ) → entryAt (set w SHARERS v) key j ≡ entryFrom (fieldOf w j) (orderWord w j) ((entryAt w key j) .exclusive) (cond (eqb (bit v j) 1) key [])
   unfolding entryAt
   entry-sharers v =
       let t : (f : ℕ) → f < ENTRY → fieldOf (set w SHARERS v) j f ≡ fieldOf w j f = field-same w (set w SHARERS v) j (λ g l. off w SHARERS v (ENTRIES + j * ENTRY + g) (omega arith)) (λ c l. off w SHARERS v (homeAt c) (omega arith)) in
@@ -43,13 +45,15 @@ module _ (w key : List ℕ) (j : ℕ) (long : length w ≡ WORDS) where
         asynchronous = t 2 (lit< tt) k;
         exclusive = eqb (off w SHARERS v HOLDER (omega arith) k) (j + 1);
         shared = cond (eqb (bit (here w SHARERS v (omega arith) k) j) 1) key [];
+        last = off w SHARERS v (ORDERS + j * ORDER + 0) (omega arith) k % 2 ^ 32;
+        standing = standingOf (off w SHARERS v (ORDERS + j * ORDER + 1) (omega arith) k);
       }
 
   -- slot j as its words have it, with these locks
   entry-as : (x : Bool) (y : List ℕ) → (entryAt w key j) .exclusive ≡ x → (entryAt w key j) .shared ≡ y
-      → entryFrom (fieldOf w j) x y ≡ entryAt w key j
+      → entryFrom (fieldOf w j) (orderWord w j) x y ≡ entryAt w key j
   unfolding entryAt
-  entry-as x y p q = ap₂ (entryFrom (fieldOf w j)) (sym p) (sym q)
+  entry-as x y p q = ap₂ (entryFrom (fieldOf w j) (orderWord w j)) (sym p) (sym q)
 
 exclusive-of : (w key : List ℕ) (j : ℕ) → (entryAt w key j) .exclusive ≡ eqb (word w HOLDER) (j + 1)
 unfolding entryAt
@@ -61,19 +65,19 @@ shared-of w key j = refl
 
 -- slot j with one lock given or taken away, from its words
 module _ (w key : List ℕ) (j : ℕ) where
-  as-given : entryFrom (fieldOf w j) true ((entryAt w key j) .shared) ≡ give [] (entryAt w key j)
+  as-given : entryFrom (fieldOf w j) (orderWord w j) true ((entryAt w key j) .shared) ≡ give [] (entryAt w key j)
   unfolding entryAt
   as-given = refl
 
-  as-dropped : entryFrom (fieldOf w j) false ((entryAt w key j) .shared) ≡ withoutExclusive (entryAt w key j)
+  as-dropped : entryFrom (fieldOf w j) (orderWord w j) false ((entryAt w key j) .shared) ≡ withoutExclusive (entryAt w key j)
   unfolding entryAt
   as-dropped = refl
 
-  as-shared : (x : ℕ) (xs : List ℕ) → entryFrom (fieldOf w j) ((entryAt w key j) .exclusive) (x ∷ xs) ≡ give (x ∷ xs) (entryAt w key j)
+  as-shared : (x : ℕ) (xs : List ℕ) → entryFrom (fieldOf w j) (orderWord w j) ((entryAt w key j) .exclusive) (x ∷ xs) ≡ give (x ∷ xs) (entryAt w key j)
   unfolding entryAt
   as-shared x xs = refl
 
-  as-unshared : entryFrom (fieldOf w j) ((entryAt w key j) .exclusive) [] ≡ withoutShared (entryAt w key j)
+  as-unshared : entryFrom (fieldOf w j) (orderWord w j) ((entryAt w key j) .exclusive) [] ≡ withoutShared (entryAt w key j)
   unfolding entryAt
   as-unshared = refl
 
@@ -95,7 +99,7 @@ module _ (w s : List ℕ) (i : ℕ) (h : i < sessionLimit) (long : length w ≡ 
 
   -- another holder v: slot i holds or not as g says, and nobody else did or does
   holder-stored : (v : ℕ) (b : Bool) (g : Entry → Entry) → eqb v (i + 1) ≡ b
-      → entryFrom (fieldOf w i) b ((entryAt w (keyOf w s) i) .shared) ≡ g (entryAt w (keyOf w s) i)
+      → entryFrom (fieldOf w i) (orderWord w i) b ((entryAt w (keyOf w s) i) .shared) ≡ g (entryAt w (keyOf w s) i)
       → ((j : ℕ) → j < sessionLimit → (j ≡ i → ⊥) → word w HOLDER ≡ j + 1 → ⊥)
       → ((j : ℕ) → j < sessionLimit → (j ≡ i → ⊥) → v ≡ j + 1 → ⊥)
       → view (memory (set w HOLDER v) s) ≡ onEntry (view (memory w s)) i g
@@ -103,10 +107,10 @@ module _ (w s : List ℕ) (i : ℕ) (h : i < sessionLimit) (long : length w ≡ 
       let key : List ℕ = keyOf w s in
       by-entries HOLDER v g (omega arith) (omega arith)
       (entries-change w (set w HOLDER v) key key i g h
-      (entry-holder w key i long v ∙ ap (λ (x : Bool). entryFrom (fieldOf w i) x ((entryAt w key i) .shared)) e ∙ f)
+      (entry-holder w key i long v ∙ ap (λ (x : Bool). entryFrom (fieldOf w i) (orderWord w i) x ((entryAt w key i) .shared)) e ∙ f)
       (λ j l n.
       entry-holder w key j long v
-      ∙ ap (λ (x : Bool). entryFrom (fieldOf w j) x ((entryAt w key j) .shared)) (ne-eqb v (j + 1) (o′ j l n))
+      ∙ ap (λ (x : Bool). entryFrom (fieldOf w j) (orderWord w j) x ((entryAt w key j) .shared)) (ne-eqb v (j + 1) (o′ j l n))
       ∙ entry-as w key j long false ((entryAt w key j) .shared) (exclusive-of w key j ∙ ne-eqb (word w HOLDER) (j + 1) (o j l n)) refl))
 
   -- the exclusive lock is granted: nobody else has it
@@ -137,7 +141,7 @@ module _ (w s : List ℕ) (i : ℕ) (h : i < sessionLimit) (long : length w ≡ 
 
   -- another set of sharers, which differs in i alone
   sharers-stored : (v : ℕ) (g : Entry → Entry)
-      → entryFrom (fieldOf w i) ((entryAt w (keyOf w s) i) .exclusive) (cond (eqb (bit v i) 1) (keyOf w s) []) ≡ g (entryAt w (keyOf w s) i)
+      → entryFrom (fieldOf w i) (orderWord w i) ((entryAt w (keyOf w s) i) .exclusive) (cond (eqb (bit v i) 1) (keyOf w s) []) ≡ g (entryAt w (keyOf w s) i)
       → ((j : ℕ) → j < sessionLimit → (j ≡ i → ⊥) → bit v j ≡ bit (word w SHARERS) j)
       → view (memory (set w SHARERS v) s) ≡ onEntry (view (memory w s)) i g
   sharers-stored v g f o =
@@ -147,20 +151,20 @@ module _ (w s : List ℕ) (i : ℕ) (h : i < sessionLimit) (long : length w ≡ 
       (entry-sharers w key i long v ∙ f)
       (λ j l n.
       entry-sharers w key j long v
-      ∙ ap (λ (x : ℕ). entryFrom (fieldOf w j) ((entryAt w key j) .exclusive) (cond (eqb x 1) key [])) (o j l n)
+      ∙ ap (λ (x : ℕ). entryFrom (fieldOf w j) (orderWord w j) ((entryAt w key j) .exclusive) (cond (eqb x 1) key [])) (o j l n)
       ∙ entry-as w key j long ((entryAt w key j) .exclusive) (cond (eqb (bit (word w SHARERS) j) 1) key []) refl (shared-of w key j)))
 
   -- the shared lock is freed, held or not
   pub shared-dropped : view (memory (set w SHARERS (without (word w SHARERS) i)) s) ≡ onEntry (view (memory w s)) i withoutShared
   shared-dropped =
       sharers-stored (without (word w SHARERS) i) withoutShared
-      (ap (λ (x : Bool). entryFrom (fieldOf w i) ((entryAt w (keyOf w s) i) .exclusive) (cond x (keyOf w s) [])) (ne-eqb (bit (without (word w SHARERS) i) i) 1 (let z : bit (without (word w SHARERS) i) i ≡ 0 = without-same (word w SHARERS) i in omega arith))
+      (ap (λ (x : Bool). entryFrom (fieldOf w i) (orderWord w i) ((entryAt w (keyOf w s) i) .exclusive) (cond x (keyOf w s) [])) (ne-eqb (bit (without (word w SHARERS) i) i) 1 (let z : bit (without (word w SHARERS) i) i ≡ 0 = without-same (word w SHARERS) i in omega arith))
       ∙ as-unshared w (keyOf w s) i)
       (λ j l n. without-other (word w SHARERS) i j n)
 
   -- slot i joins those that share, with their string, which is never empty
   as-joined : (k : List ℕ) → 0 < length k
-      → entryFrom (fieldOf w i) ((entryAt w (keyOf w s) i) .exclusive) k ≡ give k (entryAt w (keyOf w s) i)
+      → entryFrom (fieldOf w i) (orderWord w i) ((entryAt w (keyOf w s) i) .exclusive) k ≡ give k (entryAt w (keyOf w s) i)
   as-joined [] p = absurd (omega arith)
   as-joined (x ∷ k) p = as-shared w (keyOf w s) i x k
 
@@ -171,7 +175,7 @@ module _ (w s : List ℕ) (i : ℕ) (h : i < sessionLimit) (long : length w ≡ 
   pub sharer-joined : view (memory (set w SHARERS (with-bit sessionLimit (word w SHARERS) i)) s) ≡ onEntry (view (memory w s)) i (give (keyOf w s))
   sharer-joined =
       sharers-stored (with-bit sessionLimit (word w SHARERS) i) (give (keyOf w s))
-      (ap (λ (x : Bool). entryFrom (fieldOf w i) ((entryAt w (keyOf w s) i) .exclusive) (cond x (keyOf w s) [])) (eq-eqb (bit (with-bit sessionLimit (word w SHARERS) i) i) 1 (with-same sessionLimit (word w SHARERS) i h))
+      (ap (λ (x : Bool). entryFrom (fieldOf w i) (orderWord w i) ((entryAt w (keyOf w s) i) .exclusive) (cond x (keyOf w s) [])) (eq-eqb (bit (with-bit sessionLimit (word w SHARERS) i) i) 1 (with-same sessionLimit (word w SHARERS) i h))
       ∙ as-joined (keyOf w s) some-key)
       (λ j l n. with-other sessionLimit (word w SHARERS) i h j l n)
 

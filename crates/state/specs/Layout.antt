@@ -76,9 +76,17 @@ ENTRIES = COUNT + 1
 abbrev pub ENTRY : ℕ
 ENTRY = 3
 
+-- a row for each slot: the number of its last message, its release that stands
+abbrev pub ORDERS : ℕ
+ORDERS = ENTRIES + sessionLimit * ENTRY
+
+-- words a row
+abbrev pub ORDER : ℕ
+ORDER = 2
+
 -- a row for each slot: its request's deadline, the length of its string
 abbrev pub REQUESTS : ℕ
-REQUESTS = ENTRIES + sessionLimit * ENTRY
+REQUESTS = ORDERS + sessionLimit * ORDER
 
 -- words a row
 abbrev pub REQUEST : ℕ

@@ -17,7 +17,7 @@ use Rattle.model.specs.State.{Server}
 use Rattle.state.specs.Table.{tab-same}
 use Rattle.state.specs.Bits.{bit, empty-bits}
 use Rattle.state.specs.Layout.{CLOCK, HOLDER, SHARERS, KEY, ENTRIES, ENTRY, WORDS, STRINGS}
-use Rattle.state.specs.View.{Memory, memory, word, keyOf, fieldOf, entryFrom, entryAt, entriesOf, waitingOf, locksOf, view}
+use Rattle.state.specs.View.{Memory, memory, word, keyOf, fieldOf, orderWord, entryFrom, entryAt, entriesOf, waitingOf, locksOf, view}
 use Rattle.state.specs.Change.{onEntry, off, here, past-homes, entries-off, waiting-off, rest-off}
 use Rattle.state.specs.Holders.{sharers-test, fits-some}
 use Rattle.state.specs.Requests.{part-behind, take-here, waiting-strings}
@@ -35,8 +35,8 @@ unshared-entries w k k′ e =
     (λ j p q.
     let z : bit (word w SHARERS) j ≡ 0 = empty-bits (word w SHARERS) sessionLimit j e (omega arith) in
     let f : eqb (bit (word w SHARERS) j) 1 ≡ false = ne-eqb (bit (word w SHARERS) j) 1 (omega arith) in
-    ap (λ (b : Bool). entryFrom (fieldOf w j) (eqb (word w HOLDER) (j + 1)) (cond b k′ [])) f
-    ∙ ap (λ (b : Bool). entryFrom (fieldOf w j) (eqb (word w HOLDER) (j + 1)) (cond b k [])) (sym f))
+    ap (λ (b : Bool). entryFrom (fieldOf w j) (orderWord w j) (eqb (word w HOLDER) (j + 1)) (cond b k′ [])) f
+    ∙ ap (λ (b : Bool). entryFrom (fieldOf w j) (orderWord w j) (eqb (word w HOLDER) (j + 1)) (cond b k [])) (sym f))
 
 module _ (w s k : List ℕ) (some : 0 < length k) (small : length k ≤ stringLimit) (long : length w ≡ WORDS) (room : length s ≡ STRINGS) where
   abbrev pub keyed : List ℕ

@@ -6,11 +6,11 @@ use Prim.Native.Nat.{ℕ, zero, suc, _+_, _*_, _-_, _%_, _^_, min}
 use lib.Dec.{eqb, ltb}
 use lib.ListN.{getD, take}
 use Rattle.model.specs.Sizes.{sessionLimit, connectionLimit, stringLimit, noConnection}
-use Rattle.model.specs.State.{Entry, Waiting, Locks, Asked, Asked.none, Asked.some, Exchange, Connection, RemoteLocal, Rest, Server}
+use Rattle.model.specs.State.{Entry, Kind.exclusive-lock, Kind.shared-lock, Standing, Standing.no-release, Standing.release-of, Waiting, Locks, Asked, Asked.none, Asked.some, Exchange, Connection, RemoteLocal, Rest, Server}
 use Rattle.state.specs.Table.{tab}
 use Rattle.state.specs.Grid.{part, grid}
 use Rattle.state.specs.Bits.{bit}
-use Rattle.state.specs.Layout.{CLOCK, VENDOR, STATUS, LAST, ENABLE, LOCKOUT, REMOTE, HOLDER, SHARERS, KEY, COUNT, ENTRIES, ENTRY, EXCHANGES, EXCHANGE, CONNECTIONS, CONNECTION, HOME, REQUESTS, REQUEST, QUEUE}
+use Rattle.state.specs.Layout.{CLOCK, VENDOR, STATUS, LAST, ENABLE, LOCKOUT, REMOTE, HOLDER, SHARERS, KEY, COUNT, ENTRIES, ENTRY, ORDERS, ORDER, EXCHANGES, EXCHANGE, CONNECTIONS, CONNECTION, HOME, REQUESTS, REQUEST, QUEUE}
 
 -- all that the host lends
 pub record Memory : Type 0 where
@@ -53,12 +53,20 @@ unfoldable pub fieldOf : List ℕ → ℕ → ℕ → ℕ
 fieldOf w i zero = rowWord w i 0
 fieldOf w i (suc f) = confirmed (rowWord w i 0) (rowWord w i (suc f)) (homeOf w (rowWord w i (suc f))) (homeIn i (suc f))
 
--- slot i: its SessionID and connections; exclusive and shared stand in words that all slots have in common
-abbrev pub entryFrom : (ℕ → ℕ) → Bool → List ℕ → Entry
-entryFrom t x y = record { number = t 0; synchronous = t 1; asynchronous = t 2; exclusive = x; shared = y }
+-- slot i's last message and the release that stands, in another row
+abbrev pub orderWord : List ℕ → ℕ → ℕ → ℕ
+orderWord w i f = word w (ORDERS + i * ORDER + f)
+
+-- 0: no release stands; else, less 1: its number, and above it which lock it frees
+abbrev pub standingOf : ℕ → Standing
+standingOf x = cond (eqb x 0) no-release (release-of (cond (ltb (x - 1) (2 ^ 32)) exclusive-lock shared-lock) ((x - 1) % 2 ^ 32))
+
+-- slot i: its SessionID and connections, and its order; exclusive and shared stand in words that all slots have in common
+abbrev pub entryFrom : (ℕ → ℕ) → (ℕ → ℕ) → Bool → List ℕ → Entry
+entryFrom t r x y = record { number = t 0; synchronous = t 1; asynchronous = t 2; exclusive = x; shared = y; last = r 0 % 2 ^ 32; standing = standingOf (r 1) }
 
 unfoldable pub entryAt : List ℕ → List ℕ → ℕ → Entry
-entryAt w key i = entryFrom (fieldOf w i) (eqb (word w HOLDER) (i + 1)) (cond (eqb (bit (word w SHARERS) i) 1) key [])
+entryAt w key i = entryFrom (fieldOf w i) (orderWord w i) (eqb (word w HOLDER) (i + 1)) (cond (eqb (bit (word w SHARERS) i) 1) key [])
 
 unfoldable pub entriesOf : List ℕ → List ℕ → List Entry
 entriesOf w key = tab (entryAt w key) 0 sessionLimit

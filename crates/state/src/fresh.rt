@@ -8,14 +8,19 @@ ghost use Rattle.state.specs.Layout.{STRINGS, WORDS};
 use crate::layout::CONNECTIONS;
 use crate::layout::EXCHANGE;
 use crate::layout::EXCHANGES;
+use crate::layout::ORDER;
+use crate::layout::ORDERS;
+use crate::layout::REQUESTS;
 use crate::sizes;
+use crate::sizes::BEFORE_FIRST;
 use crate::sizes::PAYLOAD;
 use crate::sizes::Strings;
 use crate::sizes::Words;
 use crate::tables::CLIENT_SIZE;
+use crate::tables::LAST_NUMBER;
 use crate::tables::VENDOR;
 
-// The word of a fresh server at a place: an exchange has the client's size, all else is 0.
+// The word of a fresh server at a place: an exchange has the client's size, in no slot a message acted, all else is 0.
 fn fresh_word(at: usize) -> u64
     ensures { λ r. ⌜ r ≡ freshWord at ⌝ }
 {
@@ -25,6 +30,15 @@ fn fresh_word(at: usize) -> u64
     if at < CONNECTIONS {
         if (at - EXCHANGES) % EXCHANGE == CLIENT_SIZE {
             return PAYLOAD;
+        }
+        return 0;
+    }
+    if at < ORDERS {
+        return 0;
+    }
+    if at < REQUESTS {
+        if (at - ORDERS) % ORDER == LAST_NUMBER {
+            return BEFORE_FIRST;
         }
         return 0;
     }

@@ -36,8 +36,13 @@ pub const ENTRIES: usize = COUNT + 1;
 
 pub const ENTRY: usize = 3;
 
+// a row for each slot: the number of its last message, its release that stands
+pub const ORDERS: usize = ENTRIES + SESSION_LIMIT * ENTRY;
+
+pub const ORDER: usize = 2;
+
 // a row for each slot: its request's deadline, the length of its string
-pub const REQUESTS: usize = ENTRIES + SESSION_LIMIT * ENTRY;
+pub const REQUESTS: usize = ORDERS + SESSION_LIMIT * ORDER;
 
 pub const REQUEST: usize = 2;
 

@@ -1,6 +1,6 @@
 // The sizes of 01's bench, with 02's Q-6: the one place in code, as `model/specs/Sizes.antt` is the one in definitions. Each function below
 // ties the two.
-ghost use Rattle.model.specs.Sizes.{clockLimit, connectionLimit, noConnection, outputMinimum, payloadLimit, sessionLimit, stringLimit};
+ghost use Rattle.model.specs.Sizes.{beforeFirst, clockLimit, connectionLimit, noConnection, outputMinimum, payloadLimit, sessionLimit, stringLimit};
 ghost use Rattle.state.specs.Layout.{STRINGS, WORDS};
 ghost use mathlib.Core.Path.{_≡_};
 use crate::layout;
@@ -27,6 +27,9 @@ pub const CLOCK_LIMIT: u64 = 4611686018427387904;
 
 // stands for "no connection" where a connection's number is kept
 pub const NO_CONNECTION: u64 = 255;
+
+// fffffefe hex, the number before the first: the last message's where none acted
+pub const BEFORE_FIRST: u64 = 4294967038;
 
 // What the host lends: words for everything but lock strings, bytes for those.
 pub const WORDS: usize = layout::WORDS;
@@ -77,6 +80,12 @@ pub fn no_connection() -> u64
     ensures { λ r. ⌜ r ≡ noConnection ⌝ }
 {
     NO_CONNECTION
+}
+
+pub fn before_first() -> u64
+    ensures { λ r. ⌜ r ≡ beforeFirst ⌝ }
+{
+    BEFORE_FIRST
 }
 
 // How many words and bytes are lent.

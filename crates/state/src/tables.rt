@@ -2,8 +2,8 @@
 // Reading: the word at its place; stored again it would change nothing. Storing: the row changes in that field, and nothing else does.
 ghost use Prim.Native.Nat.{ℕ, _*_, _+_, _<_, _^_};
 ghost use Rattle.model.specs.State.{at, connectionAt, exchangeAt};
-ghost use Rattle.state.specs.Change.{connectionWith, connectionWord, entryWith, exchangeWith, exchangeWord, onConnection, onEntry, onExchange, onRest, singleWith, withClock};
-ghost use Rattle.state.specs.View.{fieldOf, homeIn, homeOf, locksOf, memory, restOf, rowWord, view, word};
+ghost use Rattle.state.specs.Change.{connectionWith, connectionWord, entryWith, exchangeWith, exchangeWord, onConnection, onEntry, onExchange, onRest, orderWith, singleWith, withClock};
+ghost use Rattle.state.specs.View.{fieldOf, homeIn, homeOf, locksOf, memory, orderWord, restOf, rowWord, view, word};
 ghost use lib.ListN.{length};
 ghost use mathlib.Core.List.{List};
 ghost use mathlib.Core.Path.{_≡_};
@@ -17,6 +17,8 @@ use crate::layout::ENTRY;
 use crate::layout::EXCHANGE;
 use crate::layout::EXCHANGES;
 use crate::layout::HOME;
+use crate::layout::ORDER;
+use crate::layout::ORDERS;
 use crate::sizes;
 use crate::sizes::NO_CONNECTION;
 use crate::sizes::Words;
@@ -42,6 +44,12 @@ pub const NUMBER: usize = 0;
 pub const SYNCHRONOUS: usize = 1;
 
 pub const ASYNCHRONOUS: usize = 2;
+
+// The fields of its order: the number of its last message, its release that stands (0: none; else, less 1: the number that it waits for,
+// and above 32 bits which lock it frees).
+pub const LAST_NUMBER: usize = 0;
+
+pub const STANDING: usize = 1;
 
 // The single values: the vendor number, the instrument's status byte, the SessionID issued last, the three remote/local flags.
 pub const VENDOR: usize = 0;
@@ -131,6 +139,21 @@ pub fn entry(w: &Words, i: usize, f: usize) -> u64
         return NO_CONNECTION;
     }
     v
+}
+
+// The last message of a slot and the release that stands.
+pub fn order(w: &Words, i: usize, f: usize) -> u64
+    requires { ⌜ (i < sessionLimit) × (f < 2) ⌝ }
+    ensures { λ r. ⌜ ((s : List ℕ) → orderWith f r (at (locksOf (now (w .entry)) s .entries) i) ≡ at (locksOf (now (w .entry)) s .entries) i) × (r ≡ orderWord (now (w .entry)) i f) ⌝ }
+{
+    w[ORDERS + i * ORDER + f]
+}
+
+pub fn set_order(w: &mut Words, i: usize, f: usize, v: u64)
+    requires { ⌜ (i < sessionLimit) × (f < 2) ⌝ }
+    ensures { λ _. ⌜ ((s : List ℕ) → view (memory (now (w .exit)) s) ≡ onEntry (view (memory (now (w .entry)) s)) i (orderWith f v)) ⌝ }
+{
+    store(w, ORDERS + i * ORDER + f, v);
 }
 
 // A single value; its place is its word.

@@ -30,9 +30,9 @@ returns-3 c =
 
 returns-4 : tie.Need-returns-4
 returns-4 c =
-    let a = c .before .before .before .before .before .before .before .before .before .before .before .args in
+    let a = c .before .before .before .before .before .before .before .before .before .before .before .before .args in
     did-message k-deviceClear (a .i) (a .c) (a .kind) (a .code) (a .param) (a .len) (a .payload .now) (c .before .before .clear .result) (memory (a .w .now) (a .strings .now)) _ (a .out .now) _
-    (ap asynchronousKind (c .before .before .before .before .before .if4 .taken)) (c .before .before .clear .ensures (a .strings .now) (a .payload .now) (a .code) (a .param))
+    (ap asynchronousKind (c .before .before .before .before .before .before .if4 .taken)) (c .before .before .clear .ensures (a .payload .now) (a .code) (a .param))
 
 returns-5 : tie.Need-returns-5
 returns-5 c =

@@ -1,23 +1,31 @@
--- `asynchronous::clear` meets its contract: the answer to a request that waited, the stores, then the frame behind it.
-use Rattle.effects.specs.LockMessages.{clear-short, clear-told}
-use mathlib.Core.List.{[]}
+-- `asynchronous::clear` meets its contract: the answers, the stores, the frame behind them; where a release stood, the grant pass.
+use mathlib.Core.Path.{_∙_}
 use native.Mathlib.Omega.{arith}
+use Rattle.effects.specs.LockMessages.{clear-granted, clear-told}
 use borrow.Author.Needs.{needs}
 use Rattle.effects.proofs.asynchronous.clear.Statement.{statement}
 use Rattle.effects.proofs.asynchronous.clear.Tie as tie
 
 put-frame-requires : tie.Need-put-frame-requires
-put-frame-requires c κs = let a = c .before .before .before .before .before .before .before .before .before .before .before .args in let l = clear-short (a .w .now) [] _ _ (a .i) (a .out .now) _ _ (c .before .before .before .before .before .clear-request .ensures []) in omega arith
+put-frame-requires c κs = omega (arith, c .before .before .before .before .before .at-clear .ensures .0)
 
-add-acted : tie.Need-add-acted
-add-acted c = let a = c .before .before .before .before .before .before .before .before .before .before .before .before .before .before .args in let l = clear-short (a .w .now) [] _ _ (a .i) (a .out .now) _ _ (c .before .before .before .before .before .before .before .before .clear-request .ensures []) in omega arith
+add-end : tie.Need-add-end
+add-end c = omega (arith, c .before .before .before .before .before .before .before .before .at-clear .ensures .0)
+
+grant-waiting-requires : tie.Need-grant-waiting-requires
+grant-waiting-requires c κs = omega (arith, c .before .before .before .before .before .before .before .before .before .before .before .before .at-clear .ensures .0)
 
 returns : tie.Need-returns
-returns c =
-    let a = c .before .before .before .before .before .before .before .before .before .before .before .before .before .before .before .args in
-    let l = clear-short (a .w .now) [] _ _ (a .i) (a .out .now) _ _ (c .before .before .before .before .before .before .before .before .before .clear-request .ensures []) in
-    λ s p code param. clear-told (a .w .now) s _ (a .out .now) _ _ (a .i) (a .c) (c .before .before .before .before .before .before .before .before .before .before .before .before .entry .result) (c .before .before .before .before .before .before .before .before .before .clear-request .result) (c .before .before .before .before .before .before .before .before .before .before .before .before .entry .ensures .0 s) (omega arith) _
-    _ code param (a .len) p (c .acted .ensures) (c .before .before .before .before .before .before .before .before .before .clear-request .ensures s) (c .before .before .before .before .before .enter-clear .ensures s) (c .before .before .before .put-frame .ensures)
+returns c = let a = c .before .before .before .before .before .before .before .before .before .before .before .before .before .before .before .before .before .before .before .before .before .before .before .before .args in
+    let s = a .strings .now in
+    λ p code param. clear-granted (a .w .now) s _ _ (a .out .now) _ _ (a .i) (a .c) (c .before .before .before .before .before .before .before .before .before .before .before .before .before .before .before .before .before .before .before .before .before .entry .result) (c .before .before .before .before .before .before .before .before .before .before .before .before .before .before .before .before .at-clear .result) (a .len) (c .before .before .before .before .before .before .before .before .before .before .before .before .before .before .before .before .before .before .before .before .before .entry .ensures .0 s) (omega (arith, c .before .before .before .before .before .before .before .before .before .before .before .before .before .before .before .before .at-clear .ensures .0, c .before .before .before .before .before .before .before .before .before .before .before .before .before .before .before .before .before .before .before .before .before .before .before .before .pre .3)) _
+    (c .before .before .before .before .before .before .before .before .before .before .before .before .before .before .before .before .at-clear .ensures .1 s) (c .before .before .before .before .before .before .before .before .before .before .before .before .enter-clear .ensures s) (c .before .before .before .before .before .before .before .before .before .before .put-frame .ensures) _ _ _ (c .before .before .before .grant-waiting .result) code param p (c .acted .ensures) (c .before .before .before .before .before .before .before .before .before .before .before .before .before .before .before .before .before .before .before .stands .ensures s ∙ c .before .before .before .before .before .before .before .if1 .taken) (c .before .before .before .grant-waiting .ensures)
+
+returns-2 : tie.Need-returns-2
+returns-2 c = let a = c .before .before .before .before .before .before .before .before .before .before .before .before .before .before .before .before .before .before .args in
+    let s = a .strings .now in
+    λ p code param. clear-told (a .w .now) s _ _ (a .out .now) _ _ (a .i) (a .c) (c .before .before .before .before .before .before .before .before .before .before .before .before .before .before .before .entry .result) (c .before .before .before .before .before .before .before .before .before .before .at-clear .result) (a .len) (c .before .before .before .before .before .before .before .before .before .before .before .before .before .before .before .entry .ensures .0 s) (omega (arith, c .before .before .before .before .before .before .before .before .before .before .at-clear .ensures .0, c .before .before .before .before .before .before .before .before .before .before .before .before .before .before .before .before .before .before .pre .3)) _
+    (c .before .before .before .before .before .before .before .before .before .before .at-clear .ensures .1 s) (c .before .before .before .before .before .before .enter-clear .ensures s) (c .before .before .before .before .put-frame .ensures) code param p (c .acted2 .ensures) (c .before .before .before .before .before .before .before .before .before .before .before .before .before .stands .ensures s ∙ c .before .if1 .left)
 
 pub clear-spec : {M : Type 1} → statement M
 clear-spec =
@@ -26,9 +34,14 @@ clear-spec =
     (λ c κs. search needs)
     (λ c κs. search needs)
     (λ c κs. search needs)
-    (λ c. search needs)
-    put-frame-requires
-    add-acted
     (λ c κs. search needs)
     (λ c. search needs)
-    returns)
+    put-frame-requires
+    add-end
+    grant-waiting-requires
+    (λ c κs. search needs)
+    (λ c. search needs)
+    returns
+    (λ c κs. search needs)
+    (λ c. search needs)
+    returns-2)

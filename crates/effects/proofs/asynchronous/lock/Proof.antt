@@ -1,23 +1,16 @@
--- `asynchronous::lock` meets its contract: a release and the grant pass behind it, or a request.
-use Rattle.effects.specs.LockMessages.{release-short, release-told, request-told}
-use native.Mathlib.Omega.{arith}
+-- `asynchronous::lock` meets its contract: a release with what follows it, or a request.
+use Rattle.effects.specs.LockMessages.{release-told, request-told}
 use borrow.Author.Needs.{needs}
 use Rattle.effects.proofs.asynchronous.lock.Statement.{statement}
 use Rattle.effects.proofs.asynchronous.lock.Tie as tie
 
-grant-waiting-requires : tie.Need-grant-waiting-requires
-grant-waiting-requires c κs = let a = c .before .before .before .before .before .before .before .before .before .before .before .before .before .args in let l = release-short _ _ _ (a .i) (a .out .now) _ _ (c .before .before .before .before .before .release-lock .ensures (a .strings .now)) in omega arith
-
 returns : tie.Need-returns
-returns c =
-    let a = c .before .before .before .before .before .before .before .before .before .before .before .before .before .before .before .before .before .args in
-    let l = release-short _ _ _ (a .i) (a .out .now) _ _ (c .before .before .before .before .before .before .before .before .before .release-lock .ensures (a .strings .now)) in
-    λ k. release-told (a .w .now) (a .strings .now) _ (a .out .now) _ _ (a .i) k (c .before .before .before .before .before .before .before .before .before .before .before .before .before .entry .result) (c .before .before .before .before .before .before .before .before .before .release-lock .result) (c .before .before .before .before .before .before .before .before .before .before .before .before .before .entry .ensures .0 (a .strings .now)) (omega arith) _
-    _ _ (a .code) (a .param) (a .len) (c .before .before .before .grant-waiting .result) (a .payload .now) (c .acted .ensures) (c .before .before .before .before .before .before .before .before .before .before .before .before .if1 .taken) (c .before .before .before .before .before .before .before .before .before .release-lock .ensures (a .strings .now)) (c .before .before .before .grant-waiting .ensures)
+returns c = let a = c .before .before .before .before .before .before .before .before .before .before .before .before .args in
+    λ k. release-told (a .w .now) (a .strings .now) _ _ (a .out .now) _ (a .i) k (c .before .before .before .before .before .before .before .before .entry .result) (a .code) (a .param) (a .len) (c .before .before .before .release-lock .result) (a .payload .now) _ (c .acted .ensures)
+    (c .before .before .before .before .before .before .before .before .entry .ensures .0 (a .strings .now)) (c .before .before .before .before .before .before .before .if1 .taken) (c .before .before .before .release-lock .ensures)
 
 returns-2 : tie.Need-returns-2
-returns-2 c =
-    let a = c .before .before .before .before .before .before .before .before .before .before .before .before .args in
+returns-2 c = let a = c .before .before .before .before .before .before .before .before .before .before .before .before .args in
     λ k. request-told (a .w .now) (a .strings .now) _ _ (a .out .now) _ (a .i) k (c .before .before .before .before .before .before .before .before .entry .result) (a .code) (a .param) (a .len) (c .before .before .before .request-lock .result) (a .payload .now) _ (c .acted2 .ensures)
     (c .before .before .before .before .before .before .before .before .entry .ensures .0 (a .strings .now)) (c .before .before .before .before .before .before .before .if1 .left) (c .before .before .before .request-lock .ensures)
 
@@ -27,7 +20,6 @@ lock-spec =
     (tie.spec
     (λ c κs. search needs)
     (λ c κs. search needs)
-    grant-waiting-requires
     (λ c κs. search needs)
     (λ c. search needs)
     returns

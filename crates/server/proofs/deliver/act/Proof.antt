@@ -11,20 +11,20 @@ use Rattle.server.proofs.deliver.act.Statement.{statement}
 use Rattle.server.proofs.deliver.act.Tie as tie
 
 act-synchronous-requires : tie.Need-act-synchronous-requires
-act-synchronous-requires c κs = let a = c .before .before .before .before .before .args in
-    let q = c .before .before .before .before .before .pre in
+act-synchronous-requires c κs = let a = c .before .before .before .before .before .before .args in
+    let q = c .before .before .before .before .before .before .pre in
     let s = a .strings .now in
     let h = message (a .kind) (a .code) (a .param) (a .len) in
     let p = a .payload .now in
     (search needs, q .4 (λ z. omega arith), search needs, search needs)
 
 returns : tie.Need-returns
-returns c = let a = c .before .before .before .before .before .before .before .before .args in
-    let q = c .before .before .before .before .before .before .before .before .pre in
+returns c = let a = c .before .before .before .before .before .before .before .before .before .args in
+    let q = c .before .before .before .before .before .before .before .before .before .pre in
     let s = a .strings .now in
     let h = message (a .kind) (a .code) (a .param) (a .len) in
     let p = a .payload .now in
-    λ ro e. acts-as (view (memory (a .w .now) s)) (a .i) (a .c) h p _ _ _ _ _ ro r-synchronous (role-sync ro (e ∙ c .before .before .before .before .before .if1 .taken)) (c .before .before .act-synchronous .ensures s p)
+    λ ro e. acts-as (view (memory (a .w .now) s)) (a .i) (a .c) h p _ _ _ _ _ ro r-synchronous (role-sync ro (e ∙ c .before .before .before .before .before .before .if1 .taken)) (c .before .before .act-synchronous .ensures p)
 
 act-asynchronous-requires : tie.Need-act-asynchronous-requires
 act-asynchronous-requires c κs = let a = c .before .before .before .before .before .before .before .args in

@@ -1,0 +1,20 @@
+-- `complete::at_clear` meets its contract: the request, then the release.
+use mathlib.Core.List.{[]}
+use native.Mathlib.Omega.{arith}
+use Rattle.locks.specs.Complete.{met-clear}
+use Rattle.locks.specs.Sweep.{turned-short}
+use borrow.Author.Needs.{needs}
+use Rattle.locks.proofs.complete.at_clear.Statement.{statement}
+use Rattle.locks.proofs.complete.at_clear.Tie as tie
+
+complete-any-requires : tie.Need-complete-any-requires
+complete-any-requires c κs = let a = c .before .before .before .before .before .before .before .before .args in let l = turned-short (a .w .now) [] _ _ (a .i) (a .out .now) _ _ _ (c .before .before .before .before .clear-request .ensures []) in search needs
+
+returns : tie.Need-returns
+returns c = let a = c .before .before .before .before .before .before .before .before .before .before .before .args in
+    let l = turned-short (a .w .now) [] _ _ (a .i) (a .out .now) _ _ _ (c .before .before .before .before .before .before .before .clear-request .ensures []) in
+    (omega (arith, c .before .before .complete-any .ensures .0), λ s. met-clear _ _ _ (a .i) (a .out .now) _ _ _ _ _ (omega arith) (c .before .before .before .before .before .before .before .clear-request .ensures s) (c .before .before .complete-any .ensures .1 s))
+
+pub at-clear-spec : {M : Type 1} → statement M
+at-clear-spec =
+    tie.close (tie.spec (λ c κs. search needs) complete-any-requires (λ c. search needs) returns)

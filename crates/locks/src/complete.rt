@@ -1,0 +1,84 @@
+// A release that stands takes effect: with the message that it names, or with a device clear.
+ghost use Prim.Native.Nat.{ℕ, _+_, _<_, _≤_, _^_};
+ghost use Rattle.locks.specs.Outcome.{Met};
+ghost use Rattle.locks.specs.Settled.{settled};
+ghost use Rattle.locks.specs.Standing.{kindOf};
+ghost use Rattle.model.specs.Bound.{answersRoom};
+ghost use Rattle.model.specs.Locks.Due.{due-now};
+ghost use Rattle.model.specs.Locks.LockEvent.{clear, command};
+ghost use Rattle.model.specs.Locks.{change, completed, dueAny, releaseCode};
+ghost use Rattle.model.specs.Sizes.{beforeFirst, sessionLimit};
+ghost use Rattle.model.specs.State;
+ghost use Rattle.state.specs.View.{locksOf, memory};
+ghost use lib.ListN.{length};
+ghost use mathlib.Core.List.{List};
+ghost use mathlib.Core.Path.{_≡_};
+use crate::answers::put_answer;
+use crate::grant_pass;
+use crate::standing;
+use crate::standing::NUMBERS;
+use crate::waiting;
+use state::sizes::BEFORE_FIRST;
+use state::sizes::Strings;
+use state::sizes::Words;
+use state::tables;
+
+// The release of slot i is answered, its lock is free, and the last message's number becomes n.
+fn complete(w: &mut Words, out: &mut [u8], at: usize, i: usize, kind: u8, n: u64) -> usize
+    requires { ⌜ (i < sessionLimit) × (at + 17 ≤ length (now out)) × (n < 2 ^ 32) × (releaseCode (kindOf kind) ≡ kind) ⌝ }
+    ensures { λ r. ⌜ (r ≡ at + 17) × ((s : List ℕ) → Met (completed (due-now (kindOf kind)) (locksOf (now (w .entry)) s) i n) (memory (now (w .entry)) s) (memory (now (w .exit)) s) (now (out .entry)) (now (out .exit)) at r) ⌝ }
+{
+    let r = put_answer(w, out, at, i, kind);
+    standing::free_lock(w, i, kind);
+    tables::set_order(w, i, tables::LAST_NUMBER, n);
+    tables::set_order(w, i, tables::STANDING, 0);
+    r
+}
+
+// A Data, DataEND or Trigger of number n acts: a release that waits for it takes effect, and those that wait are looked at.
+pub fn at_message(
+    w: &mut Words,
+    strings: &mut Strings,
+    out: &mut [u8],
+    at: usize,
+    i: usize,
+    n: u32,
+) -> usize
+    requires { ⌜ (i < sessionLimit) × (at + 17 + answersRoom ≤ length (now out)) ⌝ }
+    ensures { λ r. ⌜ Met (settled (locksOf (now (w .entry)) (now (strings .entry))) (command i n)) (memory (now (w .entry)) (now (strings .entry))) (memory (now (w .exit)) (now (strings .exit))) (now (out .entry)) (now (out .exit)) at r ⌝ }
+{
+    let word = tables::order(w, i, tables::STANDING);
+    let number = n as u64;
+    if word == 0 {
+        tables::set_order(w, i, tables::LAST_NUMBER, number);
+        return at;
+    }
+    if (word - 1) % NUMBERS != number {
+        tables::set_order(w, i, tables::LAST_NUMBER, number);
+        return at;
+    }
+    let r = complete(w, out, at, i, standing::kind_in(word), number);
+    grant_pass::grant_waiting(w, strings, out, r)
+}
+
+// Whatever release of slot i stands takes effect, and no message has acted since.
+fn complete_any(w: &mut Words, out: &mut [u8], at: usize, i: usize) -> usize
+    requires { ⌜ (i < sessionLimit) × (at + 17 ≤ length (now out)) ⌝ }
+    ensures { λ r. ⌜ (r ≤ at + 17) × ((s : List ℕ) → Met (completed (dueAny ((Rattle.model.specs.State.at (locksOf (now (w .entry)) s .entries) i) .standing)) (locksOf (now (w .entry)) s) i beforeFirst) (memory (now (w .entry)) s) (memory (now (w .exit)) s) (now (out .entry)) (now (out .exit)) at r) ⌝ }
+{
+    let word = tables::order(w, i, tables::STANDING);
+    if word == 0 {
+        tables::set_order(w, i, tables::LAST_NUMBER, BEFORE_FIRST);
+        return at;
+    }
+    complete(w, out, at, i, standing::kind_in(word), BEFORE_FIRST)
+}
+
+// A device clear: the request of slot i is answered 0, then a release that stands takes effect.
+pub fn at_clear(w: &mut Words, out: &mut [u8], at: usize, i: usize) -> usize
+    requires { ⌜ (i < sessionLimit) × (at + 17 + answersRoom ≤ length (now out)) ⌝ }
+    ensures { λ r. ⌜ (r ≤ at + 17 + answersRoom) × ((s : List ℕ) → Met (change (locksOf (now (w .entry)) s) (clear i)) (memory (now (w .entry)) s) (memory (now (w .exit)) s) (now (out .entry)) (now (out .exit)) at r) ⌝ }
+{
+    let r = waiting::clear_request(w, out, at, i);
+    complete_any(w, out, r, i)
+}
