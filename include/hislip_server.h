@@ -32,6 +32,15 @@
  * them keep their values, and `bytes` and `payload` are only read. A refused call, a delivery answered
  * more needed or held, and the two questions (hislip_deadline, hislip_client_size) write nothing at all.
  *
+ * RELEASES. A lock release (AsyncLock with code 0) names the last Data, DataEND or Trigger that its
+ * client has sent, or fffffefe hex if it has sent none since it opened or since its last device clear.
+ * It acts, and is answered, when that message has acted. A release that names any other number is
+ * taken and not answered: it stands, and its lock stays held. So it goes with a client that names 0
+ * before its first message or a stale number after a device clear, and with one whose message was
+ * answered with an Error, since that does not act. While a release stands every further AsyncLock of
+ * the session is answered 3. It ends when a message of its number acts, at a device clear (it then acts
+ * and is answered, before the acknowledgement), or unanswered when the session closes.
+ *
  * REFUSALS. A refused call has a number and one cause. It changes nothing: neither the server nor
  * any lent byte, and every other field of the answer is 0. If several causes hold, the first in the
  * order given at each function is told.

@@ -37,6 +37,7 @@ typedef struct {
 #define LENGTH_1024 "\0\0\0\0\0\0\4\0"
 #define LENGTH_1025 "\0\0\0\0\0\0\4\1"
 #define FIRST_ID "\xff\xff\xff\x00"
+#define BEFORE_FIRST "\xff\xff\xfe\xfe" /* what a release names before the first message */
 #define INITIALIZE "\x48\x53\x00\x00\x01\x00\x41\x41" ZEROS
 #define INITIALIZED(id) "\x48\x53\x01\x00\x01\x00\x00" id ZEROS
 #define JOIN(id) "\x48\x53\x11\x00\x00\x00\x00" id ZEROS
@@ -45,7 +46,7 @@ typedef struct {
 #define ERROR(code) "\x48\x53\x03" code "\0\0\0\0" ZEROS
 #define EXCLUSIVE(timeout) "\x48\x53\x04\x01" timeout ZEROS
 #define SHARED(string) "\x48\x53\x04\x01\0\0\0\0" LENGTH_3 string
-#define RELEASE "\x48\x53\x04\x00" FIRST_ID ZEROS
+#define RELEASE "\x48\x53\x04\x00" BEFORE_FIRST ZEROS
 #define TOLD(code) "\x48\x53\x05" code "\0\0\0\0" ZEROS
 #define DATA "\x48\x53\x06\x00" FIRST_ID LENGTH_3 "1.0"
 #define DATA_END(length) "\x48\x53\x07\x00" FIRST_ID length

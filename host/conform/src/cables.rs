@@ -28,12 +28,14 @@ fn script() -> Vec<(u32, Vec<u8>)> {
         (SYNCHRONOUS, message(7, 0, 0xffff_ff02, b"VOLT?")),
         (SYNCHRONOUS, too_large),
         (ASYNCHRONOUS, message(21, 1, 0xffff_ff04, b"")),
-        (ASYNCHRONOUS, message(4, 0, 0xffff_ff04, b"")),
+        // This release is ahead of its message; the next names one that was too large to act.
+        (ASYNCHRONOUS, message(4, 0, 0xffff_ff06, b"")),
         (SYNCHRONOUS, message(12, 1, 0xffff_ff06, b"")),
+        (ASYNCHRONOUS, message(4, 0, 0xffff_ff04, b"")),
         (ASYNCHRONOUS, message(19, 0, 0, b"")),
         (SYNCHRONOUS, message(6, 0, 0xffff_ff08, b"lost")),
         (SYNCHRONOUS, message(8, 0, 0, b"")),
-        (ASYNCHRONOUS, message(4, 0, 0xffff_ff04, b"")),
+        (ASYNCHRONOUS, message(4, 0, 0xffff_fefe, b"")),
         (SYNCHRONOUS, message(2, 1, 0, b"bye")),
     ]
 }
@@ -99,7 +101,7 @@ impl Builder {
         self.push(answer(1, b"x", 1));
         self.push(answer(2, b"x", 1));
         self.push(clock(1000));
-        self.push(deliver(3, header(4, 0, 0, 0)));
+        self.push(deliver(3, header(4, 0, 0xffff_ff00, 0)));
         self.list
     }
 }

@@ -6,10 +6,11 @@ use reference::lock_model::{LockAnswer, LockModel};
 use reference::lock_view::LockView;
 use reference::{Event, Reply, Subject};
 
-use crate::messages::header;
+use crate::messages::{header, BEFORE_FIRST};
 use crate::watch::{Complaint, Side, Watch};
 
 const LOCK_RESPONSE: u8 = 5;
+const CLEAR_ACKNOWLEDGE: u8 = 23;
 const LOCK_INFO: u8 = 24;
 const LOCK_INFO_RESPONSE: u8 = 25;
 
@@ -181,21 +182,32 @@ impl Trial {
 fn given_back(mut server: Box<dyn Subject>, view: &LockView) -> Option<u64> {
     let mut out = [0; 2048];
     let channels = || view.sessions.iter().filter_map(|entry| entry.asynchronous);
+    let (mut found, mut granted) = (0, 0);
     for channel in channels() {
-        // A clear withdraws the waiting request, so that no release grants anything.
+        // A clear ends a standing release and withdraws the waiting request, so that afterwards no
+        // release stands or grants anything.
         let clear = server.deliver(channel.into(), &header(19, 0, 0, 0), &mut out);
         if clear.outcome != Reply::ACTED_ON {
             return None;
         }
+        let sent = frames(out.get(..clear.output as usize)?)?;
+        let mut direct = sent.split(|frame| frame.kind == CLEAR_ACKNOWLEDGE);
+        found += direct.next().map_or(0, locks_answered);
+        granted += direct.next().map_or(0, locks_answered);
     }
-    let mut found = 0;
     for channel in channels() {
         for _ in 0..3 {
-            let release = header(4, 0, 0xffff_fefe, 0);
-            server.deliver(channel.into(), &release, &mut out);
-            let code = out[4];
-            found += u64::from(code == 1 || code == 2);
+            let release = header(4, 0, BEFORE_FIRST, 0);
+            let told = server.deliver(channel.into(), &release, &mut out);
+            found += locks_answered(&frames(out.get(..told.output as usize)?)?);
         }
     }
-    Some(found)
+    // What a clear granted to others was not held before it.
+    found.checked_sub(granted)
+}
+
+/// Lock answers that say granted or released.
+fn locks_answered(sent: &[Frame]) -> u64 {
+    let told = |frame: &&Frame| frame.kind == LOCK_RESPONSE && matches!(frame.code, 1 | 2);
+    sent.iter().filter(told).count() as u64
 }

@@ -5,7 +5,7 @@ use reference::limits::{CONNECTIONS, LOCK_STRING};
 use reference::{Event, Reply, Subject};
 
 use crate::bout::{Bout, Difference, Failed, Pair};
-use crate::messages::{header, message, ROOM};
+use crate::messages::{header, message, BEFORE_FIRST, ROOM};
 use crate::numbers::Numbers;
 use crate::reach::Reach;
 use crate::watch::{Side, LONGEST};
@@ -255,10 +255,10 @@ impl Author {
             return self.towards_a_session();
         };
         let connection = known.synchronous;
-        if self.numbers.permille(self.temper.rubbish) {
-            return self.rubbish(connection);
-        }
         let number = self.world.next_number(known.number);
+        if self.numbers.permille(self.temper.rubbish) {
+            return self.rubbish(connection, number);
+        }
         let code = self.numbers.pick(&[0, 0, 0, 1, 1, 1, 1, 2]);
         let bytes = match self.numbers.below(20) {
             0..=4 => message(6, code, number, &self.payload()),
@@ -280,7 +280,7 @@ impl Author {
         let request = if known.wants { 4 } else { 17 };
         let bytes = match self.numbers.below(24) {
             choice if choice < request => message(4, 1, timeout, self.numbers.pick(&STRINGS)),
-            0..=19 => message(4, 0, 0xffff_fefe, b""),
+            0..=19 => message(4, 0, self.named(&known), b""),
             20 => message(24, 0, 0, b""),
             21 | 22 => message(4, 1, timeout, &self.long_string()),
             _ => message(4, 0, 0, b"x"),
@@ -306,13 +306,27 @@ impl Author {
         string
     }
 
+    /// What a release names: mostly the last message sent, which may be unread or held still, or the
+    /// last that acted; sometimes one that is yet to come; sometimes one that never comes.
+    fn named(&mut self, known: &Known) -> u32 {
+        let sent = known.next.wrapping_sub(2);
+        let odd = [0, sent.wrapping_sub(2), sent.wrapping_add(4), u32::MAX];
+        match self.numbers.below(12) {
+            0..=3 => sent,
+            4..=6 => known.last,
+            7..=9 => known.next,
+            10 => BEFORE_FIRST,
+            _ => self.numbers.pick(&odd),
+        }
+    }
+
     fn asynchronous_message(&mut self) -> Event {
         let Some(known) = self.any_established() else {
             return self.towards_a_session();
         };
         let connection = known.asynchronous.unwrap_or(known.synchronous);
         if self.numbers.permille(self.temper.rubbish) {
-            return self.rubbish(connection);
+            return self.rubbish(connection, known.next);
         }
         let code = self.numbers.pick(&[0, 0, 1, 1, 2]);
         let size = self
@@ -331,7 +345,7 @@ impl Author {
     }
 
     /// Any type and code; sometimes a length that is too large, with some of its bytes.
-    fn rubbish(&mut self, connection: u32) -> Event {
+    fn rubbish(&mut self, connection: u32, number: u32) -> Event {
         let kind = match self.numbers.below(3) {
             0 => self.numbers.byte(),
             1 => self.numbers.below(40) as u8,
@@ -340,11 +354,11 @@ impl Author {
         let code = self.numbers.pick(&[0, 1, 2, 6, 7, 255]);
         let bytes = if self.numbers.permille(250) {
             let length = self.numbers.pick(&LARGE);
-            let mut bytes = header(kind, code, 9, length);
+            let mut bytes = header(kind, code, number, length);
             bytes.resize(16 + length.min(1600) as usize, 0x48);
             bytes
         } else {
-            message(kind, code, 9, &self.payload())
+            message(kind, code, number, &self.payload())
         };
         self.send(connection, &bytes)
     }

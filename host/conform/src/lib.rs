@@ -13,6 +13,7 @@ pub mod library;
 pub mod listing;
 pub mod messages;
 pub mod numbers;
+pub mod orders;
 pub mod quick;
 pub mod reach;
 pub mod report;

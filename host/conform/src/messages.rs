@@ -26,6 +26,20 @@ pub fn lock(asynchronous: u32, string: &[u8], timeout: u32) -> Event {
     deliver(asynchronous, message(4, 1, timeout, string))
 }
 
+/// The MessageID of a program's message, counted from 0.
+pub fn message_id(count: u32) -> u32 {
+    0xffff_ff00_u32.wrapping_add(count.wrapping_mul(2))
+}
+
+/// What a release names if its program has sent no message.
+pub const BEFORE_FIRST: u32 = 0xffff_fefe;
+
+/// A release of a program that has sent no message.
 pub fn release(asynchronous: u32) -> Event {
-    deliver(asynchronous, message(4, 0, 0xffff_fefe, b""))
+    release_after(asynchronous, BEFORE_FIRST)
+}
+
+/// A release that names this message.
+pub fn release_after(asynchronous: u32, number: u32) -> Event {
+    deliver(asynchronous, message(4, 0, number, b""))
 }

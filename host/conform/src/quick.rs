@@ -5,16 +5,21 @@ use std::time::Instant;
 use crate::bout::{Failed, Pair};
 use crate::reach::Reach;
 use crate::tally::Tally;
-use crate::{bench_examples, cables, hostile, sizes, systematic, wrap};
+use crate::{bench_examples, cables, hostile, orders, sizes, systematic, wrap};
 
 /// Events of random lists.
 const EVENTS: usize = 1_000_000;
 /// Of the systematic cases with an effect, one in so many is looked at more closely.
 const THIN: u64 = 16;
+/// Of the orders one in so many is run.
+const ORDERS_THIN: u64 = 100;
 
 pub fn run(pair: Pair, tally: &mut Tally) -> Result<(), Failed> {
     tally.suite("bench examples", || bench_examples::check(pair))?;
     tally.suite("systematic", || systematic::check(pair, THIN))?;
+    tally.suite("standing releases in many orders", || {
+        orders::check(pair, ORDERS_THIN)
+    })?;
     tally.suite("cables dropped after every byte", || cables::check(pair))?;
     tally.suite("answers and strings of every size", || sizes::check(pair))?;
     tally.suite("SessionID wrap", || wrap::check(pair))?;

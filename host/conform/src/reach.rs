@@ -1,6 +1,6 @@
 //! What lists have reached: a run that never sees a lock granted proves little about locks.
 
-use reference::event::frames;
+use reference::event::{frames, Frame};
 use reference::{Event, Reply};
 
 use crate::json;
@@ -15,6 +15,8 @@ pub struct Reach {
     pub fatal_errors: [usize; 5],
     pub errors: [usize; 5],
     pub lock_answers: [usize; 4],
+    /// Releases that stood, that a message let act, and that a clear let act.
+    pub standing: [usize; 3],
     /// Most lock answers in one event.
     pub most_lock_answers: usize,
 }
@@ -51,6 +53,21 @@ impl Reach {
             }
         }
         self.most_lock_answers = self.most_lock_answers.max(answers);
+        if let (Event::Deliver { bytes, .. }, Reply::ACTED_ON) = (event, reply.outcome) {
+            self.standing(bytes, &frames(output).unwrap_or_default());
+        }
+    }
+
+    /// What a message that acted says of a standing release.
+    fn standing(&mut self, bytes: &[u8], sent: &[Frame]) {
+        let first = sent.iter().find(|frame| frame.kind != 5 || frame.code > 0);
+        let released = first.is_some_and(|frame| frame.kind == 5);
+        match bytes {
+            [_, _, 4, 0, ..] if sent.is_empty() => self.standing[0] += 1,
+            [_, _, 6 | 7 | 12, ..] if released => self.standing[1] += 1,
+            [_, _, 19, ..] if released => self.standing[2] += 1,
+            _ => {}
+        }
     }
 
     /// Answers of the instrument that were sent.
@@ -59,7 +76,7 @@ impl Reach {
     }
 
     /// In words, a line for each kind.
-    pub fn lines(&self) -> [String; 6] {
+    pub fn lines(&self) -> [String; 7] {
         [
             format!("reached: refusals 1 to 8 {:?}", &self.refusals[1..]),
             format!(
@@ -73,6 +90,10 @@ impl Reach {
                 "reached: lock answers 0 to 3 {:?}, at most {} in one event",
                 self.lock_answers, self.most_lock_answers
             ),
+            format!(
+                "reached: releases that stood, acted with a message, acted in a clear {:?}",
+                self.standing
+            ),
         ]
     }
 
@@ -85,6 +106,7 @@ impl Reach {
             ("errors", json::numbers(&self.errors)),
             ("answers", self.answers().to_string()),
             ("lock_answers", json::numbers(&self.lock_answers)),
+            ("standing_releases", json::numbers(&self.standing)),
             ("most_lock_answers", self.most_lock_answers.to_string()),
         ])
     }

@@ -6,15 +6,17 @@ use std::time::Instant;
 use faults::Fault;
 use reference::Subject;
 
-use crate::bout::{run_alone, Failed, Pair};
+use crate::bout::{run_alone, Failed, Pair, VENDOR};
 use crate::command::REFERENCE;
 use crate::reach::Reach;
 use crate::tally::Tally;
 use crate::watch::{Complaint, Side};
-use crate::{bench_examples, cables, hostile, json, sizes, systematic, wrap};
+use crate::{bench_examples, cables, hostile, json, orders, sizes, systematic, wrap};
 
 /// Random lists tried on a wrong server before it counts as not found.
 const LISTS: u64 = 300;
+/// Of the orders around a standing release, one in so many is tried.
+const ORDERS_THIN: u64 = 100;
 
 /// How the wrong servers fared.
 pub struct Tried {
@@ -120,22 +122,31 @@ fn compared(fault: &Fault) -> Option<String> {
     };
     suite("bench examples", bench_examples::check)
         .or_else(seeds)
+        .or_else(|| suite("orders", |pair| orders::check(pair, ORDERS_THIN)))
         .or_else(|| suite("wrap", wrap::check))
         .or_else(|| suite("sizes", sizes::check))
         .or_else(|| suite("cables", cables::check))
         .or_else(|| suite("systematic", |pair| systematic::check(pair, 64)))
 }
 
-/// Where demand 3 and the one-sided checks find it, with lists led by its own answers.
+/// Where demand 3 and the one-sided checks find it, with lists led by its own answers and with
+/// standing releases in many orders.
 fn alone(fault: &Fault) -> Option<String> {
     let side = side(fault, true);
-    (1..=LISTS).find_map(|seed| {
+    let seeds = (1..=LISTS).find_map(|seed| {
         let ran = complaint(|| {
             let (vendor, list) = hostile::list(&side, seed);
             run_alone(&side, vendor, &list)
         });
         ran.map(|what| format!("seed {seed}: {what}"))
-    })
+    });
+    let orders = || {
+        orders::whole(ORDERS_THIN).find_map(|list| {
+            let ran = complaint(|| run_alone(&side, VENDOR, &list));
+            ran.map(|what| format!("orders: {what}"))
+        })
+    };
+    seeds.or_else(orders)
 }
 
 fn what(ran: Result<usize, Failed>) -> Result<(), Complaint> {

@@ -4,7 +4,9 @@ use reference::limits::{CONNECTIONS, LOCK_STRING, SESSIONS};
 use reference::Event;
 
 use crate::bout::{check_list, Failed, Pair};
-use crate::messages::{answer, cut, deliver, half_open, lock, message, release, session};
+use crate::messages::{
+    answer, cut, deliver, half_open, lock, message, message_id, release, release_after, session,
+};
 
 /// What a client may announce as its size.
 const CLIENT_SIZES: [u64; 7] = [0, 1, 5, 1023, 1024, 1025, u64::MAX];
@@ -25,8 +27,8 @@ fn numbers() -> Vec<Event> {
     let mut list = Vec::new();
     for (number, synchronous) in (1..=SESSIONS as u32).zip((0..).step_by(2)) {
         list.extend(session(synchronous, synchronous + 1, number));
-        list.push(deliver(synchronous, message(7, 0, number, b"?")));
         list.push(lock(synchronous + 1, b"all", 0));
+        list.push(deliver(synchronous, message(7, 0, message_id(0), b"?")));
         list.push(answer(number, b"x", 1));
     }
     let first = CONNECTIONS as u32;
@@ -36,7 +38,7 @@ fn numbers() -> Vec<Event> {
     }
     for synchronous in (0..first).step_by(2) {
         list.push(deliver(synchronous + 1, message(24, 0, 0, b"")));
-        list.push(release(synchronous + 1));
+        list.push(release_after(synchronous + 1, message_id(0)));
     }
     for connection in 0..first {
         list.push(cut(connection));
@@ -47,16 +49,20 @@ fn numbers() -> Vec<Event> {
 
 pub fn list() -> Vec<Event> {
     let mut list = session(0, 1, 1);
+    let mut numbers = (0..).map(message_id);
+    let mut next = || numbers.next().unwrap_or_default();
     for size in 0..=1030 {
         let payload = vec![b'7'; size];
-        list.push(deliver(0, message(7, 0, size as u32, b"?")));
+        list.push(deliver(0, message(7, 0, next(), b"?")));
         list.push(answer(1, &payload, 0));
         list.push(answer(1, &payload, 1));
     }
+    let mut last = 0;
     for announced in CLIENT_SIZES {
         list.push(deliver(1, message(15, 0, 0, &announced.to_be_bytes())));
         for size in [0, 1, 2, 5, 6, 1022, 1023, 1024, 1025, 1026] {
-            list.push(deliver(0, message(12, 0, size as u32, b"")));
+            last = next();
+            list.push(deliver(0, message(12, 0, last, b"")));
             list.push(answer(1, &vec![b'7'; size], (announced % 3) as u8));
             list.push(answer(1, &vec![b'8'; size], 1));
         }
@@ -68,10 +74,12 @@ pub fn list() -> Vec<Event> {
         list.push(lock(3, &string, 0));
         list.push(lock(3, &vec![b'k'; length + 1], 0));
         list.push(lock(3, &but_the_last(&string), 0));
-        list.extend([release(1), release(3), release(1), release(3)]);
+        for _ in 0..2 {
+            list.extend([release_after(1, last), release(3)]);
+        }
     }
     for length in 0..=1030 {
-        list.push(deliver(0, message(6, 0, 0, &vec![b'd'; length])));
+        list.push(deliver(0, message(6, 0, next(), &vec![b'd'; length])));
         if length > 1024 {
             list.push(deliver(0, vec![b'd'; length]));
         }

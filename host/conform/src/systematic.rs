@@ -9,7 +9,7 @@ use reference::Event;
 
 use crate::bout::{Bout, Difference, Failed, Pair, VENDOR};
 use crate::messages::{
-    answer, clock, cut, deliver, half_open, header, lock, message, release, session,
+    answer, clock, cut, deliver, half_open, header, lock, message, release, release_after, session,
 };
 use crate::numbers::mix;
 
@@ -80,10 +80,15 @@ fn state(name: &'static str, connection: u32, parameter: u32, setup: Vec<Event>)
 }
 
 pub fn states() -> Vec<State> {
-    [opening(), plain(), clearing(), locking(), remaining()]
-        .into_iter()
-        .flatten()
-        .collect()
+    let all = [
+        opening(),
+        plain(),
+        clearing(),
+        locking(),
+        releasing(),
+        remaining(),
+    ];
+    all.into_iter().flatten().collect()
 }
 
 /// Connections that have no session yet, or half of one.
@@ -138,6 +143,32 @@ fn locking() -> Vec<State> {
     ]
 }
 
+/// A release stands, or may act at once. The messages of these states have number 7.
+fn releasing() -> Vec<State> {
+    let both = [lock(1, b"k", 0), lock(1, b"", 0)];
+    let after = |number| [&both[..], &[release_after(1, number)]].concat();
+    let wanted = [after(7), vec![lock(3, b"k", 50)]].concat();
+    let beside = [
+        &[lock(1, b"k", 0), lock(3, b"k", 0), lock(3, b"", 0)],
+        &[lock(1, b"", 50), release_after(1, 7)][..],
+    ]
+    .concat();
+    let clear = deliver(1, header(19, 0, 0, 0));
+    let in_clear = [&[clear][..], &wanted].concat();
+    let acted = [&[deliver(0, message(6, 0, 7, b"x"))], &both[..]].concat();
+    vec![
+        state("synchronous, a release stands for 7", 0, 7, two(&wanted)),
+        state("synchronous, a release stands for 9", 0, 7, two(&after(9))),
+        state("asynchronous, a release stands", 1, 7, two(&wanted)),
+        state("a release stands beside a request", 1, 7, two(&beside)),
+        state("held, a release stands for 7", 0, 7, two(&beside)),
+        state("in a clear, a release stands", 0, 7, two(&in_clear)),
+        state("clearing again, a release stands", 1, 7, two(&in_clear)),
+        state("asynchronous, 7 has acted", 1, 7, two(&acted)),
+        state("asynchronous, 7 and no older has acted", 1, 5, two(&acted)),
+    ]
+}
+
 /// Connections with payload of a too large message still to come.
 fn remaining() -> Vec<State> {
     let skip = |on: u32, length: u64| deliver(on, header(6, 0, 0, length));
@@ -173,8 +204,10 @@ fn probes(state: &State) -> Vec<Event> {
         answer(1, b"1234567890", 1),
         answer(1, b"", 1),
         clock(7),
-        release(1),
+        release_after(1, 8),
+        release_after(3, 8),
         release(3),
+        deliver(1, header(19, 0, 0, 0)),
         cut(state.connection),
         Event::Open { connection: FREE },
         deliver(FREE, message(0, 0, 0x0100_0000, b"")),

@@ -4,6 +4,11 @@
 use reference::limits::CONNECTIONS;
 use reference::{Event, Reply};
 
+use crate::messages::BEFORE_FIRST;
+
+/// A program's first MessageID.
+const FIRST: u32 = 0xffff_ff00;
+
 #[derive(Clone, Copy, Debug, PartialEq, Eq)]
 pub enum Role {
     NotOpen,
@@ -25,6 +30,8 @@ pub struct Known {
     pub asynchronous: Option<u32>,
     /// MessageID of the program's next message.
     pub next: u32,
+    /// MessageID of its last message that acted.
+    pub last: u32,
     /// A question has gone to the instrument.
     pub asked: bool,
     /// The last lock message asked for a lock.
@@ -104,10 +111,7 @@ impl World {
                     (Reply::CLOSED, _) => self.close(*connection),
                     (Reply::ACTED_ON, Some(0)) => self.begin(*connection, reply.session as u16),
                     (Reply::ACTED_ON, Some(17)) => self.join(*connection, reply.session as u16),
-                    (Reply::ACTED_ON, Some(kind)) => {
-                        let code = bytes.get(3).copied().unwrap_or(0);
-                        self.acted_on(reply.session as u16, *kind, code);
-                    }
+                    (Reply::ACTED_ON, _) => self.acted_on(reply.session as u16, bytes),
                     _ => {}
                 }
             }
@@ -125,14 +129,24 @@ impl World {
         sessions.find(|known| u32::from(known.number) == number)
     }
 
-    fn acted_on(&mut self, number: u16, kind: u8, code: u8) {
+    fn acted_on(&mut self, number: u16, bytes: &[u8]) {
         let Some(known) = self.known(number.into()) else {
+            return;
+        };
+        let &[_, _, kind, code, p0, p1, p2, p3, ..] = bytes else {
             return;
         };
         match kind {
             4 => known.wants = code == 1,
-            7 | 12 => known.asked = true,
-            19 => known.asked = false,
+            6 | 7 | 12 => {
+                known.asked |= kind != 6;
+                known.last = u32::from_be_bytes([p0, p1, p2, p3]);
+            }
+            8 => known.next = FIRST,
+            19 => {
+                known.asked = false;
+                (known.next, known.last) = (FIRST, BEFORE_FIRST);
+            }
             _ => {}
         }
     }
@@ -155,7 +169,8 @@ impl World {
             number,
             synchronous: connection,
             asynchronous: None,
-            next: 0xffff_ff00,
+            next: FIRST,
+            last: BEFORE_FIRST,
             asked: false,
             wants: false,
         });

@@ -53,6 +53,7 @@ fn random_lists_reach_every_answer() {
         assert!(reach.frames[kind] > 20, "type {kind}: {reach:?}");
     }
     assert!(reach.most_lock_answers >= 5, "{reach:?}");
+    assert!(reach.standing.iter().all(|count| *count > 50), "{reach:?}");
 }
 
 /// `make conform` does the same on more lists.

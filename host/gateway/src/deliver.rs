@@ -175,8 +175,12 @@ impl Gateway {
             names::ASYNC_LOCK if acted.code == REQUEST => {
                 self.holders.requested(session, acted.payload, reply);
             }
-            names::ASYNC_LOCK => self.holders.released(session, reply),
+            names::ASYNC_LOCK => self.holders.released(session, acted.parameter, reply),
+            names::DATA | names::DATA_END | names::TRIGGER => {
+                self.holders.came(session, Some(acted.parameter));
+            }
             names::ASYNC_DEVICE_CLEAR => {
+                self.holders.came(session, None);
                 state.clear(self.next_ticket);
                 self.bench.clear(session);
             }

@@ -37,7 +37,8 @@ pub fn acted_on(kind: u8, code: u8, parameter: u32, payload: &[u8], reply: Optio
         names::DATA | names::DATA_END => format!("{name} {parameter:08x} {}", text(payload)),
         names::TRIGGER => format!("{name} {parameter:08x}"),
         names::ASYNC_LOCK if code == 0 => {
-            format!("{name} release after {parameter:08x}{}", answered(reply))
+            let what = reply.map_or("stands".into(), |code| format!("answered {code}"));
+            format!("{name} release after {parameter:08x}, {what}")
         }
         names::ASYNC_LOCK => {
             let lock = match payload.is_empty() {

@@ -15,7 +15,7 @@ use crate::describe::kept;
 use crate::event::{Event, Id};
 use crate::instrument::{Bench, Instrument, Ticket};
 use crate::listen::Listening;
-use crate::locks::Holders;
+use crate::locks::{Holders, Later};
 use crate::log::Log;
 use crate::refuse::Refusals;
 use crate::session::Session;
@@ -207,14 +207,17 @@ impl Gateway {
         }
     }
 
-    /// Lock answers that are not the direct reply to a message.
+    /// Lock answers that are not the direct reply to a lock message.
     pub(crate) fn later_answers(&mut self, frames: Frames) {
         for frame in frames.filter(|frame| frame.kind == names::ASYNC_LOCK_RESPONSE) {
             let who = self.who(frame.connection.into());
             if let Some(session) = who.session {
-                self.holders.answered(session, frame.code);
+                let after = match self.holders.answered(session, frame.code) {
+                    Later::Request => "waiting",
+                    Later::Release => "standing",
+                };
                 let name = names::of_type(frame.kind);
-                self.say(who, || format!("{name} {} after waiting", frame.code));
+                self.say(who, || format!("{name} {} after {after}", frame.code));
             }
         }
     }

@@ -1,9 +1,10 @@
-//! Who holds which lock and who waits, for the log alone, followed from messages that acted and lock
-//! answers sent.
+//! Who holds which lock, who waits and whose release stands, for the log alone, followed from messages
+//! that acted and lock answers sent.
 
 use std::collections::BTreeMap;
 
 const GRANTED: u8 = 1;
+const EXCLUSIVE_RELEASED: u8 = 1;
 const SHARED_RELEASED: u8 = 2;
 
 #[derive(Default)]
@@ -12,6 +13,21 @@ struct Locks {
     shared: Option<Vec<u8>>,
     /// For this string.
     waits: Option<Vec<u8>>,
+    stands: Option<Stands>,
+}
+
+/// A release that waits for the message it names.
+struct Stands {
+    number: u32,
+    /// What it waited for has come: the session's next answer but 0 is the release's.
+    due: bool,
+}
+
+/// What a lock answer that comes later is about.
+#[derive(Clone, Copy, Debug, PartialEq, Eq)]
+pub enum Later {
+    Request,
+    Release,
 }
 
 #[derive(Default)]
@@ -29,21 +45,38 @@ impl Holders {
         }
     }
 
-    pub fn released(&mut self, session: u16, answer: Option<u8>) {
+    /// A release that names a message was answered, or stands.
+    pub fn released(&mut self, session: u16, number: u32, answer: Option<u8>) {
         let locks = self.0.entry(session).or_default();
         match answer {
-            Some(GRANTED) => locks.exclusive = false,
-            Some(SHARED_RELEASED) => locks.shared = None,
-            _ => {}
+            Some(code) => locks.free(code),
+            None => locks.stands = Some(Stands { number, due: false }),
         }
     }
 
-    /// A waiting request was answered.
-    pub fn answered(&mut self, session: u16, code: u8) {
+    /// A Data, DataEND or Trigger of this number acted; without a number, a device clear.
+    pub fn came(&mut self, session: u16, number: Option<u32>) {
+        let locks = self.0.get_mut(&session);
+        if let Some(stands) = locks.and_then(|locks| locks.stands.as_mut()) {
+            stands.due = number.is_none_or(|number| number == stands.number);
+        }
+    }
+
+    /// A waiting request or a standing release was answered.
+    pub fn answered(&mut self, session: u16, code: u8) -> Later {
         let locks = self.0.entry(session).or_default();
+        if locks
+            .stands
+            .take_if(|stands| stands.due && code > 0)
+            .is_some()
+        {
+            locks.free(code);
+            return Later::Release;
+        }
         if let (Some(string), GRANTED) = (locks.waits.take(), code) {
             locks.grant(string);
         }
+        Later::Request
     }
 
     pub fn gone(&mut self, session: u16) {
@@ -63,6 +96,12 @@ impl Holders {
             if locks.waits.is_some() {
                 parts.push(format!("{session} waits"));
             }
+            if let Some(stands) = &locks.stands {
+                parts.push(format!(
+                    "{session} release stands for {:08x}",
+                    stands.number
+                ));
+            }
         }
         match parts.is_empty() {
             true => "no locks".into(),
@@ -77,6 +116,14 @@ impl Locks {
             self.exclusive = true;
         } else {
             self.shared = Some(string);
+        }
+    }
+
+    fn free(&mut self, released: u8) {
+        match released {
+            EXCLUSIVE_RELEASED => self.exclusive = false,
+            SHARED_RELEASED => self.shared = None,
+            _ => {}
         }
     }
 }

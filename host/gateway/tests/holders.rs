@@ -43,7 +43,7 @@ fn logged(gateway: &Running, count: usize) -> (u8, u32) {
 
 fn act(client: &mut Client, dice: &mut Dice) {
     let string = [&b""[..], b"cal", b"cal", b"other"][dice.throw(4)];
-    match dice.throw(5) {
+    match dice.throw(6) {
         0 | 1 => {
             client.lock(string, 0);
         }
@@ -53,7 +53,13 @@ fn act(client: &mut Client, dice: &mut Dice) {
         3 => {
             client.release();
         }
-        _ => client.device_clear(),
+        4 => {
+            client.release_ahead();
+            client.device_clear();
+        }
+        _ => {
+            client.device_clear();
+        }
     }
 }
 

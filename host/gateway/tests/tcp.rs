@@ -98,6 +98,39 @@ fn two_programs_with_locks() {
 }
 
 #[test]
+fn a_release_waits_for_its_message() {
+    let gateway = Running::start();
+    let (mut a, mut b) = (gateway.open(), gateway.open());
+    assert_eq!(a.lock(b"", 0), 1);
+    b.request(b"", 60_000);
+    assert!(gateway.logged(" session 2 AsyncLock exclusive, 60000 ms, waits"));
+    a.release_ahead();
+    assert!(gateway.logged(
+        "AsyncLock release after ffffff00, stands; \
+         locks: 1 exclusive, 1 release stands for ffffff00, 2 waits"
+    ));
+    assert!(silent(&mut a.asynchronous) && silent(&mut b.asynchronous));
+    assert_eq!(a.lock(b"", 0), 3, "while it stands");
+    a.send(7, b"*IDN?");
+    assert_eq!((a.lock_answer(), b.lock_answer()), (1, 1));
+    assert!(gateway.logged("session 1 AsyncLockResponse 1 after standing; locks: 2 waits"));
+    assert!(gateway.logged("session 2 AsyncLockResponse 1 after waiting; locks: 2 exclusive"));
+    a.answer();
+}
+
+#[test]
+fn a_device_clear_lets_a_standing_release_act() {
+    let gateway = Running::start();
+    let (mut a, mut b) = (gateway.open(), gateway.open());
+    assert_eq!(a.lock(b"cal", 0), 1);
+    b.request(b"", 60_000);
+    a.release_ahead();
+    assert_eq!(a.device_clear(), [2]);
+    assert_eq!(b.lock_answer(), 1);
+    assert_eq!((a.release(), b.release()), (3, 1));
+}
+
+#[test]
 fn a_waiting_request_runs_out_of_time() {
     let gateway = Running::start();
     let (mut a, mut b) = (gateway.open(), gateway.open());

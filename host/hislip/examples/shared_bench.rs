@@ -7,6 +7,8 @@ use hislip::{type_name, Frames, MessageType, Outcome, Refusal, Server};
 const PATIENCE: u32 = 500;
 const REQUEST: u8 = 1;
 const RELEASE: u8 = 0;
+/// What a release names before the first message.
+const BEFORE_FIRST: u32 = 0xffff_fefe;
 
 fn message(kind: MessageType, code: u8, parameter: u32, payload: &[u8]) -> Vec<u8> {
     let mut bytes = vec![b'H', b'S', kind.number(), code];
@@ -74,12 +76,13 @@ pub fn main() -> Result<(), Refusal> {
     let held = deliver(&mut server, 2, &data)?;
     assert_eq!(held, Outcome::Held);
 
-    // Time passes, but not enough of it. A's release grants B, and B's Data, shown again, acts.
+    // Time passes, but not enough of it. A has sent no message, and its release says so. It grants B,
+    // and B's Data, shown again, acts.
     send(server.clock(u64::from(PATIENCE) - 1)?);
     deliver(
         &mut server,
         1,
-        &message(MessageType::AsyncLock, RELEASE, 0xffff_ff00, b""),
+        &message(MessageType::AsyncLock, RELEASE, BEFORE_FIRST, b""),
     )?;
     let acted = deliver(&mut server, 2, &data)?;
     assert_eq!(acted, Outcome::ActedOn { session: 2 });

@@ -6,11 +6,13 @@ use reference::wire::{fatal, kind};
 use crate::delivery::Message;
 use crate::frames::Frames;
 use crate::locks::{Released, Requested};
-use crate::server::{RemoteLocal, Role, Server, Session};
+use crate::server::{RemoteLocal, Role, Server, Session, Standing};
 
 /// Highest protocol version spoken: 1.0.
 const VERSION: u16 = 0x0100;
 const MESSAGE_AVAILABLE: u8 = 16;
+/// What a release names if no message has acted.
+const BEFORE_FIRST: u32 = 0xffff_fefe;
 
 impl Server {
     /// A message on the asynchronous channel.
@@ -42,6 +44,10 @@ impl Server {
     }
 
     fn request_lock(&mut self, message: &Message, frames: &mut Frames) {
+        if self.sessions[usize::from(message.slot)].standing.is_some() {
+            let wrong = Requested::Wrong as u8;
+            return frames.send(message.connection, kind::LOCK_RESPONSE, wrong, 0);
+        }
         let timeout = u64::from(message.parameter);
         let deadline = (timeout > 0).then_some(self.clock + timeout);
         let requested =
@@ -53,11 +59,31 @@ impl Server {
     }
 
     fn release_lock(&mut self, message: &Message, frames: &mut Frames) {
-        let released = self.locks.release(message.slot);
-        frames.send(message.connection, kind::LOCK_RESPONSE, released as u8, 0);
-        if released != Released::Nothing {
+        let session = &mut self.sessions[usize::from(message.slot)];
+        let lock = self.locks.to_release(message.slot);
+        if session.standing.is_some() || lock == Released::Nothing {
+            let nothing = Released::Nothing as u8;
+            frames.send(message.connection, kind::LOCK_RESPONSE, nothing, 0);
+        } else if session.last.unwrap_or(BEFORE_FIRST) == message.parameter {
+            self.locks.free(message.slot, lock);
+            frames.send(message.connection, kind::LOCK_RESPONSE, lock as u8, 0);
             self.grant_pass(frames);
+        } else {
+            let number = message.parameter;
+            session.standing = Some(Standing { number, lock });
         }
+    }
+
+    /// A standing release takes effect, and is answered; true if there was one. Grants come after it.
+    pub(crate) fn end_standing(&mut self, slot: u8, frames: &mut Frames) -> bool {
+        let session = &mut self.sessions[usize::from(slot)];
+        let (Some(standing), Some(answered)) = (session.standing.take(), session.asynchronous)
+        else {
+            return false;
+        };
+        self.locks.free(slot, standing.lock);
+        frames.send(answered, kind::LOCK_RESPONSE, standing.lock as u8, 0);
+        true
     }
 
     fn lock_info(&mut self, message: &Message, frames: &mut Frames) {
@@ -86,7 +112,12 @@ impl Server {
         session.in_clear = true;
         session.asked = None;
         session.message_available = false;
+        session.last = None;
+        let released = self.end_standing(message.slot, frames);
         frames.send(message.connection, kind::DEVICE_CLEAR_ACKNOWLEDGE, 0, 0);
+        if released {
+            self.grant_pass(frames);
+        }
     }
 
     /// Returns the new SessionID; Err is the code of a FatalError.

@@ -139,7 +139,11 @@ impl Server {
                 if message.kind != kind::DATA {
                     session.asked = Some(message.parameter);
                 }
-                acted_on(session.number, message.size(), 0)
+                session.last = Some(message.parameter);
+                match session.standing {
+                    Some(named) if named.number == message.parameter => self.came(message, out),
+                    _ => acted_on(session.number, message.size(), 0),
+                }
             }
             kind::CLEAR_COMPLETE => {
                 if !session.in_clear || !message.payload.is_empty() {
@@ -154,6 +158,16 @@ impl Server {
             VENDOR.. => message.error(error::VENDOR_MESSAGE, out),
             _ => message.error(error::MESSAGE_TYPE, out),
         }
+    }
+
+    /// A message acts that a standing release waited for.
+    #[cold]
+    fn came(&mut self, message: &Message, out: &mut [u8; OUTPUT]) -> Reply {
+        let mut frames = Frames::new(out);
+        self.end_standing(message.slot, &mut frames);
+        self.grant_pass(&mut frames);
+        let session = &self.sessions[usize::from(message.slot)];
+        acted_on(session.number, message.size(), frames.used())
     }
 
     /// Checks 8, 10 and 11 on the asynchronous channel; nothing is held or cleared there.

@@ -54,7 +54,7 @@ pub enum Requested {
 }
 
 /// What a release frees; the discriminants are the answers' codes.
-#[derive(Clone, Copy, PartialEq, Eq)]
+#[derive(Clone, Copy, PartialEq, Eq, Hash)]
 pub enum Released {
     Exclusive = 1,
     Shared = 2,
@@ -176,15 +176,22 @@ impl Locks {
         Requested::Waits
     }
 
-    pub fn release(&mut self, slot: u8) -> Released {
+    /// What a release of this slot frees: exclusive first.
+    pub fn to_release(&self, slot: u8) -> Released {
         if self.exclusive & bit(slot) != 0 {
-            self.exclusive = 0;
             Released::Exclusive
         } else if self.shared & bit(slot) != 0 {
-            self.shared &= !bit(slot);
             Released::Shared
         } else {
             Released::Nothing
+        }
+    }
+
+    pub fn free(&mut self, slot: u8, lock: Released) {
+        match lock {
+            Released::Exclusive => self.exclusive = 0,
+            Released::Shared => self.shared &= !bit(slot),
+            Released::Nothing => {}
         }
     }
 

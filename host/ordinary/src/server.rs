@@ -5,7 +5,7 @@ use reference::wire::kind;
 use reference::{Refusal, Reply};
 
 use crate::frames::Frames;
-use crate::locks::Locks;
+use crate::locks::{Locks, Released};
 use crate::replies::{done, refused};
 
 #[derive(Clone, Copy, PartialEq, Eq, Hash)]
@@ -34,6 +34,14 @@ const NOT_OPEN: Connection = Connection {
     slot: 0,
 };
 
+/// A release that waits for the message it names.
+#[derive(Clone, Copy, Hash)]
+pub struct Standing {
+    pub number: u32,
+    /// What it frees; fixed when it arrives.
+    pub lock: Released,
+}
+
 #[derive(Clone, Copy, Hash)]
 pub struct Session {
     /// 0: nobody is in this slot.
@@ -45,6 +53,9 @@ pub struct Session {
     pub message_available: bool,
     /// MessageID that the instrument's answer will carry.
     pub asked: Option<u32>,
+    /// MessageID of the last Data, DataEND or Trigger that acted since opening or AsyncDeviceClear.
+    pub last: Option<u32>,
+    pub standing: Option<Standing>,
     pub client_size: u64,
 }
 
@@ -55,6 +66,8 @@ const NOBODY: Session = Session {
     in_clear: false,
     message_available: false,
     asked: None,
+    last: None,
+    standing: None,
     client_size: PAYLOAD as u64,
 };
 

@@ -1,6 +1,6 @@
 //! As conformance runs see it.
 
-use reference::lock_view::{LockView, SessionView, WaitingView};
+use reference::lock_view::{LockView, SessionView, StandingView, WaitingView};
 use reference::subject::image_of;
 use reference::{Deadline, Refusal, Reply, Size, Subject};
 
@@ -81,6 +81,11 @@ impl Server {
             asynchronous: session.asynchronous,
             exclusive: self.locks.has_exclusive(slot),
             shared: self.locks.shared_by(slot).map(<[u8]>::to_vec),
+            last: session.last,
+            standing: session.standing.map(|release| StandingView {
+                number: release.number,
+                answer: release.lock as u8,
+            }),
         };
         let waiting = |(slot, request): (u8, &Request)| WaitingView {
             session: self.sessions[usize::from(slot)].number,

@@ -3,12 +3,14 @@
 use crate::delivery::Message;
 use crate::limits::{PAYLOAD, SESSIONS};
 use crate::locks::{LockString, Released, Request};
-use crate::server::{answer_lock, RemoteLocal, Role, Server, Session};
+use crate::server::{answer_lock, RemoteLocal, Role, Server, Session, Standing};
 use crate::wire::{fatal, kind, Frames};
 
 /// Highest protocol version spoken: 1.0.
 const VERSION: u16 = 0x0100;
 const MESSAGE_AVAILABLE: u8 = 16;
+/// What a release names if its program has sent no message yet.
+const BEFORE_FIRST: u32 = 0xffff_fefe;
 
 impl Server {
     pub(crate) fn session(&self, slot: u8) -> &Session {
@@ -41,6 +43,8 @@ impl Server {
             message_available: false,
             in_clear: false,
             client_size: PAYLOAD as u64,
+            last: None,
+            standing: None,
         });
         self.connections[usize::from(connection)].role = Role::Synchronous(slot);
         let version = VERSION.min((parameter >> 16) as u16);
@@ -81,8 +85,9 @@ impl Server {
         Ok(self.session(slot).number)
     }
 
-    /// Data, DataEND or Trigger: the host passes it on.
-    pub(crate) fn data_or_trigger(&mut self, message: &Message) {
+    /// Data, DataEND or Trigger: the host passes it on. A release that stands for it takes effect.
+    #[inline]
+    pub(crate) fn data_or_trigger(&mut self, message: &Message, frames: &mut Frames) {
         let header = message.header;
         let session = self.session_mut(message.slot);
         if header.code == 1 {
@@ -90,6 +95,12 @@ impl Server {
         }
         if header.kind != kind::DATA {
             session.asked = Some(header.parameter);
+        }
+        session.last = Some(header.parameter);
+        let named = |standing: &mut Standing| standing.number == header.parameter;
+        if let Some(standing) = session.standing.take_if(named) {
+            self.release(message.slot, standing.lock, frames);
+            self.grant_pass(frames);
         }
     }
 
@@ -119,7 +130,9 @@ impl Server {
         let answer = match LockString::new(message.payload) {
             None => 3,
             Some(string) => {
-                if self.locks.holds_kind_of(slot, &string) || self.locks.is_waiting(slot) {
+                let stands = self.session(slot).standing.is_some();
+                let holds = self.locks.holds_kind_of(slot, &string);
+                if stands || holds || self.locks.is_waiting(slot) {
                     3
                 } else if self.locks.may_grant(slot, &string) {
                     self.locks.grant(slot, &string);
@@ -139,12 +152,27 @@ impl Server {
         frames.send(message.connection, kind::LOCK_RESPONSE, answer, 0);
     }
 
+    /// Acts at once if the message it names is the last that acted; otherwise it stands.
     fn release_lock(&mut self, message: &Message, frames: &mut Frames) {
-        let released = self.locks.release(message.slot);
-        frames.send(message.connection, kind::LOCK_RESPONSE, released as u8, 0);
-        if released != Released::Nothing {
+        let number = message.header.parameter;
+        let lock = self.locks.to_release(message.slot);
+        let session = self.session_mut(message.slot);
+        if session.standing.is_some() || lock == Released::Nothing {
+            let nothing = Released::Nothing as u8;
+            frames.send(message.connection, kind::LOCK_RESPONSE, nothing, 0);
+        } else if session.last.unwrap_or(BEFORE_FIRST) == number {
+            self.release(message.slot, lock, frames);
             self.grant_pass(frames);
+        } else {
+            session.standing = Some(Standing { number, lock });
         }
+    }
+
+    /// A release takes effect: the lock is free, and its session is told. The grant pass is the
+    /// caller's: in a device clear the acknowledgement comes before it.
+    fn release(&mut self, slot: u8, lock: Released, frames: &mut Frames) {
+        self.locks.free(slot, lock);
+        answer_lock(&self.sessions, slot, lock as u8, frames);
     }
 
     fn maximum_size(&mut self, message: &Message, frames: &mut Frames) {
@@ -162,7 +190,15 @@ impl Server {
         session.in_clear = true;
         session.asked = None;
         session.message_available = false;
+        session.last = None;
+        let standing = session.standing.take();
+        if let Some(standing) = standing {
+            self.release(message.slot, standing.lock, frames);
+        }
         frames.send(message.connection, kind::DEVICE_CLEAR_ACKNOWLEDGE, 0, 0);
+        if standing.is_some() {
+            self.grant_pass(frames);
+        }
     }
 
     fn status_query(&mut self, message: &Message, frames: &mut Frames) {

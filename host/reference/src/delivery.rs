@@ -167,7 +167,7 @@ impl Server {
                 if kind == kind::TRIGGER && !message.payload.is_empty() {
                     return error_sent(message, error::UNIDENTIFIED, frames);
                 }
-                self.data_or_trigger(message);
+                self.data_or_trigger(message, frames);
             }
         }
         self.acted_on(message)

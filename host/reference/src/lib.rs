@@ -1,4 +1,4 @@
-//! The rules of document 01 a second time, in ordinary Rust.
+//! The rules of document 01, and of 02's requests that have landed, a second time, in ordinary Rust.
 //!
 //! Written from the papers alone, so that it can disagree with the proved library. The server that the
 //! library's speed is compared with is `ordinary`.

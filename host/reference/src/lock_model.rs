@@ -1,5 +1,5 @@
-//! The lock model (01: the ledger): who holds which lock and who waits, worked out from the calls
-//! and their answers alone, by 01's "Locks" and "Demand 3".
+//! The lock model (01: the ledger): who holds which lock, who waits and whose release stands, worked
+//! out from the calls and their answers alone, by 01's "Locks" and "Demand 3" and 02's Q-3.
 //!
 //! It shares no rule with the server: sessions are keyed by number, each with its own string, and
 //! the waiting requests are looked at after every event, as the paper says it.
@@ -7,9 +7,11 @@
 use std::collections::BTreeMap;
 
 use crate::event::{Deadline, Event, Reply};
-use crate::lock_view::{LockView, SessionView, WaitingView};
+use crate::lock_view::{LockView, SessionView, StandingView, WaitingView};
 
 const LOCK_STRING: usize = 256;
+/// The number that a release names before any message has acted.
+const NONE_ACTED: u32 = 0xffff_fefe;
 
 #[derive(Clone, Debug, Default)]
 struct Entry {
@@ -17,6 +19,9 @@ struct Entry {
     asynchronous: Option<u32>,
     exclusive: bool,
     shared: Option<Vec<u8>>,
+    /// The last Data, DataEND or Trigger acted on since opening or the last AsyncDeviceClear.
+    last: Option<u32>,
+    standing: Option<StandingView>,
 }
 
 impl Entry {
@@ -138,6 +143,8 @@ impl LockModel {
             asynchronous: entry.asynchronous.map(|connection| connection as u8),
             exclusive: entry.exclusive,
             shared: entry.shared.clone(),
+            last: entry.last,
+            standing: entry.standing.clone(),
         };
         let waiting = |request: &Waiting| WaitingView {
             session: request.session,
@@ -182,6 +189,7 @@ impl LockModel {
         let &[_, _, kind, code, p0, p1, p2, p3, ..] = taken else {
             return;
         };
+        let parameter = u32::from_be_bytes([p0, p1, p2, p3]);
         match kind {
             0 => {
                 let entry = self.sessions.entry(session).or_default();
@@ -192,20 +200,52 @@ impl LockModel {
                     entry.asynchronous = Some(connection);
                 }
             }
+            4 if self.stands(session) => self.say(session, 3, answers),
             4 if code == 1 => {
-                let timeout = u32::from_be_bytes([p0, p1, p2, p3]);
                 let string = taken.get(16..).unwrap_or_default();
-                self.request(session, string, timeout, answers);
+                self.request(session, string, parameter, answers);
             }
-            4 => self.release(session, answers),
-            19 => {
-                let before = self.waiting.len();
-                self.waiting.retain(|request| request.session != session);
-                if self.waiting.len() < before {
-                    self.say(session, 0, answers);
-                }
-            }
+            4 => self.release(session, parameter, answers),
+            6 | 7 | 12 => self.message(session, parameter, answers),
+            19 => self.clear(session, answers),
             _ => {}
+        }
+    }
+
+    fn stands(&self, session: u16) -> bool {
+        let own = self.sessions.get(&session);
+        own.is_some_and(|entry| entry.standing.is_some())
+    }
+
+    /// A Data, DataEND or Trigger of this number acted.
+    fn message(&mut self, session: u16, number: u32, answers: &mut Vec<LockAnswer>) {
+        let Some(own) = self.sessions.get_mut(&session) else {
+            return;
+        };
+        own.last = Some(number);
+        if own.standing.as_ref().map(|release| release.number) == Some(number) {
+            self.end_standing(session, answers);
+        }
+    }
+
+    /// AsyncDeviceClear: a waiting request is answered 0, then a standing release takes effect.
+    fn clear(&mut self, session: u16, answers: &mut Vec<LockAnswer>) {
+        let before = self.waiting.len();
+        self.waiting.retain(|request| request.session != session);
+        if self.waiting.len() < before {
+            self.say(session, 0, answers);
+        }
+        self.end_standing(session, answers);
+        if let Some(own) = self.sessions.get_mut(&session) {
+            own.last = None;
+        }
+    }
+
+    /// A standing release takes effect, if there is one; what it frees was fixed when it came.
+    fn end_standing(&mut self, session: u16, answers: &mut Vec<LockAnswer>) {
+        let own = self.sessions.get_mut(&session);
+        if let Some(release) = own.and_then(|entry| entry.standing.take()) {
+            self.free(session, release.answer, answers);
         }
     }
 
@@ -240,20 +280,37 @@ impl LockModel {
         }
     }
 
-    /// Exclusive first, then shared.
-    fn release(&mut self, session: u16, answers: &mut Vec<LockAnswer>) {
+    /// With none held 3; else exclusive first, then shared: at once, or when its message acts.
+    fn release(&mut self, session: u16, number: u32, answers: &mut Vec<LockAnswer>) {
         let Some(own) = self.sessions.get_mut(&session) else {
             return;
         };
-        let code = if std::mem::take(&mut own.exclusive) {
-            1
-        } else if own.shared.take().is_some() {
-            2
-        } else {
-            3
+        let at_once = match own.last {
+            Some(last) => number == last,
+            None => number == NONE_ACTED,
         };
-        self.count.released += u64::from(code < 3);
-        self.say(session, code, answers);
+        let answer = match (own.exclusive, &own.shared) {
+            (true, _) => 1,
+            (false, Some(_)) => 2,
+            (false, None) => return self.say(session, 3, answers),
+        };
+        if at_once {
+            self.free(session, answer, answers);
+        } else {
+            own.standing = Some(StandingView { number, answer });
+        }
+    }
+
+    /// The lock counts as released when its answer is sent.
+    fn free(&mut self, session: u16, answer: u8, answers: &mut Vec<LockAnswer>) {
+        if let Some(own) = self.sessions.get_mut(&session) {
+            match answer {
+                1 => own.exclusive = false,
+                _ => own.shared = None,
+            }
+            self.count.released += 1;
+            self.say(session, answer, answers);
+        }
     }
 
     /// 01's granting rule, word for word.

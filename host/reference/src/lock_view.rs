@@ -1,4 +1,5 @@
-//! What demand 3 compares: clock, connections, holders with their strings, and who waits.
+//! What demand 3 compares: clock, connections, holders with their strings, who waits, and the releases
+//! that stand.
 
 #[derive(Clone, Debug, PartialEq, Eq)]
 pub struct LockView {
@@ -16,6 +17,17 @@ pub struct SessionView {
     pub asynchronous: Option<u8>,
     pub exclusive: bool,
     pub shared: Option<Vec<u8>>,
+    /// MessageID of the last Data, DataEND or Trigger that acted since opening or AsyncDeviceClear.
+    pub last: Option<u32>,
+    pub standing: Option<StandingView>,
+}
+
+/// A release that waits for the message it names.
+#[derive(Clone, Debug, PartialEq, Eq)]
+pub struct StandingView {
+    pub number: u32,
+    /// 1 frees the exclusive lock, 2 the shared one.
+    pub answer: u8,
 }
 
 #[derive(Clone, Debug, PartialEq, Eq)]

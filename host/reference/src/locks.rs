@@ -49,7 +49,8 @@ const NO_REQUEST: Request = Request {
     deadline: 0,
 };
 
-#[derive(Clone, Copy, Debug, PartialEq, Eq)]
+/// What a release frees; the numbers are its answers.
+#[derive(Clone, Copy, Debug, PartialEq, Eq, Hash)]
 pub enum Released {
     Exclusive = 1,
     Shared = 2,
@@ -146,15 +147,22 @@ impl Locks {
         self.count += 1;
     }
 
-    pub fn release(&mut self, slot: u8) -> Released {
+    /// Which lock a release of this slot frees: exclusive first.
+    pub fn to_release(&self, slot: u8) -> Released {
         if self.exclusive == Some(slot) {
-            self.exclusive = None;
             Released::Exclusive
         } else if self.shared & bit(slot) != 0 {
-            self.free_shared(slot);
             Released::Shared
         } else {
             Released::Nothing
+        }
+    }
+
+    pub fn free(&mut self, slot: u8, lock: Released) {
+        match lock {
+            Released::Exclusive => self.exclusive = None,
+            Released::Shared => self.free_shared(slot),
+            Released::Nothing => {}
         }
     }
 

@@ -1,8 +1,8 @@
 //! The server's state and the events that are not deliveries (01: the desk).
 
 use crate::limits::{CLOCK, CONNECTIONS, OUTPUT, PAYLOAD, SESSIONS};
-use crate::lock_view::{LockView, SessionView, WaitingView};
-use crate::locks::{Locks, Request};
+use crate::lock_view::{LockView, SessionView, StandingView, WaitingView};
+use crate::locks::{Locks, Released, Request};
 use crate::reply::Refusal;
 use crate::wire::{kind, Frames};
 
@@ -28,6 +28,14 @@ const NOT_OPEN: Connection = Connection {
     skip: 0,
 };
 
+/// A release that waits for the message it names.
+#[derive(Clone, Copy, Debug, PartialEq, Eq, Hash)]
+pub(crate) struct Standing {
+    pub number: u32,
+    /// Fixed when the release arrived.
+    pub lock: Released,
+}
+
 #[derive(Clone, Copy, Debug, PartialEq, Eq, Hash)]
 pub(crate) struct Session {
     pub number: u16,
@@ -39,6 +47,9 @@ pub(crate) struct Session {
     pub message_available: bool,
     pub in_clear: bool,
     pub client_size: u64,
+    /// MessageID of the last Data, DataEND or Trigger that acted since opening or AsyncDeviceClear.
+    pub last: Option<u32>,
+    pub standing: Option<Standing>,
 }
 
 /// Shared by all sessions, and outlives them.
@@ -183,6 +194,11 @@ impl Server {
             asynchronous: self.session(slot).asynchronous,
             exclusive: self.locks.exclusive_holder() == Some(slot),
             shared: self.locks.shared_string(slot).map(<[u8]>::to_vec),
+            last: self.session(slot).last,
+            standing: self.session(slot).standing.map(|release| StandingView {
+                number: release.number,
+                answer: release.lock as u8,
+            }),
         };
         let waiting = |request: &Request| WaitingView {
             session: number(request.slot),

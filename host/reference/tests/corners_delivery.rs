@@ -524,7 +524,7 @@ fn item_32_which_messages_carry_rmt_delivered() {
     bench.deliver(a.sync, &header(6, 1, 0, 1025));
     assert_eq!(bench.status_of(a, 0), 16, "too large");
     bench.deliver(a.sync, &[0; 1025]);
-    bench.send(a.asynchronous, 4, 0, b"");
+    bench.release_after(a, 2);
     bench.lock(b, b"", 0);
     assert_eq!(bench.send(a.sync, 6, 1, b""), held());
     assert_eq!(bench.status_of(a, 0), 16, "held");

@@ -130,8 +130,8 @@ fn item_53_direct_replies_come_first() {
     bench.lock(a, b"", 0);
     bench.lock(b, b"k", 100);
     bench.lock(c, b"k", 100);
-    let seen = bench.send(a.asynchronous, LOCK, 0, b"");
-    let expected = [sent(a.asynchronous, LOCKED, 1, 0), granted(b), granted(c)];
+    let seen = bench.release_after(a, BEFORE_FIRST);
+    let expected = [released(a, 1), granted(b), granted(c)];
     assert_eq!(seen.frames, expected);
 }
 
@@ -162,7 +162,7 @@ fn item_55_the_order_of_requests_is_all_that_is_kept() {
 }
 
 #[test]
-fn item_56_an_exclusive_holder_does_not_wait() {
+fn item_56_an_exclusive_holder_gets_the_shared_lock_at_once() {
     let (mut bench, [a, b]) = Bench::with();
     bench.lock(a, b"", 0);
     assert_eq!(bench.lock(a, b"k", 100), Some(1));
@@ -213,7 +213,7 @@ fn item_63_the_longest_outputs() {
     let closed = bench.deliver(clients[0].sync, &[0; 16]);
     assert_eq!(length(&closed.frames), 34 + 31 * 17);
     let (mut bench, clients) = storm();
-    let released = bench.send(clients[0].asynchronous, LOCK, 0, b"");
+    let released = bench.release_after(clients[0], BEFORE_FIRST);
     assert_eq!(length(&released.frames), 17 + 31 * 17);
     let (mut bench, clients) = storm();
     assert_eq!(length(&bench.cut(clients[0].sync)), 31 * 17);

@@ -109,8 +109,18 @@ impl Fed {
         self.acted(connection, session, &message(4, 1, timeout, string))
     }
 
+    /// A release that names this message.
+    fn release_after(&mut self, session: u32, number: u32) -> Vec<(u32, u8)> {
+        self.acted(2 * session - 1, session, &message(4, 0, number, b""))
+    }
+
     fn release(&mut self, session: u32) -> Vec<(u32, u8)> {
-        self.acted(2 * session - 1, session, &message(4, 0, 0, b""))
+        self.release_after(session, 0xffff_fefe)
+    }
+
+    /// A Data, DataEND or Trigger that acted.
+    fn sent(&mut self, session: u32, kind: u8, number: u32) -> Vec<(u32, u8)> {
+        self.acted(2 * session - 2, session, &message(kind, 0, number, b""))
     }
 }
 
@@ -194,4 +204,51 @@ fn held_and_ignored_messages_are_nothing_to_the_lock_model() {
         assert_eq!(fed.feed(&deliver(3, bytes), &reply), []);
     }
     assert_eq!(fed.model.view(), before);
+}
+
+#[test]
+fn the_lock_model_keeps_a_standing_release_by_the_messages_it_is_fed() {
+    let mut fed = Fed::new(2);
+    fed.lock(1, b"k", 0);
+    fed.lock(1, b"", 0);
+    fed.lock(2, b"k", 50);
+    assert_eq!(fed.release_after(1, 6), [], "it stands");
+    assert_eq!(fed.model.info(), (1, 1), "the lock is still held");
+    assert_eq!(fed.model.count().released, 0);
+    assert_eq!(fed.sent(2, 7, 6), [], "another session's message");
+    assert_eq!(fed.sent(1, 6, 4), [], "another number");
+    for outcome in [
+        Reply::HELD,
+        Reply::IGNORED,
+        Reply::ERROR_SENT,
+        Reply::MORE_NEEDED,
+    ] {
+        let bytes = message(7, 0, 6, b"");
+        let reply = delivered(outcome, 0, bytes.len() as u64);
+        assert_eq!(fed.feed(&deliver(0, bytes), &reply), [], "it did not act");
+    }
+    assert_eq!(fed.sent(1, 12, 6), [(1, 1), (3, 1)]);
+    assert_eq!(fed.model.count().released, 1);
+    assert_eq!(fed.release_after(1, 4), [], "an older one than the last");
+    assert_eq!(fed.lock(1, b"", 0), [(1, 3)]);
+    assert_eq!(fed.acted(1, 1, &message(19, 0, 0, b"")), [(1, 2)]);
+    assert_eq!(
+        fed.release_after(1, 6),
+        [(1, 3)],
+        "nothing is held, so it does not stand"
+    );
+    let count = fed.model.count();
+    assert_eq!((count.granted, count.released, count.dropped), (3, 2, 0));
+    assert_eq!(fed.model.view().held(), 1);
+}
+
+#[test]
+fn a_closing_drops_the_standing_release_unanswered() {
+    let mut fed = Fed::new(2);
+    fed.lock(1, b"", 0);
+    fed.lock(2, b"", 50);
+    assert_eq!(fed.release_after(1, 2), []);
+    assert_eq!(fed.feed(&cut(0), &Reply::default()), [(3, 1)]);
+    let count = fed.model.count();
+    assert_eq!((count.released, count.dropped), (0, 1));
 }

@@ -198,6 +198,12 @@ impl Client {
         answer.code
     }
 
+    /// A release that names the next message, which is not sent yet; nothing answers it now.
+    pub fn release_ahead(&mut self) {
+        let message = bytes(4, 0, self.next, b"");
+        self.asynchronous.write_all(&message).expect("sent");
+    }
+
     pub fn status(&mut self) -> u8 {
         let rmt = u8::from(std::mem::take(&mut self.rmt_delivered));
         let answer = self.ask(21, rmt, self.sent, b"");
@@ -212,13 +218,20 @@ impl Client {
         (answer.code, answer.parameter)
     }
 
-    /// Steps 2 to 8 of the client's device clear.
-    pub fn device_clear(&mut self) {
-        let acknowledged = self.ask(19, 0, 0, b"");
+    /// Steps 2 to 8 of the client's device clear. The lock answers that come before the
+    /// acknowledgement.
+    pub fn device_clear(&mut self) -> Vec<u8> {
+        let mut lock_answers = Vec::new();
+        let mut acknowledged = self.ask(19, 0, 0, b"");
+        while acknowledged.kind == 5 {
+            lock_answers.push(acknowledged.code);
+            acknowledged = receive(&mut self.asynchronous);
+        }
         assert_eq!((acknowledged.kind, acknowledged.code), (23, 0));
         self.sync.write_all(&bytes(8, 0, 0, b"")).expect("sent");
         while receive(&mut self.sync).kind != 9 {}
         (self.next, self.sent) = (FIRST, BEFORE_FIRST);
         self.rmt_delivered = false;
+        lock_answers
     }
 }

@@ -18,6 +18,9 @@ pub const CLEAR: u8 = 19;
 pub const QUERY: u8 = 21;
 pub const INFO: u8 = 24;
 
+/// What a release names if no message was sent before it.
+pub const BEFORE_FIRST: u32 = 0xffff_fefe;
+
 /// A frame that came out.
 #[derive(Clone, Debug, PartialEq, Eq)]
 pub struct Sent {
@@ -225,9 +228,14 @@ impl Bench {
         }
     }
 
-    /// The release's code and what was granted because of it.
+    /// A release that names this message.
+    pub fn release_after(&mut self, client: Client, number: u32) -> Seen {
+        self.deliver(client.asynchronous, &message(LOCK, 0, number, b""))
+    }
+
+    /// A release of a program that has sent no message: its code and what was granted because of it.
     pub fn release(&mut self, client: Client) -> (u8, Vec<Sent>) {
-        let mut seen = self.send(client.asynchronous, LOCK, 0, b"");
+        let mut seen = self.release_after(client, BEFORE_FIRST);
         let own = seen.frames.remove(0);
         assert_eq!((own.to, own.kind), (client.asynchronous, LOCKED));
         (own.code, seen.frames)
@@ -270,6 +278,10 @@ impl Bench {
 
 pub fn acted(client: Client, taken: usize, frames: &[Sent]) -> Seen {
     seen(Outcome::ActedOn, client.number, taken, frames)
+}
+
+pub fn released(client: Client, code: u8) -> Sent {
+    sent(client.asynchronous, LOCKED, code, 0)
 }
 
 pub fn granted(client: Client) -> Sent {
