@@ -6,17 +6,17 @@ use crate::connection::{Connection, Lane};
 use crate::describe::{self, kept};
 use crate::gateway::{Gateway, Who};
 use crate::instrument::{Done, Fault, Request};
-use crate::session::Answer;
+use crate::session::{Answer, SessionId};
 
 impl Gateway {
     /// The session's synchronous connection.
-    fn synchronous(&self, session: u16) -> Option<usize> {
+    fn synchronous(&self, session: SessionId) -> Option<usize> {
         let role = Some((session, Lane::Synchronous));
         let same = |place: &Option<Connection>| place.as_ref().is_some_and(|c| c.role == role);
         self.connections.iter().position(same)
     }
 
-    pub(crate) fn who_of(&self, session: u16) -> Who {
+    pub(crate) fn who_of(&self, session: SessionId) -> Who {
         let number = self.synchronous(session);
         let who = number.map(|number| self.who(number)).unwrap_or_default();
         Who {
@@ -63,14 +63,14 @@ impl Gateway {
     /// Sends on every answer that is not yet sent whole.
     pub(crate) fn send_answers(&mut self) {
         let unsent = self.sessions.iter().filter(|(_, s)| s.answer.is_some());
-        let unsent: Vec<u16> = unsent.map(|(session, _)| *session).collect();
+        let unsent: Vec<SessionId> = unsent.map(|(session, _)| *session).collect();
         for session in unsent {
             while self.send_piece(session) {}
         }
     }
 
     /// Sends the next Data, or the DataEND; true if there is more to send now.
-    fn send_piece(&mut self, session: u16) -> bool {
+    fn send_piece(&mut self, session: SessionId) -> bool {
         let number = self.synchronous(session);
         let room = number.and_then(|number| self.connections[number].as_ref());
         let Some(state) = self.sessions.get_mut(&session) else {
@@ -97,14 +97,14 @@ impl Gateway {
             return false;
         }
         answer.sent += piece.len();
-        match self.server.answer(session.into(), piece, end).map(kept) {
+        match self.server.answer(session, piece, end).map(kept) {
             Ok(output) => self.sent(session, &output, end),
             Err(refusal) => self.lost(session, refusal.reason()),
         }
         !end
     }
 
-    fn sent(&mut self, session: u16, output: &[u8], end: bool) {
+    fn sent(&mut self, session: SessionId, output: &[u8], end: bool) {
         self.route(output);
         if !end {
             return;
@@ -124,7 +124,7 @@ impl Gateway {
     }
 
     /// An answer that cannot be sent is an error that the program can see.
-    fn lost(&mut self, session: u16, why: &str) {
+    fn lost(&mut self, session: SessionId, why: &str) {
         if let Some(state) = self.sessions.get_mut(&session) {
             state.answer = None;
         }

@@ -10,6 +10,7 @@ use crate::connection::{Connection, Lane};
 use crate::describe::kept;
 use crate::gateway::{Gateway, Who};
 use crate::refuse::TOO_MANY;
+use crate::session::SessionId;
 
 /// How long a newcomer waits for a place that a program has left but not yet freed: its thread has
 /// only to read the end of the stream.
@@ -122,7 +123,7 @@ impl Gateway {
     }
 
     /// Closes the sockets of a session, or of a connection that had none.
-    pub(crate) fn close(&mut self, number: usize, session: Option<u16>) {
+    pub(crate) fn close(&mut self, number: usize, session: Option<SessionId>) {
         for (other, place) in self.connections.iter_mut().enumerate() {
             let same = |c: &mut Connection| session.is_some() && c.session() == session;
             drop(place.take_if(|c| other == number || same(c)));

@@ -8,6 +8,7 @@ use std::time::Instant;
 use crate::event::{Event, Id};
 use crate::os;
 use crate::reader::Incoming;
+use crate::session::SessionId;
 use crate::writer::{Outgoing, LINGER};
 
 #[derive(Clone, Copy, Debug, PartialEq, Eq)]
@@ -25,7 +26,7 @@ pub struct Connection {
     /// Received and not yet taken; shown again after each event.
     pub unread: Vec<u8>,
     /// Its session and its lane there, once it has them.
-    pub role: Option<(u16, Lane)>,
+    pub role: Option<(SessionId, Lane)>,
     /// Its first unread message was already reported as held.
     pub held: bool,
     /// When its session must have both channels.
@@ -68,7 +69,7 @@ impl Connection {
         })
     }
 
-    pub fn session(&self) -> Option<u16> {
+    pub fn session(&self) -> Option<SessionId> {
         self.role.map(|(session, _)| session)
     }
 

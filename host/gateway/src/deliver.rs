@@ -8,7 +8,7 @@ use crate::connection::Lane;
 use crate::describe::{self, kept};
 use crate::gateway::{Gateway, Who};
 use crate::instrument::{asks, Fault, Job, Request};
-use crate::session::{Session, LONGEST_MESSAGE};
+use crate::session::{Session, SessionId, LONGEST_MESSAGE};
 
 const REQUEST: u8 = 1;
 
@@ -122,7 +122,7 @@ impl Gateway {
         });
     }
 
-    fn closed(&mut self, number: usize, session: Option<u16>, head: &[u8], output: &[u8]) {
+    fn closed(&mut self, number: usize, session: Option<SessionId>, head: &[u8], output: &[u8]) {
         let who = self.who(number);
         self.route(output);
         self.close(number, session);
@@ -130,7 +130,7 @@ impl Gateway {
         self.later_answers(Frames::new(output));
     }
 
-    fn acted_on(&mut self, number: usize, session: u16, message: &[u8], output: &[u8]) {
+    fn acted_on(&mut self, number: usize, session: SessionId, message: &[u8], output: &[u8]) {
         let Some(acted) = Acted::of(message) else {
             return;
         };
@@ -154,7 +154,7 @@ impl Gateway {
     }
 
     /// What the gateway keeps beside the server follows what the message did.
-    fn follow(&mut self, number: usize, session: u16, acted: &Acted, reply: Option<u8>) {
+    fn follow(&mut self, number: usize, session: SessionId, acted: &Acted, reply: Option<u8>) {
         let lane = match acted.kind {
             names::INITIALIZE => {
                 let fresh = Session::new(self.next_ticket);
@@ -189,7 +189,7 @@ impl Gateway {
     }
 
     /// Data, DataEND and Trigger go to the instrument; the end of a message makes it act.
-    fn pass_on(&mut self, session: u16, acted: &Acted) {
+    fn pass_on(&mut self, session: SessionId, acted: &Acted) {
         let Some(state) = self.sessions.get_mut(&session) else {
             return;
         };
@@ -214,7 +214,7 @@ impl Gateway {
         self.ask(session, request);
     }
 
-    pub(crate) fn ask(&mut self, session: u16, request: Request) {
+    pub(crate) fn ask(&mut self, session: SessionId, request: Request) {
         let ticket = self.next_ticket;
         self.next_ticket += 1;
         let asks = asks(&request, self.trigger_answers);

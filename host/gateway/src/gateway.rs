@@ -18,7 +18,7 @@ use crate::listen::Listening;
 use crate::locks::{Holders, Later};
 use crate::log::Log;
 use crate::refuse::Refusals;
-use crate::session::Session;
+use crate::session::{Session, SessionId};
 
 /// How long the last bytes have to get out when the gateway ends.
 const ENDING: Duration = Duration::from_millis(500);
@@ -48,7 +48,7 @@ impl Default for Settings {
 #[derive(Clone, Copy, Default)]
 pub struct Who {
     pub peer: Option<SocketAddr>,
-    pub session: Option<u16>,
+    pub session: Option<SessionId>,
 }
 
 pub struct Gateway {
@@ -61,7 +61,7 @@ pub struct Gateway {
     /// Programs that will get a place as soon as one that hung up has left it.
     pub(crate) newcomers: VecDeque<Newcomer>,
     pub(crate) refusals: Refusals,
-    pub(crate) sessions: BTreeMap<u16, Session>,
+    pub(crate) sessions: BTreeMap<SessionId, Session>,
     pub(crate) holders: Holders,
     pub(crate) bench: Bench,
     pub(crate) trigger_answers: bool,

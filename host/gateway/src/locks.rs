@@ -3,6 +3,8 @@
 
 use std::collections::BTreeMap;
 
+use crate::session::SessionId;
+
 const GRANTED: u8 = 1;
 const EXCLUSIVE_RELEASED: u8 = 1;
 const SHARED_RELEASED: u8 = 2;
@@ -31,11 +33,11 @@ pub enum Later {
 }
 
 #[derive(Default)]
-pub struct Holders(BTreeMap<u16, Locks>);
+pub struct Holders(BTreeMap<SessionId, Locks>);
 
 impl Holders {
     /// A request for a string was answered, or waits.
-    pub fn requested(&mut self, session: u16, string: &[u8], answer: Option<u8>) {
+    pub fn requested(&mut self, session: SessionId, string: &[u8], answer: Option<u8>) {
         let locks = self.0.entry(session).or_default();
         let string = string.to_vec();
         match answer {
@@ -46,7 +48,7 @@ impl Holders {
     }
 
     /// A release that names a message was answered, or stands.
-    pub fn released(&mut self, session: u16, number: u32, answer: Option<u8>) {
+    pub fn released(&mut self, session: SessionId, number: u32, answer: Option<u8>) {
         let locks = self.0.entry(session).or_default();
         match answer {
             Some(code) => locks.free(code),
@@ -55,7 +57,7 @@ impl Holders {
     }
 
     /// A Data, DataEND or Trigger of this number acted; without a number, a device clear.
-    pub fn came(&mut self, session: u16, number: Option<u32>) {
+    pub fn came(&mut self, session: SessionId, number: Option<u32>) {
         let locks = self.0.get_mut(&session);
         if let Some(stands) = locks.and_then(|locks| locks.stands.as_mut()) {
             stands.due = number.is_none_or(|number| number == stands.number);
@@ -63,7 +65,7 @@ impl Holders {
     }
 
     /// A waiting request or a standing release was answered.
-    pub fn answered(&mut self, session: u16, code: u8) -> Later {
+    pub fn answered(&mut self, session: SessionId, code: u8) -> Later {
         let locks = self.0.entry(session).or_default();
         if locks
             .stands
@@ -79,7 +81,7 @@ impl Holders {
         Later::Request
     }
 
-    pub fn gone(&mut self, session: u16) {
+    pub fn gone(&mut self, session: SessionId) {
         self.0.remove(&session);
     }
 

@@ -1,6 +1,8 @@
 //! What the gateway keeps of a session beside the server: parts of a message, requests at the
 //! instrument, the answer that is being sent.
 
+pub use hislip::SessionId;
+
 use crate::instrument::Ticket;
 
 /// Longest message made of Data without end.

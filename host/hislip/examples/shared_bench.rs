@@ -85,7 +85,7 @@ pub fn main() -> Result<(), Refusal> {
         &message(MessageType::AsyncLock, RELEASE, BEFORE_FIRST, b""),
     )?;
     let acted = deliver(&mut server, 2, &data)?;
-    assert_eq!(acted, Outcome::ActedOn { session: 2 });
+    assert_eq!(acted, Outcome::ActedOn { session: 2.into() });
 
     // A cable drops, and what it held with it.
     println!("cut 2");

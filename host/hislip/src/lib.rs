@@ -11,7 +11,7 @@
 //! server.open(0)?;
 //! let initialize = b"HS\x00\x00\x01\x00AA\0\0\0\0\0\0\0\0";
 //! let delivery = server.deliver(0, initialize)?;
-//! assert_eq!(delivery.outcome, Outcome::ActedOn { session: 1 });
+//! assert_eq!(delivery.outcome, Outcome::ActedOn { session: 1.into() });
 //! for frame in delivery.frames {
 //!     assert_eq!(frame.message_type(), Some(MessageType::InitializeResponse));
 //!     assert_eq!((frame.connection, frame.parameter), (0.into(), 0x0100_0001));

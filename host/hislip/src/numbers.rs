@@ -4,9 +4,6 @@ use std::fmt;
 
 use crate::sizes::CONNECTIONS;
 
-/// A session's number as the client knows it (SessionID), 1 to 65,535.
-pub type SessionId = u16;
-
 /// A connection's number. The host gives it to a socket when it opens; one above 63 can be said, and
 /// every call that takes it refuses it.
 ///
@@ -57,6 +54,58 @@ impl From<Connection> for usize {
 }
 
 impl fmt::Display for Connection {
+    fn fmt(&self, f: &mut fmt::Formatter<'_>) -> fmt::Result {
+        self.0.fmt(f)
+    }
+}
+
+/// A session's number as the client knows it (SessionID), 1 to 65,535. The server gives it; 0 can be
+/// said, and every call that takes it refuses it.
+///
+/// ```
+/// use hislip::SessionId;
+///
+/// let session = SessionId::new(7);
+/// assert_eq!((session.number(), session), (7, 7.into()));
+/// assert_eq!(u32::from(session), 7, "as in AsyncInitialize");
+/// assert_eq!(format!("session {session:3}"), "session   7");
+/// ```
+#[derive(Clone, Copy, Debug, PartialEq, Eq, PartialOrd, Ord, Hash)]
+#[must_use = "it says whose message it was, and whom to answer"]
+pub struct SessionId(u16);
+
+impl SessionId {
+    /// The session of this number.
+    pub const fn new(number: u16) -> SessionId {
+        SessionId(number)
+    }
+
+    /// The number on the wire.
+    pub const fn number(self) -> u16 {
+        self.0
+    }
+}
+
+impl From<u16> for SessionId {
+    fn from(number: u16) -> SessionId {
+        SessionId(number)
+    }
+}
+
+impl From<SessionId> for u16 {
+    fn from(session: SessionId) -> u16 {
+        session.0
+    }
+}
+
+/// For a message's parameter, and for the C interface.
+impl From<SessionId> for u32 {
+    fn from(session: SessionId) -> u32 {
+        session.0.into()
+    }
+}
+
+impl fmt::Display for SessionId {
     fn fmt(&self, f: &mut fmt::Formatter<'_>) -> fmt::Result {
         self.0.fmt(f)
     }

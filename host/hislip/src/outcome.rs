@@ -36,7 +36,7 @@ impl Outcome {
     /// From the numbers of the C interface. Panics at a number that does not exist, as `Server`
     /// documents.
     pub(crate) fn of(number: u64, session: u64) -> Outcome {
-        let session = SessionId::try_from(session).expect("SessionIDs have 16 bits");
+        let session = u16::try_from(session).expect("SessionIDs have 16 bits");
         match number {
             0 => Outcome::MoreNeeded,
             1 => Outcome::Skipped,
@@ -44,9 +44,11 @@ impl Outcome {
             3 => Outcome::Ignored,
             4 => Outcome::ErrorSent,
             5 => Outcome::Closed {
-                session: (session != 0).then_some(session),
+                session: (session != 0).then_some(session.into()),
             },
-            6 => Outcome::ActedOn { session },
+            6 => Outcome::ActedOn {
+                session: session.into(),
+            },
             _ => panic!("the library gave outcome {number}, which does not exist"),
         }
     }

@@ -149,7 +149,7 @@ impl Server {
     /// As [`Server`] says: never, with the proved archive.
     pub fn answer(
         &mut self,
-        session: SessionId,
+        session: impl Into<SessionId>,
         payload: &[u8],
         end: bool,
     ) -> Result<Frames<'_>, Refusal> {
@@ -161,7 +161,7 @@ impl Server {
             sys::hislip_answer(
                 words,
                 strings,
-                session.into(),
+                session.into().into(),
                 bytes,
                 len,
                 end.into(),
@@ -204,10 +204,10 @@ impl Server {
     /// # Panics
     ///
     /// As [`Server`] says: never, with the proved archive.
-    pub fn client_size(&self, session: SessionId) -> Result<u64, Refusal> {
+    pub fn client_size(&self, session: impl Into<SessionId>) -> Result<u64, Refusal> {
         let (words, strings) = (self.words.as_ptr(), self.strings.as_ptr());
         // SAFETY: as for `deadline`.
-        let told = unsafe { sys::hislip_client_size(words, strings, session.into()) };
+        let told = unsafe { sys::hislip_client_size(words, strings, session.into().into()) };
         Refusal::check(told.refusal).map(|()| told.size)
     }
 

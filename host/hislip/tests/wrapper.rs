@@ -11,13 +11,11 @@ fn with_session() -> Server {
     let mut server = Server::new(*b"AA");
     server.open(0).expect("not open");
     let opened = server.deliver(0, &message(0, 0, 0x0100_0000, b"hislip0"));
-    assert_eq!(
-        opened.expect("open").outcome,
-        Outcome::ActedOn { session: 1 }
-    );
+    let session = hislip::SessionId::new(1);
+    assert_eq!(opened.expect("open").outcome, Outcome::ActedOn { session });
     server.open(1).expect("not open");
     let joined = server.deliver(1, &message(17, 0, 1, b"")).expect("open");
-    assert_eq!(joined.outcome, Outcome::ActedOn { session: 1 });
+    assert_eq!(joined.outcome, Outcome::ActedOn { session });
     assert_eq!(
         joined
             .frames
@@ -125,7 +123,12 @@ fn the_clients_size_is_told() {
 fn several_frames_come_in_order() {
     let mut server = with_session();
     let closed = server.deliver(1, &[0; 16]).expect("open");
-    assert_eq!(closed.outcome, Outcome::Closed { session: Some(1) });
+    assert_eq!(
+        closed.outcome,
+        Outcome::Closed {
+            session: Some(1.into())
+        }
+    );
     assert_eq!(closed.taken, 0);
     let to: Vec<(u32, u8, u8)> = closed
         .frames
@@ -181,7 +184,7 @@ fn events_as_values() {
     assert_eq!(frames_of(Event::Clock { milliseconds: 5 }), 0);
     assert_eq!(frames_of(Event::Cut { connection }), 0);
     let answer = Event::Answer {
-        session: 1,
+        session: 1.into(),
         payload: b"",
         end: true,
     };

@@ -7,6 +7,7 @@ use std::time::Duration;
 
 use super::{Fault, Instrument, Patience, Request};
 use crate::event::Event;
+use crate::session::SessionId;
 
 /// A request's own number: what comes back under it belongs to no other request.
 pub type Ticket = u64;
@@ -14,13 +15,13 @@ pub type Ticket = u64;
 #[derive(Clone, Debug)]
 pub struct Job {
     pub ticket: Ticket,
-    pub session: u16,
+    pub session: SessionId,
     pub request: Request,
 }
 
 pub struct Done {
     pub ticket: Ticket,
-    pub session: u16,
+    pub session: SessionId,
     /// What the request took in the queue.
     pub cost: usize,
     pub answer: Result<Option<Vec<u8>>, Fault>,
@@ -32,7 +33,7 @@ pub struct Done {
 struct State {
     jobs: VecDeque<Job>,
     /// The session whose request is being done.
-    running: Option<(u16, Arc<Patience>)>,
+    running: Option<(SessionId, Arc<Patience>)>,
     closed: bool,
 }
 
@@ -103,7 +104,7 @@ impl Bench {
     }
 
     /// A device clear: the session's requests are dropped, and one that is being done is ended.
-    pub fn clear(&self, session: u16) {
+    pub fn clear(&self, session: SessionId) {
         let mut state = self.0.state();
         state.jobs.retain(|job| job.session != session);
         if let Some((running, patience)) = &state.running {

@@ -141,7 +141,7 @@ fn names_are_the_wrappers() {
         Outcome::Ignored,
         Outcome::ErrorSent,
         Outcome::Closed { session: None },
-        Outcome::ActedOn { session: 1 },
+        Outcome::ActedOn { session: 1.into() },
     ];
     let outcomes = (0..)
         .zip(outcomes)
