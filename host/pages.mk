@@ -33,7 +33,9 @@ evidence:
 	$(CARGO) run $(HOST_FLAGS) --release -q -p evidence -- --second target/second.a --write target/evidence.md
 
 # make timeline LIST=my.txt PICTURE=my.svg: a list of events with their answers, one lane a session.
+# make timeline LIST=gateway.log PICTURE=my.svg FROM=2026-11-16T06:50 TO=2026-11-16T06:55: the same of a
+# gateway's log; without FROM and TO all of it.
 LIST    ?= $(HOST)/timeline/lists/three_programs.txt
 PICTURE ?= docs/timeline.svg
 timeline:
-	@$(CARGO) run $(HOST_FLAGS) -q -p timeline -- $(LIST) $(PICTURE)
+	@$(CARGO) run $(HOST_FLAGS) -q -p timeline -- $(LIST) $(PICTURE) $(FROM) $(TO)

@@ -22,6 +22,8 @@ pub enum Kind {
     Shared,
     /// A lock request waits.
     Waits,
+    /// A release waits for the message that it names.
+    Stands,
     /// A message of the session is held.
     Held,
 }
@@ -54,8 +56,10 @@ pub struct Lane {
 #[derive(Debug, Default)]
 pub struct Lanes {
     pub sessions: BTreeMap<u16, Lane>,
-    pub clock: Vec<(usize, u64)>,
+    pub clock: Vec<(usize, String)>,
     pub events: usize,
+    /// The events in words, if they have any.
+    pub lines: Vec<String>,
     model: LockModel,
     /// What lasts just now, with the event that began it.
     lasting: BTreeMap<State, usize>,
@@ -64,7 +68,7 @@ pub struct Lanes {
 }
 
 /// What a session has after an event.
-type State = (u16, Kind, String);
+pub type State = (u16, Kind, String);
 
 /// The parameter of a message, which is the MessageID of a command.
 fn message_id(bytes: &[u8]) -> u32 {
@@ -90,6 +94,10 @@ fn locks(view: &LockView) -> BTreeSet<State> {
         }
         if let Some(string) = &session.shared {
             states.insert((number, Kind::Shared, format!("shared \"{}\"", text(string))));
+        }
+        if let Some(standing) = &session.standing {
+            let says = format!("release stands for {:08x}", standing.number);
+            states.insert((number, Kind::Stands, says));
         }
     }
     for request in &view.waiting {
@@ -122,12 +130,9 @@ impl Lanes {
         let mut answers = Vec::new();
         self.model.event(&entry.event, &entry.reply, &mut answers);
         let view = self.model.view();
-        if self
-            .clock
-            .last()
-            .is_none_or(|(_, clock)| *clock != view.clock)
-        {
-            self.clock.push((place, view.clock));
+        let reading = format!("{} ms", view.clock);
+        if self.clock.last().is_none_or(|(_, last)| *last != reading) {
+            self.clock.push((place, reading));
         }
         let mut states = locks(&view);
         for (connection, message_id) in &self.held {
@@ -169,7 +174,7 @@ impl Lanes {
         }
     }
 
-    fn mark(&mut self, session: u16, at: usize, message_id: u32, reading: bool) {
+    pub fn mark(&mut self, session: u16, at: usize, message_id: u32, reading: bool) {
         let lane = self.sessions.entry(session).or_default();
         lane.marks.push(Mark {
             at,
@@ -179,7 +184,7 @@ impl Lanes {
     }
 
     /// Ends what does not last any more, and begins what is new.
-    fn update(&mut self, place: usize, states: BTreeSet<State>) {
+    pub fn update(&mut self, place: usize, states: BTreeSet<State>) {
         let lasting = std::mem::take(&mut self.lasting).into_iter();
         let (still, over): (BTreeMap<_, _>, BTreeMap<_, _>) =
             lasting.partition(|(state, _)| states.contains(state));

@@ -1,30 +1,47 @@
-//! `timeline LIST PICTURE`: draws a list of events with their answers (`timeline::list` has the form;
-//! `conform list SEED` writes one) as an SVG picture, one lane a session.
+//! `timeline LIST PICTURE` draws a list of events with their answers (`timeline::list` has the form;
+//! `conform list SEED` writes one) as an SVG picture, one lane a session. `timeline LOG PICTURE [FROM [TO]]`
+//! does the same for what `gateway --log` wrote, or for its lines from one UTC time to another.
 
 use std::fs;
+use std::io::Write;
 use std::process::ExitCode;
 
-fn run(list: &str, picture: &str) -> Result<usize, String> {
-    let of = |file: &str| {
-        let file = file.to_owned();
-        move |what: String| format!("{file}: {what}")
-    };
-    let text = fs::read_to_string(list).map_err(|error| of(list)(error.to_string()))?;
-    let entries = timeline::list::read(&text).map_err(of(list))?;
-    let drawn = timeline::draw(&entries);
-    fs::write(picture, drawn).map_err(|error| of(picture)(error.to_string()))?;
-    Ok(entries.len())
+use timeline::log::{is_log, Window};
+
+const USAGE: &str = "\
+usage: timeline LIST PICTURE
+       timeline LOG PICTURE [FROM [TO]]    times as in the log: 2026-11-16T06:50";
+
+fn picture(text: &str, window: &[String]) -> Result<String, String> {
+    if is_log(text) {
+        let from = window.first().map_or("", String::as_str);
+        let to = window.get(1).map(String::as_str);
+        return timeline::draw_log(text, Window { from, to });
+    }
+    match window {
+        [] => timeline::list::read(text).map(|list| timeline::draw(&list)),
+        _ => Err("times are for a gateway's log, and this is none".into()),
+    }
+}
+
+fn run(from: &str, to: &str, window: &[String]) -> Result<(), String> {
+    let text = fs::read_to_string(from).map_err(|error| format!("{from}: {error}"))?;
+    let drawn = picture(&text, window).map_err(|what| format!("{from}: {what}"))?;
+    fs::write(to, drawn).map_err(|error| format!("{to}: {error}"))
 }
 
 fn main() -> ExitCode {
     let words: Vec<String> = std::env::args().skip(1).collect();
-    let [list, picture] = &words[..] else {
-        eprintln!("usage: timeline LIST PICTURE");
-        return ExitCode::from(2);
+    let (from, to, window) = match &words[..] {
+        [from, to, window @ ..] if window.len() <= 2 => (from, to, window),
+        _ => {
+            eprintln!("{USAGE}");
+            return ExitCode::from(2);
+        }
     };
-    match run(list, picture) {
-        Ok(events) => {
-            println!("timeline: {events} events in {picture}");
+    match run(from, to, window) {
+        Ok(()) => {
+            let _ = writeln!(std::io::stdout(), "timeline: {from} is drawn in {to}");
             ExitCode::SUCCESS
         }
         Err(what) => {

@@ -57,9 +57,36 @@ pub fn bytes(word: &str) -> Result<Vec<u8>, String> {
         .map_err(|_| wrong())
 }
 
+/// The parts of a text between separators; one inside quotes does not count.
+pub fn outside_quotes<'a>(text: &'a str, separator: &str) -> Vec<&'a str> {
+    let (mut parts, mut from) = (Vec::new(), 0);
+    let (mut quoted, mut escaped) = (false, false);
+    for (place, character) in text.char_indices() {
+        match character {
+            _ if escaped => escaped = false,
+            '\\' if quoted => escaped = true,
+            '"' => quoted = !quoted,
+            _ if !quoted && place >= from && text[place..].starts_with(separator) => {
+                parts.push(&text[from..place]);
+                from = place + separator.len();
+            }
+            _ => {}
+        }
+    }
+    parts.push(&text[from..]);
+    parts
+}
+
 #[cfg(test)]
 mod tests {
-    use super::{bytes, hex};
+    use super::{bytes, hex, outside_quotes};
+
+    #[test]
+    fn a_separator_in_quotes_is_none() {
+        let parts = outside_quotes(r#"a, "b, \", c", d"#, ", ");
+        assert_eq!(parts, ["a", r#""b, \", c""#, "d"]);
+        assert_eq!(outside_quotes("", ", "), [""]);
+    }
 
     #[test]
     fn bytes_are_read_as_they_are_written() {
