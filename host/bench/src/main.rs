@@ -15,10 +15,11 @@ use std::fs;
 use std::process::ExitCode;
 
 use options::{Options, USAGE};
+use record::program;
 use workload::Plan;
 
 fn main() -> ExitCode {
-    let chosen = Options::read(std::env::args().skip(1)).and_then(|options| {
+    let chosen = Options::read(program::arguments().into_iter()).and_then(|options| {
         let plans = options.chosen(workload::all())?;
         Ok((options, plans))
     });
@@ -46,7 +47,7 @@ fn run(options: &Options, plans: &[Plan]) -> Result<(), String> {
     }
     if let Some(events) = options.instructions {
         let table = instructions::table(plans, events)?;
-        print!("{table}");
+        program::print(&table)?;
         if let Some(file) = &options.write {
             write(file, &instructions::replaced(&read(file)?, &table)?)?;
         }
@@ -56,7 +57,10 @@ fn run(options: &Options, plans: &[Plan]) -> Result<(), String> {
         Some(file) => read(file)?,
         None => {
             let page = page::page(plans, options)?;
-            print!("{page}");
+            let shown = program::print(&page);
+            if options.write.is_none() {
+                shown?;
+            }
             page
         }
     };

@@ -1,5 +1,6 @@
 //! The commands of `conform`.
 
+use record::program;
 use record::text::grouped;
 use reference::Subject;
 
@@ -57,7 +58,9 @@ conform ordinary ..               the same with the ordinary server in the libra
 conform selftest                  every wrong server must be found
 conform .. --json                 the result as one JSON object; everything else goes to the error stream
 
-Exit status: 0 no difference, 1 a difference, 2 the command is not understood.";
+Exit status: 0 no difference, 1 a difference, 2 the command is not understood, 3 the result cannot be printed.";
+
+const NOT_PRINTED: u8 = 3;
 
 /// Runs a command. `program` is what it was started as, for the command that repeats a difference.
 pub fn execute(program: &str, arguments: &[&str]) -> u8 {
@@ -67,8 +70,7 @@ pub fn execute(program: &str, arguments: &[&str]) -> u8 {
     };
     match arguments {
         ["help" | "--help" | "-h"] => {
-            println!("{USAGE}");
-            return 0;
+            return printed(&format!("{USAGE}\n"), 0);
         }
         ["selftest"] => return wrong_servers(json),
         ["list", seed] => return listed(seed),
@@ -93,10 +95,25 @@ pub fn execute(program: &str, arguments: &[&str]) -> u8 {
         }
         Err(failed) => explain(&program, pair, failed, &tally),
     }
-    if json {
-        println!("{}", tally.json(&arguments.join(" "), ran.as_ref().err()));
+    let status = u8::from(ran.is_err());
+    match json {
+        true => {
+            let result = tally.json(&arguments.join(" "), ran.as_ref().err());
+            printed(&format!("{result}\n"), status)
+        }
+        false => status,
     }
-    u8::from(ran.is_err())
+}
+
+/// Prints a result and gives its status, unless that would be 0 and nobody could read the result.
+fn printed(result: &str, status: u8) -> u8 {
+    match program::print(result) {
+        Err(what) if status == 0 => {
+            eprintln!("conform: {what}");
+            NOT_PRINTED
+        }
+        _ => status,
+    }
 }
 
 /// Runs what the arguments name; the outer error is a command that does not exist.
@@ -132,19 +149,17 @@ fn listed(seed: &str) -> u8 {
             eprintln!("conform: {what}");
             1
         }
-        Ok(Ok(text)) => {
-            print!("{text}");
-            0
-        }
+        Ok(Ok(text)) => printed(&text, 0),
     }
 }
 
 fn wrong_servers(json: bool) -> u8 {
     let tried = selftest::check(json);
-    if json {
-        println!("{}", tried.json());
+    let status = u8::from(!tried.good);
+    match json {
+        true => printed(&format!("{}\n", tried.json()), status),
+        false => status,
     }
-    u8::from(!tried.good)
 }
 
 fn not_understood(what: &str) -> u8 {

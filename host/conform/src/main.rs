@@ -3,8 +3,9 @@
 use std::process::ExitCode;
 
 fn main() -> ExitCode {
-    let arguments: Vec<String> = std::env::args().collect();
+    let program = std::env::args_os().next().unwrap_or("conform".into());
+    let arguments = record::program::arguments();
     let arguments: Vec<&str> = arguments.iter().map(String::as_str).collect();
-    let (program, arguments) = arguments.split_first().unwrap_or((&"conform", &[]));
-    ExitCode::from(conform::command::execute(program, arguments))
+    let program = program.to_string_lossy();
+    ExitCode::from(conform::command::execute(&program, &arguments))
 }

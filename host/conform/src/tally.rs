@@ -30,7 +30,8 @@ impl Tally {
         if self.aside {
             eprintln!("{line}");
         } else {
-            println!("{line}");
+            // The exit status says what matters.
+            let _ = record::program::print(&format!("{line}\n"));
         }
     }
 

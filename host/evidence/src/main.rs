@@ -17,7 +17,7 @@ use std::process::ExitCode;
 const USAGE: &str = "usage: evidence --second ARCHIVE --write FILE";
 
 fn main() -> ExitCode {
-    let words: Vec<String> = std::env::args().skip(1).collect();
+    let words = record::program::arguments();
     let words: Vec<&str> = words.iter().map(String::as_str).collect();
     let ["--second", second, "--write", file] = words[..] else {
         eprintln!("{USAGE}");
@@ -28,6 +28,7 @@ fn main() -> ExitCode {
         eprintln!("evidence: {file}: {error}");
         return ExitCode::FAILURE;
     }
-    println!("evidence: {file}, {}", page.summary());
+    // The page and the exit status say the same.
+    let _ = record::program::print(&format!("evidence: {file}, {}\n", page.summary()));
     ExitCode::from(u8::from(!page.good()))
 }

@@ -15,7 +15,7 @@ const IDLE: Duration = Duration::from_secs(5);
 const TICKS: f64 = 100.0;
 
 fn main() {
-    let arguments: Vec<String> = std::env::args().skip(1).collect();
+    let arguments = query::arguments().unwrap_or_default();
     let Some(to) = arguments.first() else {
         eprintln!("usage: measure ADDR:PORT [PID]");
         std::process::exit(2);

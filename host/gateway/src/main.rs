@@ -14,7 +14,7 @@ use gateway::{Gateway, Log};
 const WRONG_COMMAND_LINE: u8 = 2;
 
 fn main() -> ExitCode {
-    let options = match parse(std::env::args().skip(1)) {
+    let options = match query::arguments().and_then(parse) {
         Ok(options) => options,
         Err(wrong) => {
             let _ = writeln!(

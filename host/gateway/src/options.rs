@@ -73,10 +73,10 @@ fn vendor(text: &str) -> Result<[u8; 2], String> {
     letters.ok_or(format!("--vendor wants two letters, not `{text}`"))
 }
 
-/// Whether the text ends in a colon and a port number.
+/// Whether the text is a host, a colon and a port number.
 fn has_port(text: &str) -> bool {
-    let port = text.rsplit_once(':').map(|(_, port)| port);
-    port.is_some_and(|port| port.parse::<u16>().is_ok()) && !text.ends_with(']')
+    let parts = text.rsplit_once(':');
+    parts.is_some_and(|(host, port)| !host.is_empty() && port.parse::<u16>().is_ok())
 }
 
 fn address(text: String) -> Result<String, String> {
@@ -110,6 +110,7 @@ mod tests {
             ("tcp://", None),
             ("meter:5025", None),
             ("tcp://meter:x", None),
+            ("tcp://:5025", None),
         ] {
             assert_eq!(instrument(text).ok().as_deref(), address, "{text}");
         }
@@ -120,6 +121,7 @@ mod tests {
         for words in [
             "--listen 4880",
             "--listen [::1]",
+            "--listen :4880",
             "--vendor X",
             "--vendor 11",
             "--measure-ms x",

@@ -2,8 +2,10 @@
 
 mod common;
 
+use std::ffi::OsStr;
 use std::io::Read;
 use std::net::{SocketAddr, TcpStream};
+use std::os::unix::ffi::OsStrExt;
 use std::process::Stdio;
 use std::time::Duration;
 
@@ -45,6 +47,16 @@ fn help_is_status_0_and_a_wrong_option_status_2() {
         assert_eq!((status, &out[..]), (Some(2), ""), "{arguments:?}");
         assert_eq!(err, format!("gateway: {line}; gateway --help says how\n"));
     }
+}
+
+#[test]
+fn an_option_that_is_no_text_is_status_2() {
+    let mut command = gateway(&["--log"]);
+    let output = command.arg(OsStr::from_bytes(b"gateway\xff.log")).output();
+    let output = output.expect("the program runs");
+    assert_eq!(output.status.code(), Some(2));
+    let line = "gateway: `gateway\u{fffd}.log` is no UTF-8; gateway --help says how\n";
+    assert_eq!(String::from_utf8_lossy(&output.stderr), line);
 }
 
 #[test]

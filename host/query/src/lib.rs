@@ -1,6 +1,7 @@
 //! A HiSLIP client by IVI-6.1's client rules in synchronized mode, and the names of the protocol's
 //! numbers. It needs neither the server library nor anything else outside std.
 
+mod arguments;
 mod channel;
 mod client;
 pub mod message;
@@ -8,6 +9,7 @@ pub mod names;
 pub mod steps;
 mod trouble;
 
+pub use arguments::arguments;
 pub use client::{Client, Settings, BEFORE_FIRST, FIRST};
 pub use message::Message;
 pub use trouble::Trouble;

@@ -11,9 +11,9 @@ const WRONG_COMMAND_LINE: u8 = 2;
 const POORLY_FORMED: u8 = 1;
 
 fn main() -> ExitCode {
-    match parse(std::env::args().skip(1)) {
+    match query::arguments().and_then(parse) {
         Err(wrong) => {
-            eprintln!("query: {wrong}; query --help says how");
+            complain(&format!("{wrong}; query --help says how"));
             ExitCode::from(WRONG_COMMAND_LINE)
         }
         Ok(Command { help: true, .. }) => {
@@ -24,11 +24,16 @@ fn main() -> ExitCode {
         Ok(command) => match run(&command) {
             Ok(()) => ExitCode::SUCCESS,
             Err(trouble) => {
-                eprintln!("query: {trouble}");
+                complain(&trouble.to_string());
                 ExitCode::from(trouble.exit_status())
             }
         },
     }
+}
+
+/// Nobody need be reading the error stream: the exit status says the same.
+fn complain(what: &str) {
+    let _ = writeln!(std::io::stderr(), "query: {what}");
 }
 
 fn run(command: &Command) -> Result<(), Trouble> {

@@ -25,7 +25,7 @@ steps, done in order in one session:
   lockinfo             prints how many sessions hold a lock
   remote CODE          remote/local control, VISA's codes 0 to 6
 exit status: 0 done, 1 not granted or not expected, 2 wrong command line, 3 cannot connect, 4 time-out,
-  5 Error from the server, 6 FatalError, 7 connection lost";
+  5 Error from the server, 6 FatalError, 7 connection lost, 8 an answer cannot be printed";
 
 const LAST_REMOTE_CODE: u8 = 6;
 
@@ -125,7 +125,7 @@ impl Step {
         let printed = out.write_all(&line).and_then(|()| out.write_all(b"\n"));
         printed
             .and_then(|()| out.flush())
-            .map_err(Trouble::Connection)
+            .map_err(Trouble::NotPrinted)
     }
 }
 

@@ -29,6 +29,8 @@ pub enum Trouble {
     NotGranted(String),
     NotExpected(String),
     Connection(Error),
+    /// An answer came and could not be printed.
+    NotPrinted(Error),
 }
 
 impl Trouble {
@@ -67,6 +69,7 @@ impl Trouble {
             Trouble::Error { .. } => 5,
             Trouble::FatalError { .. } => 6,
             Trouble::Closed | Trouble::Malformed(_) | Trouble::Connection(_) => 7,
+            Trouble::NotPrinted(_) => 8,
         }
     }
 }
@@ -93,6 +96,7 @@ impl fmt::Display for Trouble {
             Trouble::NotGranted(why) => write!(f, "{why}"),
             Trouble::NotExpected(what) => write!(f, "not expected: {what}"),
             Trouble::Connection(error) => write!(f, "connection lost: {error}"),
+            Trouble::NotPrinted(error) => write!(f, "the answer cannot be printed: {error}"),
         }
     }
 }

@@ -2,7 +2,11 @@
 
 mod common;
 
+use std::ffi::OsStr;
+use std::fs::File;
 use std::net::{SocketAddr, TcpListener};
+use std::os::unix::ffi::OsStrExt;
+use std::process::{Command, Stdio};
 use std::thread::{spawn, JoinHandle};
 use std::time::Duration;
 
@@ -143,6 +147,29 @@ fn a_wrong_command_line_is_status_2() {
     }
     let (status, out, _) = query(nowhere, &["--help"]);
     assert!(status == 0 && out.starts_with("usage: query"));
+}
+
+/// Exit status of a run with this standard output.
+fn status_printing_to(out: Stdio, to: &str, step: &[u8]) -> Option<i32> {
+    let mut command = Command::new(env!("CARGO_BIN_EXE_query"));
+    command.args(["--to", to]).arg(OsStr::from_bytes(step));
+    let ran = command.stdout(out).stderr(Stdio::null()).status();
+    ran.expect("the program runs").code()
+}
+
+#[test]
+fn an_answer_that_cannot_be_printed_is_status_8() {
+    let gateway = Running::start();
+    let to = gateway.address.to_string();
+    let full = File::options().write(true).open("/dev/full");
+    let full = full.expect("Linux has it").into();
+    assert_eq!(status_printing_to(full, &to, b"*IDN?"), Some(8));
+}
+
+#[test]
+fn a_step_that_is_no_text_is_status_2() {
+    let status = status_printing_to(Stdio::null(), "127.0.0.1:1", b"VOLT 1\xb5V");
+    assert_eq!(status, Some(2));
 }
 
 #[test]

@@ -31,7 +31,10 @@ fn run(from: &str, to: &str, window: &[String]) -> Result<(), String> {
 }
 
 fn main() -> ExitCode {
-    let words: Vec<String> = std::env::args().skip(1).collect();
+    let words = std::env::args_os().skip(1);
+    let words: Vec<String> = words
+        .map(|word| word.to_string_lossy().into_owned())
+        .collect();
     let (from, to, window) = match &words[..] {
         [from, to, window @ ..] if window.len() <= 2 => (from, to, window),
         _ => {

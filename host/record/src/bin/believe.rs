@@ -3,14 +3,12 @@
 
 use std::process::ExitCode;
 
-use record::{believe, tree};
+use record::{believe, program, tree};
 
 fn main() -> ExitCode {
-    match believe::table(&tree::root()) {
-        Ok(table) => {
-            print!("{table}");
-            ExitCode::SUCCESS
-        }
+    let table = believe::table(&tree::root());
+    match table.and_then(|table| program::print(&table)) {
+        Ok(()) => ExitCode::SUCCESS,
         Err(what) => {
             eprintln!("believe: {what}");
             ExitCode::FAILURE
