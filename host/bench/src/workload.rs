@@ -324,30 +324,36 @@ pub fn all() -> Vec<Plan> {
             false,
         );
     }
-    let others = ALL - 1;
-    let rest: [(&str, fn(&Messages) -> Workload); 8] = [
-        ("02's mix, in a fixed order", |m| m.workload(m.in_turn())),
-        ("02's mix, a third of Data held", |m| {
-            m.workload(m.mix(ALL, true))
-        }),
-        ("Data and DataEND, held", Messages::held),
-        (&format!("exclusive, {others} waiting"), |m| {
+    plan(
+        "02's mix, in a fixed order",
+        |m| m.workload(m.in_turn()),
+        false,
+    );
+    let third_held = |m: &Messages| m.workload(m.mix(ALL, true));
+    plan("02's mix, a third of Data held", third_held, false);
+    plan("Data and DataEND, held", Messages::held, false);
+    for (name, make) in waiting(ALL - 1) {
+        plan(&name, make, false);
+    }
+    plan("DataEND and 1,024-byte answers", Messages::answers, false);
+    all
+}
+
+/// Lock requests and releases while so many others wait.
+fn waiting(others: u32) -> [(String, fn(&Messages) -> Workload); 4] {
+    let long = |m: &Messages| m.storm(|session| m.wait_long[session as usize]);
+    let to_share = |m: &Messages| m.in_vain(|session| m.wait_long[session as usize]);
+    [
+        (format!("exclusive, {others} waiting"), |m| {
             m.storm(|_| m.wait)
         }),
         (
-            &format!("{LOCK_STRING}-byte strings, {others} waiting"),
-            |m| m.storm(|session| m.wait_long[session as usize]),
+            format!("{LOCK_STRING}-byte strings, {others} waiting"),
+            long,
         ),
-        (&format!("release in vain, {others} waiting"), |m| {
+        (format!("release in vain, {others} waiting"), |m| {
             m.in_vain(|_| m.wait)
         }),
-        (&format!("release in vain, {others} wait to share"), |m| {
-            m.in_vain(|session| m.wait_long[session as usize])
-        }),
-        ("DataEND and 1,024-byte answers", Messages::answers),
-    ];
-    for (name, make) in rest {
-        plan(name, make, false);
-    }
-    all
+        (format!("release in vain, {others} wait to share"), to_share),
+    ]
 }

@@ -69,9 +69,7 @@ pub fn execute(program: &str, arguments: &[&str]) -> u8 {
         _ => (arguments, false),
     };
     match arguments {
-        ["help" | "--help" | "-h"] => {
-            return printed(&format!("{USAGE}\n"), 0);
-        }
+        ["help" | "--help" | "-h"] => return printed(&format!("{USAGE}\n"), 0),
         ["selftest"] => return wrong_servers(json),
         ["list", seed] => return listed(seed),
         _ => {}
@@ -96,13 +94,11 @@ pub fn execute(program: &str, arguments: &[&str]) -> u8 {
         Err(failed) => explain(&program, pair, failed, &tally),
     }
     let status = u8::from(ran.is_err());
-    match json {
-        true => {
-            let result = tally.json(&arguments.join(" "), ran.as_ref().err());
-            printed(&format!("{result}\n"), status)
-        }
-        false => status,
+    if !json {
+        return status;
     }
+    let result = tally.json(&arguments.join(" "), ran.as_ref().err());
+    printed(&format!("{result}\n"), status)
 }
 
 /// Prints a result and gives its status, unless that would be 0 and nobody could read the result.

@@ -122,7 +122,12 @@ mod tests {
             suites: vec![suite("wrap", 7), suite("sizes", 5)],
             ..Tally::default()
         };
-        let expected = r#"{"command": "quick", "events": 12, "seconds": 0.500, "suites": [{"name": "wrap", "events": 7, "seconds": 0.250}, {"name": "sizes", "events": 5, "seconds": 0.250}], "seeds": null, "reached": null, "difference": null}"#;
+        let expected = concat!(
+            r#"{"command": "quick", "events": 12, "seconds": 0.500, "#,
+            r#""suites": [{"name": "wrap", "events": 7, "seconds": 0.250}, "#,
+            r#"{"name": "sizes", "events": 5, "seconds": 0.250}], "#,
+            r#""seeds": null, "reached": null, "difference": null}"#
+        );
         assert_eq!(tally.json("quick", None), expected);
     }
 
