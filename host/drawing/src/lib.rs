@@ -1,5 +1,7 @@
 //! Pictures as SVG text: boxes, lines and words, each with a class that the style speaks of.
 
+#![deny(missing_docs)]
+
 use std::fmt::Write;
 
 /// A picture in the making. Lengths are pixels, counted from the left and from the top.
@@ -10,8 +12,11 @@ pub struct Drawing {
 /// Where words stand from their place.
 #[derive(Clone, Copy)]
 pub enum Anchor {
+    /// They begin there.
     Start,
+    /// Their middle is there.
     Middle,
+    /// They end there.
     End,
 }
 
@@ -46,6 +51,7 @@ fn escaped(text: &str) -> String {
 }
 
 impl Drawing {
+    /// An empty picture.
     pub fn new() -> Drawing {
         Drawing {
             body: String::new(),

@@ -23,9 +23,11 @@ use crate::session::{Session, SessionId};
 /// How long the last bytes have to get out when the gateway ends.
 const ENDING: Duration = Duration::from_millis(500);
 
+/// What a gateway is started with.
 pub struct Settings {
     /// ADDR:PORT; port 0 takes a free one.
     pub listen: String,
+    /// Two letters told to programs.
     pub vendor: [u8; 2],
     /// Time for a connection's session to have both its channels.
     pub initialize_within: Duration,
@@ -51,6 +53,7 @@ pub struct Who {
     pub session: Option<SessionId>,
 }
 
+/// A gateway that listens; [`Gateway::run`] serves.
 pub struct Gateway {
     pub(crate) server: Server,
     start: Instant,
@@ -79,6 +82,7 @@ pub struct Gateway {
 pub struct Stopper(Sender<Event>);
 
 impl Stopper {
+    /// It ends in order, and its last line says why.
     pub fn stop(&self, why: &'static str) {
         let _ = self.0.send(Event::Stop(why));
     }
@@ -123,10 +127,12 @@ impl Gateway {
         })
     }
 
+    /// Where it listens, with the port that it got.
     pub fn address(&self) -> SocketAddr {
         self.address
     }
 
+    /// For another thread, to end it.
     pub fn stopper(&self) -> Stopper {
         Stopper(self.events.clone())
     }

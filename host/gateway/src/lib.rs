@@ -2,6 +2,8 @@
 //! is there. One thread reads each socket, one writes each, one works the instrument, and one owns the
 //! server and waits for what the others tell it.
 
+#![deny(missing_docs)]
+
 mod answer;
 mod arrive;
 mod connection;

@@ -28,6 +28,7 @@ struct Sink {
 pub struct Log(Vec<Sink>);
 
 impl Log {
+    /// Every line from now on goes here too.
     pub fn add(&mut self, out: impl Write + Send + 'static) {
         let (lines, queue) = sync_channel(WAITING_LINES);
         let (done, written) = channel();

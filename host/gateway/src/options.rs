@@ -5,6 +5,7 @@ use std::time::Duration;
 use crate::gateway::Settings;
 use crate::instrument::raw_socket::PORT;
 
+/// What `--help` prints.
 pub const HELP: &str = "\
 usage: gateway [OPTION..]
   --listen ADDR:PORT        where programs connect (127.0.0.1:4880; [::1]:4880 for IPv6; port 0 for any)
@@ -18,13 +19,19 @@ usage: gateway [OPTION..]
   --help
 SIGTERM and Ctrl-C end it in order.";
 
+/// The command line, read.
 pub struct Options {
+    /// The gateway's own part.
     pub settings: Settings,
     /// `host:port` of a raw SCPI socket; None is the simulated meter.
     pub instrument: Option<String>,
+    /// How long the simulated meter measures.
     pub measure: Duration,
+    /// A file that lines are appended to.
     pub log: Option<String>,
+    /// No lines on standard output.
     pub quiet: bool,
+    /// Only say how it is used.
     pub help: bool,
 }
 

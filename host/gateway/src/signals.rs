@@ -10,6 +10,7 @@ const ENDED_BY_SIGNAL: i32 = 128;
 pub struct Signals(Endings);
 
 impl Signals {
+    /// Keeps them back from now on.
     pub fn keep_back() -> Signals {
         Signals(Endings::keep_back())
     }

@@ -10,6 +10,7 @@ pub const LIST: &str = "docs/believe.txt";
 /// Lines of a file that are neither blank nor comment.
 #[derive(Clone, Copy, Debug, Default, PartialEq, Eq)]
 pub struct Lines {
+    /// All of them.
     pub all: usize,
     /// Of these, the lines that only name other files' definitions.
     pub imports: usize,

@@ -2,6 +2,8 @@
 //! programs that print them have in common.
 //! Nothing here links the archive.
 
+#![deny(missing_docs)]
+
 pub mod believe;
 pub mod date;
 pub mod machine;

@@ -6,17 +6,26 @@ use super::ERROR_AVAILABLE;
 
 const LONGEST_QUEUE: usize = 20;
 
+/// What went wrong at the instrument.
 #[derive(Clone, Copy, Debug, PartialEq, Eq)]
 pub enum Fault {
+    /// A parameter of another type than the command takes.
     DataType,
+    /// A parameter is missing.
     MissingParameter,
+    /// No such command.
     UndefinedHeader,
+    /// A parameter beyond what the meter takes.
     OutOfRange,
+    /// A message above what the gateway keeps, or an answer above what the client takes.
     TooMuchData,
+    /// No reading is there to be fetched.
     Stale,
     /// The instrument cannot be reached.
     Missing,
+    /// Errors were lost.
     QueueOverflow,
+    /// The instrument took too long.
     TimedOut,
     /// A device clear came; no error.
     Cleared,
@@ -61,6 +70,7 @@ impl std::fmt::Display for Fault {
     }
 }
 
+/// Errors that wait to be read, oldest first, as `SYSTem:ERRor?` tells them.
 #[derive(Default)]
 pub struct ErrorQueue(VecDeque<Fault>);
 
@@ -82,10 +92,12 @@ impl ErrorQueue {
         }
     }
 
+    /// No error waits.
     pub fn is_empty(&self) -> bool {
         self.0.is_empty()
     }
 
+    /// `*CLS`.
     pub fn clear(&mut self) {
         self.0.clear();
     }

@@ -20,6 +20,7 @@ pub const ERROR_AVAILABLE: u8 = 4;
 pub enum Request {
     /// A whole message: commands and queries.
     Message(Vec<u8>),
+    /// A trigger.
     Trigger,
     /// A message was dropped by the gateway; the instrument is to show it.
     Dropped(Fault),
@@ -38,6 +39,7 @@ impl Request {
     }
 }
 
+/// What stands behind the gateway. One thread works it, one request after the other.
 pub trait Instrument: Send {
     /// One line about it.
     fn name(&self) -> String;
@@ -50,6 +52,7 @@ pub trait Instrument: Send {
     fn perform(&mut self, request: &Request, patience: &Patience)
         -> Result<Option<Vec<u8>>, Fault>;
 
+    /// The status byte now.
     fn status(&self) -> u8;
 }
 

@@ -13,12 +13,14 @@ struct State {
     socket: Option<TcpStream>,
 }
 
+/// Given to the instrument with a request; all its waiting goes through it.
 pub struct Patience {
     state: Mutex<State>,
     changed: Condvar,
 }
 
 impl Patience {
+    /// From now, so long.
     pub fn new(longest: Duration) -> Patience {
         let state = State {
             until: Instant::now() + longest,

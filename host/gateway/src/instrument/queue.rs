@@ -12,18 +12,26 @@ use crate::session::SessionId;
 /// A request's own number: what comes back under it belongs to no other request.
 pub type Ticket = u64;
 
+/// A request on its way to the instrument.
 #[derive(Clone, Debug)]
 pub struct Job {
+    /// Its own number.
     pub ticket: Ticket,
+    /// Whose it is.
     pub session: SessionId,
+    /// What is wanted.
     pub request: Request,
 }
 
+/// A request that the instrument is through with.
 pub struct Done {
+    /// Its number.
     pub ticket: Ticket,
+    /// Whose it was.
     pub session: SessionId,
     /// What the request took in the queue.
     pub cost: usize,
+    /// The answer, if there is one.
     pub answer: Result<Option<Vec<u8>>, Fault>,
     /// The status byte after it.
     pub status: u8,
@@ -98,6 +106,7 @@ impl Bench {
         Ok(Bench(shared))
     }
 
+    /// Puts a request behind the others.
     pub fn push(&self, job: Job) {
         self.0.state().jobs.push_back(job);
         self.0.changed.notify_one();

@@ -8,10 +8,12 @@ use super::scpi::{asks, commands, line, spells, LineEnd};
 use super::{ErrorQueue, Fault, Instrument, Patience, Request};
 use crate::os;
 
+/// The port that SCPI sockets listen on.
 pub const PORT: u16 = 5025;
 const LONGEST_ANSWER: usize = 16 << 20;
 const AT_ONCE: usize = 64 * 1024;
 
+/// An instrument on a raw SCPI socket, connected when it is first asked and anew after a failure.
 pub struct RawSocket {
     address: String,
     stream: Option<TcpStream>,

@@ -43,7 +43,9 @@ pub enum Scan {
     /// Where a block may begin.
     #[default]
     Start,
+    /// Outside quotes and blocks.
     Plain,
+    /// Inside quotes of this kind.
     Quoted(u8),
     /// `#` was read.
     Hash,
@@ -103,6 +105,7 @@ pub struct LineEnd {
 }
 
 impl LineEnd {
+    /// The place of that line feed, if it is in these bytes.
     pub fn find(&mut self, bytes: &[u8]) -> Option<usize> {
         bytes.iter().position(|byte| {
             let outside = self.scan.outside(*byte);

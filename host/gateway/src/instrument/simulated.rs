@@ -14,6 +14,7 @@ const MOST_SAMPLES: usize = 100_000;
 const STEP: f64 = 1e-9;
 const STEPS: u64 = 1_000_000;
 
+/// A meter that measures a voltage which creeps, and answers as meters do.
 pub struct Simulated {
     measure: Duration,
     range: f64,
