@@ -1,15 +1,15 @@
 // Finding a session: by one of its connections, and by its number.
-ghost use Prim.Native.Nat.{ℕ, _<_, _≤_};
+ghost use Prim.Native.Nat.{ℕ, _*_, _+_, _-_, _<_, _≤_};
 ghost use Rattle.model.specs.Place.{placeOf, roleIn};
 ghost use Rattle.model.specs.State.{at, slotOfNumber};
 ghost use Rattle.state.specs.Channels.{Unshown};
 ghost use Rattle.state.specs.Search.{roleNumber};
-ghost use Rattle.state.specs.View.{fieldOf, homeIn, homeOf, locksOf};
+ghost use Rattle.state.specs.View.{fieldOf, homeOf, locksOf, rowWord};
 ghost use lib.Dec.{eqb};
 ghost use mathlib.Core.List.{List};
 ghost use mathlib.Core.Path.{_≡_};
 ghost use Rattle.model.specs.Sizes.{connectionLimit, sessionLimit};
-use crate::sizes::NO_CONNECTION;
+use crate::sizes::CONNECTIONS;
 use crate::sizes::SESSION_LIMIT;
 use crate::sizes::SESSIONS;
 use crate::sizes::Words;
@@ -43,12 +43,12 @@ fn nowhere() -> Place
     }
 }
 
-// Does slot i, the home of connection c, show it: is it live, and does its row name it?
-fn is_confirmed(w: &Words, i: usize, f: usize, c: u64) -> bool
-    requires { ⌜ (i < sessionLimit) × (0 < f) × (f < 3) × (c < connectionLimit) × (homeOf (now w) c ≡ homeIn i f) ⌝ }
-    ensures { λ r. ⌜ eqb (fieldOf (now (w .entry)) i f) c ≡ r ⌝ }
+// Does slot i, where the home h of connection c is, show it: is it live, and does its row name it there? The place in the row is what h has above i * 2.
+fn is_confirmed(w: &Words, i: usize, h: u64, c: u64) -> bool
+    requires { ⌜ (i < sessionLimit) × (i * 2 < h) × (h < i * 2 + 3) × (c < connectionLimit) × (homeOf (now w) c ≡ h) ⌝ }
+    ensures { λ r. ⌜ eqb (fieldOf (now (w .entry)) i (h - i * 2)) c ≡ r ⌝ }
 {
-    if tables::row(w, i, f) != c {
+    if tables::row_of_home(w, i, h) != c {
         return false;
     }
     if tables::row(w, i, tables::NUMBER) == 0 {
@@ -57,15 +57,20 @@ fn is_confirmed(w: &Words, i: usize, f: usize, c: u64) -> bool
     true
 }
 
-// The role of the connection that slot i shows at a place in its row.
-fn role_at(w: &Words, i: usize, f: usize) -> u8
-    requires { ⌜ (i < sessionLimit) × (0 < f) × (f < 3) ⌝ }
-    ensures { λ r. ⌜ ((s : List ℕ) (c : ℕ) → c < connectionLimit → fieldOf (now (w .entry)) i f ≡ c → roleNumber (roleIn c (at (locksOf (now (w .entry)) s .entries) i)) ≡ r) × (0 < r) ⌝ }
+// The role of the connection with home h that slot i shows. An odd home is a first connection's: then the second decides, which is read as
+// it stands and confirmed by its own home, for that the slot is live is known.
+fn role_at(w: &Words, i: usize, h: u64) -> u8
+    requires { ⌜ (i < sessionLimit) × (i * 2 < h) × (h < i * 2 + 3) × (rowWord (now w) i 0 ≡ 0 → ⊥) ⌝ }
+    ensures { λ r. ⌜ ((s : List ℕ) (c : ℕ) → c < connectionLimit → fieldOf (now (w .entry)) i (h - i * 2) ≡ c → roleNumber (roleIn c (at (locksOf (now (w .entry)) s .entries) i)) ≡ r) × (0 < r) ⌝ }
 {
-    if f == tables::ASYNCHRONOUS {
+    if h % 2 == 0 {
         return ON_ASYNCHRONOUS;
     }
-    if tables::entry(w, i, tables::ASYNCHRONOUS) == NO_CONNECTION {
+    let second = tables::row(w, i, tables::ASYNCHRONOUS);
+    if second >= CONNECTIONS {
+        return HALF_OPEN;
+    }
+    if tables::home(w, second) != h + 1 {
         return HALF_OPEN;
     }
     ON_SYNCHRONOUS
@@ -84,13 +89,12 @@ pub fn place_of(w: &Words, c: u64) -> Place
         return nowhere();
     }
     let i = ((h - 1) / 2) as usize;
-    let f = ((h - 1) % 2) as usize + tables::SYNCHRONOUS;
-    if !is_confirmed(w, i, f, c) {
+    if !is_confirmed(w, i, h, c) {
         return nowhere();
     }
     Place {
         slot: i,
-        role: role_at(w, i, f),
+        role: role_at(w, i, h),
     }
 }
 

@@ -1,6 +1,6 @@
 // The tables of the state, and its single values: one way to read and one to store a field, which is named by its place in the row.
 // Reading: the word at its place; stored again it would change nothing. Storing: the row changes in that field, and nothing else does.
-ghost use Prim.Native.Nat.{ℕ, _*_, _+_, _<_, _^_};
+ghost use Prim.Native.Nat.{ℕ, _*_, _+_, _-_, _<_, _≤_, _^_};
 ghost use Rattle.model.specs.State.{at, connectionAt, exchangeAt};
 ghost use Rattle.state.specs.Change.{connectionWith, connectionWord, entryWith, exchangeWith, exchangeWord, onConnection, onEntry, onExchange, onRest, orderWith, singleWith, withClock};
 ghost use Rattle.state.specs.View.{fieldOf, homeIn, homeOf, locksOf, memory, orderWord, restOf, rowWord, view, word};
@@ -103,6 +103,14 @@ pub fn row(w: &Words, i: usize, f: usize) -> u64
     ensures { λ r. ⌜ r ≡ rowWord (now (w .entry)) i f ⌝ }
 {
     w[ENTRIES + i * ENTRY + f]
+}
+
+// The word of slot i's row that home h names: with h = i * 2 + f, word f, which is i + h behind the rows' start.
+pub fn row_of_home(w: &Words, i: usize, h: u64) -> u64
+    requires { ⌜ (i < sessionLimit) × (i * 2 ≤ h) × (h < i * 2 + 3) ⌝ }
+    ensures { λ r. ⌜ r ≡ rowWord (now (w .entry)) i (h - i * 2) ⌝ }
+{
+    w[ENTRIES + i + h as usize]
 }
 
 // The home of a connection: the slot and the place in its row that have it, as one number.
