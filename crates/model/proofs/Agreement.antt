@@ -7,7 +7,7 @@ use Rattle.wire.specs.declared.Header.{Header}
 use Rattle.wire.specs.Frame.{Frame, frameOf}
 use Rattle.model.specs.MessageTypes.{FatalError}
 use Rattle.model.specs.Lists.{keep}
-use Rattle.model.specs.State.{Server, fresh}
+use Rattle.model.specs.State.{Server, fresh, Making}
 use Rattle.model.specs.Interface.{Event, Event.opening, Event.delivery, Event.cut, Event.clock, Event.answer, Event.status}
 use Rattle.model.specs.Scan.{Scan, Scan.empty, Scan.few, Scan.wrong, Scan.skipping, Scan.long, Scan.part, Scan.whole}
 use Rattle.model.specs.Place.{Role, Role.r-none, Role.r-halfOpen, Role.r-synchronous, Role.r-asynchronous}
@@ -34,12 +34,12 @@ opens-no : (b : Bool) (d : Server) (c : ℕ) (h : Header) → keep isLock ((Acts
 opens-no true d c h = refl
 opens-no false d c h = refl
 
-sync-no : (k : Acts.SynchronousKind) (c : ℕ) → keep isLock (Acts.synchronousSaid k c) ≡ []
+sync-no : (k : Acts.SynchronousKind) (c : ℕ) (h : Header) → keep isLock (Acts.synchronousSaid k c h) ≡ []
 unfolding Acts.synchronousSaid
-sync-no Acts.k-data c = refl
-sync-no Acts.k-dataEnd c = refl
-sync-no Acts.k-trigger c = refl
-sync-no Acts.k-clearComplete c = refl
+sync-no Acts.k-data c h = refl
+sync-no Acts.k-dataEnd c h = refl
+sync-no Acts.k-trigger c h = refl
+sync-no Acts.k-clearComplete c h = refl
 
 async-no : (k : Acts.AsynchronousKind) (d : Server) (i c : ℕ) (h : Header) → keep isLock (Acts.asynchronousSaid k d i c h) ≡ []
 unfolding Acts.asynchronousSaid
@@ -54,7 +54,7 @@ acts-no : (r : Role) (d : Server) (i c : ℕ) (h : Header) (p : List ℕ) → ke
 unfolding Acts.acts
 acts-no r-none d i c h p = opens-no (lib.Dec.eqb (h .kind) 0) d c h
 acts-no r-halfOpen d i c h p = refl
-acts-no r-synchronous d i c h p = sync-no (Acts.synchronousKind (h .kind)) c
+acts-no r-synchronous d i c h p = sync-no (Acts.synchronousKind (h .kind)) c h
 acts-no r-asynchronous d i c h p = async-no (Acts.asynchronousKind (h .kind)) d i c h
 
 effect-no : (v : Verdict) (s : Scan) (r : Role) (d : Server) (i c : ℕ) → keep isLock ((effect v s r d i c) .said) ≡ []
@@ -156,8 +156,8 @@ agrees (e ∷ es) d m a i =
       answers = told-append (x .told) ((modelRun (x .model) (feeds (log ((step d e) .server) es))) .told) ∙ ap₂ _++_ (call-answers d m e a i) (ih .answers);
     }
 
-pub fresh-agrees : (v : ℕ) → Agrees ((fresh v) .locks) freshModel
+pub fresh-agrees : (v : Making) → Agrees ((fresh v) .locks) freshModel
 fresh-agrees v = record { clock = refl; waiting = refl; sessions = λ p. refl }
 
-pub agreement : (v : ℕ) (es : List Event) → Agreement (fresh v) freshModel es
+pub agreement : (v : Making) (es : List Event) → Agreement (fresh v) freshModel es
 agreement v es = agrees es (fresh v) freshModel (fresh-agrees v) inv-fresh

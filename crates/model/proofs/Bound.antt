@@ -13,7 +13,7 @@ use Rattle.wire.specs.Frame.{Frame, bytesOf, frameOf, length-frame}
 use Rattle.model.specs.Sizes.{beforeFirst, payloadLimit, sessionLimit, outputMinimum, noConnection}
 use Rattle.model.specs.MessageTypes.{FatalError}
 use Rattle.model.specs.Lists.{all, keep}
-use Rattle.model.specs.State.{Locks, Entry, Waiting, at, live, Server, fresh, blank}
+use Rattle.model.specs.State.{Locks, Entry, Waiting, at, live, Server, fresh, Making, blank}
 use Rattle.model.specs.Interface.{Event, Event.opening, Event.delivery, Event.cut, Event.clock, Event.answer, Event.status}
 use Rattle.model.specs.Scan.{Scan, Scan.empty, Scan.few, Scan.wrong, Scan.skipping, Scan.long, Scan.part, Scan.whole}
 use Rattle.model.specs.Place.{entryOf, Role, Role.r-none, Role.r-halfOpen, Role.r-synchronous, Role.r-asynchronous}
@@ -132,12 +132,12 @@ opens-small : (b : Bool) (d : Server) (c : ℕ) (h : Header) → Small ((Acts.op
 opens-small true d c h = one-small _ (omega arith)
 opens-small false d c h = one-small _ (omega arith)
 
-sync-small : (k : Acts.SynchronousKind) (c : ℕ) → Small (Acts.synchronousSaid k c)
+sync-small : (k : Acts.SynchronousKind) (c : ℕ) (h : Header) → Small (Acts.synchronousSaid k c h)
 unfolding Acts.synchronousSaid
-sync-small Acts.k-data c = none-small
-sync-small Acts.k-dataEnd c = none-small
-sync-small Acts.k-trigger c = none-small
-sync-small Acts.k-clearComplete c = one-small _ (omega arith)
+sync-small Acts.k-data c h = none-small
+sync-small Acts.k-dataEnd c h = none-small
+sync-small Acts.k-trigger c h = none-small
+sync-small Acts.k-clearComplete c h = one-small _ (omega arith)
 
 async-small : (k : Acts.AsynchronousKind) (d : Server) (i c : ℕ) (h : Header) → Small (Acts.asynchronousSaid k d i c h)
 unfolding Acts.asynchronousSaid
@@ -152,7 +152,7 @@ acts-small : (r : Role) (d : Server) (i c : ℕ) (h : Header) (p : List ℕ) →
 unfolding Acts.acts
 acts-small r-none d i c h p = opens-small (eqb (h .kind) 0) d c h
 acts-small r-halfOpen d i c h p = none-small
-acts-small r-synchronous d i c h p = sync-small (Acts.synchronousKind (h .kind)) c
+acts-small r-synchronous d i c h p = sync-small (Acts.synchronousKind (h .kind)) c h
 acts-small r-asynchronous d i c h p = async-small (Acts.asynchronousKind (h .kind)) d i c h
 
 effect-small : (v : Verdict) (s : Scan) (r : Role) (d : Server) (i c : ℕ) → Small ((effect v s r d i c) .said)
@@ -231,7 +231,7 @@ bound d l = record { within = within; has-room = has-room }
     has-room (answer n p end room) z = roomy room _ ((uncaused (causes d (answer n p end room)) refl z) .0) (within (answer n p end room))
     has-room (status b) z = rw z (statuses-silent d b)
 
-pub bound-run : (v : ℕ) (es : List Event) → BoundRun v es
+pub bound-run : (v : Making) (es : List Event) → BoundRun v es
 bound-run v es = record { waiting = few; bound = bound (final (fresh v) es) few }
   where
     few : length ((final (fresh v) es) .locks .waiting) ≤ sessionLimit

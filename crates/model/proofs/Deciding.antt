@@ -15,7 +15,7 @@ use Rattle.wire.specs.Frame.{frameOf}
 use Rattle.model.specs.Sizes.{noConnection, stringLimit}
 use Rattle.model.specs.MessageTypes.{AsyncLock, AsyncLockInfo, AsyncLockInfoResponse}
 use Rattle.model.specs.Lists.{all, any, tally, keep}
-use Rattle.model.specs.State.{Entry, blank, at, live, Server, fresh}
+use Rattle.model.specs.State.{Entry, blank, at, live, Server, fresh, Making}
 use Rattle.model.specs.Interface.{Event, Event.opening, Event.delivery, Event.cut, Event.clock, Event.answer, Event.status, Outcome.held, Outcome.acted, Reply, Reply.took}
 use Rattle.model.specs.Scan.{Scan}
 use Rattle.model.specs.Place.{onConnection, slotIn, slotOf, entryOf, Role, Role.r-none, Role.r-halfOpen, Role.r-synchronous, Role.r-asynchronous, roleBy, roleOf}
@@ -262,7 +262,7 @@ module _ (d : Server) (m : Model) (a : Agrees (d .locks) m) (v : Inv (d .locks))
         releases = freed-step;
       }
 
-pub deciding : (v : ℕ) (es : List Event) → Deciding v es
+pub deciding : (v : Making) (es : List Event) → Deciding v es
 deciding v es = record { decides-next = λ c bs room. decides (final (fresh v) es) (modelAfter v es) ((agreement v es) .locks) (inv-run v es) c bs room }
 
 -- call by call
@@ -278,5 +278,5 @@ each-decides (e ∷ es) d m a v = (one e, each-decides es ((step d e) .server) (
     one (answer n p end room) = tt
     one (status b) = tt
 
-pub run-decides : (v : ℕ) (es : List Event) → EachDecides (fresh v) freshModel es
+pub run-decides : (v : Making) (es : List Event) → EachDecides (fresh v) freshModel es
 run-decides v es = each-decides es (fresh v) freshModel (fresh-agrees v) inv-fresh

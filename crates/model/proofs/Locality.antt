@@ -6,20 +6,20 @@ use mathlib.Core.Logic.{_⊎_, inl, inr}
 use Prim.Native.Nat.{ℕ, zero, suc, _+_}
 use native.Mathlib.Omega.{arith}
 use lib.Dec.{eqb}
-use lib.ListN.{take, drop}
+use lib.ListN.{take, drop, length}
 use borrow.Author.Tests.{eqb-true}
 use Rattle.wire.specs.declared.Header.{Header}
 use Rattle.wire.specs.Message.{Message, header, messageOf}
 use Rattle.wire.specs.Frame.{Frame, frameOf}
 use Rattle.wire.specs.Class.{one-of, synchronous, asynchronous}
 use Rattle.model.specs.Sizes.{noConnection}
-use Rattle.model.specs.State.{Server, Entry, at, live, halfOpen, blank, slotOfNumber, connectionAt, exchangeAt, Asked, Asked.none, Asked.some}
+use Rattle.model.specs.State.{Making, Server, Entry, at, live, halfOpen, blank, slotOfNumber, connectionAt, exchangeAt, Asked, Asked.none, Asked.some, Exchange}
 use Rattle.model.specs.Interface.{Event, Event.opening, Event.delivery, Event.cut, Event.clock, Event.answer, Event.status, Outcome.acted, Outcome.closed, Reply, Reply.done, Reply.took}
 use Rattle.model.specs.Scan.{Scan, Scan.empty, Scan.few, Scan.wrong, Scan.skipping, Scan.long, Scan.part, Scan.whole, scan, size, leftover}
 use Rattle.model.specs.Place.{slotIn, slotOf, roleOf, roleBy, onConnection, entryOf, Role, Role.r-none, Role.r-halfOpen, Role.r-synchronous, Role.r-asynchronous}
 use Rattle.model.specs.Locks
 use Rattle.model.specs.Locks.{LockEvent, change, grantPass, passOver}
-use Rattle.model.specs.Exchange.{answerNumber, numberAsked}
+use Rattle.model.specs.Exchange.{answerNumberIn, answerNumber, numberAsked}
 use Rattle.model.specs.Checks
 use Rattle.model.specs.Checks.{Verdict, Verdict.v-more, Verdict.v-skipped, Verdict.v-held, Verdict.v-ignored, Verdict.v-closed, Verdict.v-acts, Verdict.v-error, Verdict.v-fatal, verdict, judged, either}
 use Rattle.model.specs.Acts
@@ -27,8 +27,8 @@ use Rattle.model.specs.Acts.{Plan}
 use Rattle.model.specs.Refusals.{causes, refusal}
 use Rattle.model.specs.Step.{effect, received, plan, answered, finish, step, final, log, channels, closing, answerType}
 use Rattle.model.specs.Happening.{Heard, Heard.silence, Heard.with-code, Happening, Happening.unmoved, Happening.disconnected, Happening.message-acted, heard, happened}
-use Rattle.model.specs.LocalityReplies.{saidTo, askedNumber}
-use Rattle.model.specs.LocalityRows.{isSilence, Single, singly, clock-row, status-row, vendor-row, issued-row, enable-row, lockout-row, remote-row}
+use Rattle.model.specs.LocalityReplies.{saidTo, askedNumber, numberSent}
+use Rattle.model.specs.LocalityRows.{isSilence, Single, singly, clock-row, status-row, made-row, issued-row, enable-row, lockout-row, remote-row}
 use Rattle.model.specs.Locality.{atCall, Local, clientsFatalError, Locality, EachLocal, overLog, LocalRun}
 use Rattle.model.proofs.Basics.{and-l, and-r, or→, not-off}
 use Rattle.model.proofs.Scanning.{whole-scan}
@@ -175,6 +175,14 @@ asked-same : (a : Asked) → numberAsked a ≡ askedNumber a
 asked-same none = refl
 asked-same (some n) = refl
 
+number-same : (x : Exchange) → answerNumber x ≡ numberSent x
+unfolding answerNumber
+number-same x = go (x .overlap)
+  where
+    go : (b : Bool) → answerNumberIn b x ≡ cond b (x .count) (askedNumber (x .asked))
+    go true = refl
+    go false = asked-same (x .asked)
+
 type-same : (b : Bool) → answerType b ≡ cond b 7 6
 type-same true = refl
 type-same false = refl
@@ -189,12 +197,12 @@ plan-local d (clock t room) q =
     assemble d _ _ (d .locks .entries) [] (rest-clock d t) (locks-clock d t) (ap (λ (fs : List Frame). fs ++ []) (refused-frames (d .locks .entries) (λ w. lib.Dec.leb (w .deadline) t) (d .locks .waiting))) (λ o k n e. absurd (let y : _≡_ {A = ℕ} 0 1 = cc in omega arith))
 plan-local d (answer n p end room) q =
     assemble d _ _ (d .locks .entries) [] (rest-answer d n p end) (locks-answer d n p end)
-    (ap₂ (λ (t x : ℕ). frameOf ((at (d .locks .entries) (slotOfNumber (d .locks .entries) n)) .synchronous) t 0 x p ∷ []) (type-same end) (asked-same ((exchangeAt (d .rest) (slotOfNumber (d .locks .entries) n)) .asked)))
+    (ap₂ (λ (t x : ℕ). frameOf ((at (d .locks .entries) (slotOfNumber (d .locks .entries) n)) .synchronous) t 0 x p ∷ []) (type-same end) (number-same (exchangeAt (d .rest) (slotOfNumber (d .locks .entries) n))))
     (λ o k n e. absurd (let y : _≡_ {A = ℕ} 0 1 = cc in omega arith))
 plan-local d (status b) q = assemble d _ _ (d .locks .entries) [] (rest-status d b) (locks-status d b) refl (λ o k n e. absurd (let y : _≡_ {A = ℕ} 0 1 = cc in omega arith))
 
 -- any call
-local-call : (d : Server) (e : Event) → Local d (atCall d e) (step d e)
+pub local-call : (d : Server) (e : Event) → Local d (atCall d e) (step d e)
 unfolding step answered finish
 local-call d e = go (refusal d e) refl
   where
@@ -219,12 +227,17 @@ unfolding final log
 read-off g r f [] d = refl
 read-off g r f (e ∷ es) d = read-off g r f es ((step d e) .server) ∙ ap (overLog r (log ((step d e) .server) es)) (f d e)
 
-same-vendor : (es : List Event) (d : Server) → (final d es) .rest .vendor ≡ d .rest .vendor
+pub exchange-slots : (es : List Event) (d : Server) → length ((final d es) .rest .exchanges) ≡ length (d .rest .exchanges)
 unfolding final
-same-vendor [] d = refl
-same-vendor (e ∷ es) d = same-vendor es ((step d e) .server) ∙ (local-call d e) .vendor ∙ never (atCall d e) (d .rest .vendor)
+exchange-slots [] d = refl
+exchange-slots (e ∷ es) d = exchange-slots es ((step d e) .server) ∙ (local-call d e) .exchange-slots
+
+pub same-made : (es : List Event) (d : Server) → (final d es) .rest .made ≡ d .rest .made
+unfolding final
+same-made [] d = refl
+same-made (e ∷ es) d = same-made es ((step d e) .server) ∙ (local-call d e) .made ∙ never (atCall d e) (d .rest .made)
   where
-    never : (h : Happening) (x : ℕ) → singly vendor-row h x ≡ x
+    never : (h : Happening) (x : Making) → singly made-row h x ≡ x
     never unmoved x = refl
     never (Happening.connected c) x = refl
     never (disconnected c k) x = refl
@@ -241,7 +254,7 @@ local-run d es =
       each = each-local es d;
       clock = read-off (λ (d : Server). d .locks .clock) clock-row (λ d e. (local-call d e) .clock) es d;
       status = read-off (λ (d : Server). d .rest .status) status-row (λ d e. (local-call d e) .status) es d;
-      vendor = same-vendor es d;
+      made = same-made es d;
       last-issued = read-off (λ (d : Server). d .rest .lastIssued) issued-row (λ d e. (local-call d e) .last-issued) es d;
       enable = read-off (λ (d : Server). d .rest .remoteLocal .enable) enable-row (λ d e. (local-call d e) .enable) es d;
       lockout = read-off (λ (d : Server). d .rest .remoteLocal .lockout) lockout-row (λ d e. (local-call d e) .lockout) es d;

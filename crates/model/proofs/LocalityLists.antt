@@ -13,7 +13,7 @@ use Rattle.model.specs.Place.{slotIn}
 use Rattle.model.specs.Locks.{withLocks, give}
 use Rattle.model.specs.Closing.{OldestFirst, OldestFirst.pass-end, OldestFirst.pass-grant, OldestFirst.pass-wait}
 use Rattle.model.specs.Happening.{Action, Happening, Happening.unmoved, Happening.connected, Happening.disconnected, Happening.skipped-over, Happening.errored, Happening.message-acted, Happening.clock-read, Happening.status-set, Happening.answer-sent}
-use Rattle.model.specs.LocalityRows.{Row, inSlot, slotActed, clear-row, asked-row, available-row, size-row, number-row, synchronous-row, asynchronous-row, exclusive-row, shared-row, last-row, standing-row}
+use Rattle.model.specs.LocalityRows.{Row, inSlot, slotActed, clear-row, asked-row, available-row, size-row, mode-row, count-row, sent-row, number-row, synchronous-row, asynchronous-row, exclusive-row, shared-row, last-row, standing-row}
 use Rattle.model.specs.Locality.{entryDue, givenExclusive, givenShared, Look}
 use Rattle.model.proofs.Basics.{same?}
 
@@ -79,12 +79,12 @@ project g r s m n q es i (answer-sent k p end) x = push (eqb i _)
     push false = refl
 
 -- the rows of an exchange and of an entry
-abbrev pub exchangeRow : Row Exchange
-exchangeRow =
+abbrev pub exchangeRow : Bool → Row Exchange
+exchangeRow preferred =
     record {
-      by-message = λ a x. record { inClear = clear-row .by-message a (x .inClear); asked = asked-row .by-message a (x .asked); messageAvailable = available-row .by-message a (x .messageAvailable); clientSize = size-row .by-message a (x .clientSize) };
-      by-answer = λ b x. record { inClear = clear-row .by-answer b (x .inClear); asked = asked-row .by-answer b (x .asked); messageAvailable = available-row .by-answer b (x .messageAvailable); clientSize = size-row .by-answer b (x .clientSize) };
-      once-closed = record { inClear = clear-row .once-closed; asked = asked-row .once-closed; messageAvailable = available-row .once-closed; clientSize = size-row .once-closed };
+      by-message = λ a x. record { inClear = clear-row .by-message a (x .inClear); asked = asked-row .by-message a (x .asked); messageAvailable = available-row .by-message a (x .messageAvailable); clientSize = size-row .by-message a (x .clientSize); overlap = (mode-row preferred) .by-message a (x .overlap); count = count-row .by-message a (x .count); anySent = sent-row .by-message a (x .anySent) };
+      by-answer = λ b x. record { inClear = clear-row .by-answer b (x .inClear); asked = asked-row .by-answer b (x .asked); messageAvailable = available-row .by-answer b (x .messageAvailable); clientSize = size-row .by-answer b (x .clientSize); overlap = (mode-row preferred) .by-answer b (x .overlap); count = count-row .by-answer b (x .count); anySent = sent-row .by-answer b (x .anySent) };
+      once-closed = record { inClear = clear-row .once-closed; asked = asked-row .once-closed; messageAvailable = available-row .once-closed; clientSize = size-row .once-closed; overlap = (mode-row preferred) .once-closed; count = count-row .once-closed; anySent = sent-row .once-closed };
     }
 
 abbrev pub entryRow : Row Entry

@@ -2,7 +2,7 @@
 use mathlib.Core.Path.{_≡_, refl, sym, ap, ap₂, _∙_}
 use mathlib.Core.Bool.{Bool, true, false, not, _&&_, _||_, cond}
 use mathlib.Core.List.{List, [], _∷_, _++_, map}
-use Prim.Native.Nat.{ℕ, suc, _+_}
+use Prim.Native.Nat.{ℕ, suc, _+_, _%_, _^_}
 use native.Mathlib.Omega.{arith}
 use lib.Dec.{eqb, ltb}
 use lib.ListN.{set}
@@ -74,8 +74,14 @@ module _ (d : Server) (c : ℕ) (h : Header) (p : List ℕ) where
 
   -- RMT-delivered, whatever is asked then
   rmt-row : (a : Asked)
-      → _≡_ {A = Exchange} record { inClear = ours .inClear; asked = a; messageAvailable = Exchange.afterRmt (h .code) (ours .messageAvailable); clientSize = ours .clientSize } record { inClear = ours .inClear; asked = a; messageAvailable = cond (eqb (h .code) 1) false (ours .messageAvailable); clientSize = ours .clientSize }
-  rmt-row a = λ j. record { inClear = ours .inClear; asked = a; messageAvailable = rmt (eqb (h .code) 1) (ours .messageAvailable) j; clientSize = ours .clientSize }
+      → _≡_ {A = Exchange} record { inClear = ours .inClear; asked = a; messageAvailable = Exchange.afterRmt (h .code) (ours .messageAvailable); clientSize = ours .clientSize; overlap = ours .overlap; count = ours .count; anySent = ours .anySent } record { inClear = ours .inClear; asked = a; messageAvailable = cond (eqb (h .code) 1) false (ours .messageAvailable); clientSize = ours .clientSize; overlap = ours .overlap; count = ours .count; anySent = ours .anySent }
+  rmt-row a = λ j. record { inClear = ours .inClear; asked = a; messageAvailable = rmt (eqb (h .code) 1) (ours .messageAvailable) j; clientSize = ours .clientSize; overlap = ours .overlap; count = ours .count; anySent = ours .anySent }
+
+  -- message available at a status query, by the mode
+  seen-row : (b : Bool) → Exchange.availableIn b h ours
+      ≡ cond b (ours .anySent && not (eqb ((h .param + 2) % 2 ^ 32) (ours .count))) (cond (eqb (h .code) 1) false (ours .messageAvailable))
+  seen-row true = refl
+  seen-row false = rmt (eqb (h .code) 1) (ours .messageAvailable)
 
   abbrev pub LocalBy : ℕ → ℕ → Plan → Type 0
   LocalBy t n x = Local d (message-acted (action t n (heard 5 ((finish d x) .frames)))) (finish d x)
@@ -86,7 +92,7 @@ module _ (d : Server) (c : ℕ) (h : Header) (p : List ℕ) where
       record {
         reply = took acted (16 + h .len) num;
         rest = withExchange (d .rest) (slotOf d c) (Acts.synchronousExchange (Acts.synchronousKind t) h ours);
-        said = Acts.synchronousSaid (Acts.synchronousKind t) c;
+        said = Acts.synchronousSaid (Acts.synchronousKind t) c h;
         event = Acts.synchronousEvent (Acts.synchronousKind t) (slotOf d c) h;
       }
 
@@ -201,7 +207,7 @@ module _ (d : Server) (c : ℕ) (h : Header) (p : List ℕ) where
   local-19 =
       let i = slotOf d c in
       rw (due-any ((at (d .locks .entries) (slotOf d c)) .standing))
-      (ending-local 19 _ (λ m. true) (keep (Locks.elsewhere i) (d .locks .waiting)) beforeFirst (Locks.refuse (d .locks .entries) (Locks.elsewhere i) (d .locks .waiting)) _ (frameOf c 23 0 0 [] ∷ [])
+      (ending-local 19 _ (λ m. true) (keep (Locks.elsewhere i) (d .locks .waiting)) beforeFirst (Locks.refuse (d .locks .entries) (Locks.elsewhere i) (d .locks .waiting)) _ (frameOf c 23 (Acts.preference d) 0 [] ∷ [])
       (rest-touched d (action 19 num _) refl refl refl (Exchange.enterClear ours) refl)
       (λ x. refl)
       refl
@@ -217,7 +223,7 @@ module _ (d : Server) (c : ℕ) (h : Header) (p : List ℕ) where
       assemble d _ (finish d (asynchronously 21)) (d .locks .entries) []
       (rest-touched d (action 21 num _) refl refl refl (Exchange.noteRmt (h .code) ours) (rmt-row (ours .asked)))
       (locks-kept d (action 21 num _) refl refl refl refl refl refl refl)
-      (ap (λ b. frameOf c 22 b 0 [] ∷ []) (ap (statusByte (d .rest .status)) (rmt (eqb (h .code) 1) (ours .messageAvailable)) ∙ status-same (d .rest .status) (cond (eqb (h .code) 1) false (ours .messageAvailable))))
+      (ap (λ b. frameOf c 22 b 0 [] ∷ []) (ap (statusByte (d .rest .status)) (seen-row (ours .overlap)) ∙ status-same (d .rest .status) (cond (ours .overlap) (ours .anySent && not (eqb ((h .param + 2) % 2 ^ 32) (ours .count))) (cond (eqb (h .code) 1) false (ours .messageAvailable)))))
       (λ o k n e. cc)
 
   local-24 : LocalBy 24 num (asynchronously 24)

@@ -3,11 +3,11 @@ use mathlib.Core.Path.{_≡_, refl, ap, _∙_}
 use mathlib.Core.List.{List, _++_, map}
 use Prim.Native.Nat.{ℕ, _<_}
 use lib.ListN.{getD, length}
-use Rattle.model.specs.State.{Server, Locks, Rest, Entry, Waiting, Exchange, Connection, RemoteLocal, at, blank, freshExchange, closedConnection, connectionAt}
+use Rattle.model.specs.State.{Making, Server, Locks, Rest, Entry, Waiting, Exchange, Connection, RemoteLocal, at, blank, freshExchange, closedConnection, connectionAt}
 use Rattle.model.specs.Interface.{Outcome, Reply.took}
 use Rattle.model.specs.Step.{Result}
 use Rattle.model.specs.Happening.{Happening}
-use Rattle.model.specs.LocalityRows.{clear-row, asked-row, available-row, size-row, requestsLeft, looksAfter, open-row, remainder-row, singly, clock-row, status-row, vendor-row, issued-row, enable-row, lockout-row, remote-row}
+use Rattle.model.specs.LocalityRows.{clear-row, asked-row, available-row, size-row, mode-row, count-row, sent-row, requestsLeft, looksAfter, open-row, remainder-row, singly, clock-row, status-row, made-row, issued-row, enable-row, lockout-row, remote-row}
 use Rattle.model.specs.LocalityReplies.{direct, answeredFirst, answerTo, sessionSaid}
 use Rattle.model.specs.Locality.{entryDue, Look, Local}
 use Rattle.model.proofs.LocalityLists.{Rowed, project, exchangeRow, entryRow, due-entry, lookedAt, look-sized, look-each}
@@ -19,18 +19,18 @@ pub record Places (d : Server) (h : Happening) (cs : List Connection) : Type 0 w
   pub size : length cs ≡ length (d .rest .connections)
   pub each : (x : ℕ) → x < length (d .rest .connections) → getD cs x closedConnection ≡ connectionDue (d .locks .entries) h x (connectionAt (d .rest) x)
 
--- of the rest, what stands once: status byte, vendor number, the number issued last, flags
-pub record Singles (d : Server) (h : Happening) (b v n : ℕ) (f : RemoteLocal) : Type 0 where
+-- of the rest, what stands once: status byte, how the server was made, the number issued last, flags
+pub record Singles (d : Server) (h : Happening) (b : ℕ) (v : Making) (n : ℕ) (f : RemoteLocal) : Type 0 where
   pub status : b ≡ singly status-row h (d .rest .status)
-  pub vendor : v ≡ singly vendor-row h (d .rest .vendor)
+  pub made : v ≡ singly made-row h (d .rest .made)
   pub last-issued : n ≡ singly issued-row h (d .rest .lastIssued)
   pub enable : f .enable ≡ singly enable-row h (d .rest .remoteLocal .enable)
   pub lockout : f .lockout ≡ singly lockout-row h (d .rest .remoteLocal .lockout)
   pub remote : f .remote ≡ singly remote-row h (d .rest .remoteLocal .remote)
 
 pub record RestPart (d : Server) (h : Happening) (r : Rest) : Type 0 where
-  pub singles : Singles d h (r .status) (r .vendor) (r .lastIssued) (r .remoteLocal)
-  pub exchanges : Rowed freshExchange exchangeRow (d .locks .entries) h (d .rest .exchanges) (r .exchanges)
+  pub singles : Singles d h (r .status) (r .made) (r .lastIssued) (r .remoteLocal)
+  pub exchanges : Rowed freshExchange (exchangeRow (d .rest .made .prefersOverlap)) (d .locks .entries) h (d .rest .exchanges) (r .exchanges)
   pub connections : Places d h (r .connections)
 
 pub record LocksPart (d : Server) (h : Happening) (l : Locks) (due : List Entry) (granted : List Waiting) : Type 0 where
@@ -44,16 +44,19 @@ assemble d h r due granted p l f s =
     record {
       clock = l .clock;
       status = p .singles .status;
-      vendor = p .singles .vendor;
+      made = p .singles .made;
       last-issued = p .singles .last-issued;
       enable = p .singles .enable;
       lockout = p .singles .lockout;
       remote = p .singles .remote;
       exchange-slots = p .exchanges .size;
-      in-clear = λ i q. ap (λ (x : Exchange). x .inClear) (p .exchanges .each i q) ∙ project (λ (x : Exchange). x .inClear) exchangeRow clear-row (λ a x. refl) (λ b x. refl) refl es i h _;
-      asked = λ i q. ap (λ (x : Exchange). x .asked) (p .exchanges .each i q) ∙ project (λ (x : Exchange). x .asked) exchangeRow asked-row (λ a x. refl) (λ b x. refl) refl es i h _;
-      message-available = λ i q. ap (λ (x : Exchange). x .messageAvailable) (p .exchanges .each i q) ∙ project (λ (x : Exchange). x .messageAvailable) exchangeRow available-row (λ a x. refl) (λ b x. refl) refl es i h _;
-      client-size = λ i q. ap (λ (x : Exchange). x .clientSize) (p .exchanges .each i q) ∙ project (λ (x : Exchange). x .clientSize) exchangeRow size-row (λ a x. refl) (λ b x. refl) refl es i h _;
+      in-clear = λ i q. ap (λ (x : Exchange). x .inClear) (p .exchanges .each i q) ∙ project (λ (x : Exchange). x .inClear) (exchangeRow (d .rest .made .prefersOverlap)) clear-row (λ a x. refl) (λ b x. refl) refl es i h _;
+      asked = λ i q. ap (λ (x : Exchange). x .asked) (p .exchanges .each i q) ∙ project (λ (x : Exchange). x .asked) (exchangeRow (d .rest .made .prefersOverlap)) asked-row (λ a x. refl) (λ b x. refl) refl es i h _;
+      message-available = λ i q. ap (λ (x : Exchange). x .messageAvailable) (p .exchanges .each i q) ∙ project (λ (x : Exchange). x .messageAvailable) (exchangeRow (d .rest .made .prefersOverlap)) available-row (λ a x. refl) (λ b x. refl) refl es i h _;
+      client-size = λ i q. ap (λ (x : Exchange). x .clientSize) (p .exchanges .each i q) ∙ project (λ (x : Exchange). x .clientSize) (exchangeRow (d .rest .made .prefersOverlap)) size-row (λ a x. refl) (λ b x. refl) refl es i h _;
+      mode = λ i q. ap (λ (x : Exchange). x .overlap) (p .exchanges .each i q) ∙ project (λ (x : Exchange). x .overlap) (exchangeRow (d .rest .made .prefersOverlap)) (mode-row (d .rest .made .prefersOverlap)) (λ a x. refl) (λ b x. refl) refl es i h _;
+      count = λ i q. ap (λ (x : Exchange). x .count) (p .exchanges .each i q) ∙ project (λ (x : Exchange). x .count) (exchangeRow (d .rest .made .prefersOverlap)) count-row (λ a x. refl) (λ b x. refl) refl es i h _;
+      any-sent = λ i q. ap (λ (x : Exchange). x .anySent) (p .exchanges .each i q) ∙ project (λ (x : Exchange). x .anySent) (exchangeRow (d .rest .made .prefersOverlap)) sent-row (λ a x. refl) (λ b x. refl) refl es i h _;
       connection-places = p .connections .size;
       is-open = λ x q. ap (λ (y : Connection). y .isOpen) (p .connections .each x q);
       remainder = λ x q. ap (λ (y : Connection). y .remainder) (p .connections .each x q);

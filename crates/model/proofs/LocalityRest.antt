@@ -11,14 +11,14 @@ use borrow.Author.Tests.{eqb-true, eq-eqb, ltb-false}
 use Rattle.wire.specs.Message.{header, prologue}
 use Rattle.wire.specs.Class.{one-of}
 use Rattle.model.specs.Sizes.{noConnection, payloadLimit}
-use Rattle.model.specs.State.{Server, Entry, Exchange, Connection, RemoteLocal, at, live, blank, freshExchange, closedConnection, openConnection, exchangeAt, connectionAt, slotOfNumber, withConnection, withExchange, withRemoteLocal, withSession, withStatus}
+use Rattle.model.specs.State.{Server, Entry, Exchange, Connection, RemoteLocal, at, live, blank, freshExchange, openExchange, closedConnection, openConnection, exchangeAt, connectionAt, slotOfNumber, withConnection, withExchange, withRemoteLocal, withSession, withStatus}
 use Rattle.model.specs.Place.{slotOf, entryOf, onConnection}
 use Rattle.model.specs.Scan.{Scan, Scan.skipping, Scan.part, sorted, freshScan, scan, size, leftover}
 use Rattle.model.specs.Exchange
 use Rattle.model.specs.Exchange.{controlled}
 use Rattle.model.specs.Step.{channels, shutAll, closing}
 use Rattle.model.specs.Happening.{Heard, Action, Happening, Happening.unmoved, Happening.connected, Happening.disconnected, Happening.skipped-over, Happening.errored, Happening.message-acted, Happening.clock-read, Happening.status-set, Happening.answer-sent}
-use Rattle.model.specs.LocalityRows.{kindOf, concerns, connectionsOf, Single, singly, status-row, vendor-row, issued-row, enable-row, lockout-row, remote-row}
+use Rattle.model.specs.LocalityRows.{kindOf, concerns, connectionsOf, Single, singly, status-row, made-row, issued-row, enable-row, lockout-row, remote-row}
 use Rattle.model.proofs.Basics.{or→, or-of, or-r}
 use Rattle.model.proofs.Place.{place-sound}
 use Rattle.model.proofs.LocalityLists.{set-at, touch, row-message, row-kept, exchangeRow}
@@ -47,11 +47,11 @@ as-it-was r (clock-read t) x s = absurd s
 as-it-was r (status-set b) x s = absurd s
 as-it-was r (answer-sent n p end) x s = refl
 
-singles-still : (d : Server) (h : Happening) → Still h → Singles d h (d .rest .status) (d .rest .vendor) (d .rest .lastIssued) (d .rest .remoteLocal)
+singles-still : (d : Server) (h : Happening) → Still h → Singles d h (d .rest .status) (d .rest .made) (d .rest .lastIssued) (d .rest .remoteLocal)
 singles-still d h s =
     record {
       status = as-it-was status-row h (d .rest .status) s;
-      vendor = as-it-was vendor-row h (d .rest .vendor) s;
+      made = as-it-was made-row h (d .rest .made) s;
       last-issued = as-it-was issued-row h (d .rest .lastIssued) s;
       enable = as-it-was enable-row h (d .rest .remoteLocal .enable) s;
       lockout = as-it-was lockout-row h (d .rest .remoteLocal .lockout) s;
@@ -70,7 +70,7 @@ rest-unmoved d =
 pub rest-clock : (d : Server) (t : ℕ) → RestPart d (clock-read t) (d .rest)
 rest-clock d t =
     record {
-      singles = record { status = refl; vendor = refl; last-issued = refl; enable = refl; lockout = refl; remote = refl };
+      singles = record { status = refl; made = refl; last-issued = refl; enable = refl; lockout = refl; remote = refl };
       exchanges = record { size = refl; each = λ i l. refl };
       connections = record { size = refl; each = λ x l. refl };
     }
@@ -78,14 +78,14 @@ rest-clock d t =
 pub rest-status : (d : Server) (b : ℕ) → RestPart d (status-set b) (withStatus (d .rest) b)
 rest-status d b =
     record {
-      singles = record { status = refl; vendor = refl; last-issued = refl; enable = refl; lockout = refl; remote = refl };
+      singles = record { status = refl; made = refl; last-issued = refl; enable = refl; lockout = refl; remote = refl };
       exchanges = record { size = refl; each = λ i l. refl };
       connections = record { size = refl; each = λ x l. refl };
     }
 
-answered-row : (end : Bool) (x : Exchange) → Exchange.answeredWith end x ≡ exchangeRow .by-answer end x
-answered-row true x = refl
-answered-row false x = refl
+answered-row : (b end : Bool) (x : Exchange) → Exchange.answeredWith end x ≡ (exchangeRow b) .by-answer end x
+answered-row b true x = refl
+answered-row b false x = refl
 
 pub rest-answer : (d : Server) (n : ℕ) (p : List ℕ) (end : Bool) → RestPart d (answer-sent n p end) (withExchange (d .rest) (slotOfNumber (d .locks .entries) n) (Exchange.answeredWith end (exchangeAt (d .rest) (slotOfNumber (d .locks .entries) n))))
 rest-answer d n p end =
@@ -95,7 +95,7 @@ rest-answer d n p end =
       exchanges =
           record {
             size = length-set (d .rest .exchanges) i _;
-            each = λ j l. touch (d .rest .exchanges) i (exchangeRow .by-answer end) _ freshExchange j l (answered-row end (exchangeAt (d .rest) i));
+            each = λ j l. touch (d .rest .exchanges) i ((exchangeRow (d .rest .made .prefersOverlap)) .by-answer end) _ freshExchange j l (answered-row (d .rest .made .prefersOverlap) end (exchangeAt (d .rest) i));
           };
       connections = record { size = refl; each = λ x l. refl };
     }
@@ -236,25 +236,25 @@ module _ (d : Server) (c : ℕ) (real : c ≡ noConnection → ⊥) where
 
 -- a message that acted, of a session: of the single fields the flags alone, by type 10
 module _ (d : Server) (a : Action) (q0 : eqb (kindOf a) 0 ≡ false) where
-  no-singles : eqb (kindOf a) 10 ≡ false → Singles d (message-acted a) (d .rest .status) (d .rest .vendor) (d .rest .lastIssued) (d .rest .remoteLocal)
-  no-singles q = record { status = refl; vendor = refl; last-issued = rw q0; enable = rw q; lockout = rw q; remote = rw q }
+  no-singles : eqb (kindOf a) 10 ≡ false → Singles d (message-acted a) (d .rest .status) (d .rest .made) (d .rest .lastIssued) (d .rest .remoteLocal)
+  no-singles q = record { status = refl; made = refl; last-issued = rw q0; enable = rw q; lockout = rw q; remote = rw q }
 
   -- one that changes its session's exchange
-  pub rest-touched : eqb (kindOf a) 17 ≡ false → eqb (kindOf a) 10 ≡ false → (y : Exchange) → y ≡ exchangeRow .by-message a (exchangeAt (d .rest) (slotOf d (a .connection)))
+  pub rest-touched : eqb (kindOf a) 17 ≡ false → eqb (kindOf a) 10 ≡ false → (y : Exchange) → y ≡ (exchangeRow (d .rest .made .prefersOverlap)) .by-message a (exchangeAt (d .rest) (slotOf d (a .connection)))
       → RestPart d (message-acted a) (withExchange (d .rest) (slotOf d (a .connection)) y)
   rest-touched q17 q10 y e =
       record {
         singles = no-singles q10;
-        exchanges = row-message freshExchange exchangeRow (d .locks .entries) (d .rest .exchanges) a (slotOf d (a .connection)) y (rw (q0, q17)) e;
+        exchanges = row-message freshExchange (exchangeRow (d .rest .made .prefersOverlap)) (d .locks .entries) (d .rest .exchanges) a (slotOf d (a .connection)) y (rw (q0, q17)) e;
         connections = record { size = refl; each = λ x l. refl };
       }
 
   -- one that changes nothing here
-  pub rest-kept : eqb (kindOf a) 10 ≡ false → ((x : Exchange) → exchangeRow .by-message a x ≡ x) → RestPart d (message-acted a) (d .rest)
+  pub rest-kept : eqb (kindOf a) 10 ≡ false → ((x : Exchange) → (exchangeRow (d .rest .made .prefersOverlap)) .by-message a x ≡ x) → RestPart d (message-acted a) (d .rest)
   rest-kept q10 f =
       record {
         singles = no-singles q10;
-        exchanges = row-kept freshExchange exchangeRow (d .locks .entries) (d .rest .exchanges) a f;
+        exchanges = row-kept freshExchange (exchangeRow (d .rest .made .prefersOverlap)) (d .locks .entries) (d .rest .exchanges) a f;
         connections = record { size = refl; each = λ x l. refl };
       }
 
@@ -288,13 +288,13 @@ rest-flags d a e l =
       singles =
           record {
             status = refl;
-            vendor = refl;
+            made = refl;
             last-issued = rw e;
             enable = rw e (ap (λ (x : RemoteLocal). x .enable) f);
             lockout = rw e (ap (λ (x : RemoteLocal). x .lockout) f);
             remote = rw e (ap (λ (x : RemoteLocal). x .remote) f);
           };
-      exchanges = row-kept freshExchange exchangeRow (d .locks .entries) (d .rest .exchanges) a (λ x. rw e);
+      exchanges = row-kept freshExchange (exchangeRow (d .rest .made .prefersOverlap)) (d .locks .entries) (d .rest .exchanges) a (λ x. rw e);
       connections = record { size = refl; each = λ x l. refl };
     }
 
@@ -302,7 +302,7 @@ rest-flags d a e l =
 pub rest-enter : (d : Server) (a : Action) → kindOf a ≡ 0 → RestPart d (message-acted a) (withSession (d .rest) (slotOfNumber (d .locks .entries) 0) (a .session))
 rest-enter d a e =
     record {
-      singles = record { status = refl; vendor = refl; last-issued = rw e; enable = rw e; lockout = rw e; remote = rw e };
-      exchanges = row-message freshExchange exchangeRow (d .locks .entries) (d .rest .exchanges) a (slotOfNumber (d .locks .entries) 0) freshExchange (rw e) (rw e);
+      singles = record { status = refl; made = refl; last-issued = rw e; enable = rw e; lockout = rw e; remote = rw e };
+      exchanges = row-message freshExchange (exchangeRow (d .rest .made .prefersOverlap)) (d .locks .entries) (d .rest .exchanges) a (slotOfNumber (d .locks .entries) 0) (openExchange (d .rest .made .prefersOverlap)) (rw e) (rw e);
       connections = record { size = refl; each = λ x l. refl };
     }

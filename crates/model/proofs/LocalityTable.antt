@@ -59,6 +59,9 @@ module _ (d : Server) (h : Happening) (r r′ : Result) (a : Local d h r) (b : L
         asked = (a .asked i l ∙ sym (b .asked i l)) j;
         messageAvailable = (a .message-available i l ∙ sym (b .message-available i l)) j;
         clientSize = (a .client-size i l ∙ sym (b .client-size i l)) j;
+        overlap = (a .mode i l ∙ sym (b .mode i l)) j;
+        count = (a .count i l ∙ sym (b .count i l)) j;
+        anySent = (a .any-sent i l ∙ sym (b .any-sent i l)) j;
       })
 
   same-connections : r .server .rest .connections ≡ r′ .server .rest .connections
@@ -76,7 +79,7 @@ module _ (d : Server) (h : Happening) (r r′ : Result) (a : Local d h r) (b : L
           exchanges = same-exchanges j;
           connections = same-connections j;
           lastIssued = (a .last-issued ∙ sym (b .last-issued)) j;
-          vendor = (a .vendor ∙ sym (b .vendor)) j;
+          made = (a .made ∙ sym (b .made)) j;
           status = (a .status ∙ sym (b .status)) j;
           remoteLocal = record { enable = (a .enable ∙ sym (b .enable)) j; lockout = (a .lockout ∙ sym (b .lockout)) j; remote = (a .remote ∙ sym (b .remote)) j };
         };

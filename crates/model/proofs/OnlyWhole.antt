@@ -18,7 +18,7 @@ use Rattle.wire.proofs.Sixteen.{header-bytes}
 use Rattle.wire.proofs.ReadFrames.{length-encode}
 use Rattle.model.specs.Sizes.{payloadLimit, connectionLimit, noConnection}
 use Rattle.model.specs.MessageTypes.{FatalError}
-use Rattle.model.specs.State.{Server, Entry, at, live, blank, Connection, closedConnection, connectionAt, fresh}
+use Rattle.model.specs.State.{Server, Entry, at, live, blank, Connection, closedConnection, connectionAt, fresh, Making}
 use Rattle.model.specs.Interface.{Event, Event.opening, Event.delivery, Event.cut, Event.clock, Event.answer, Event.status}
 use Rattle.model.specs.Scan.{Scan, Scan.empty, Scan.few, Scan.wrong, Scan.skipping, Scan.long, Scan.part, Scan.whole, scan, size}
 use Rattle.model.specs.Place.{slotOf, entryOf, roleOf, Role, Role.r-none, Role.r-halfOpen, Role.r-synchronous, Role.r-asynchronous}
@@ -277,10 +277,10 @@ closed-at zero j = refl
 closed-at (suc n) zero = refl
 closed-at (suc n) (suc j) = closed-at n j
 
-fresh-tracks : (v : ℕ) → Tracks ((fresh v) .rest) (λ c. 0)
+fresh-tracks : (v : Making) → Tracks ((fresh v) .rest) (λ c. 0)
 fresh-tracks v j o = ap (λ (x : Connection). x .remainder) (closed-at connectionLimit j)
 
-pub owed-run : (v : ℕ) (es : List Event) → AllPossible es → Tracks ((final (fresh v) es) .rest) (owedIn (λ c. 0) (kept (log (fresh v) es)))
+pub owed-run : (v : Making) (es : List Event) → AllPossible es → Tracks ((final (fresh v) es) .rest) (owedIn (λ c. 0) (kept (log (fresh v) es)))
 owed-run v es p = tracked es (fresh v) (λ c. 0) (fresh-tracks v) p
 
 pub taken-whole : TakenWhole

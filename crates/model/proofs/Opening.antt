@@ -1,11 +1,11 @@
--- What an Initialize and an AsyncInitialize that act send and leave; the vendor number never changes.
+-- What an Initialize and an AsyncInitialize that act send and leave.
 use mathlib.Core.Path.{_≡_, refl, sym, ap, subst, _∙_}
-use mathlib.Core.Bool.{Bool, true, false, true≢false}
+use mathlib.Core.Bool.{Bool, true, false, cond, true≢false}
 use mathlib.Core.List.{List, [], _∷_}
 use Prim.Native.Nat.{ℕ, zero, suc, _+_, _*_, _/_, min}
 use native.Mathlib.Omega.{arith}
 use lib.Dec.{eqb}
-use lib.ListN.{getD, set}
+use lib.ListN.{length, getD, set}
 use lib.Seq.{getD-set-same, getD-set-other}
 use borrow.Author.Tests.{eq-eqb}
 use Rattle.wire.specs.declared.Header.{Header}
@@ -14,7 +14,7 @@ use Rattle.wire.specs.Frame.{frameOf}
 use Rattle.wire.specs.Class.{classOf, synchronous, asynchronous}
 use Rattle.model.specs.Sizes.{sessionLimit, protocolVersion, noConnection}
 use Rattle.model.specs.MessageTypes.{Initialize, InitializeResponse, AsyncInitialize, AsyncInitializeResponse}
-use Rattle.model.specs.State.{Exchange, blank, live, slotOfNumber, Server, Rest, freshExchange, connectionAt, fresh}
+use Rattle.model.specs.State.{Exchange, blank, live, slotOfNumber, Server, Rest, freshExchange, openExchange, fresh, Making}
 use Rattle.model.specs.Interface.{Event, Event.opening, Event.delivery, Event.cut, Event.clock, Event.answer, Event.status, Outcome.acted, Reply.took}
 use Rattle.model.specs.Scan.{Scan, Scan.empty, Scan.few, Scan.wrong, Scan.skipping, Scan.long, Scan.part, Scan.whole, scan}
 use Rattle.model.specs.Place.{slotOf, Role, Role.r-none, Role.r-halfOpen, Role.r-synchronous, Role.r-asynchronous, roleOf}
@@ -31,62 +31,7 @@ use Rattle.model.proofs.Fits.{opening-passed, sync-passed, async-passed
 use Rattle.model.proofs.Numbers.{live-found}
 use Rattle.model.proofs.Replies.{accepted}
 use Rattle.model.proofs.Permitted.{shows}
-
--- the vendor number, through each call
-async-vendor : (k : Acts.AsynchronousKind) (r : Rest) (i : ℕ) (h : Header) (p : List ℕ) → (Acts.asynchronousRest k r i h p) .vendor ≡ r .vendor
-unfolding Acts.asynchronousRest
-async-vendor Acts.k-lock r i h p = refl
-async-vendor Acts.k-remoteLocal r i h p = refl
-async-vendor Acts.k-maximumSize r i h p = refl
-async-vendor Acts.k-deviceClear r i h p = refl
-async-vendor Acts.k-statusQuery r i h p = refl
-async-vendor Acts.k-lockInfo r i h p = refl
-
-acts-vendor : (d : Server) (i c : ℕ) (h : Header) (p : List ℕ) (r : Role) → ((Acts.acts r d i c h p) .rest) .vendor ≡ d .rest .vendor
-unfolding Acts.acts
-acts-vendor d i c h p r-none = go (eqb (h .kind) 0)
-  where
-    go : (b : Bool) → ((Acts.opens b d c h) .rest) .vendor ≡ d .rest .vendor
-    go true = refl
-    go false = refl
-acts-vendor d i c h p r-halfOpen = refl
-acts-vendor d i c h p r-synchronous = refl
-acts-vendor d i c h p r-asynchronous = async-vendor (Acts.asynchronousKind (h .kind)) (d .rest) i h p
-
-effect-vendor : (d : Server) (i c : ℕ) (v : Verdict) (s : Scan) (r : Role) → ((effect v s r d i c) .rest) .vendor ≡ d .rest .vendor
-unfolding effect
-effect-vendor d i c v-more s r = refl
-effect-vendor d i c v-held s r = refl
-effect-vendor d i c v-skipped s r = refl
-effect-vendor d i c v-ignored s r = refl
-effect-vendor d i c (v-error n) s r = refl
-effect-vendor d i c (v-fatal n) s r = refl
-effect-vendor d i c v-closed s r = refl
-effect-vendor d i c v-acts empty r = refl
-effect-vendor d i c v-acts few r = refl
-effect-vendor d i c v-acts wrong r = refl
-effect-vendor d i c v-acts (skipping k) r = refl
-effect-vendor d i c v-acts (long h) r = refl
-effect-vendor d i c v-acts (part h) r = refl
-effect-vendor d i c v-acts (whole h p) r = acts-vendor d i c h p r
-
-step-vendor : (d : Server) (e : Event) → (step d e) .server .rest .vendor ≡ d .rest .vendor
-unfolding step answered finish plan received
-step-vendor d e = go (refusal d e) e
-  where
-    go : (z : ℕ) (e : Event) → (answered z d e) .server .rest .vendor ≡ d .rest .vendor
-    go (suc z) e = refl
-    go zero (opening c) = refl
-    go zero (delivery c bs room) = effect-vendor d (slotOf d c) c _ (scan ((connectionAt (d .rest) c) .remainder) bs) (roleOf (d .locks .entries) c)
-    go zero (cut c room) = refl
-    go zero (clock t room) = refl
-    go zero (answer n p end room) = refl
-    go zero (status b) = refl
-
-vendor-kept : (es : List Event) (d : Server) → (final d es) .rest .vendor ≡ d .rest .vendor
-unfolding final
-vendor-kept [] d = refl
-vendor-kept (e ∷ es) d = vendor-kept es ((step d e) .server) ∙ step-vendor d e
+use Rattle.model.proofs.Locality.{exchange-slots, same-made}
 
 -- Initialize and AsyncInitialize act on a connection without a role alone
 initialize-role : (d : Server) (c : ℕ) (h : Header) (p : List ℕ) (r : Role) → h .kind ≡ Initialize → judged r d (slotOf d c) h p ≡ v-acts → r ≡ r-none
@@ -103,13 +48,7 @@ join-role d c h p r-halfOpen t q = absurd (let y : _≡_ {A = ℕ} 0 1 = cc in o
 join-role d c h p r-synchronous t q = absurd (true≢false (ap (λ n. isUnrecognised (classOf synchronous n)) (sym t) ∙ (sync-passed d (slotOf d c) h p q) .1 .1 .1 .1 .0))
 join-role d c h p r-asynchronous t q = absurd (true≢false (ap (λ n. eqb n 17) (sym t) ∙ (async-passed h p q) .1 .1 .1 .1 .0))
 
--- a fresh exchange stored anywhere is read there
-fresh-there : (xs : List Exchange) (i : ℕ) → getD (set xs i freshExchange) i freshExchange ≡ freshExchange
-fresh-there [] i = refl
-fresh-there (x ∷ xs) zero = refl
-fresh-there (x ∷ xs) (suc i) = fresh-there xs i
-
-module _ (d : Server) (inv : Inv (d .locks)) (v : ℕ) (vendor : d .rest .vendor ≡ v) (c : ℕ) (bs : List ℕ) (room : ℕ) where
+module _ (d : Server) (inv : Inv (d .locks)) (v : Making) (made : d .rest .made ≡ v) (room-for : length (d .rest .exchanges) ≡ length (d .locks .entries)) (c : ℕ) (bs : List ℕ) (room : ℕ) where
   abbrev R : Result
   R = step d (delivery c bs room)
 
@@ -126,19 +65,19 @@ module _ (d : Server) (inv : Inv (d .locks)) (v : ℕ) (vendor : d .rest .vendor
 
   -- Initialize
   abbrev OpensTo : ℕ → Result → Type 0
-  OpensTo n x = (x .frames ≡ frameOf c InitializeResponse 0 (min ((header bs) .param / 65536) protocolVersion * 65536 + n) [] ∷ []) × Opened d (x .server) c n
+  OpensTo n x = (x .frames ≡ frameOf c InitializeResponse (cond (v .prefersOverlap) 1 0) (min ((header bs) .param / 65536) protocolVersion * 65536 + n) [] ∷ []) × Opened d (x .server) v c n
 
   opens-to : Enters (d .locks .entries) (slotOfNumber (d .locks .entries) 0) (issued sessionLimit 0 (d .locks .entries) (d .rest .lastIssued)) c
       → OpensTo (issued sessionLimit 0 (d .locks .entries) (d .rest .lastIssued)) (finish d (Acts.opens true d c (header bs)))
   unfolding finish change
   opens-to f =
       let i = slotOfNumber (d .locks .entries) 0 in (
-        refl,
+        ap (λ (x : Making). frameOf c InitializeResponse (cond (x .prefersOverlap) 1 0) (min ((header bs) .param / 65536) protocolVersion * 65536 + issued sessionLimit 0 (d .locks .entries) (d .rest .lastIssued)) [] ∷ []) made,
         record {
           slot = i;
           was-free = f .vacant;
           session = getD-set-same (d .locks .entries) i _ blank (f .within);
-          exchange = fresh-there (d .rest .exchanges) i;
+          exchange = getD-set-same (d .rest .exchanges) i (openExchange (d .rest .made .prefersOverlap)) freshExchange (omega (arith, f .within, room-for)) ∙ ap (λ (x : Making). openExchange (x .prefersOverlap)) made;
           no-more = record {
             others-same = λ j o. getD-set-other (d .locks .entries) i j _ blank o;
             exchanges-same = λ j o. getD-set-other (d .rest .exchanges) i j _ freshExchange o;
@@ -162,13 +101,13 @@ module _ (d : Server) (inv : Inv (d .locks)) (v : ℕ) (vendor : d .rest .vendor
 
   -- AsyncInitialize
   abbrev JoinsTo : ℕ → Result → Type 0
-  JoinsTo n x = (x .frames ≡ frameOf c AsyncInitializeResponse 0 v [] ∷ []) × Joined d (x .server) c n
+  JoinsTo n x = (x .frames ≡ frameOf c AsyncInitializeResponse 0 (v .vendor) [] ∷ []) × Joined d (x .server) c n
 
   joins-to : Pairs (d .locks .entries) (slotOfNumber (d .locks .entries) ((header bs) .param)) c → JoinsTo ((header bs) .param) (finish d (Acts.opens false d c (header bs)))
   unfolding finish change
   joins-to f =
       let i = slotOfNumber (d .locks .entries) ((header bs) .param) in (
-        ap (λ x. frameOf c AsyncInitializeResponse 0 x [] ∷ []) vendor,
+        ap (λ (x : Making). frameOf c AsyncInitializeResponse 0 (x .vendor) [] ∷ []) made,
         record {
           slot = i;
           its-number = live-found (d .locks .entries) ((header bs) .param) (f .alive);
@@ -196,10 +135,10 @@ module _ (d : Server) (inv : Inv (d .locks)) (v : ℕ) (vendor : d .rest .vendor
       let n-is : (header bs) .param ≡ n = cc in
       subst (λ m. JoinsTo m R) n-is (subst (JoinsTo ((header bs) .param)) (sym one) (joins-to (opens-fit d c (header bs) (payloadOf (header bs) bs) false b (real k n e) inv r passes)))
 
-pub sessions-open : (v : ℕ) (es : List Event) → Opening v es
+pub sessions-open : (v : Making) (es : List Event) → Opening v es
 sessions-open v es =
     record {
       opens-next = λ c bs room.
           let d = final (fresh v) es in
-          record { opens = opens d (inv-run v es) v (vendor-kept es (fresh v)) c bs room; joins = joins d (inv-run v es) v (vendor-kept es (fresh v)) c bs room };
+          record { opens = opens d (inv-run v es) v (same-made es (fresh v)) (exchange-slots es (fresh v) ∙ sym (inv-run v es .sound .firm .slots)) c bs room; joins = joins d (inv-run v es) v (same-made es (fresh v)) (exchange-slots es (fresh v) ∙ sym (inv-run v es .sound .firm .slots)) c bs room };
     }

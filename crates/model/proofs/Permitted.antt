@@ -13,7 +13,7 @@ use Rattle.wire.specs.Message.{header, payloadOf}
 use Rattle.model.specs.Sizes.{payloadLimit, noConnection, sessionLimit}
 use Rattle.model.specs.MessageTypes.{Initialize}
 use Rattle.model.specs.Lists.{all, tally}
-use Rattle.model.specs.State.{Entry, blank, at, live, halfOpen, slotOfNumber, Server, connectionAt, fresh}
+use Rattle.model.specs.State.{Entry, blank, at, live, halfOpen, slotOfNumber, Server, connectionAt, fresh, Making}
 use Rattle.model.specs.Interface.{Event, Event.delivery, Outcome.acted, Reply.took}
 use Rattle.model.specs.Scan.{Scan, freshScan, scan}
 use Rattle.model.specs.Place.{onConnection, slotOf, entryOf, Role, Role.r-none, Role.r-halfOpen, Role.r-synchronous, Role.r-asynchronous, roleBy, roleIn, roleOf}
@@ -217,7 +217,7 @@ module _ (d : Server) (c : ℕ) (bs : List ℕ) (room : ℕ) where
           only = λ k n e. let s = shows k n e in by-role (roleOf (d .locks .entries) c) k n (s .message) refl (s .passes) (ap (λ (x : Result). x .reply) (sym (s .does)) ∙ e) e;
         }
 
-pub permitted-acts : (v : ℕ) (es : List Event) → PermittedActs v es
+pub permitted-acts : (v : Making) (es : List Event) → PermittedActs v es
 permitted-acts v es =
     record {
       acts-next = λ c bs room. acts-exactly (final (fresh v) es) c bs room ((inv-run v es) .sound .firm) (lastInLog (log (fresh v) es) 0) (λ k n e t. ((session-ids v es) .issues c bs room k n e t) .first-free);

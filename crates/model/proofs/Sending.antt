@@ -1,4 +1,5 @@
 -- What each message that acted sends: by its type, which tells its channel.
+use Rattle.wire.specs.MessageId.{next}
 use mathlib.Core.Path.{_≡_, refl, sym, ap, ap₂, _∙_}
 use mathlib.Core.Bool.{Bool, true, false, not, _&&_, _||_, cond, true≢false}
 use mathlib.Core.List.{List, [], _∷_, _++_, map, append-assoc}
@@ -15,12 +16,12 @@ use Rattle.wire.specs.Frame.{Frame, frameOf}
 use Rattle.model.specs.Sizes.{beforeFirst}
 use Rattle.model.specs.MessageTypes.{DeviceClearComplete, AsyncDeviceClear, AsyncDeviceClearAcknowledge, commands}
 use Rattle.model.specs.Lists.{all, any, keep}
-use Rattle.model.specs.State.{Entry, Waiting, Kind.exclusive-lock, Kind.shared-lock, Standing, Standing.no-release, Standing.release-of, at, live, Server, fresh}
+use Rattle.model.specs.State.{Entry, Waiting, Kind.exclusive-lock, Kind.shared-lock, Standing, Standing.no-release, Standing.release-of, at, live, Server, fresh, Making, Exchange, exchangeAt}
 use Rattle.model.specs.Interface.{Event, Event.delivery, Outcome.acted, Reply.took}
 use Rattle.model.specs.Place.{slotOf, entryOf, Role, Role.r-none, Role.r-halfOpen, Role.r-synchronous, Role.r-asynchronous, roleOf}
 use Rattle.model.specs.Locks
 use Rattle.model.specs.Locks.{Answer, LockEvent, LockResult, elsewhere, refuse, tell, change, grantPass, settle, frees}
-use Rattle.model.specs.Exchange.{availableAt}
+use Rattle.model.specs.Exchange.{availableAt, availableIn, statusByte}
 use Rattle.model.specs.Checks.{Verdict.v-acts, isUnrecognised, judged, either}
 use Rattle.model.specs.Acts
 use Rattle.model.specs.Step.{Result, finish, step, final, lockFrame}
@@ -28,7 +29,7 @@ use Rattle.model.specs.LockModel
 use Rattle.model.specs.LockModel.{Model, ModelResult, endsExclusive, endsShared, secondConnection}
 use Rattle.model.specs.Agreement.{Agrees, asPending, toldFrame}
 use Rattle.model.specs.Deciding.{lockAnswer, modelAfter, endedCodes, grantsAfter}
-use Rattle.model.specs.Sending.{Sends, Sending}
+use Rattle.model.specs.Sending.{availableTold, Sends, Sending}
 use Rattle.model.proofs.Basics.{and-l, and-r, not-off, not-not}
 use Rattle.model.proofs.Invariant.{Inv, Good}
 use Rattle.model.proofs.Events.{Fit, change-sound, always-settled}
@@ -200,7 +201,7 @@ module _ (d : Server) (m : Model) (a : Agrees (d .locks) m) (v : Inv (d .locks))
   -- a device clear
   cleared : (k n : ℕ) → R .reply ≡ took acted k n → (header bs) .kind ≡ AsyncDeviceClear
       → R .frames ≡ cond (any (λ w. eqb (w .number) n) (m .waiting)) (lockAnswer c 0 ∷ []) []
-      ++ (map (lockAnswer c) (endedCodes m n (λ p. true)) ++ (frameOf c AsyncDeviceClearAcknowledge 0 0 [] ∷ map toldFrame (grantsAfter (LockModel.clearing n m))))
+      ++ (map (lockAnswer c) (endedCodes m n (λ p. true)) ++ (frameOf c AsyncDeviceClearAcknowledge (Acts.preference d) 0 [] ∷ map toldFrame (grantsAfter (LockModel.clearing n m))))
   unfolding finish Acts.acts Acts.asynchronousSaid Acts.asynchronousEvent change classOf
   cleared k n e q =
       let i = slotOf d c in
@@ -219,14 +220,23 @@ module _ (d : Server) (m : Model) (a : Agrees (d .locks) m) (v : Inv (d .locks))
       ap (λ y. map lockFrame ((Locks.completed y (Locks.withWaiting (d .locks) (keep (elsewhere i) (d .locks .waiting))) i beforeFirst) .answers)) (due-any ((at es i) .standing))
       ∙ ended-frames i u (λ p. true) beforeFirst (keep (elsewhere i) (d .locks .waiting)) ∙ ap (λ y. map (lockAnswer y) (endedCodes m ((at es i) .number) (λ p. true))) mine in
       on-async AsyncDeviceClear k n e q o
-      ∙ ap (λ (fs : List Frame). fs ++ (frameOf c AsyncDeviceClearAcknowledge 0 0 [] ∷ map lockFrame ((settle (frees (d .locks) (Locks.clear i)) ((change (d .locks) (Locks.clear i)) .locks)) .answers))) (frames-append zs (x .answers))
+      ∙ ap (λ (fs : List Frame). fs ++ (frameOf c AsyncDeviceClearAcknowledge (Acts.preference d) 0 [] ∷ map lockFrame ((settle (frees (d .locks) (Locks.clear i)) ((change (d .locks) (Locks.clear i)) .locks)) .answers))) (frames-append zs (x .answers))
       ∙ append-assoc (map lockFrame zs) (map lockFrame (x .answers)) _
-      ∙ ap₂ _++_ zeros-are (ap₂ _++_ release-is (ap (λ (fs : List Frame). frameOf c AsyncDeviceClearAcknowledge 0 0 [] ∷ fs) (granted-frames i u (Locks.clear i) (LockModel.clearing ((at es i) .number) m) u (sim-clear (d .locks) m a (v .sound .good) (v .sound .firm) i u))))
-      ∙ ap (λ x. cond (any (λ w. eqb (w .number) x) (m .waiting)) (lockAnswer c 0 ∷ []) [] ++ (map (lockAnswer c) (endedCodes m x (λ p. true)) ++ (frameOf c AsyncDeviceClearAcknowledge 0 0 [] ∷ map toldFrame (grantsAfter (LockModel.clearing x m))))) n-is
+      ∙ ap₂ _++_ zeros-are (ap₂ _++_ release-is (ap (λ (fs : List Frame). frameOf c AsyncDeviceClearAcknowledge (Acts.preference d) 0 [] ∷ fs) (granted-frames i u (Locks.clear i) (LockModel.clearing ((at es i) .number) m) u (sim-clear (d .locks) m a (v .sound .good) (v .sound .firm) i u))))
+      ∙ ap (λ x. cond (any (λ w. eqb (w .number) x) (m .waiting)) (lockAnswer c 0 ∷ []) [] ++ (map (lockAnswer c) (endedCodes m x (λ p. true)) ++ (frameOf c AsyncDeviceClearAcknowledge (Acts.preference d) 0 [] ∷ map toldFrame (grantsAfter (LockModel.clearing x m))))) n-is
     where
       go : (b : Bool) → (entryOf d c) .asynchronous ≡ c → map lockFrame (cond b [] (tell (d .locks .entries) (slotOf d c) 0 true ∷ [])) ≡ cond (not b) (lockAnswer c 0 ∷ []) []
       go true x = refl
       go false x = ap (λ y. lockAnswer y 0 ∷ []) x
+
+  -- message available, by the mode
+  told : (h : Header) (x : Exchange) → availableAt h x ≡ availableTold h x
+  unfolding availableAt
+  told h x = go (x .overlap)
+    where
+      go : (b : Bool) → availableIn b h x ≡ cond b (x .anySent && not (eqb (next (h .param)) (x .count))) (not (eqb (h .code) 1) && x .messageAvailable)
+      go true = refl
+      go false = refl
 
   pub sends : Sends d m c bs room
   unfolding finish Acts.acts Acts.synchronousSaid Acts.asynchronousSaid Acts.asynchronousEvent change classOf field availableAt
@@ -238,8 +248,8 @@ module _ (d : Server) (m : Model) (a : Agrees (d .locks) m) (v : Inv (d .locks))
         remote-local = λ k n e q. on-async 10 k n e q (refl, refl);
         maximum-size = λ k n e q. on-async 15 k n e q (refl, refl);
         device-clear = cleared;
-        status-query = λ k n e q. on-async 21 k n e q (refl, refl);
+        status-query = λ k n e q. on-async 21 k n e q (refl, refl) ∙ ap (λ (b : Bool). frameOf c 22 (statusByte (d .rest .status) b) 0 [] ∷ []) (told (record { kind = 21; code = (header bs) .code; param = (header bs) .param; len = (header bs) .len }) (exchangeAt (d .rest) (slotOf d c)));
       }
 
-pub sending : (v : ℕ) (es : List Event) → Sending v es
+pub sending : (v : Making) (es : List Event) → Sending v es
 sending v es = record { sends-next = λ c bs room. sends (final (fresh v) es) (modelAfter v es) ((agreement v es) .locks) (inv-run v es) c bs room }

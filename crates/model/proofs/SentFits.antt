@@ -1,6 +1,6 @@
 -- Every frame that is sent fits: connections, what is asked, the vendor number and the status byte stay in range from call to call.
 use mathlib.Core.Path.{_≡_, refl, ap}
-use mathlib.Core.Bool.{Bool, true, false, _||_, cond}
+use mathlib.Core.Bool.{Bool, true, false, _&&_, _||_, cond}
 use mathlib.Core.List.{List, [], _∷_, _++_, map}
 use Prim.Native.Nat.{ℕ, zero, suc, _+_, _*_, _/_, _^_, _≤_, _<_, min}
 use native.Mathlib.Omega.{arith}
@@ -17,13 +17,15 @@ use Rattle.wire.proofs.Bytes.{take-bytes, bytes-field}
 use Rattle.model.specs.Sizes.{connectionLimit, payloadLimit, sessionLimit, lastSessionId, protocolVersion, noConnection}
 use Rattle.model.specs.MessageTypes.{FatalError}
 use Rattle.model.specs.Lists.{all, tally}
-use Rattle.model.specs.State.{Asked, Asked.none, Asked.some, Exchange, Rest, Entry, Server, at, live, slotOfNumber, exchangeAt, connectionAt, freshExchange, withExchange, fresh}
+use Rattle.model.specs.State.{Asked, Asked.none, Asked.some, Exchange, Rest, Entry, Server, at, live, slotOfNumber, exchangeAt, connectionAt, freshExchange, openExchange, withExchange, fresh, Making}
 use Rattle.model.specs.Interface.{Event, Event.opening, Event.delivery, Event.cut, Event.clock, Event.answer, Event.status}
 use Rattle.model.specs.Scan.{Scan, Scan.empty, Scan.few, Scan.wrong, Scan.skipping, Scan.long, Scan.part, Scan.whole, scan}
 use Rattle.model.specs.Place.{slotOf, entryOf, roleOf, Role, Role.r-none, Role.r-halfOpen, Role.r-synchronous, Role.r-asynchronous}
 use Rattle.model.specs.Locks
 use Rattle.model.specs.Locks.{Answer, candidate, isLive, issued, change, frees, settle}
-use Rattle.model.specs.Exchange.{answeredWith, answerNumber, numberAsked, statusByte, availableAt}
+use Rattle.wire.specs.MessageId.{next, next-fits}
+use Rattle.model.specs.Exchange
+use Rattle.model.specs.Exchange.{answeredWith, answerNumber, answerNumberIn, numberAsked, statusByte, availableAt}
 use Rattle.model.specs.Checks.{Verdict, Verdict.v-more, Verdict.v-skipped, Verdict.v-held, Verdict.v-ignored, Verdict.v-closed, Verdict.v-acts, Verdict.v-error, Verdict.v-fatal, verdict}
 use Rattle.model.specs.Acts
 use Rattle.model.specs.Refusals.{causes, refusal}
@@ -31,7 +33,7 @@ use Rattle.model.specs.Step.{effect, received, plan, answered, finish, s
 use Rattle.model.specs.Reader.{messageWith}
 use Rattle.model.specs.Possible.{Possible, AllPossible}
 use Rattle.model.specs.SentFits.{LinesFit, SentFits}
-use Rattle.model.proofs.Basics.{and-l, and-r, all-set, all-at}
+use Rattle.model.proofs.Basics.{and-l, and-r, both, all-set, all-at}
 use Rattle.model.proofs.Invariant.{Inv}
 use Rattle.model.proofs.Events.{inv-fresh}
 use Rattle.model.proofs.Fits.{uncaused, inv-call}
@@ -40,17 +42,17 @@ use Rattle.model.proofs.Reader.{alike}
 use Rattle.model.proofs.Codes.{coded, verdict-coded}
 use Rattle.model.proofs.Reached.{reachable, answerFits, Reachable, Brings, change-kept, settle-kept}
 
--- what is asked is a 32-bit number
+-- what is asked is a 32-bit number, and so is the count of answers
 abbrev askedFits : Asked → Bool
 askedFits none = true
 askedFits (some n) = ltb n (2 ^ 32)
 
 abbrev exchangeFits : Exchange → Bool
-exchangeFits x = askedFits (x .asked)
+exchangeFits x = ltb (x .count) (2 ^ 32) && askedFits (x .asked)
 
 record RestFits (r : Rest) : Type 0 where
   asked : all exchangeFits (r .exchanges) ≡ true
-  vendor : r .vendor < 2 ^ 16
+  vendor : r .made .vendor < 2 ^ 16
   status : r .status < 256
 
 record InRange (d : Server) : Type 0 where
@@ -139,6 +141,13 @@ record PlanFits (p : Acts.Plan) : Type 0 where
   rest : RestFits (p .rest)
   brings : Brings (p .event)
 
+preference-fits : (d : Server) → Acts.preference d < 256
+preference-fits d = go (d .rest .made .prefersOverlap)
+  where
+    go : (b : Bool) → cond b 1 0 < 256
+    go true = lit< tt
+    go false = lit< tt
+
 module _ (d : Server) (g : InRange d) (c : ℕ) (small : c < 256) where
   one : (k n p : ℕ) → k < 256 → n < 256 → p < 2 ^ 32 → AllFit (Acts.say c k n p)
   one k n p a b e = (plain c k n p small a b e, tt)
@@ -153,24 +162,24 @@ module _ (d : Server) (g : InRange d) (c : ℕ) (small : c < 256) where
   opens-fit true h =
       let n = issued-small sessionLimit 0 (d .locks .entries) (d .rest .lastIssued) in
       record {
-        said = one 1 0 (min (h .param / 65536) protocolVersion * 65536 + issued sessionLimit 0 (d .locks .entries) (d .rest .lastIssued)) (lit< tt) (lit< tt) (omega arith);
-        rest = record { asked = all-set exchangeFits (d .rest .exchanges) _ freshExchange refl (g .rest .asked); vendor = g .rest .vendor; status = g .rest .status };
+        said = one 1 (Acts.preference d) (min (h .param / 65536) protocolVersion * 65536 + issued sessionLimit 0 (d .locks .entries) (d .rest .lastIssued)) (lit< tt) (preference-fits d) (omega arith);
+        rest = record { asked = all-set exchangeFits (d .rest .exchanges) _ (openExchange (d .rest .made .prefersOverlap)) refl (g .rest .asked); vendor = g .rest .vendor; status = g .rest .status };
         brings = small;
       }
-  opens-fit false h = record { said = one 18 0 (d .rest .vendor) (lit< tt) (lit< tt) (let v = g .rest .vendor in omega arith); rest = g .rest; brings = small }
+  opens-fit false h = record { said = one 18 0 (d .rest .made .vendor) (lit< tt) (lit< tt) (let v = g .rest .vendor in omega arith); rest = g .rest; brings = small }
 
-  sync-said : (k : Acts.SynchronousKind) → AllFit (Acts.synchronousSaid k c)
+  sync-said : (k : Acts.SynchronousKind) (h : Header) → AllFit (Acts.synchronousSaid k c h)
   unfolding Acts.synchronousSaid
-  sync-said Acts.k-data = tt
-  sync-said Acts.k-dataEnd = tt
-  sync-said Acts.k-trigger = tt
-  sync-said Acts.k-clearComplete = one 9 0 0 (lit< tt) (lit< tt) (lit< tt)
+  sync-said Acts.k-data h = tt
+  sync-said Acts.k-dataEnd h = tt
+  sync-said Acts.k-trigger h = tt
+  sync-said Acts.k-clearComplete h = one 9 (Exchange.bit0 (h .code)) 0 (lit< tt) (omega arith) (lit< tt)
 
   sync-exchange : (k : Acts.SynchronousKind) (h : Header) (x : Exchange) → h .param < 2 ^ 32 → exchangeFits x ≡ true → exchangeFits (Acts.synchronousExchange k h x) ≡ true
   unfolding Acts.synchronousExchange
   sync-exchange Acts.k-data h x l e = e
-  sync-exchange Acts.k-dataEnd h x l e = lt-ltb (h .param) (2 ^ 32) l
-  sync-exchange Acts.k-trigger h x l e = lt-ltb (h .param) (2 ^ 32) l
+  sync-exchange Acts.k-dataEnd h x l e = both _ _ (and-l (ltb (x .count) (2 ^ 32)) _ e) (lt-ltb (h .param) (2 ^ 32) l)
+  sync-exchange Acts.k-trigger h x l e = both _ _ (and-l (ltb (x .count) (2 ^ 32)) _ e) (lt-ltb (h .param) (2 ^ 32) l)
   sync-exchange Acts.k-clearComplete h x l e = e
 
   async-said : (k : Acts.AsynchronousKind) (i : ℕ) (h : Header) → AllFit (Acts.asynchronousSaid k d i c h)
@@ -179,7 +188,7 @@ module _ (d : Server) (g : InRange d) (c : ℕ) (small : c < 256) where
   async-said Acts.k-remoteLocal i h = one 11 0 0 (lit< tt) (lit< tt) (lit< tt)
   async-said Acts.k-maximumSize i h =
       (record { connection = small; fields = record { kind = lit< tt; code = lit< tt; param = lit< tt; length = rw (length-field 8 payloadLimit) (lit< tt); payload = bytes-field 8 payloadLimit } }, tt)
-  async-said Acts.k-deviceClear i h = one 23 0 0 (lit< tt) (lit< tt) (lit< tt)
+  async-said Acts.k-deviceClear i h = one 23 (Acts.preference d) 0 (lit< tt) (preference-fits d) (lit< tt)
   async-said Acts.k-statusQuery i h = one 22 _ 0 (lit< tt) (status-fits (d .rest .status) (availableAt h (exchangeAt (d .rest) i)) (g .rest .status)) (lit< tt)
   async-said Acts.k-lockInfo i h =
       let n = tally-le Acts.holder (d .locks .entries) in
@@ -220,7 +229,7 @@ module _ (d : Server) (g : InRange d) (c : ℕ) (small : c < 256) where
   acts-fit r-halfOpen i h p l = record { said = tt; rest = g .rest; brings = tt }
   acts-fit r-synchronous i h p l =
       let k = Acts.synchronousKind (h .kind) in
-      record { said = sync-said k; rest = with-exchange i _ (sync-exchange k h (exchangeAt (d .rest) i) l (own-exchange i)); brings = sync-brings k i h }
+      record { said = sync-said k h; rest = with-exchange i _ (sync-exchange k h (exchangeAt (d .rest) i) l (own-exchange i)); brings = sync-brings k i h }
   acts-fit r-asynchronous i h p l =
       let k = Acts.asynchronousKind (h .kind) in
       record { said = async-said k i h; rest = async-rest k i h p; brings = async-brings k i h p }
@@ -266,8 +275,16 @@ answer-kind true = lit< tt
 answer-kind false = lit< tt
 
 answered-asked : (b : Bool) (x : Exchange) → exchangeFits x ≡ true → exchangeFits (answeredWith b x) ≡ true
-answered-asked true x e = refl
-answered-asked false x e = e
+answered-asked true x e = both _ _ (lt-ltb (next (x .count)) (2 ^ 32) (next-fits (x .count))) refl
+answered-asked false x e = both _ _ (lt-ltb (next (x .count)) (2 ^ 32) (next-fits (x .count))) (and-r (ltb (x .count) (2 ^ 32)) _ e)
+
+answer-number : (x : Exchange) → exchangeFits x ≡ true → answerNumber x < 2 ^ 32
+unfolding answerNumber
+answer-number x e = go (x .overlap)
+  where
+    go : (b : Bool) → answerNumberIn b x < 2 ^ 32
+    go true = ltb-true _ _ (and-l (ltb (x .count) (2 ^ 32)) _ e)
+    go false = asked-number (x .asked) (and-r (ltb (x .count) (2 ^ 32)) _ e)
 
 neither : (a b : Bool) → (a || b) ≡ false → a ≡ false
 neither true b e = e
@@ -293,7 +310,7 @@ plan-fits d (answer n p end room) g q z =
       said = (
         record {
           connection = ltb-true _ _ (and-l (ltb ((at es i) .synchronous) 256) _ (all-at reachable es i refl (g .entries)));
-          fields = record { kind = answer-kind end; code = lit< tt; param = asked-number (x .asked) f; length = omega arith; payload = q };
+          fields = record { kind = answer-kind end; code = lit< tt; param = answer-number x f; length = omega arith; payload = q };
         },
         tt,
       );
@@ -330,7 +347,7 @@ unfolding log
 lines-fit [] d g q = tt
 lines-fit (e ∷ es) d g q = let s = step-fits d e g (q .0) in (s .frames, lines-fit es ((step d e) .server) (s .range) (q .1))
 
-fresh-range : (v : ℕ) → v < 2 ^ 16 → InRange (fresh v)
+fresh-range : (v : Making) → v .vendor < 2 ^ 16 → InRange (fresh v)
 fresh-range v l = record { inv = inv-fresh; entries = refl; rest = record { asked = refl; vendor = l; status = lit< tt } }
 
 pub sent-fits : SentFits

@@ -14,7 +14,7 @@ use Rattle.wire.specs.Class.{one-of}
 use Rattle.model.specs.Sizes.{beforeFirst, stringLimit}
 use Rattle.model.specs.MessageTypes.{AsyncLock, AsyncDeviceClear, commands}
 use Rattle.model.specs.Lists.{all, keep}
-use Rattle.model.specs.State.{Locks, Entry, Waiting, Kind, Kind.exclusive-lock, Kind.shared-lock, Standing.release-of, at, live, blank, Server, fresh}
+use Rattle.model.specs.State.{Locks, Entry, Waiting, Kind, Kind.exclusive-lock, Kind.shared-lock, Standing.release-of, at, live, blank, Server, fresh, Making}
 use Rattle.model.specs.Interface.{Event, Event.delivery, Outcome.acted, Reply.took}
 use Rattle.model.specs.Scan.{Scan}
 use Rattle.model.specs.Place.{slotOf, Role.r-asynchronous}
@@ -308,7 +308,7 @@ begins d v j k m c bs room a b q r t o f p w =
     record { number = stays; release = stood; held = held-kind ((step d e) .server .locks .entries) j m k ((inv-call d e v) .sound .firm) stood }
 
 -- after any list from the fresh server
-pub stands-on : (v : ℕ) (es : List Event) (j : ℕ) (k : Kind) (m : ℕ) → StandsOn (final (fresh v) es) j k m
+pub stands-on : (v : Making) (es : List Event) (j : ℕ) (k : Kind) (m : ℕ) → StandsOn (final (fresh v) es) j k m
 stands-on v es j k m =
     record {
       begins = λ c bs room a b q r t o f p w. begins (final (fresh v) es) (inv-run v es) j k m c bs room a b q r t o f p w;

@@ -3,7 +3,7 @@ use mathlib.Core.Path.{_≡_, refl, sym, ap, _∙_}
 use mathlib.Core.Bool.{Bool, true, false, not, _||_, cond, true≢false}
 use mathlib.Core.List.{List, [], _∷_}
 use mathlib.Core.Logic.{_⊎_, inl, inr}
-use Prim.Native.Nat.{ℕ, zero, suc, _<_}
+use Prim.Native.Nat.{ℕ, zero, suc, _%_, _<_}
 use lib.Dec.{eqb}
 use lib.ListN.{set, length, length-set}
 use lib.Seq.{getD-set-same, getD-set-other}
@@ -18,7 +18,7 @@ use Rattle.model.specs.Locks
 use Rattle.model.specs.Locks.{LockEvent, give, mayGrant, grantPass, change, settle, frees}
 use Rattle.model.specs.Exchange
 use Rattle.model.specs.Acts
-use Rattle.model.specs.Tie.{follows}
+use Rattle.model.specs.Tie.{Track, nothingYet, follows}
 use Rattle.model.proofs.Classes.{synchronousTypes, asynchronousTypes}
 use Rattle.model.proofs.Basics.{both, same?}
 use Rattle.model.proofs.Invariant.{Firm}
@@ -37,29 +37,33 @@ unfolding grantPass
 settle-num true l j = pass-num (l .waiting) (l .entries) j
 settle-num false l j = refl
 
--- of each live slot, what is pending is what f says of its number
-abbrev pub Tied : List Entry → Rest → (ℕ → Asked) → Type 0
-Tied es r f = (i : ℕ) → live (at es i) ≡ true → (exchangeAt r i) .asked ≡ f ((at es i) .number)
+-- what the log tracks, of an exchange
+abbrev pub trackOf : Exchange → Track
+trackOf x = record { overlap = x .overlap; asked = x .asked; count = x .count }
+
+-- of each live slot, it is what f says of its number
+abbrev pub Tied : List Entry → Rest → (ℕ → Track) → Type 0
+Tied es r f = (i : ℕ) → live (at es i) ≡ true → trackOf (exchangeAt r i) ≡ f ((at es i) .number)
 
 -- slot i is touched by g, its number alone is tracked by g
-pub touch : (es es′ : List Entry) (r r′ : Rest) (f f′ : ℕ → Asked) (i : ℕ) (g : Asked → Asked) → Firm es → live (at es i) ≡ true → Nums es es′
-    → (exchangeAt r′ i) .asked ≡ g ((exchangeAt r i) .asked) → ((j : ℕ) → (j ≡ i → ⊥) → (exchangeAt r′ j) .asked ≡ (exchangeAt r j) .asked)
+pub touch : (es es′ : List Entry) (r r′ : Rest) (f f′ : ℕ → Track) (i : ℕ) (g : Track → Track) → Firm es → live (at es i) ≡ true → Nums es es′
+    → trackOf (exchangeAt r′ i) ≡ g (trackOf (exchangeAt r i)) → ((j : ℕ) → (j ≡ i → ⊥) → trackOf (exchangeAt r′ j) ≡ trackOf (exchangeAt r j))
     → ((n : ℕ) → f′ n ≡ cond (eqb ((at es i) .number) n) (g (f n)) (f n)) → Tied es r f → Tied es′ r′ f′
 touch es es′ r r′ f f′ i g firm v nums here there tracks t j u = go (same? j i)
   where
     w : live (at es j) ≡ true
     w = ap (λ n. not (eqb n 0)) (sym (nums j)) ∙ u
 
-    go : (j ≡ i) ⊎ (j ≡ i → ⊥) → (exchangeAt r′ j) .asked ≡ f′ ((at es′ j) .number)
+    go : (j ≡ i) ⊎ (j ≡ i → ⊥) → trackOf (exchangeAt r′ j) ≡ f′ ((at es′ j) .number)
     go (inl e) =
-        ap (λ k. (exchangeAt r′ k) .asked) e ∙ here ∙ ap g (t i v)
+        ap (λ k. trackOf (exchangeAt r′ k)) e ∙ here ∙ ap g (t i v)
         ∙ sym (ap f′ (nums j ∙ ap (λ k. (at es k) .number) e) ∙ tracks ((at es i) .number) ∙ ap (λ b. cond b (g (f ((at es i) .number))) (f ((at es i) .number))) (eq-eqb ((at es i) .number) ((at es i) .number) refl))
     go (inr n) =
         there j n ∙ t j w
         ∙ sym (ap f′ (nums j) ∙ tracks ((at es j) .number) ∙ ap (λ b. cond b (g (f ((at es j) .number))) (f ((at es j) .number))) (ne-eqb ((at es i) .number) ((at es j) .number) (λ e. n (firm .numbers ((at es i) .number) j i (both _ _ w (eq-eqb _ _ (sym e))) (both _ _ v (eq-eqb ((at es i) .number) ((at es i) .number) refl))))))
 
 -- nothing is touched
-pub rest-same : (es es′ : List Entry) (r r′ : Rest) (f f′ : ℕ → Asked) → Nums es es′ → ((j : ℕ) → (exchangeAt r′ j) .asked ≡ (exchangeAt r j) .asked) → ((n : ℕ) → f′ n ≡ f n) → Tied es r f → Tied es′ r′ f′
+pub rest-same : (es es′ : List Entry) (r r′ : Rest) (f f′ : ℕ → Track) → Nums es es′ → ((j : ℕ) → trackOf (exchangeAt r′ j) ≡ trackOf (exchangeAt r j)) → ((n : ℕ) → f′ n ≡ f n) → Tied es r f → Tied es′ r′ f′
 rest-same es es′ r r′ f f′ nums there tracks t j u = there j ∙ t j (ap (λ n. not (eqb n 0)) (sym (nums j)) ∙ u) ∙ sym (ap f′ (nums j) ∙ tracks ((at es j) .number))
 
 -- extras after a store
@@ -121,7 +125,7 @@ blank-set (x ∷ es) zero = refl
 blank-set (x ∷ es) (suc i) = blank-set es i
 
 -- a closing
-pub drop-tied : (l : Locks) (i : ℕ) (r r′ : Rest) (f f′ : ℕ → Asked) → ((j : ℕ) → (j ≡ i → ⊥) → exchangeAt r′ j ≡ exchangeAt r j) → ((n : ℕ) → f′ n ≡ f n)
+pub drop-tied : (l : Locks) (i : ℕ) (r r′ : Rest) (f f′ : ℕ → Track) → ((j : ℕ) → (j ≡ i → ⊥) → exchangeAt r′ j ≡ exchangeAt r j) → ((n : ℕ) → f′ n ≡ f n)
     → Tied (l .entries) r f → Tied (ends l (LockEvent.close i)) r′ f′
 unfolding change
 drop-tied l i r r′ f f′ there tracks t j u = go (same? j i)
@@ -135,70 +139,70 @@ drop-tied l i r r′ f f′ there tracks t j u = go (same? j i)
     w : live (at es′ j) ≡ true
     w = ap (λ n. not (eqb n 0)) (sym nums) ∙ u
 
-    go : (j ≡ i) ⊎ (j ≡ i → ⊥) → (exchangeAt r′ j) .asked ≡ f′ ((at (ends l (LockEvent.close i)) j) .number)
+    go : (j ≡ i) ⊎ (j ≡ i → ⊥) → trackOf (exchangeAt r′ j) ≡ f′ ((at (ends l (LockEvent.close i)) j) .number)
     go (inl e) = absurd (true≢false (sym w ∙ ap live (ap (at es′) e ∙ blank-set (l .entries) i)))
     go (inr n) =
         let same : at es′ j ≡ at (l .entries) j = getD-set-other (l .entries) i j blank blank n in
-        ap (λ (x : Exchange). x .asked) (there j n) ∙ t j (sym (ap live same) ∙ w) ∙ sym (ap f′ (nums ∙ ap (λ (x : Entry). x .number) same) ∙ tracks ((at (l .entries) j) .number))
+        ap trackOf (there j n) ∙ t j (sym (ap live same) ∙ w) ∙ sym (ap f′ (nums ∙ ap (λ (x : Entry). x .number) same) ∙ tracks ((at (l .entries) j) .number))
 
 -- an opening
-pub enter-tied : (l : Locks) (i n c : ℕ) (r r′ : Rest) (f f′ : ℕ → Asked) → Enters (l .entries) i n c → (exchangeAt r′ i) .asked ≡ none → ((j : ℕ) → (j ≡ i → ⊥) → exchangeAt r′ j ≡ exchangeAt r j)
-    → ((m : ℕ) → f′ m ≡ cond (eqb n m) none (f m)) → Tied (l .entries) r f → Tied (ends l (LockEvent.enter i n c)) r′ f′
+pub enter-tied : (l : Locks) (i n c : ℕ) (r r′ : Rest) (f f′ : ℕ → Track) (z : Track) → Enters (l .entries) i n c → trackOf (exchangeAt r′ i) ≡ z → ((j : ℕ) → (j ≡ i → ⊥) → exchangeAt r′ j ≡ exchangeAt r j)
+    → ((m : ℕ) → f′ m ≡ cond (eqb n m) z (f m)) → Tied (l .entries) r f → Tied (ends l (LockEvent.enter i n c)) r′ f′
 unfolding change
-enter-tied l i n c r r′ f f′ x here there tracks t j u = go (same? j i)
+enter-tied l i n c r r′ f f′ z x here there tracks t j u = go (same? j i)
   where
     es′ : List Entry
     es′ = set (l .entries) i (Locks.opened n c)
 
-    go : (j ≡ i) ⊎ (j ≡ i → ⊥) → (exchangeAt r′ j) .asked ≡ f′ ((at es′ j) .number)
+    go : (j ≡ i) ⊎ (j ≡ i → ⊥) → trackOf (exchangeAt r′ j) ≡ f′ ((at es′ j) .number)
     go (inl e) =
-        ap (λ k. (exchangeAt r′ k) .asked) e ∙ here
-        ∙ sym (ap f′ (ap (λ k. (at es′ k) .number) e ∙ ap (λ (y : Entry). y .number) (getD-set-same (l .entries) i (Locks.opened n c) blank (x .within))) ∙ tracks n ∙ ap (λ b. cond b none (f n)) (eq-eqb n n refl))
+        ap (λ k. trackOf (exchangeAt r′ k)) e ∙ here
+        ∙ sym (ap f′ (ap (λ k. (at es′ k) .number) e ∙ ap (λ (y : Entry). y .number) (getD-set-same (l .entries) i (Locks.opened n c) blank (x .within))) ∙ tracks n ∙ ap (λ b. cond b z (f n)) (eq-eqb n n refl))
     go (inr d) =
         let same : at es′ j ≡ at (l .entries) j = getD-set-other (l .entries) i j (Locks.opened n c) blank d in
         let w : live (at (l .entries) j) ≡ true = sym (ap live same) ∙ u in
-        ap (λ (y : Exchange). y .asked) (there j d) ∙ t j w
-        ∙ sym (ap f′ (ap (λ (y : Entry). y .number) same) ∙ tracks ((at (l .entries) j) .number) ∙ ap (λ b. cond b none (f ((at (l .entries) j) .number))) (ne-eqb n ((at (l .entries) j) .number) (λ e. x .fresh j (both _ _ w (eq-eqb _ _ (sym e))))))
+        ap trackOf (there j d) ∙ t j w
+        ∙ sym (ap f′ (ap (λ (y : Entry). y .number) same) ∙ tracks ((at (l .entries) j) .number) ∙ ap (λ b. cond b z (f ((at (l .entries) j) .number))) (ne-eqb n ((at (l .entries) j) .number) (λ e. x .fresh j (both _ _ w (eq-eqb _ _ (sym e))))))
 
--- kinds: what each does to what is pending, and that the type on the wire says so
-pub syncPending : Acts.SynchronousKind → ℕ → Asked → Asked
-syncPending Acts.k-data x p = p
-syncPending Acts.k-dataEnd x p = some x
-syncPending Acts.k-trigger x p = some x
-syncPending Acts.k-clearComplete x p = p
+-- kinds: what each does to it, and that the type on the wire says so
+pub syncPending : Acts.SynchronousKind → ℕ → ℕ → Track → Track
+syncPending Acts.k-data k x p = p
+syncPending Acts.k-dataEnd k x p = record { overlap = p .overlap; asked = some x; count = p .count }
+syncPending Acts.k-trigger k x p = record { overlap = p .overlap; asked = some x; count = p .count }
+syncPending Acts.k-clearComplete k x p = record { overlap = eqb (k % 2) 1; asked = p .asked; count = p .count }
 
-pub sync-extra : (k : Acts.SynchronousKind) (h : Header) (x : Exchange) → (Acts.synchronousExchange k h x) .asked ≡ syncPending k (h .param) (x .asked)
+pub sync-extra : (k : Acts.SynchronousKind) (h : Header) (x : Exchange) → trackOf (Acts.synchronousExchange k h x) ≡ syncPending k (h .code) (h .param) (trackOf x)
 unfolding Acts.synchronousExchange syncPending
 sync-extra Acts.k-data h x = refl
 sync-extra Acts.k-dataEnd h x = refl
 sync-extra Acts.k-trigger h x = refl
 sync-extra Acts.k-clearComplete h x = refl
 
-pub sync-follows : (x : ℕ) (p : Asked) (t : ℕ) → one-of synchronousTypes t ≡ true → eqb t 0 ≡ false → follows t x p ≡ syncPending (Acts.synchronousKind t) x p
+pub sync-follows : (b : Bool) (k x : ℕ) (p : Track) (t : ℕ) → one-of synchronousTypes t ≡ true → eqb t 2 ≡ false → eqb t 3 ≡ false → eqb t 0 ≡ false → follows b t k x p ≡ syncPending (Acts.synchronousKind t) k x p
 unfolding syncPending
-sync-follows x p t e =
-    each-of (λ t. eqb t 0 ≡ false → follows t x p ≡ syncPending (Acts.synchronousKind t) x p) synchronousTypes ((λ z. absurd (true≢false z)), ((λ z. refl), ((λ z. refl), ((λ z. refl), ((λ z. refl), ((λ z. refl), ((λ z. refl), tt))))))) t e
+sync-follows b k x p t e =
+    each-of (λ t. eqb t 2 ≡ false → eqb t 3 ≡ false → eqb t 0 ≡ false → follows b t k x p ≡ syncPending (Acts.synchronousKind t) k x p) synchronousTypes ((λ u v z. absurd (true≢false z)), ((λ u v z. absurd (true≢false u)), ((λ u v z. absurd (true≢false v)), ((λ u v z. refl), ((λ u v z. refl), ((λ u v z. refl), ((λ u v z. refl), tt))))))) t e
 
-pub asyncPending : Acts.AsynchronousKind → Asked → Asked
+pub asyncPending : Acts.AsynchronousKind → Track → Track
 asyncPending Acts.k-lock p = p
 asyncPending Acts.k-remoteLocal p = p
 asyncPending Acts.k-maximumSize p = p
-asyncPending Acts.k-deviceClear p = none
+asyncPending Acts.k-deviceClear p = nothingYet (p .overlap)
 asyncPending Acts.k-statusQuery p = p
 asyncPending Acts.k-lockInfo p = p
 
-pub async-follows : (x : ℕ) (p : Asked) (t : ℕ) → one-of asynchronousTypes t ≡ true → eqb t 17 ≡ false → follows t x p ≡ asyncPending (Acts.asynchronousKind t) p
+pub async-follows : (b : Bool) (k x : ℕ) (p : Track) (t : ℕ) → one-of asynchronousTypes t ≡ true → eqb t 17 ≡ false → follows b t k x p ≡ asyncPending (Acts.asynchronousKind t) p
 unfolding asyncPending
-async-follows x p t e =
-    each-of (λ t. eqb t 17 ≡ false → follows t x p ≡ asyncPending (Acts.asynchronousKind t) p) asynchronousTypes ((λ z. refl), ((λ z. refl), ((λ z. refl), ((λ z. refl), ((λ z. refl), ((λ z. absurd (true≢false z)), ((λ z. refl), ((λ z. refl), ((λ z. refl), tt))))))))) t e
+async-follows b k x p t e =
+    each-of (λ t. eqb t 17 ≡ false → follows b t k x p ≡ asyncPending (Acts.asynchronousKind t) p) asynchronousTypes ((λ z. refl), ((λ z. refl), ((λ z. refl), ((λ z. refl), ((λ z. refl), ((λ z. absurd (true≢false z)), ((λ z. refl), ((λ z. refl), ((λ z. refl), tt))))))))) t e
 
-pub async-here : (k : Acts.AsynchronousKind) (r : Rest) (i : ℕ) (h : Header) (p : List ℕ) → i < length (r .exchanges) → (exchangeAt (Acts.asynchronousRest k r i h p) i) .asked ≡ asyncPending k ((exchangeAt r i) .asked)
+pub async-here : (k : Acts.AsynchronousKind) (r : Rest) (i : ℕ) (h : Header) (p : List ℕ) → i < length (r .exchanges) → trackOf (exchangeAt (Acts.asynchronousRest k r i h p) i) ≡ asyncPending k (trackOf (exchangeAt r i))
 unfolding Acts.asynchronousRest asyncPending
 async-here Acts.k-lock r i h p l = refl
 async-here Acts.k-remoteLocal r i h p l = refl
-async-here Acts.k-maximumSize r i h p l = ap (λ (x : Exchange). x .asked) (extra-here r i (Exchange.withClientSize (number p) (exchangeAt r i)) l)
-async-here Acts.k-deviceClear r i h p l = ap (λ (x : Exchange). x .asked) (extra-here r i (Exchange.enterClear (exchangeAt r i)) l)
-async-here Acts.k-statusQuery r i h p l = ap (λ (x : Exchange). x .asked) (extra-here r i (Exchange.noteRmt (h .code) (exchangeAt r i)) l)
+async-here Acts.k-maximumSize r i h p l = ap trackOf (extra-here r i (Exchange.withClientSize (number p) (exchangeAt r i)) l)
+async-here Acts.k-deviceClear r i h p l = ap trackOf (extra-here r i (Exchange.enterClear (exchangeAt r i)) l)
+async-here Acts.k-statusQuery r i h p l = ap trackOf (extra-here r i (Exchange.noteRmt (h .code) (exchangeAt r i)) l)
 async-here Acts.k-lockInfo r i h p l = refl
 
 pub async-there : (k : Acts.AsynchronousKind) (r : Rest) (i : ℕ) (h : Header) (p : List ℕ) (j : ℕ) → (j ≡ i → ⊥) → exchangeAt (Acts.asynchronousRest k r i h p) j ≡ exchangeAt r j

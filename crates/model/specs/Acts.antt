@@ -14,7 +14,7 @@ use Rattle.model.specs.State.{Server, Rest, Entry, Exchange, at, slotOfN
 use Rattle.model.specs.Interface.{Reply, Reply.took, Outcome.acted}
 use Rattle.model.specs.Place.{Role, Role.r-none, Role.r-halfOpen, Role.r-synchronous, Role.r-asynchronous}
 use Rattle.model.specs.Locks.{LockEvent, LockEvent.nothing, LockEvent.enter, LockEvent.join, LockEvent.request, LockEvent.release, LockEvent.command, LockEvent.clear, noExclusive, noShared, issued}
-use Rattle.model.specs.Exchange.{noteRmt, ask, enterClear, leaveClear, withClientSize, availableAt, statusByte, controlled}
+use Rattle.model.specs.Exchange.{noteRmt, ask, enterClear, leaveClear, withClientSize, bit0, availableAt, statusByte, controlled}
 
 -- what a call does: its reply, all but the locks, what it says directly, and its event for the locks
 pub record Plan : Type 0 where
@@ -27,6 +27,10 @@ pub record Plan : Type 0 where
 abbrev pub say : ℕ → ℕ → ℕ → ℕ → List Frame
 say c t n p = frameOf c t n p [] ∷ []
 
+-- 02, Q-1: InitializeResponse and type 23 carry the preferred mode in bit 0
+abbrev pub preference : Server → ℕ
+preference d = cond (d .rest .made .prefersOverlap) 1 0
+
 -- "Opening a session": Initialize (true) and AsyncInitialize (false), on a connection without a role
 abbrev pub opens : Bool → Server → ℕ → Header → Plan
 opens true d c h =
@@ -36,8 +40,8 @@ opens true d c h =
     record {
       reply = took acted (16 + h .len) n;
       rest = withSession (d .rest) i n;
-      -- control 0; upper half the smaller of client version and 0100 hex; lower half the SessionID
-      said = say c InitializeResponse 0 (min (h .param / 65536) protocolVersion * 65536 + n);
+      -- control 0 (02, Q-1: the preference in bit 0); upper half the smaller of client version and 0100 hex; lower half the SessionID
+      said = say c InitializeResponse (preference d) (min (h .param / 65536) protocolVersion * 65536 + n);
       event = enter i n c;
     }
 opens false d c h =
@@ -45,7 +49,7 @@ opens false d c h =
       reply = took acted (16 + h .len) (h .param);
       rest = d .rest;
       -- vendor number in the lower half
-      said = say c AsyncInitializeResponse 0 (d .rest .vendor);
+      said = say c AsyncInitializeResponse 0 (d .rest .made .vendor);
       event = join (slotOfNumber (d .locks .entries) (h .param)) c;
     }
 
@@ -60,13 +64,14 @@ unfoldable pub synchronousExchange : SynchronousKind → Header → Exchange →
 synchronousExchange k-data h x = noteRmt (h .code) x
 synchronousExchange k-dataEnd h x = ask (h .code) (h .param) x
 synchronousExchange k-trigger h x = ask (h .code) (h .param) x
-synchronousExchange k-clearComplete h x = leaveClear x
+synchronousExchange k-clearComplete h x = leaveClear (h .code) x
 
-unfoldable pub synchronousSaid : SynchronousKind → ℕ → List Frame
-synchronousSaid k-data c = []
-synchronousSaid k-dataEnd c = []
-synchronousSaid k-trigger c = []
-synchronousSaid k-clearComplete c = say c DeviceClearAcknowledge 0 0
+-- 02, Q-1: type 9 carries what DeviceClearComplete asked
+unfoldable pub synchronousSaid : SynchronousKind → ℕ → Header → List Frame
+synchronousSaid k-data c h = []
+synchronousSaid k-dataEnd c h = []
+synchronousSaid k-trigger c h = []
+synchronousSaid k-clearComplete c h = say c DeviceClearAcknowledge (bit0 (h .code)) 0
 
 -- 02, Q-3: a Data, DataEND or Trigger of its number
 abbrev pub synchronousEvent : SynchronousKind → ℕ → Header → LockEvent
@@ -103,7 +108,7 @@ unfoldable pub asynchronousSaid : AsynchronousKind → Server → ℕ → ℕ �
 asynchronousSaid k-lock d i c h = []
 asynchronousSaid k-remoteLocal d i c h = say c AsyncRemoteLocalResponse 0 0
 asynchronousSaid k-maximumSize d i c h = frameOf c AsyncMaximumMessageSizeResponse 0 0 (field 8 payloadLimit) ∷ []
-asynchronousSaid k-deviceClear d i c h = say c AsyncDeviceClearAcknowledge 0 0
+asynchronousSaid k-deviceClear d i c h = say c AsyncDeviceClearAcknowledge (preference d) 0
 asynchronousSaid k-statusQuery d i c h = say c AsyncStatusResponse (statusByte (d .rest .status) (availableAt h (exchangeAt (d .rest) i))) 0
 asynchronousSaid k-lockInfo d i c h = say c AsyncLockInfoResponse (cond (all noExclusive (d .locks .entries)) 0 1) (tally holder (d .locks .entries))
 
@@ -129,7 +134,7 @@ acts r-synchronous d i c h p =
     record {
       reply = took acted (16 + h .len) ((at (d .locks .entries) i) .number);
       rest = withExchange (d .rest) i (synchronousExchange k h (exchangeAt (d .rest) i));
-      said = synchronousSaid k c;
+      said = synchronousSaid k c h;
       event = synchronousEvent k i h;
     }
 acts r-asynchronous d i c h p =

@@ -8,7 +8,7 @@ use lib.Dec.{eqb}
 use lib.ListN.{length}
 use Rattle.model.specs.Sizes.{sessionLimit}
 use Rattle.model.specs.Lists.{all}
-use Rattle.model.specs.State.{Locks, at, live, fresh}
+use Rattle.model.specs.State.{Locks, at, live, fresh, Making}
 use Rattle.model.specs.Interface.{Event}
 use Rattle.model.specs.Locks.{LockEvent.request, holds, mayGrant, elsewhere, invalidBy, ruling, respond, change}
 use Rattle.model.specs.Step.{final}
@@ -22,5 +22,5 @@ pub record RoomToWait (l : Locks) (i : ℕ) : Type 0 where
       ≡ respond (ruling (holds k (at (l .entries) i)) (all (elsewhere i) (l .waiting)) (invalidBy k (at (l .entries) i)) (mayGrant (l .entries) i k) (eqb t 0)) l i t k
 
 -- after any list from the fresh server, for the session in any slot
-pub record AlwaysRoom (v : ℕ) (es : List Event) : Type 0 where
+pub record AlwaysRoom (v : Making) (es : List Event) : Type 0 where
   pub room : (i : ℕ) → live (at ((final (fresh v) es) .locks .entries) i) ≡ true → RoomToWait ((final (fresh v) es) .locks) i

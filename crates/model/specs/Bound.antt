@@ -5,7 +5,7 @@ use mathlib.Core.List.{List}
 use lib.ListN.{length}
 use Rattle.wire.specs.Frame.{bytesOf}
 use Rattle.model.specs.Sizes.{payloadLimit, sessionLimit, outputMinimum}
-use Rattle.model.specs.State.{Server, fresh}
+use Rattle.model.specs.State.{Server, fresh, Making}
 use Rattle.model.specs.Interface.{Event, Event.opening, Event.delivery, Event.cut, Event.clock, Event.answer, Event.status}
 use Rattle.model.specs.Refusals.{refusal}
 use Rattle.model.specs.Step.{step, final}
@@ -42,14 +42,14 @@ pub record Bound (d : Server) : Type 0 where
   pub has-room : (e : Event) → refusal d e ≡ 0 → length (bytesOf ((step d e) .frames)) ≤ roomOf e
 
 -- after any list from the fresh server
-pub record BoundRun (v : ℕ) (es : List Event) : Type 0 where
+pub record BoundRun (v : Making) (es : List Event) : Type 0 where
   pub waiting : length ((final (fresh v) es) .locks .waiting) ≤ sessionLimit
   pub bound : Bound (final (fresh v) es)
 
 pub record OutputFits : Type 0 where
   pub any-server : (d : Server) (e : Event) → Output d e
   pub few-waiting : (d : Server) → length (d .locks .waiting) ≤ sessionLimit → Bound d
-  pub any-run : (v : ℕ) (es : List Event) → BoundRun v es
+  pub any-run : (v : Making) (es : List Event) → BoundRun v es
   -- the sum: 17 + 1,024 + 17 * 32 + 17 * 4
   pub sum : outputBound ≡ 1653
   -- 01, refusal 7: an output buffer under 2,048; Q-6: it may stay so

@@ -26,7 +26,7 @@ use Rattle.model.specs.Canonical.{canonical}
 use Rattle.model.specs.Agreement.{isLock}
 use Rattle.model.specs.Fewer.{answers1}
 use Rattle.model.specs.Bound.{outputBound}
-use Rattle.model.specs.Table.{message, send, request, release, cal, Cal, initialize, three}
+use Rattle.model.specs.Table.{benchMaking, message, send, request, release, cal, Cal, initialize, three}
 
 -- a call on a server, and a test of its result
 pub record Case : Type 0 where
@@ -39,7 +39,7 @@ passes x = x .test (step (x .server) (x .call))
 
 -- a call after a list
 after : List Event → Event → (Result → Bool) → Case
-after b e t = record { server = final (fresh 0x4141) b; call = e; test = t }
+after b e t = record { server = final (fresh benchMaking) b; call = e; test = t }
 
 -- parts of a result
 isHeld : Reply → Bool
@@ -96,10 +96,10 @@ access-cases =
 -- L. The last issued was 65,534, 65,535, or 65,535 with 1 live
 withLast : ℕ → List Event → Server
 withLast n b =
-    let d = final (fresh 0x4141) b in
+    let d = final (fresh benchMaking) b in
     record {
       locks = d .locks;
-      rest = record { exchanges = d .rest .exchanges; connections = d .rest .connections; lastIssued = n; vendor = d .rest .vendor; status = d .rest .status; remoteLocal = d .rest .remoteLocal };
+      rest = record { exchanges = d .rest .exchanges; connections = d .rest .connections; lastIssued = n; made = d .rest .made; status = d .rest .status; remoteLocal = d .rest .remoteLocal };
     }
 
 pub number-cases : List Case
@@ -180,7 +180,7 @@ fewer-cases =
 -- a server on which B shares a string, whether or not it could have come to that
 sharing : List ℕ → Server
 sharing k =
-    let d = final (fresh 0x4141) three in
+    let d = final (fresh benchMaking) three in
     let b = at (d .locks .entries) 1 in
     let e : Entry = withLocks (b .exclusive) k b in
     record { locks = record { clock = d .locks .clock; entries = set (d .locks .entries) 1 e; waiting = d .locks .waiting }; rest = d .rest }
@@ -214,7 +214,7 @@ shapes (status b ∷ es) = 6 ∷ b ∷ shapes es
 
 pub fixed-case : Bool
 fixed-case =
-    let d = fresh 0x4141 in
+    let d = fresh benchMaking in
     let once = canonical d mixed in
     same (shapes (canonical d once)) (shapes once) && eqb (length once) 18
 

@@ -10,7 +10,7 @@ use Rattle.wire.specs.Message.{header, encode, headerBytes}
 use Rattle.wire.specs.Frame.{frameBytes, bytesOf}
 use Rattle.wire.specs.Class.{classOf}
 use Rattle.model.specs.Sizes.{sessionLimit}
-use Rattle.model.specs.State.{Server, RemoteLocal, fresh, withSession}
+use Rattle.model.specs.State.{Making, Server, RemoteLocal, fresh, withSession}
 use Rattle.model.specs.Interface.{Event, Event.opening, Event.delivery, Event.cut, Event.clock, Event.answer, Event.status, Outcome.more-needed, Outcome.skipped, Outcome.held, Outcome.ignored, Outcome.error-sent, Outcome.closed, Outcome.acted, Reply.refused, Reply.done, Reply.took, outcomeNumber, deliveryAnswer, doneAnswer}
 use Rattle.model.specs.Scan.{freshScan, scan}
 use Rattle.model.specs.Place.{placeOf}
@@ -20,7 +20,7 @@ use Rattle.model.specs.Checks.{verdict}
 use Rattle.model.specs.Acts.{acts, synchronousExchange, synchronousSaid, asynchronousRest, asynchronousSaid, asynchronousEvent}
 use Rattle.model.specs.Refusals.{refusal, causes}
 use Rattle.model.specs.Step.{final, log, step, answered, plan, finish, received, effect}
-use Rattle.model.specs.Table.{Corner, corner, found, sought, message, send, request, release, releaseOf, cal, Cal, eightZeros, initialize, asyncInitialize, three}
+use Rattle.model.specs.Table.{benchMaking, Corner, corner, found, foundOn, sought, message, send, request, release, releaseOf, cal, Cal, eightZeros, initialize, asyncInitialize, three}
 
 -- a message without payload and with parameter 0, to a connection
 abbrev plain : ℕ → ℕ → ℕ → List ℕ
@@ -252,6 +252,63 @@ pub releases-hold : map found releases ≡ map sought releases
 unfolding releases log final step refusal causes answered plan finish received effect verdict placeOf acts synchronousExchange synchronousSaid asynchronousRest asynchronousSaid asynchronousEvent controlled mayAnswer answerNumber availableAt scan freshScan header field encode headerBytes frameBytes bytesOf classOf mayGrant access passOver grantPass change
 releases-hold = refl
 
+-- 02, Q-1: overlap mode. A server that prefers it; A cleared into the other mode and back
+abbrev overlapMaking : Making
+overlapMaking = record { vendor = 0x4141; prefersOverlap = true }
+
+-- an answer to A: Data or DataEND with a number ending in n
+abbrev reply : ℕ → ℕ → List ℕ
+reply t n = 0 ∷ 0x48 ∷ 0x53 ∷ t ∷ 0 ∷ 0xff ∷ 0xff ∷ 0xff ∷ n ∷ eightZeros
+
+abbrev cleared : ℕ → List Event
+cleared k = send 1 (message 19 0 0 []) ∷ send 0 (message 8 k 0 []) ∷ []
+
+pub overlapping : List Corner
+overlapping =
+    -- types 1 and 23 carry the preference; type 9 what was asked, whatever the preference and the other bits
+    corner (opening 0 ∷ []) (send 0 initialize) (took acted 16 1) (0 ∷ 0x48 ∷ 0x53 ∷ 1 ∷ 1 ∷ 1 ∷ 0 ∷ 0 ∷ 1 ∷ eightZeros)
+    ∷ corner three (send 1 (message 19 0 0 [])) (took acted 16 1) (plain 1 23 1)
+    ∷ corner (three ++ (send 1 (message 19 0 0 []) ∷ [])) (send 0 (message 8 0xfe 0 [])) (took acted 16 1) (plain 0 9 0)
+    ∷ corner (three ++ (send 1 (message 19 0 0 []) ∷ [])) (send 0 (message 8 0xff 0 [])) (took acted 16 1) (plain 0 9 1)
+    ∷ corner (three ++ cleared 0) (send 1 (message 19 0 0 [])) (took acted 16 1) (plain 1 23 1)
+    -- answers are counted, asked or not, Data and DataEND alike; a clear resets the count; 5 half-open and in a clear alone
+    ∷ corner three (answer 1 [] true 2048) done (reply 7 0)
+    ∷ corner (three ++ (send 0 (message 7 0 5 []) ∷ answer 1 [] true 2048 ∷ [])) (answer 1 [] false 2048) done (reply 6 2)
+    ∷ corner (three ++ (answer 1 [] true 2048 ∷ answer 1 [] true 2048 ∷ cleared 1)) (answer 1 [] true 2048) done (reply 7 0)
+    ∷ corner (opening 0 ∷ send 0 initialize ∷ []) (answer 1 [] true 2048) (refused 5) []
+    ∷ corner (three ++ (send 1 (message 19 0 0 []) ∷ [])) (answer 1 [] true 2048) (refused 5) []
+    -- cleared into synchronized mode: refusal 5 till something is asked, whose number is sent
+    ∷ corner (three ++ cleared 0) (answer 1 [] true 2048) (refused 5) []
+    ∷ corner (three ++ (answer 1 [] true 2048 ∷ cleared 0 ++ (send 0 (message 7 0 0xffffff44 []) ∷ []))) (answer 1 [] true 2048) done (reply 7 0x44)
+    -- message available: none sent; another number than the last one sent; the last one; RMT-delivered has no effect; after a clear
+    ∷ corner three (send 1 (message 21 0 7 [])) (took acted 16 1) (plain 1 22 0)
+    ∷ corner (three ++ (answer 1 [] true 2048 ∷ [])) (send 1 (message 21 0 0xfffffefe [])) (took acted 16 1) (plain 1 22 16)
+    ∷ corner (three ++ (answer 1 [] true 2048 ∷ [])) (send 1 (message 21 1 0xffffff02 [])) (took acted 16 1) (plain 1 22 16)
+    ∷ corner (three ++ (answer 1 [] true 2048 ∷ [])) (send 1 (message 21 0 0xffffff00 [])) (took acted 16 1) (plain 1 22 0)
+    ∷ corner (three ++ (answer 1 [] true 2048 ∷ cleared 1)) (send 1 (message 21 0 7 [])) (took acted 16 1) (plain 1 22 0)
+    -- the lock rules are the same
+    ∷ corner exclusive (send 2 (message 6 0 0 cal)) (took held 0 0) []
+    ∷ corner stood (send 0 (message 7 0 0xffffff02 [])) (took acted 16 1) (plain 1 5 1)
+    ∷ []
+
+pub overlapping-hold : map (foundOn overlapMaking) overlapping ≡ map sought overlapping
+unfolding overlapping log final step refusal causes answered plan finish received effect verdict placeOf acts synchronousExchange synchronousSaid asynchronousRest asynchronousSaid asynchronousEvent controlled mayAnswer answerNumber availableAt scan freshScan header field encode headerBytes frameBytes bytesOf classOf mayGrant access passOver grantPass change
+overlapping-hold = refl
+
+-- the same server, preferring synchronized mode, cleared into overlap mode
+pub switched : List Corner
+switched =
+    corner (three ++ cleared 1) (answer 1 [] true 2048) done (reply 7 0)
+    ∷ corner (three ++ (send 0 (message 7 0 5 []) ∷ answer 1 [] true 2048 ∷ cleared 1)) (answer 1 [] true 2048) done (reply 7 0)
+    ∷ corner (three ++ (send 0 (message 7 0 5 []) ∷ answer 1 [] true 2048 ∷ cleared 1)) (send 1 (message 21 0 7 [])) (took acted 16 1) (plain 1 22 0)
+    ∷ corner three (send 1 (message 19 0 0 [])) (took acted 16 1) (plain 1 23 0)
+    ∷ corner (three ++ cleared 1) (answer 2 [] true 2048) (refused 5) []
+    ∷ []
+
+pub switched-hold : map found switched ≡ map sought switched
+unfolding switched log final step refusal causes answered plan finish received effect verdict placeOf acts synchronousExchange synchronousSaid asynchronousRest asynchronousSaid asynchronousEvent controlled mayAnswer answerNumber availableAt scan freshScan header field encode headerBytes frameBytes bytesOf classOf mayGrant access passOver grantPass change
+switched-hold = refl
+
 -- clear, status, remote, sizes, answers
 pub exchanges : List Corner
 exchanges =
@@ -347,7 +404,7 @@ places-hold = refl
 
 -- SessionIDs with 1, 2 and 3 live: from 65,535 back to 1, passing over live ones
 abbrev issuedAfter : ℕ → ℕ
-issuedAfter last = issued sessionLimit 0 ((final (fresh 0x4141) three) .locks .entries) last
+issuedAfter last = issued sessionLimit 0 ((final (fresh benchMaking) three) .locks .entries) last
 
 pub numbers-hold : map issuedAfter (0 ∷ 2 ∷ 3 ∷ 7 ∷ 65534 ∷ 65535 ∷ []) ≡ 4 ∷ 4 ∷ 4 ∷ 8 ∷ 65535 ∷ 4 ∷ []
 unfolding log final step refusal causes answered plan finish received effect verdict placeOf acts synchronousExchange synchronousSaid asynchronousRest asynchronousSaid asynchronousEvent controlled mayAnswer answerNumber availableAt scan freshScan header field encode headerBytes frameBytes bytesOf classOf mayGrant access passOver grantPass change
@@ -355,7 +412,7 @@ numbers-hold = refl
 
 -- and a new session gets such a number: after 65,535, with 1, 2 and 3 live
 abbrev wrapped : Server
-wrapped = let d = final (fresh 0x4141) (three ++ (opening 6 ∷ [])) in record { locks = d .locks; rest = withSession (d .rest) 9 65535 }
+wrapped = let d = final (fresh benchMaking) (three ++ (opening 6 ∷ [])) in record { locks = d .locks; rest = withSession (d .rest) 9 65535 }
 
 pub wrapped-hold : bytesOf ((step wrapped (send 6 initialize)) .frames) ≡ 6 ∷ 0x48 ∷ 0x53 ∷ 1 ∷ 0 ∷ 1 ∷ 0 ∷ 0 ∷ 4 ∷ eightZeros
 unfolding log final step refusal causes answered plan finish received effect verdict placeOf acts synchronousExchange synchronousSaid asynchronousRest asynchronousSaid asynchronousEvent controlled mayAnswer answerNumber availableAt scan freshScan header field encode headerBytes frameBytes bytesOf classOf mayGrant access passOver grantPass change
@@ -376,7 +433,7 @@ unfolding flagsTable controlled
 flags-hold = refl
 
 -- the message on the wire reaches them: after code 5 all three are on, and a closing leaves them so
-pub flags-kept : (final (fresh 0x4141) (three ++ (send 1 (message 10 5 0 []) ∷ cut 0 2048 ∷ []))) .rest .remoteLocal ≡ flags true true true
+pub flags-kept : (final (fresh benchMaking) (three ++ (send 1 (message 10 5 0 []) ∷ cut 0 2048 ∷ []))) .rest .remoteLocal ≡ flags true true true
 unfolding log final step refusal causes answered plan finish received effect verdict placeOf acts synchronousExchange synchronousSaid asynchronousRest asynchronousSaid asynchronousEvent controlled mayAnswer answerNumber availableAt scan freshScan header field encode headerBytes frameBytes bytesOf classOf mayGrant access passOver grantPass change
 flags-kept = refl
 

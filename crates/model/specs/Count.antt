@@ -6,7 +6,7 @@ use mathlib.Core.List.{List, [], _∷_}
 use Prim.Native.Nat.{ℕ, _+_}
 use lib.Dec.{eqb}
 use Rattle.model.specs.Lists.{tally}
-use Rattle.model.specs.State.{Entry, Server, fresh}
+use Rattle.model.specs.State.{Entry, Server, fresh, Making}
 use Rattle.model.specs.Interface.{Event, Outcome, Outcome.more-needed, Outcome.skipped, Outcome.held, Outcome.ignored, Outcome.error-sent, Outcome.closed, Outcome.acted}
 use Rattle.model.specs.Locks.{noShared}
 use Rattle.model.specs.Step.{final, log}
@@ -61,6 +61,6 @@ pub record Balanced (d : Server) (m : Model) (es : List Event) : Type 0 where
       ≡ count isRelease ((modelRun m (feeds (log d es))) .told) + dropped m (feeds (log d es)) + locksHeld ((final d es) .locks .entries)
 
 -- from the fresh server
-pub record Count (v : ℕ) (es : List Event) : Type 0 where
+pub record Count (v : Making) (es : List Event) : Type 0 where
   pub balance : count isGrant ((modelRun freshModel (feeds (log (fresh v) es))) .told)
       ≡ count isRelease ((modelRun freshModel (feeds (log (fresh v) es))) .told) + dropped freshModel (feeds (log (fresh v) es)) + locksHeld ((final (fresh v) es) .locks .entries)

@@ -11,7 +11,7 @@ use Rattle.wire.specs.Frame.{Frame, frameOf}
 use Rattle.model.specs.Sizes.{stringLimit}
 use Rattle.model.specs.MessageTypes.{AsyncLock, AsyncLockResponse, AsyncLockInfo, AsyncLockInfoResponse}
 use Rattle.model.specs.Lists.{all, any, tally}
-use Rattle.model.specs.State.{Server, fresh}
+use Rattle.model.specs.State.{Server, fresh, Making}
 use Rattle.model.specs.Interface.{Event, Event.opening, Event.delivery, Event.cut, Event.clock, Event.answer, Event.status, Outcome.held, Outcome.acted, Reply.took}
 use Rattle.model.specs.Refusals.{refusal}
 use Rattle.model.specs.Step.{step, final, log}
@@ -21,7 +21,7 @@ use Rattle.model.specs.Agreement.{feed, feeds, toldFrame}
 use Rattle.model.specs.Access.{Command}
 
 -- the lock model after calls, fed what the host saw of them
-abbrev pub modelAfter : ℕ → List Event → Model
+abbrev pub modelAfter : Making → List Event → Model
 modelAfter v es = (modelRun freshModel (feeds (log (fresh v) es))) .model
 
 -- 01: "AsyncLockInfo: code 1 if exclusive is held; parameter, sessions holding any lock, each once"
@@ -91,7 +91,7 @@ pub record Decides (d : Server) (m : Model) (c : ℕ) (bs : List ℕ) (room : �
       → (step d (delivery c bs room)) .frames ≡ map (lockAnswer c) (releaseCodes m n ((header bs) .param)) ++ map toldFrame (grantsAfter (LockModel.release m n ((header bs) .param)))
 
 -- after any list from the fresh server, whatever is delivered next
-pub record Deciding (v : ℕ) (es : List Event) : Type 0 where
+pub record Deciding (v : Making) (es : List Event) : Type 0 where
   pub decides-next : (c : ℕ) (bs : List ℕ) (room : ℕ) → Decides (final (fresh v) es) (modelAfter v es) c bs room
 
 -- the same, call by call over a list

@@ -5,55 +5,86 @@ use mathlib.Core.Bool.{Bool, true, false, not, _&&_, cond}
 use Prim.Native.Nat.{ℕ, _+_, _*_, _-_, _/_, _%_}
 use lib.Dec.{eqb}
 use Rattle.wire.specs.declared.Header.{Header}
-use Rattle.model.specs.State.{Exchange, Asked, Asked.none, Asked.some, RemoteLocal}
+use Rattle.wire.specs.MessageId.{start, next}
+use Rattle.model.specs.State.{Entry, Exchange, Asked, Asked.none, Asked.some, RemoteLocal, halfOpen}
 
 -- RMT-delivered is control code 1: message available goes off when a message that acts carries it
 abbrev pub afterRmt : ℕ → Bool → Bool
 afterRmt code available = not (eqb code 1) && available
 
+-- a change of one part: what is asked and message available; the device clear; the client's size; the mode; the count of answers
+abbrev pub withAnswering : Asked → Bool → Exchange → Exchange
+withAnswering a m x = record { inClear = x .inClear; asked = a; messageAvailable = m; clientSize = x .clientSize; overlap = x .overlap; count = x .count; anySent = x .anySent }
+
+abbrev pub withClear : Bool → Exchange → Exchange
+withClear b x = record { inClear = b; asked = x .asked; messageAvailable = x .messageAvailable; clientSize = x .clientSize; overlap = x .overlap; count = x .count; anySent = x .anySent }
+
+abbrev pub withClientSize : ℕ → Exchange → Exchange
+withClientSize n x = record { inClear = x .inClear; asked = x .asked; messageAvailable = x .messageAvailable; clientSize = n; overlap = x .overlap; count = x .count; anySent = x .anySent }
+
+abbrev pub withMode : Bool → Exchange → Exchange
+withMode b x = record { inClear = x .inClear; asked = x .asked; messageAvailable = x .messageAvailable; clientSize = x .clientSize; overlap = b; count = x .count; anySent = x .anySent }
+
+abbrev pub withCount : ℕ → Bool → Exchange → Exchange
+withCount n b x = record { inClear = x .inClear; asked = x .asked; messageAvailable = x .messageAvailable; clientSize = x .clientSize; overlap = x .overlap; count = n; anySent = b }
+
 -- Data, and a status query
 abbrev pub noteRmt : ℕ → Exchange → Exchange
-noteRmt code x = record { inClear = x .inClear; asked = x .asked; messageAvailable = afterRmt code (x .messageAvailable); clientSize = x .clientSize }
+noteRmt code x = withAnswering (x .asked) (afterRmt code (x .messageAvailable)) x
 
 -- DataEND and Trigger acted on set what is asked to their MessageID; the number is the client's and is not tested
 abbrev pub ask : ℕ → ℕ → Exchange → Exchange
-ask code id x = record { inClear = x .inClear; asked = some id; messageAvailable = afterRmt code (x .messageAvailable); clientSize = x .clientSize }
+ask code id x = withAnswering (some id) (afterRmt code (x .messageAvailable)) x
 
--- AsyncDeviceClear: nothing is asked any more and message available goes off
+-- AsyncDeviceClear: nothing is asked any more and message available goes off; 02, Q-1: the count is reset
 abbrev pub enterClear : Exchange → Exchange
-enterClear x = record { inClear = true; asked = none; messageAvailable = false; clientSize = x .clientSize }
+enterClear x = withCount start false (withClear true (withAnswering none false x))
 
--- DeviceClearComplete ends it
-abbrev pub leaveClear : Exchange → Exchange
-leaveClear x = record { inClear = false; asked = x .asked; messageAvailable = x .messageAvailable; clientSize = x .clientSize }
+-- DeviceClearComplete ends it; 02, Q-1: its bit 0 is granted as asked
+abbrev pub bit0 : ℕ → ℕ
+bit0 k = k % 2
 
-abbrev pub withClientSize : ℕ → Exchange → Exchange
-withClientSize n x = record { inClear = x .inClear; asked = x .asked; messageAvailable = x .messageAvailable; clientSize = n }
+abbrev pub leaveClear : ℕ → Exchange → Exchange
+leaveClear code x = withMode (eqb (bit0 code) 1) (withClear false x)
 
--- an answer: DataEND then clears what is asked; message available goes on when an answer is sent
+-- an answer: DataEND then clears what is asked; message available goes on when an answer is sent; 02, Q-1: answers are counted by two,
+-- wrapping
 abbrev pub answeredWith : Bool → Exchange → Exchange
-answeredWith true x = record { inClear = x .inClear; asked = none; messageAvailable = true; clientSize = x .clientSize }
-answeredWith false x = record { inClear = x .inClear; asked = x .asked; messageAvailable = true; clientSize = x .clientSize }
+answeredWith end x = withCount (next (x .count)) true (withAnswering (cond end none (x .asked)) true x)
 
 -- refusal 5: the session has asked nothing
 abbrev pub isAsked : Asked → Bool
 isAsked none = false
 isAsked (some n) = true
 
-unfoldable pub mayAnswer : Exchange → Bool
-mayAnswer x = isAsked (x .asked)
+-- 02, Q-1: in overlap mode refusal 5 is given exactly to a session half-open or in a clear
+abbrev pub mayAnswerIn : Bool → Entry → Exchange → Bool
+mayAnswerIn true e x = not (halfOpen e) && not (x .inClear)
+mayAnswerIn false e x = isAsked (x .asked)
 
--- a meter answer is sent with the number that is asked
+unfoldable pub mayAnswer : Entry → Exchange → Bool
+mayAnswer e x = mayAnswerIn (x .overlap) e x
+
+-- a meter answer is sent with the number that is asked; 02, Q-1: in overlap mode with the count of answers in its place
 abbrev pub numberAsked : Asked → ℕ
 numberAsked none = 0
 numberAsked (some n) = n
 
-unfoldable pub answerNumber : Exchange → ℕ
-answerNumber x = numberAsked (x .asked)
+abbrev pub answerNumberIn : Bool → Exchange → ℕ
+answerNumberIn true x = x .count
+answerNumberIn false x = numberAsked (x .asked)
 
--- message available at a status query: RMT-delivered counts before the response is formed
+unfoldable pub answerNumber : Exchange → ℕ
+answerNumber x = answerNumberIn (x .overlap) x
+
+-- message available at a status query: RMT-delivered counts before the response is formed; 02, Q-1: in overlap mode, some answer was sent
+-- since the last reset and the query's number differs from the last one sent, which is the one before the count
+abbrev pub availableIn : Bool → Header → Exchange → Bool
+availableIn true h x = x .anySent && not (eqb (next (h .param)) (x .count))
+availableIn false h x = afterRmt (h .code) (x .messageAvailable)
+
 unfoldable pub availableAt : Header → Exchange → Bool
-availableAt h x = afterRmt (h .code) (x .messageAvailable)
+availableAt h x = availableIn (x .overlap) h x
 
 -- the status response is the meter's byte with value 16 replaced by message available
 abbrev pub statusByte : ℕ → Bool → ℕ

@@ -40,7 +40,7 @@ forms =
     ∷ corner three (send 1 (message 21 1 0 [])) (took acted 16 1) (plain 1 22 0)
     ∷ corner three (send 1 (message 4 1 0 cal)) (took acted 19 1) (plain 1 5 1)
     -- any code
-    ∷ corner inClear (send 0 (message 8 255 0 [])) (took acted 16 1) (plain 0 9 0)
+    ∷ corner inClear (send 0 (message 8 255 0 [])) (took acted 16 1) (plain 0 9 1)
     ∷ corner three (send 1 (message 15 255 0 eightZeros)) (took acted 24 1) (1 ∷ 0x48 ∷ 0x53 ∷ 16 ∷ 0 ∷ 0 ∷ 0 ∷ 0 ∷ 0 ∷ 0 ∷ 0 ∷ 0 ∷ 0 ∷ 0 ∷ 0 ∷ 0 ∷ 8 ∷ 0 ∷ 0 ∷ 0 ∷ 0 ∷ 0 ∷ 0 ∷ 4 ∷ 0 ∷ [])
     ∷ corner three (send 1 (message 19 255 0 [])) (took acted 16 1) (plain 1 23 0)
     ∷ corner three (send 1 (message 24 255 0 [])) (took acted 16 1) (plain 1 25 0)

@@ -17,7 +17,7 @@ use Rattle.model.specs.Interface.{Event, Event.opening, Event.delivery, 
 use Rattle.model.specs.Scan.{freshScan, scan}
 use Rattle.model.specs.Place.{placeOf}
 use Rattle.model.specs.Locks.{mayGrant, access, passOver, grantPass, change, noExclusive}
-use Rattle.model.specs.Exchange.{controlled, mayAnswer, answerNumber, availableAt}
+use Rattle.model.specs.Exchange.{numberAsked, controlled, mayAnswer, answerNumber, availableAt}
 use Rattle.model.specs.Checks.{verdict}
 use Rattle.model.specs.Acts.{acts, synchronousExchange, synchronousSaid, asynchronousRest, asynchronousSaid, asynchronousEvent, holder}
 use Rattle.model.specs.Refusals.{refusal, causes}
@@ -28,8 +28,8 @@ use Rattle.model.specs.LockModel.{Session, Pending, Pending.none-pending
 use Rattle.model.specs.Agreement.{feed, feeds, asSessions, asRequest, toldFrame, isLock}
 use Rattle.model.specs.Count.{count, isGrant, isRelease, dropped, locksHeld}
 use Rattle.model.specs.Granting.{hasAccess}
-use Rattle.model.specs.Tie.{askedBy}
-use Rattle.model.specs.Table.{message, send, request, release, releaseOf, cal, Cal, initialize, asyncInitialize, three}
+use Rattle.model.specs.Tie.{Track, trackOfLog, nothingYet}
+use Rattle.model.specs.Table.{benchMaking, message, send, request, release, releaseOf, cal, Cal, initialize, asyncInitialize, three}
 
 -- openings, refusals of every number, messages in pieces, bytes behind a message, a message too large, both locks, waiting, a deadline,
 -- releases, device clears, answers, a cut, FatalErrors from both sides, connections used again
@@ -61,7 +61,7 @@ rich =
     ∷ [])
 
 abbrev d₀ : Server
-d₀ = fresh 0x4141
+d₀ = fresh benchMaking
 
 -- as numbers
 abbrev flag : Bool → ℕ
@@ -95,7 +95,7 @@ askedNumbers (some n) = 1 ∷ n ∷ []
 
 abbrev exchangeNumbers : List Exchange → List ℕ
 exchangeNumbers [] = 999 ∷ []
-exchangeNumbers (x ∷ xs) = flag (x .inClear) ∷ flag (x .messageAvailable) ∷ x .clientSize ∷ askedNumbers (x .asked) ++ exchangeNumbers xs
+exchangeNumbers (x ∷ xs) = flag (x .inClear) ∷ flag (x .messageAvailable) ∷ x .clientSize ∷ flag (x .overlap) ∷ x .count ∷ flag (x .anySent) ∷ askedNumbers (x .asked) ++ exchangeNumbers xs
 
 abbrev connectionNumbers : List Connection → List ℕ
 connectionNumbers [] = 999 ∷ []
@@ -103,7 +103,7 @@ connectionNumbers (c ∷ cs) = flag (c .isOpen) ∷ c .remainder ∷ connectionN
 
 abbrev restNumbers : Rest → List ℕ
 restNumbers r =
-    r .lastIssued ∷ r .vendor ∷ r .status ∷ flag (r .remoteLocal .enable) ∷ flag (r .remoteLocal .lockout) ∷ flag (r .remoteLocal .remote)
+    r .lastIssued ∷ r .made .vendor ∷ flag (r .made .prefersOverlap) ∷ r .status ∷ flag (r .remoteLocal .enable) ∷ flag (r .remoteLocal .lockout) ∷ flag (r .remoteLocal .remote)
     ∷ exchangeNumbers (r .exchanges) ++ connectionNumbers (r .connections)
 
 abbrev serverNumbers : Server → List ℕ
@@ -247,9 +247,9 @@ unfolding rich log final step refusal causes answered plan finish received effec
 count-at = refl
 
 -- F: each answer that is sent carries the number that the log before it gives
-abbrev ties : Asked → List Frame → Bool → List ℕ → Server → ℕ → Bool
-ties none fs end p d n = false
-ties (some k) fs end p d n = same (bytesOf fs) (bytesOf (frameOf ((at (d .locks .entries) (slotOfNumber (d .locks .entries) n)) .synchronous) (answerType end) 0 k p ∷ []))
+abbrev ties : Track → List Frame → Bool → List ℕ → Server → ℕ → Bool
+ties t fs end p d n =
+    same (bytesOf fs) (bytesOf (frameOf ((at (d .locks .entries) (slotOfNumber (d .locks .entries) n)) .synchronous) (answerType end) 0 (cond (t .overlap) (t .count) (numberAsked (t .asked))) p ∷ []))
 
 abbrev tiedAnswer : List Line → Server → Event → Reply → List Frame → Bool
 tiedAnswer ls d e (refused k) fs = true
@@ -259,7 +259,7 @@ tiedAnswer ls d (delivery c bs room) done fs = true
 tiedAnswer ls d (cut c room) done fs = true
 tiedAnswer ls d (clock t room) done fs = true
 tiedAnswer ls d (status b) done fs = true
-tiedAnswer ls d (answer n p end room) done fs = ties (askedBy ls n none) fs end p d n
+tiedAnswer ls d (answer n p end room) done fs = ties (trackOfLog false ls n (nothingYet false)) fs end p d n
 
 abbrev tied : List Line → Server → List Event → Bool
 tied ls d [] = true
@@ -268,7 +268,7 @@ tied ls d (e ∷ es) =
     tiedAnswer ls d e (r .reply) (r .frames) && tied (ls ++ record { event = e; reply = r .reply; frames = r .frames } ∷ []) (r .server) es
 
 pub tie-at : tied [] d₀ rich ≡ true
-unfolding rich log final step refusal causes answered plan finish received effect verdict placeOf acts synchronousExchange synchronousSaid asynchronousRest asynchronousSaid asynchronousEvent controlled mayAnswer answerNumber availableAt scan freshScan header field encode headerBytes frameBytes bytesOf classOf mayGrant access passOver grantPass change askedBy
+unfolding rich log final step refusal causes answered plan finish received effect verdict placeOf acts synchronousExchange synchronousSaid asynchronousRest asynchronousSaid asynchronousEvent controlled mayAnswer answerNumber availableAt scan freshScan header field encode headerBytes frameBytes bytesOf classOf mayGrant access passOver grantPass change trackOfLog
 tie-at = refl
 
 -- G: while some session holds exclusive, a command that acts is that session's

@@ -10,7 +10,7 @@ use Rattle.wire.specs.Class.{one-of}
 use Rattle.model.specs.Sizes.{noConnection}
 use Rattle.model.specs.MessageTypes.{AsyncLock, commands}
 use Rattle.model.specs.Lists.{isNil, any}
-use Rattle.model.specs.State.{Locks, Kind.exclusive-lock, Standing.no-release, Standing.release-of, at, Server, fresh}
+use Rattle.model.specs.State.{Locks, Kind.exclusive-lock, Standing.no-release, Standing.release-of, at, Server, fresh, Making}
 use Rattle.model.specs.Interface.{Event, Event.delivery, Outcome.acted, Reply.took}
 use Rattle.model.specs.Place.{slotOf}
 use Rattle.model.specs.Step.{Line, step, final, log}
@@ -67,7 +67,7 @@ pub record Exclusive (n j : ℕ) (d : Server) (fs : List Event) : Type 0 where
   pub only-its-own : OnlyOf n (log d fs)
 
 -- after any list from the fresh server
-pub record IsolationRun (v : ℕ) (es : List Event) (j : ℕ) : Type 0 where
+pub record IsolationRun (v : Making) (es : List Event) (j : ℕ) : Type 0 where
   -- of a session that holds exclusive
   pub from-now : (fs : List Event) → (at ((final (fresh v) es) .locks .entries) j) .exclusive ≡ true → Undisturbed j (final (fresh v) es) fs
       → Exclusive ((at ((final (fresh v) es) .locks .entries) j) .number) j (final (fresh v) es) fs

@@ -15,7 +15,7 @@ use Rattle.model.specs.Interface.{Event, Event.delivery, Outcome, Outcom
 use Rattle.model.specs.Step.{Line, Result, step, final, log}
 use Rattle.model.specs.Closing.{OldestFirst}
 use Rattle.model.specs.Happening.{Happening, heard, happened}
-use Rattle.model.specs.LocalityRows.{Row, inSlot, clear-row, asked-row, available-row, size-row, number-row, synchronous-row, asynchronous-row, exclusive-row, shared-row, last-row, standing-row, requestsLeft, looksAfter, open-row, remainder-row, isSilence, Single, singly, clock-row, status-row, vendor-row, issued-row, enable-row, lockout-row, remote-row}
+use Rattle.model.specs.LocalityRows.{Row, inSlot, clear-row, asked-row, available-row, size-row, mode-row, count-row, sent-row, number-row, synchronous-row, asynchronous-row, exclusive-row, shared-row, last-row, standing-row, requestsLeft, looksAfter, open-row, remainder-row, isSilence, Single, singly, clock-row, status-row, made-row, issued-row, enable-row, lockout-row, remote-row}
 use Rattle.model.specs.LocalityReplies.{direct, answeredFirst, answerTo, sessionSaid}
 
 -- what happened at a call, as the host sees it
@@ -70,7 +70,7 @@ EachSession d h r given field row =
 pub record Local (d : Server) (h : Happening) (r : Result) : Type 0 where
   pub clock : Once d h r (λ s. s .locks .clock) clock-row
   pub status : Once d h r (λ s. s .rest .status) status-row
-  pub vendor : Once d h r (λ s. s .rest .vendor) vendor-row
+  pub made : Once d h r (λ s. s .rest .made) made-row
   pub last-issued : Once d h r (λ s. s .rest .lastIssued) issued-row
   pub enable : Once d h r (λ s. s .rest .remoteLocal .enable) enable-row
   pub lockout : Once d h r (λ s. s .rest .remoteLocal .lockout) lockout-row
@@ -81,6 +81,9 @@ pub record Local (d : Server) (h : Happening) (r : Result) : Type 0 where
   pub asked : EachExchange d h r (λ x. x .asked) asked-row
   pub message-available : EachExchange d h r (λ x. x .messageAvailable) available-row
   pub client-size : EachExchange d h r (λ x. x .clientSize) size-row
+  pub mode : EachExchange d h r (λ x. x .overlap) (mode-row (d .rest .made .prefersOverlap))
+  pub count : EachExchange d h r (λ x. x .count) count-row
+  pub any-sent : EachExchange d h r (λ x. x .anySent) sent-row
   -- connections
   pub connection-places : length (r .server .rest .connections) ≡ length (d .rest .connections)
   pub is-open : EachConnection d h r (λ y. y .isOpen) open-row
@@ -130,7 +133,7 @@ pub record LocalRun (d : Server) (es : List Event) : Type 0 where
   pub each : EachLocal d es
   pub clock : (final d es) .locks .clock ≡ overLog clock-row (log d es) (d .locks .clock)
   pub status : (final d es) .rest .status ≡ overLog status-row (log d es) (d .rest .status)
-  pub vendor : (final d es) .rest .vendor ≡ d .rest .vendor
+  pub made : (final d es) .rest .made ≡ d .rest .made
   pub last-issued : (final d es) .rest .lastIssued ≡ overLog issued-row (log d es) (d .rest .lastIssued)
   pub enable : (final d es) .rest .remoteLocal .enable ≡ overLog enable-row (log d es) (d .rest .remoteLocal .enable)
   pub lockout : (final d es) .rest .remoteLocal .lockout ≡ overLog lockout-row (log d es) (d .rest .remoteLocal .lockout)

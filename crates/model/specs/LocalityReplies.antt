@@ -1,12 +1,12 @@
 -- The table of what a call sends: every field of every frame. Written from 01's sentences by type number, apart from the definitions of
 -- what a message does. Reply fields not named are 0.
-use mathlib.Core.Bool.{Bool, not, _||_, cond}
+use mathlib.Core.Bool.{Bool, not, _&&_, _||_, cond}
 use mathlib.Core.List.{List, [], _∷_, _++_, map}
-use Prim.Native.Nat.{ℕ, _+_, _*_, _/_, _%_, min}
+use Prim.Native.Nat.{ℕ, _+_, _*_, _/_, _%_, _^_, min}
 use lib.Dec.{eqb}
 use Rattle.wire.specs.Frame.{Frame, frameOf}
 use Rattle.model.specs.Lists.{isNil, any, keep, tally}
-use Rattle.model.specs.State.{Server, Entry, Waiting, Asked, Asked.none, Asked.some, at, live, slotOfNumber, exchangeAt}
+use Rattle.model.specs.State.{Server, Entry, Exchange, Waiting, Asked, Asked.none, Asked.some, at, live, slotOfNumber, exchangeAt}
 use Rattle.model.specs.Place.{slotIn}
 use Rattle.model.specs.Happening.{Heard, Heard.silence, Heard.with-code, Action, Happening, Happening.unmoved, Happening.connected, Happening.disconnected, Happening.skipped-over, Happening.errored, Happening.message-acted, Happening.clock-read, Happening.status-set, Happening.answer-sent}
 use Rattle.model.specs.LocalityRows.{kindOf, slotActed, available-row, endedWith, requestsOf, reachedBy, connectionsOf}
@@ -33,22 +33,32 @@ with16 b available = b / 32 * 32 + cond available 16 0 + b % 16
 abbrev pub holdsAny : Entry → Bool
 holdsAny e = e .exclusive || not (isNil (e .shared))
 
+-- 02, Q-1: the mode that the host prefers
+abbrev pub preferred : Server → ℕ
+preferred d = cond (d .rest .made .prefersOverlap) 1 0
+
+-- message available as a status query leaves it; 02, Q-1: in overlap mode, some answer was sent since the last reset and the query's number
+-- differs from the last one sent
+abbrev pub availableSeen : Action → Exchange → Bool
+availableSeen a x = cond (x .overlap) (x .anySent && not (eqb ((a .message .param + 2) % 2 ^ 32) (x .count))) (available-row .by-message a (x .messageAvailable))
+
 -- the direct reply to a message that acted, on its own connection
 abbrev pub replies : Server → Action → List ReplyTo
 replies d a =
     let c = a .connection in
     let es = d .locks .entries in
-    -- 01: control 0; upper half the smaller of client version and 0100 hex; lower half the SessionID
-    record { type = 0; reply = plainTo c 1 0 (min (a .message .param / 65536) 0x100 * 65536 + a .session) }
+    -- 01: control 0 (02, Q-1: bit 0, the mode that the host prefers); upper half the smaller of client version and 0100 hex; lower half the SessionID
+    record { type = 0; reply = plainTo c 1 (preferred d) (min (a .message .param / 65536) 0x100 * 65536 + a .session) }
     -- 01: vendor number in the lower half
-    ∷ record { type = 17; reply = plainTo c 18 0 (d .rest .vendor) }
-    ∷ record { type = 8; reply = plainTo c 9 0 0 }
+    ∷ record { type = 17; reply = plainTo c 18 0 (d .rest .made .vendor) }
+    -- 02, Q-1: bit 0 as it is granted
+    ∷ record { type = 8; reply = plainTo c 9 (a .message .code % 2) 0 }
     ∷ record { type = 10; reply = plainTo c 11 0 0 }
     -- 01: the reply says 1,024, in 8 bytes
     ∷ record { type = 15; reply = frameOf c 16 0 0 (0 ∷ 0 ∷ 0 ∷ 0 ∷ 0 ∷ 0 ∷ 4 ∷ 0 ∷ []) }
-    ∷ record { type = 19; reply = plainTo c 23 0 0 }
+    ∷ record { type = 19; reply = plainTo c 23 (preferred d) 0 }
     -- message available as the query leaves it
-    ∷ record { type = 21; reply = plainTo c 22 (with16 (d .rest .status) (available-row .by-message a ((exchangeAt (d .rest) (slotActed es a)) .messageAvailable))) 0 }
+    ∷ record { type = 21; reply = plainTo c 22 (with16 (d .rest .status) (availableSeen a (exchangeAt (d .rest) (slotActed es a)))) 0 }
     ∷ record { type = 24; reply = plainTo c 25 (cond (any (λ e. e .exclusive) es) 1 0) (tally holdsAny es) }
     ∷ []
 
@@ -65,6 +75,9 @@ abbrev pub askedNumber : Asked → ℕ
 askedNumber none = 0
 askedNumber (some n) = n
 
+abbrev pub numberSent : Exchange → ℕ
+numberSent x = cond (x .overlap) (x .count) (askedNumber (x .asked))
+
 -- every frame but the lock answers
 abbrev pub direct : Server → Happening → List Frame
 direct d unmoved = []
@@ -76,10 +89,10 @@ direct d (errored c n k) = saidTo k 3 (c ∷ [])
 direct d (message-acted a) = replyIn (replies d a) (kindOf a)
 direct d (clock-read t) = []
 direct d (status-set b) = []
--- 01: a meter answer is sent as Data (6) or DataEND (7) with the number that is asked
+-- 01: a meter answer is sent as Data (6) or DataEND (7) with the number that is asked; 02, Q-1: in overlap mode with the count of answers
 direct d (answer-sent n p end) =
     let i = slotOfNumber (d .locks .entries) n in
-    frameOf ((at (d .locks .entries) i) .synchronous) (cond end 7 6) 0 (askedNumber ((exchangeAt (d .rest) i) .asked)) p ∷ []
+    frameOf ((at (d .locks .entries) i) .synchronous) (cond end 7 6) 0 (numberSent (exchangeAt (d .rest) i)) p ∷ []
 
 -- an answer to a waiting request goes to its session's asynchronous connection
 abbrev pub answerTo : ℕ → List Entry → Waiting → Frame

@@ -2,13 +2,13 @@
 -- parameter and payload, apart from the definitions of the checks and of what a message does.
 use mathlib.Core.Bool.{Bool, true, false, not, _&&_, _||_, cond}
 use mathlib.Core.List.{List, [], _∷_, _++_}
-use Prim.Native.Nat.{ℕ, _+_, _-_}
+use Prim.Native.Nat.{ℕ, _+_, _-_, _%_, _^_}
 use lib.Dec.{eqb, leb, ltb}
 use Rattle.wire.specs.Field.{number}
 use Rattle.wire.specs.Class.{one-of}
 use Rattle.model.specs.Sizes.{noConnection}
 use Rattle.model.specs.Lists.{isNil, keep}
-use Rattle.model.specs.State.{Entry, Waiting, Kind.exclusive-lock, Kind.shared-lock, Standing, Standing.no-release, Standing.release-of, Asked, Asked.none, Asked.some, at, live, slotOfNumber}
+use Rattle.model.specs.State.{Making, Entry, Waiting, Kind.exclusive-lock, Kind.shared-lock, Standing, Standing.no-release, Standing.release-of, Asked, Asked.none, Asked.some, at, live, slotOfNumber}
 use Rattle.model.specs.Place.{slotIn}
 use Rattle.model.specs.Happening.{Heard, Heard.silence, Heard.with-code, Action, Happening, Happening.unmoved, Happening.connected, Happening.disconnected, Happening.skipped-over, Happening.errored, Happening.message-acted, Happening.clock-read, Happening.status-set, Happening.answer-sent}
 
@@ -76,6 +76,28 @@ size-row =
       by-answer = λ end n. n;
       once-closed = 1024;
     }
+
+-- 02, Q-1: a session starts (0) in the mode that the host prefers; DeviceClearComplete's (8) bit 0 is granted as asked
+abbrev pub mode-row : Bool → Row Bool
+mode-row preferred =
+    record {
+      by-message = λ a b. cond (eqb (kindOf a) 0) preferred (cond (eqb (kindOf a) 8) (eqb (a .message .code % 2) 1) b);
+      by-answer = λ end b. b;
+      once-closed = false;
+    }
+
+-- 02, Q-1: answers are counted from ffffff00 hex by two, wrapping; initialization (0) and AsyncDeviceClear (19) reset the count
+abbrev pub count-row : Row ℕ
+count-row =
+    record {
+      by-message = λ a n. cond (one-of (0 ∷ 19 ∷ []) (kindOf a)) 0xffffff00 n;
+      by-answer = λ end n. (n + 2) % 2 ^ 32;
+      once-closed = 0xffffff00;
+    }
+
+-- some answer was sent since the last reset
+abbrev pub sent-row : Row Bool
+sent-row = record { by-message = λ a b. cond (one-of (0 ∷ 19 ∷ []) (kindOf a)) false b; by-answer = λ end b. true; once-closed = false }
 
 -- SESSIONS. 01: Initialize (0) issues the number in its reply and is the synchronous connection, AsyncInitialize (17) the other one
 abbrev pub number-row : Row ℕ
@@ -253,8 +275,9 @@ clock-row = record { on-message = λ a x. x; on-clock = λ t x. t; on-status = �
 abbrev pub status-row : Single ℕ
 status-row = record { on-message = λ a x. x; on-clock = λ t x. x; on-status = λ b x. b }
 
-abbrev pub vendor-row : Single ℕ
-vendor-row = record { on-message = λ a x. x; on-clock = λ t x. x; on-status = λ b x. x }
+-- how the server was made: its vendor number and the mode that the host prefers
+abbrev pub made-row : Single Making
+made-row = record { on-message = λ a x. x; on-clock = λ t x. x; on-status = λ b x. x }
 
 -- the SessionID issued last: Initialize (0), the number in its reply
 abbrev pub issued-row : Single ℕ

@@ -7,7 +7,7 @@ use lib.Dec.{leb, ltb}
 use lib.ListN.{length}
 use Rattle.model.specs.Sizes.{stringLimit}
 use Rattle.model.specs.Lists.{all}
-use Rattle.model.specs.State.{Locks, at, fresh}
+use Rattle.model.specs.State.{Locks, at, fresh, Making}
 use Rattle.model.specs.Interface.{Event}
 use Rattle.model.specs.Step.{final}
 
@@ -21,5 +21,5 @@ pub record OneString (l : Locks) : Type 0 where
   pub deadlines-ahead : all (λ w. ltb (l .clock) (w .deadline)) (l .waiting) ≡ true
 
 -- after any list from the fresh server
-pub record OneStringRun (v : ℕ) (es : List Event) : Type 0 where
+pub record OneStringRun (v : Making) (es : List Event) : Type 0 where
   pub holds : OneString ((final (fresh v) es) .locks)

@@ -13,7 +13,7 @@ use Rattle.wire.specs.Message.{Message, header, headerBytes, encode, Decoded, d
 use Rattle.wire.specs.Frame.{Frame, frameOf}
 use Rattle.model.specs.Sizes.{payloadLimit}
 use Rattle.model.specs.MessageTypes.{FatalError, Error}
-use Rattle.model.specs.State.{fresh}
+use Rattle.model.specs.State.{fresh, Making}
 use Rattle.model.specs.Interface.{Event, Event.opening, Event.delivery, Event.cut, Event.clock, Event.answer, Event.status, Outcome, Outcome.more-needed, Outcome.skipped, Outcome.held, Outcome.ignored, Outcome.error-sent, Outcome.closed, Outcome.acted, Reply, Reply.refused, Reply.done, Reply.took}
 use Rattle.model.specs.Step.{Line, log}
 use Rattle.model.specs.Canonical.{kept}
@@ -119,4 +119,4 @@ OnlyWhole owed (l ∷ ls) = Shows owed (l .event) (l .reply) (l .frames) × Only
 
 -- every line of the canonical history of any list of possible calls
 pub record TakenWhole : Type 0 where
-  pub any-run : (v : ℕ) (es : List Event) → AllPossible es → OnlyWhole (λ c. 0) (kept (log (fresh v) es))
+  pub any-run : (v : Making) (es : List Event) → AllPossible es → OnlyWhole (λ c. 0) (kept (log (fresh v) es))

@@ -9,7 +9,7 @@ use Prim.Native.Nat.{ℕ, _≤_}
 use lib.ListN.{length}
 use Rattle.wire.specs.Message.{Message, Decoded, decode}
 use Rattle.model.specs.Sizes.{payloadLimit}
-use Rattle.model.specs.State.{fresh}
+use Rattle.model.specs.State.{fresh, Making}
 use Rattle.model.specs.Interface.{Event, Event.delivery, Outcome, Outcome.more-needed, Outcome.skipped, Outcome.held, Outcome.ignored, Outcome.error-sent, Outcome.closed, Outcome.acted, Reply, Reply.refused, Reply.done, Reply.took}
 use Rattle.model.specs.Place.{Role, Role.r-none, Role.r-halfOpen, Role.r-synchronous, Role.r-asynchronous, roleOf}
 use Rattle.model.specs.Step.{Line, step, final, log}
@@ -51,5 +51,5 @@ Tells (took o k n) e r bs = TellsBy o e r bs k
 
 -- any delivery after any list of possible calls
 pub record OutcomesTell : Type 0 where
-  pub any-run : (v : ℕ) (es : List Event) (c : ℕ) (bs : List ℕ) (room : ℕ) → AllPossible es
+  pub any-run : (v : Making) (es : List Event) (c : ℕ) (bs : List ℕ) (room : ℕ) → AllPossible es
       → Tells ((step (final (fresh v) es) (delivery c bs room)) .reply) (established (roleOf ((final (fresh v) es) .locks .entries) c)) (owedIn (λ c. 0) (kept (log (fresh v) es)) c) bs

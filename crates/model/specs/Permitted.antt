@@ -11,7 +11,7 @@ use Rattle.wire.specs.Message.{header, payloadOf}
 use Rattle.model.specs.Sizes.{sessionLimit, noConnection}
 use Rattle.model.specs.MessageTypes.{Initialize, AsyncLock, Data, DataEND, DeviceClearComplete, AsyncRemoteLocalControl, Trigger, AsyncMaximumMessageSize, AsyncInitialize, AsyncDeviceClear, AsyncStatusQuery, AsyncLockInfo}
 use Rattle.model.specs.Lists.{tally}
-use Rattle.model.specs.State.{at, live, halfOpen, Server, exchangeAt, connectionAt, fresh}
+use Rattle.model.specs.State.{at, live, halfOpen, Server, exchangeAt, connectionAt, fresh, Making}
 use Rattle.model.specs.Interface.{Event, Event.delivery, Outcome.acted, Reply.took}
 use Rattle.model.specs.Place.{onConnection, slotOf, entryOf}
 use Rattle.model.specs.Checks.{hislip0}
@@ -110,5 +110,5 @@ pub record ActsExactly (d : Server) (last c : ℕ) (bs : List ℕ) (room : ℕ) 
   pub only : (k n : ℕ) → (step d (delivery c bs room)) .reply ≡ took acted k n → (k ≡ 16 + (header bs) .len) × Permitted d last c bs n
 
 -- after any list from the fresh server, whatever is delivered next
-pub record PermittedActs (v : ℕ) (es : List Event) : Type 0 where
+pub record PermittedActs (v : Making) (es : List Event) : Type 0 where
   pub acts-next : (c : ℕ) (bs : List ℕ) (room : ℕ) → ActsExactly (final (fresh v) es) (lastInLog (log (fresh v) es) 0) c bs room

@@ -3,7 +3,7 @@
 use mathlib.Core.List.{List, [], _∷_}
 use Prim.Native.Nat.{ℕ, _^_, _<_}
 use Rattle.wire.specs.ReadFrames.{AllFit}
-use Rattle.model.specs.State.{fresh}
+use Rattle.model.specs.State.{fresh, Making}
 use Rattle.model.specs.Interface.{Event}
 use Rattle.model.specs.Step.{Line, log}
 use Rattle.model.specs.Possible.{AllPossible}
@@ -14,4 +14,4 @@ LinesFit (l ∷ ls) = AllFit (l .frames) × LinesFit ls
 
 -- the vendor number has two letters
 pub record SentFits : Type 0 where
-  pub any-run : (v : ℕ) (es : List Event) → v < 2 ^ 16 → AllPossible es → LinesFit (log (fresh v) es)
+  pub any-run : (v : Making) (es : List Event) → v .vendor < 2 ^ 16 → AllPossible es → LinesFit (log (fresh v) es)

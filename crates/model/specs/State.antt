@@ -5,6 +5,7 @@ use mathlib.Core.List.{List, []}
 use Prim.Native.Nat.{ℕ}
 use lib.Dec.{eqb}
 use lib.ListN.{getD, set, replicate}
+use Rattle.wire.specs.MessageId.{start}
 use Rattle.model.specs.Lists.{position}
 use Rattle.model.specs.Sizes.{sessionLimit, connectionLimit, payloadLimit, noConnection, beforeFirst}
 
@@ -46,12 +47,17 @@ pub data Asked : Type 0 where
   none : Asked
   some : ℕ → Asked
 
--- of a session, beside its locks: in device clear, what is asked, message available, the client's size
+-- of a session, beside its locks: in device clear, what is asked, message available, the client's size; 02, Q-1: in overlap mode, the
+-- number of its next answer there, and whether some answer was sent since the last reset. All are kept in both modes: a mode changes
+-- only in a device clear, which resets them
 pub record Exchange : Type 0 where
   pub inClear : Bool
   pub asked : Asked
   pub messageAvailable : Bool
   pub clientSize : ℕ
+  pub overlap : Bool
+  pub count : ℕ
+  pub anySent : Bool
 
 -- of a connection: whether it is open, the remainder to skip
 pub record Connection : Type 0 where
@@ -64,13 +70,18 @@ pub record RemoteLocal : Type 0 where
   pub lockout : Bool
   pub remote : Bool
 
--- all of the server but its locks: an exchange for each slot, the connections by number, the SessionID issued last, the vendor
--- number, the instrument's (01: meter's) status byte, the flags
+-- what the host says when it makes the server: the vendor number; 02, Q-1: whether it prefers overlap mode
+pub record Making : Type 0 where
+  pub vendor : ℕ
+  pub prefersOverlap : Bool
+
+-- all of the server but its locks: an exchange for each slot, the connections by number, the SessionID issued last, how the server was
+-- made, the instrument's (01: meter's) status byte, the flags
 pub record Rest : Type 0 where
   pub exchanges : List Exchange
   pub connections : List Connection
   pub lastIssued : ℕ
-  pub vendor : ℕ
+  pub made : Making
   pub status : ℕ
   pub remoteLocal : RemoteLocal
 
@@ -82,9 +93,12 @@ pub record Server : Type 0 where
 abbrev pub blank : Entry
 blank = record { number = 0; synchronous = noConnection; asynchronous = noConnection; exclusive = false; shared = []; last = beforeFirst; standing = no-release }
 
--- 01: a client's size starts at 1,024 per session
+-- 01: a client's size starts at 1,024 per session; 02, Q-1: a session starts in the preferred mode, and its count at ffffff00 hex
+abbrev pub openExchange : Bool → Exchange
+openExchange b = record { inClear = false; asked = none; messageAvailable = false; clientSize = payloadLimit; overlap = b; count = start; anySent = false }
+
 abbrev pub freshExchange : Exchange
-freshExchange = record { inClear = false; asked = none; messageAvailable = false; clientSize = payloadLimit }
+freshExchange = openExchange false
 
 abbrev pub closedConnection : Connection
 closedConnection = record { isOpen = false; remainder = 0 }
@@ -95,8 +109,8 @@ openConnection n = record { isOpen = true; remainder = n }
 abbrev pub freshLocks : ℕ → Locks
 freshLocks n = record { clock = 0; entries = replicate n blank; waiting = [] }
 
--- 01: a fresh desk is made from the two-letter vendor number, with clock 0 and status byte 0; the flags start off
-abbrev pub fresh : ℕ → Server
+-- 01: a fresh desk is made from the two-letter vendor number (02, Q-1: and the mode that the host prefers), with clock 0 and status byte 0; the flags start off
+abbrev pub fresh : Making → Server
 fresh v =
     record {
       locks = freshLocks sessionLimit;
@@ -104,7 +118,7 @@ fresh v =
         exchanges = replicate sessionLimit freshExchange;
         connections = replicate connectionLimit closedConnection;
         lastIssued = 0;
-        vendor = v;
+        made = v;
         status = 0;
         remoteLocal = record { enable = false; lockout = false; remote = false };
       };
@@ -133,20 +147,20 @@ slotOfNumber es n = position (λ e. eqb (e .number) n) es
 
 -- a change of one part of the rest
 abbrev pub withConnections : Rest → List Connection → Rest
-withConnections r cs = record { exchanges = r .exchanges; connections = cs; lastIssued = r .lastIssued; vendor = r .vendor; status = r .status; remoteLocal = r .remoteLocal }
+withConnections r cs = record { exchanges = r .exchanges; connections = cs; lastIssued = r .lastIssued; made = r .made; status = r .status; remoteLocal = r .remoteLocal }
 
 abbrev pub withConnection : Rest → ℕ → Connection → Rest
 withConnection r c x = withConnections r (set (r .connections) c x)
 
 abbrev pub withExchange : Rest → ℕ → Exchange → Rest
-withExchange r i x = record { exchanges = set (r .exchanges) i x; connections = r .connections; lastIssued = r .lastIssued; vendor = r .vendor; status = r .status; remoteLocal = r .remoteLocal }
+withExchange r i x = record { exchanges = set (r .exchanges) i x; connections = r .connections; lastIssued = r .lastIssued; made = r .made; status = r .status; remoteLocal = r .remoteLocal }
 
 abbrev pub withRemoteLocal : Rest → RemoteLocal → Rest
-withRemoteLocal r x = record { exchanges = r .exchanges; connections = r .connections; lastIssued = r .lastIssued; vendor = r .vendor; status = r .status; remoteLocal = x }
+withRemoteLocal r x = record { exchanges = r .exchanges; connections = r .connections; lastIssued = r .lastIssued; made = r .made; status = r .status; remoteLocal = x }
 
 abbrev pub withStatus : Rest → ℕ → Rest
-withStatus r b = record { exchanges = r .exchanges; connections = r .connections; lastIssued = r .lastIssued; vendor = r .vendor; status = b; remoteLocal = r .remoteLocal }
+withStatus r b = record { exchanges = r .exchanges; connections = r .connections; lastIssued = r .lastIssued; made = r .made; status = b; remoteLocal = r .remoteLocal }
 
 -- session n opens in slot i
 abbrev pub withSession : Rest → ℕ → ℕ → Rest
-withSession r i n = record { exchanges = set (r .exchanges) i freshExchange; connections = r .connections; lastIssued = n; vendor = r .vendor; status = r .status; remoteLocal = r .remoteLocal }
+withSession r i n = record { exchanges = set (r .exchanges) i (openExchange (r .made .prefersOverlap)); connections = r .connections; lastIssued = n; made = r .made; status = r .status; remoteLocal = r .remoteLocal }

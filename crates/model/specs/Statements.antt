@@ -7,7 +7,7 @@ use mathlib.Core.List.{List, [], _∷_}
 use Prim.Native.Nat.{ℕ, suc}
 use Rattle.model.specs.Sizes.{noConnection}
 use Rattle.model.specs.Lists.{all}
-use Rattle.model.specs.State.{Server, Entry, Kind, at, fresh}
+use Rattle.model.specs.State.{Server, Entry, Kind, at, fresh, Making}
 use Rattle.model.specs.Interface.{Event, Event.answer, Reply.refused}
 use Rattle.model.specs.Refusals.{refusal}
 use Rattle.model.specs.Place.{onConnection, slotOf}
@@ -60,13 +60,13 @@ pub record Demand2 : Type 0 where
   -- "and written": what is sent fits its fields, so it reads back
   pub sent-fits : SentFits
   -- what a table of types, codes and payloads permits acts, and nothing else does; what it does not permit gets its Error
-  pub permitted : (v : ℕ) (es : List Event) → PermittedActs v es
+  pub permitted : (v : Making) (es : List Event) → PermittedActs v es
   pub malformed : (d : Server) (c : ℕ) (bs : List ℕ) (room : ℕ) → Malformed d c bs room
   -- a session opens and is joined, with these replies, and gets the first free SessionID
-  pub openings : (v : ℕ) (es : List Event) → Opening v es
+  pub openings : (v : Making) (es : List Event) → Opening v es
   pub session-ids : NumbersIssued
   -- every other message that acts: the whole of what it sends
-  pub sends : (v : ℕ) (es : List Event) → Sending v es
+  pub sends : (v : Making) (es : List Event) → Sending v es
   -- "Locks are granted exactly when the rules allow"
   pub exclusive-rule : (es : List Entry) (i : ℕ) → (mayGrant es i [] ≡ true) ↔ MayExclusive es i
   pub shared-rule : (es : List Entry) (i x : ℕ) (k : List ℕ) → (mayGrant es i (x ∷ k) ≡ true) ↔ MayShared es i (x ∷ k)
@@ -74,7 +74,7 @@ pub record Demand2 : Type 0 where
   pub access : (d : Server) (c : ℕ) (bs : List ℕ) (room : ℕ) → Access d c bs room
   -- 02, Q-3: a release that is not answered at once stands until its message acts, a device clear acts or its session closes, and until
   -- then every AsyncLock of the session gets 3
-  pub standing : (v : ℕ) (es : List Event) (j : ℕ) (k : Kind) (m : ℕ) → StandsOn (final (fresh v) es) j k m
+  pub standing : (v : Making) (es : List Event) (j : ℕ) (k : Kind) (m : ℕ) → StandsOn (final (fresh v) es) j k m
   -- 02, Q-4: "With "more needed" the answer tells how many bytes are missing", and that many are enough
   pub missing : (d : Server) (c : ℕ) (bs : List ℕ) (room : ℕ) → TellsMissing d c bs room
 
@@ -87,28 +87,28 @@ pub record Demand3Parts : Type 1 where
   -- and what is not taken: more needed, held and closed, by the bytes shown
   pub outcomes-tell : OutcomesTell
   -- "Who holds which lock, who waits in what order, and every lock answer sent are exactly as document 01's ledger has them"
-  pub lock-model : (v : ℕ) (es : List Event) → Agreement (fresh v) freshModel es
+  pub lock-model : (v : Making) (es : List Event) → Agreement (fresh v) freshModel es
   -- 01: "By exactly its holders .. the desk grants, gives access and answers AsyncLockInfo", at every call of a list, and at the next one
-  pub decides : (v : ℕ) (es : List Event) → EachDecides (fresh v) freshModel es
-  pub decides-next : (v : ℕ) (es : List Event) → Deciding v es
+  pub decides : (v : Making) (es : List Event) → EachDecides (fresh v) freshModel es
+  pub decides-next : (v : Making) (es : List Event) → Deciding v es
   -- "whoever may now be granted is granted": after any list no request waits that may be granted
-  pub settled : (v : ℕ) (es : List Event) → all (λ w. not (mayGrant ((final (fresh v) es) .locks .entries) (w .slot) (w .string))) ((final (fresh v) es) .locks .waiting) ≡ true
+  pub settled : (v : Making) (es : List Event) → all (λ w. not (mayGrant ((final (fresh v) es) .locks .entries) (w .slot) (w .string))) ((final (fresh v) es) .locks .waiting) ≡ true
   -- "A closing .. takes exactly that program's locks and its waiting request. Everyone else keeps theirs"
-  pub closings : (v : ℕ) (es : List Event) → Closings v es
+  pub closings : (v : Making) (es : List Event) → Closings v es
   -- "Locks granted .. = those released + those dropped by closings + those still held"
-  pub count : (v : ℕ) (es : List Event) → Count v es
+  pub count : (v : Making) (es : List Event) → Count v es
   -- all of it of what the host sees and of the memory that it lends, whatever its layout
-  pub calls : {M : Type 0} (view : M → Server) (v : ℕ) (m m′ : M) (ss : List Seen) → view m ≡ fresh v → Calls view m ss m′ → Demand3 view v ss m′
+  pub calls : {M : Type 0} (view : M → Server) (v : Making) (m m′ : M) (ss : List Seen) → view m ≡ fresh v → Calls view m ss m′ → Demand3 view v ss m′
   -- and what the host saw can be read back from its bytes, lock answers too
   pub reads-back : {M : Type 0} (view : M → Server) → ReadsBack view
 
 -- Beyond the demands
 pub record Beyond : Type 0 where
   -- the tie of an answer to its command
-  pub tie : (v : ℕ) (es : List Event) (n : ℕ) (x : List ℕ) (end : Bool) (room : ℕ) → refusal (final (fresh v) es) (answer n x end room) ≡ 0 → Tie v es n x end room
+  pub tie : (v : Making) (es : List Event) (n : ℕ) (x : List ℕ) (end : Bool) (room : ℕ) → refusal (final (fresh v) es) (answer n x end room) ≡ 0 → Tie v es n x end room
   -- isolation of whoever holds exclusive, at a call and over time
-  pub isolated : (v : ℕ) (es : List Event) → Isolated (final (fresh v) es)
-  pub isolation : (v : ℕ) (es : List Event) (j : ℕ) → IsolationRun v es j
+  pub isolated : (v : Making) (es : List Event) → Isolated (final (fresh v) es)
+  pub isolation : (v : Making) (es : List Event) (j : ℕ) → IsolationRun v es j
   -- which call changes which field, and to what
   pub locality : (d : Server) (es : List Event) → LocalRun d es
   -- and that table leaves nothing free: what happened decides the whole server after the call, and every frame
@@ -116,9 +116,9 @@ pub record Beyond : Type 0 where
   -- where others hold fewer locks nobody is worse off
   pub fewer-locks : FewerNeverHurts
   -- the session that has a connection is the one that is found
-  pub found : (v : ℕ) (es : List Event) (c j : ℕ) → (c ≡ noConnection → ⊥) → onConnection c (at ((final (fresh v) es) .locks .entries) j) ≡ true → j ≡ slotOf (final (fresh v) es) c
-  pub one-string : (v : ℕ) (es : List Event) → OneStringRun v es
-  pub always-room : (v : ℕ) (es : List Event) → AlwaysRoom v es
+  pub found : (v : Making) (es : List Event) (c j : ℕ) → (c ≡ noConnection → ⊥) → onConnection c (at ((final (fresh v) es) .locks .entries) j) ≡ true → j ≡ slotOf (final (fresh v) es) c
+  pub one-string : (v : Making) (es : List Event) → OneStringRun v es
+  pub always-room : (v : Making) (es : List Event) → AlwaysRoom v es
 
 pub record Statements : Type 1 where
   pub demand1 : Demand1
