@@ -6,7 +6,7 @@ use std::net::{SocketAddr, TcpListener, ToSocketAddrs};
 use std::sync::mpsc::{channel, Receiver, Sender};
 use std::time::{Duration, Instant};
 
-use hislip::{Frames, Server, CONNECTIONS};
+use hislip::{Frames, Mode, Server, CONNECTIONS};
 use query::names;
 
 use crate::arrive::Newcomer;
@@ -29,6 +29,8 @@ pub struct Settings {
     pub listen: String,
     /// Two letters told to programs.
     pub vendor: [u8; 2],
+    /// The mode that sessions start in.
+    pub prefers: Mode,
     /// Time for a connection's session to have both its channels.
     pub initialize_within: Duration,
     /// Time for the instrument to do one request.
@@ -40,6 +42,7 @@ impl Default for Settings {
         Settings {
             listen: "127.0.0.1:4880".into(),
             vendor: *b"EX",
+            prefers: Mode::Synchronized,
             initialize_within: Duration::from_secs(10),
             instrument_within: Duration::from_secs(10),
         }
@@ -106,7 +109,7 @@ impl Gateway {
         let (name, trigger_answers) = (instrument.name(), instrument.trigger_answers());
         log.say(|| format!("gateway listens on {address} for {name}"));
         Ok(Gateway {
-            server: Server::new(settings.vendor),
+            server: Server::new(settings.vendor, settings.prefers),
             start: Instant::now(),
             queue,
             connections: [const { None }; CONNECTIONS],
