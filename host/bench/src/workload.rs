@@ -303,30 +303,29 @@ pub fn all() -> Vec<Plan> {
             false,
         );
     }
-    let others = ALL - 1;
-    let rest: [(&str, Make); 8] = [
-        ("02's mix, in a fixed order", Author::in_turn),
-        ("02's mix, a third of Data held", |a| {
-            a.mix(ALL, true, &KINDS);
-        }),
-        ("Data and DataEND, held", Author::held),
-        (&format!("exclusive, {others} waiting"), |a| {
+    plan("02's mix, in a fixed order", Author::in_turn, false);
+    let third_held: Make = |a| a.mix(ALL, true, &KINDS);
+    plan("02's mix, a third of Data held", third_held, false);
+    plan("Data and DataEND, held", Author::held, false);
+    for (name, make) in waiting(ALL - 1) {
+        plan(&name, make, false);
+    }
+    plan("DataEND and 1,024-byte answers", Author::answers, false);
+    all
+}
+
+/// Lock requests and releases while so many others wait.
+fn waiting(others: u32) -> [(String, Make); 4] {
+    let long = format!("{LOCK_STRING}-byte strings, {others} waiting");
+    let to_share = format!("release in vain, {others} wait to share");
+    [
+        (format!("exclusive, {others} waiting"), |a| {
             a.storm(EXCLUSIVE);
         }),
-        (
-            &format!("{LOCK_STRING}-byte strings, {others} waiting"),
-            |a| a.storm(LONG),
-        ),
-        (&format!("release in vain, {others} waiting"), |a| {
+        (long, |a| a.storm(LONG)),
+        (format!("release in vain, {others} waiting"), |a| {
             a.in_vain(EXCLUSIVE);
         }),
-        (&format!("release in vain, {others} wait to share"), |a| {
-            a.in_vain(LONG);
-        }),
-        ("DataEND and 1,024-byte answers", Author::answers),
-    ];
-    for (name, make) in rest {
-        plan(name, make, false);
-    }
-    all
+        (to_share, |a| a.in_vain(LONG)),
+    ]
 }
