@@ -2,27 +2,42 @@
 
 mod common;
 
+use std::io::{Read, Write};
+use std::net::TcpListener;
 use std::time::{Duration, Instant};
 
+use common::client::connect;
 use common::program::Program;
 use common::Running;
+
+/// Threads that wake one after the other between a question and its answer, with some to spare.
+const WAKINGS: f64 = 8.0;
+
+/// How many milliseconds later than said something ended, each time: sorted.
+fn lateness(mut waits: impl FnMut(u32)) -> Vec<f64> {
+    let late = (20..40).map(|milliseconds| {
+        let start = Instant::now();
+        waits(milliseconds);
+        start.elapsed().as_secs_f64() * 1000.0 - f64::from(milliseconds)
+    });
+    let mut late: Vec<f64> = late.collect();
+    late.sort_by(f64::total_cmp);
+    late
+}
 
 #[test]
 fn requests_run_out_of_time_when_they_said() {
     let gateway = Running::start();
     let (mut a, mut b) = (gateway.open(), gateway.open());
     assert_eq!(a.lock(b"", 0), 1);
-    let mut late = Vec::new();
-    for wait in 20..40 {
-        let start = Instant::now();
-        assert_eq!(b.lock(b"", wait), 0);
-        late.push(start.elapsed().as_secs_f64() * 1000.0 - f64::from(wait));
-    }
-    late.sort_by(f64::total_cmp);
-    // The server counts whole milliseconds, so a request may end up to one early. The machine may be
-    // busy: one wait in four may be later.
+    let late = lateness(|wait| assert_eq!(b.lock(b"", wait), 0));
+    // The machine may be busy: the test's own sleeps say how late threads wake. One in four may be later.
+    let slept = lateness(|wait| std::thread::sleep(Duration::from_millis(wait.into())));
+    let usual = late.len() * 3 / 4;
+    let bound = f64::max(2.0, WAKINGS * slept[usual]);
+    assert!(late[usual] < bound, "{late:?}, where sleeps took {slept:?}");
+    // The server counts whole milliseconds, so a request may end up to one early.
     assert!(late[0] >= -1.0, "{late:?}");
-    assert!(late[late.len() * 3 / 4] < 2.0, "{late:?}");
 }
 
 #[test]
@@ -34,7 +49,10 @@ fn two_requests_each_in_its_time() {
     b.request(b"", 400);
     c.request(b"", 100);
     assert_eq!(c.lock_answer(), 0);
-    assert!(start.elapsed() < Duration::from_millis(300));
+    assert!(
+        start.elapsed() < Duration::from_millis(400),
+        "before the other"
+    );
     assert_eq!(b.lock_answer(), 0);
     assert!(start.elapsed() >= Duration::from_millis(399));
     assert!(
@@ -69,15 +87,45 @@ fn an_idle_gateway_uses_no_processor() {
     assert!(used <= 1, "{used} hundredths of a second in two seconds");
 }
 
+const QUERIES: u32 = 2000;
+
+/// How often a second something can be done.
+fn rate(mut done: impl FnMut()) -> f64 {
+    let start = Instant::now();
+    (0..QUERIES).for_each(|_| done());
+    f64::from(QUERIES) / start.elapsed().as_secs_f64()
+}
+
+/// How often a second a byte goes to another thread and back over TCP: what the machine has to give.
+fn echoes() -> f64 {
+    let listener = TcpListener::bind("127.0.0.1:0").expect("a free port");
+    let mut near = connect(listener.local_addr().expect("bound"));
+    let (mut far, _) = listener.accept().expect("just connected");
+    far.set_nodelay(true).expect("a live socket");
+    let echo = std::thread::spawn(move || {
+        let mut byte = [0];
+        while far.read_exact(&mut byte).is_ok() && far.write_all(&byte).is_ok() {}
+    });
+    let rate = rate(|| {
+        near.write_all(b"?").expect("sent");
+        near.read_exact(&mut [0]).expect("echoed");
+    });
+    drop(near);
+    echo.join().expect("no panic");
+    rate
+}
+
 #[test]
 fn many_queries_in_a_short_time() {
     let program = Program::start("127.0.0.1:0", &["--log", "/dev/null"]);
     let mut a = common::client::Client::open(program.address.parse().expect("an address"));
-    let start = Instant::now();
-    for _ in 0..2000 {
-        a.query("*IDN?");
-    }
-    let rate = 2000.0 / start.elapsed().as_secs_f64();
-    // 10,000 are owed on a free machine, optimised; tests are neither.
-    assert!(rate > 500.0, "{rate:.0} queries a second");
+    let queries = rate(|| drop(a.query("*IDN?")));
+    // 10,000 are owed on a free machine, optimised; tests are neither. A query wakes five threads, an echo
+    // two.
+    let echoes = echoes();
+    let enough = f64::min(500.0, echoes / WAKINGS);
+    assert!(
+        queries > enough,
+        "{queries:.0} queries, {echoes:.0} echoes a second"
+    );
 }
