@@ -4,13 +4,15 @@ ghost use Rattle.effects.specs.Did.{Did};
 ghost use Rattle.effects.specs.Synchronous.{commandNotes, isCommand, withSlot};
 ghost use Rattle.model.specs.Acts.{acts};
 ghost use Rattle.model.specs.Exchange.{ask, leaveClear, noteRmt};
+ghost use Rattle.model.specs.Locks.{stands};
 ghost use Rattle.model.specs.Place.{Role.r-synchronous};
+ghost use Rattle.model.specs.State.{at};
 ghost use Rattle.model.specs.Step.{finish};
 ghost use Rattle.state.specs.Change.{onRest};
-ghost use Rattle.state.specs.View.{memory, view};
+ghost use Rattle.state.specs.View.{locksOf, memory, view};
 ghost use lib.Dec.{eqb};
 ghost use lib.ListN.{length};
-ghost use mathlib.Core.Bool.{_&&_, cond, not};
+ghost use mathlib.Core.Bool.{_&&_, cond, false, not, true};
 ghost use mathlib.Core.List.{List};
 ghost use mathlib.Core.Path.{_≡_};
 ghost use Rattle.model.specs.Sizes.{connectionLimit, outputMinimum, payloadLimit, sessionLimit};
@@ -132,4 +134,15 @@ pub fn act_synchronous(
         0,
     );
     answer::acted(session, len, 17)
+}
+
+// A Data, DataEND or Trigger acts while no release of its session stands: there is nothing to send.
+pub fn act_plainly(w: &mut Words, i: usize, kind: u8, code: u8, param: u32, len: u64) -> Delivery
+    requires { ⌜ (i < sessionLimit) × (len ≤ payloadLimit) × (isCommand kind ≡ true) × ((s : List ℕ) → stands ((at (locksOf (now w) s .entries) i) .standing) ≡ false) ⌝ }
+    ensures { λ r. ⌜ ((s p out : List ℕ) (c : ℕ) → Did (finish (view (memory (now (w .entry)) s)) (acts r-synchronous (view (memory (now (w .entry)) s)) i c (record { kind = kind; code = code; param = param; len = len }) p)) r (memory (now (w .entry)) s) (memory (now (w .exit)) s) out out) ⌝ }
+{
+    let session = tables::entry(w, i, tables::NUMBER);
+    note_command(w, i, kind, code, param);
+    complete::note_message(w, i, param);
+    answer::acted(session, len, 0)
 }

@@ -1,6 +1,6 @@
 -- A release that stands takes effect (02, Q-3): with the message that it names, or with a device clear. Assumes nothing.
 use mathlib.Core.Path.{_≡_, refl, sym, ap, subst, _∙_}
-use mathlib.Core.Bool.{Bool, true, false, cond}
+use mathlib.Core.Bool.{Bool, true, false, cond, true≢false}
 use mathlib.Core.List.{List}
 use Prim.Native.Nat.{ℕ, _-_, _%_, _^_, _≤_, _<_}
 use native.Mathlib.Nat.{mod-eq-of-lt}
@@ -9,7 +9,7 @@ use lib.ListN.{length}
 use borrow.Author.Tests.{eq-eqb, ne-eqb}
 use Rattle.model.specs.Sizes.{beforeFirst}
 use Rattle.model.specs.State.{Entry, Locks, Server, Kind, Standing, Standing.no-release, Standing.release-of, at, blank}
-use Rattle.model.specs.Locks.{LockEvent.command, LockEvent.clear, LockResult, Due, Due.not-due, Due.due-now, tell, without, withOrder, withEntries, unanswered, releaseCode, dueAt, dueAny, completed, isDue, change, settle, grantPass}
+use Rattle.model.specs.Locks.{LockEvent.command, LockEvent.clear, LockResult, Due, Due.not-due, Due.due-now, tell, without, withOrder, withEntries, unanswered, releaseCode, dueAt, dueAny, completed, isDue, stands, change, settle, grantPass}
 use Rattle.state.specs.Change.{onEntry, orderWith}
 use Rattle.state.specs.Grid.{upd, upd-upd, upd-set}
 use Rattle.state.specs.View.{Memory, view, standingOf}
@@ -61,6 +61,10 @@ module _ (x : Standing) (v n : ℕ) (e : x ≡ standingOf v) where
 
   pub due-any : (k : Kind) → standingOf v ≡ release-of k ((v - 1) % 2 ^ 32) → dueAny x ≡ due-now k
   due-any k s = ap dueAny (e ∙ s)
+
+pub due-unstood : (x : Standing) (n : ℕ) → stands x ≡ false → dueAt n x ≡ not-due
+due-unstood no-release n e = refl
+due-unstood (release-of k m) n e = absurd (true≢false e)
 
 -- the stores
 pub noted-stored : (d d₁ : Server) (i n : ℕ) → n < 2 ^ 32 → d₁ ≡ onEntry d i (orderWith 0 n) → d₁ ≡ record { locks = noted (d .locks) i n; rest = d .rest }

@@ -6,11 +6,12 @@ ghost use Rattle.locks.specs.Standing.{kindOf};
 ghost use Rattle.model.specs.Bound.{answersRoom};
 ghost use Rattle.model.specs.Locks.Due.{due-now};
 ghost use Rattle.model.specs.Locks.LockEvent.{clear, command};
-ghost use Rattle.model.specs.Locks.{change, completed, dueAny, releaseCode};
+ghost use Rattle.model.specs.Locks.{change, completed, dueAny, releaseCode, stands};
 ghost use Rattle.model.specs.Sizes.{beforeFirst, sessionLimit};
 ghost use Rattle.model.specs.State;
 ghost use Rattle.state.specs.View.{locksOf, memory};
 ghost use lib.ListN.{length};
+ghost use mathlib.Core.Bool.{false};
 ghost use mathlib.Core.List.{List};
 ghost use mathlib.Core.Path.{_≡_};
 use crate::answers::put_answer;
@@ -59,6 +60,14 @@ pub fn at_message(
     }
     let r = complete(w, out, at, i, standing::kind_in(word), number);
     grant_pass::grant_waiting(w, strings, out, r)
+}
+
+// The same where no release of slot i stands: the number is noted, and nothing is told.
+pub fn note_message(w: &mut Words, i: usize, n: u32)
+    requires { ⌜ (i < sessionLimit) × ((s : List ℕ) → stands ((Rattle.model.specs.State.at (locksOf (now w) s .entries) i) .standing) ≡ false) ⌝ }
+    ensures { λ _. ⌜ ((s out : List ℕ) → Met (settled (locksOf (now (w .entry)) s) (command i n)) (memory (now (w .entry)) s) (memory (now (w .exit)) s) out out 0 0) ⌝ }
+{
+    tables::set_order(w, i, tables::LAST_NUMBER, n as u64);
 }
 
 // Whatever release of slot i stands takes effect, and no message has acted since.
