@@ -1,7 +1,8 @@
 //! Measures a gateway that runs: `cargo run --release -p gateway --example measure -- ADDR:PORT [PID]`.
 //! Closed loop: one program asks `*IDN?` and waits for the answer, again and again. Deadlines: a second
 //! program waits for a lock that it does not get, and the answer is compared with the time it named.
-//! Idle: the processor time of PID while two programs are connected and silent.
+//! Idle: the processor time of PID while two programs are connected and silent. Each number has the
+//! machine's load of the last minute beside it.
 
 use std::time::{Duration, Instant};
 
@@ -34,18 +35,20 @@ fn measure(to: &str, pid: Option<&str>) -> Result<(), Trouble> {
         patience: Duration::from_secs(5),
     };
     let (mut a, mut b) = (Client::open(&settings)?, Client::open(&settings)?);
-    println!("closed loop: {:.0} queries a second", closed_loop(&mut a)?);
+    let rate = closed_loop(&mut a)?;
+    println!("closed loop: {rate:.0} queries a second (load {})", load());
     a.lock(b"", 0)?;
     let late = deadlines(&mut b)?;
     let [first, middle, last] = [0, late.len() / 2, late.len() - 1].map(|at| late[at]);
     println!(
-        "deadlines: {first:.2} to {last:.2} ms late, half under {middle:.2} ({LOCK_WAITS} waits)"
+        "deadlines: {first:.2} to {last:.2} ms late, half under {middle:.2} ({LOCK_WAITS} waits, load {})",
+        load()
     );
     if let Some(before) = pid.and_then(processor_seconds) {
         std::thread::sleep(IDLE);
         let used = pid.and_then(processor_seconds).unwrap_or(before) - before;
         let share = 100.0 * used / IDLE.as_secs_f64();
-        println!("idle: {share:.2} % of a processor");
+        println!("idle: {share:.2} % of a processor (load {})", load());
     }
     Ok(())
 }
@@ -72,6 +75,12 @@ fn deadlines(client: &mut Client) -> Result<Vec<f64>, Trouble> {
     }
     late.sort_by(f64::total_cmp);
     Ok(late)
+}
+
+/// Processes that ran or wanted to, on average over the last minute.
+fn load() -> String {
+    let loads = std::fs::read_to_string("/proc/loadavg").unwrap_or_default();
+    loads.split(' ').next().unwrap_or("unknown").into()
 }
 
 fn processor_seconds(pid: &str) -> Option<f64> {

@@ -7,6 +7,8 @@ use std::time::Duration;
 
 pub const FIRST: u32 = 0xffff_ff00;
 const BEFORE_FIRST: u32 = 0xffff_fefe;
+/// Longest wait for what must come, on a machine that may be busy.
+pub const PATIENCE: Duration = Duration::from_secs(30);
 
 #[derive(Debug, PartialEq, Eq)]
 pub struct Message {
@@ -40,9 +42,7 @@ pub fn bytes(kind: u8, code: u8, parameter: u32, payload: &[u8]) -> Vec<u8> {
 pub fn connect(to: SocketAddr) -> TcpStream {
     let stream = TcpStream::connect(to).expect("the gateway listens");
     stream.set_nodelay(true).expect("a live socket");
-    stream
-        .set_read_timeout(Some(Duration::from_secs(5)))
-        .expect("not zero");
+    stream.set_read_timeout(Some(PATIENCE)).expect("not zero");
     stream
 }
 
@@ -67,9 +67,7 @@ pub fn silent(stream: &mut TcpStream) -> bool {
         .set_read_timeout(Some(Duration::from_millis(120)))
         .expect("not zero");
     let got = stream.peek(&mut [0]);
-    stream
-        .set_read_timeout(Some(Duration::from_secs(5)))
-        .expect("not zero");
+    stream.set_read_timeout(Some(PATIENCE)).expect("not zero");
     got.is_err()
 }
 

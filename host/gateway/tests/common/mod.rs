@@ -111,7 +111,7 @@ impl Drop for Running {
 
 /// Waits until it is so, but not for ever.
 pub fn eventually(mut so: impl FnMut() -> bool) -> bool {
-    let until = Instant::now() + Duration::from_secs(5);
+    let until = Instant::now() + client::PATIENCE;
     while !so() {
         if Instant::now() > until {
             return false;
