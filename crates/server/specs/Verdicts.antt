@@ -66,3 +66,8 @@ pub of-kind : (d : Server) (c i : ℕ) (h : Header) (p : List ℕ) (ro : Role) (
     → Done d c i (whole h p) ro r m m′ out out′ (judged ro d i h p)
 of-kind d c i h p ro r m m′ out out′ k e q =
     subst (λ (x : ℕ). Done d c i (whole (message x (h .code) (h .param) (h .len)) p) ro r m m′ out out′ (judged ro d i (message x (h .code) (h .param) (h .len)) p)) (sym e) q
+
+-- and one whose role is told
+pub of-role : (d : Server) (c i : ℕ) (h : Header) (p : List ℕ) (ro qo : Role) (r : Delivery) (m m′ : Memory) (out out′ : List ℕ) → ro ≡ qo
+    → Done d c i (whole h p) qo r m m′ out out′ (judged qo d i h p) → Done d c i (whole h p) ro r m m′ out out′ (judged ro d i h p)
+of-role d c i h p ro qo r m m′ out out′ e q = subst (λ (x : Role). Done d c i (whole h p) x r m m′ out out′ (judged x d i h p)) (sym e) q

@@ -4,19 +4,24 @@ ghost use Rattle.checks.specs.Numbers.{message, verdictOf};
 ghost use Rattle.effects.specs.Did.{Did, DidWith};
 ghost use Rattle.model.specs.Acts.{acts};
 ghost use Rattle.model.specs.Checks.{Verdict.v-acts, judged};
-ghost use Rattle.model.specs.Place.{Role, roleOf, slotIn};
+ghost use Rattle.effects.specs.Synchronous.{isCommand};
+ghost use Rattle.model.specs.Locks.{stands};
+ghost use Rattle.model.specs.Place.{Role, Role.r-asynchronous, Role.r-synchronous, roleOf, slotIn};
 ghost use Rattle.model.specs.Missing.{ifMore, lacking};
 ghost use Rattle.model.specs.Scan.{Scan, Scan.whole, freshScan, leftover, scan, size};
-ghost use Rattle.model.specs.State.{connectionAt};
+ghost use Rattle.model.specs.State.{at, connectionAt};
 ghost use Rattle.server.specs.Scanning.{DidOn};
 ghost use Rattle.model.specs.Step.{effect, finish, received};
 ghost use Rattle.state.specs.Channels.{Unshown};
 ghost use Rattle.state.specs.Search.{roleNumber};
 ghost use Rattle.state.specs.View.{locksOf, memory, restOf, view};
 ghost use lib.ListN.{length};
+ghost use mathlib.Core.Bool.{false, true};
 ghost use mathlib.Core.List.{List};
 ghost use mathlib.Core.Path.{_≡_};
 ghost use Rattle.model.specs.Sizes.{connectionLimit, outputMinimum, payloadLimit, sessionLimit};
+use checks::asynchronous as on_asynchronous;
+use checks::synchronous as on_synchronous;
 use checks::verdict::ACTS;
 use checks::verdict::CLOSED;
 use checks::verdict::ERROR_0;
@@ -32,6 +37,9 @@ use effects::opening;
 use effects::outcome;
 use effects::replies;
 use effects::synchronous;
+use locks::release;
+use locks::request;
+use locks::standing;
 use state::search;
 use state::search::ON_ASYNCHRONOUS;
 use state::search::ON_SYNCHRONOUS;
@@ -41,6 +49,7 @@ use state::sizes::Words;
 use state::tables;
 use wire::Header;
 use wire::reading;
+use wire::types::ASYNC_LOCK;
 use wire::types::ASYNC_STATUS_QUERY;
 use wire::types::DATA;
 use wire::types::DATA_END;
@@ -116,7 +125,7 @@ fn act(
     answer::quiet(outcome::ACTED, 16 + len)
 }
 
-// A whole message of a kind (header h, but for its kind): the verdict, and what it does.
+// A whole message of a kind: the verdict, and what it does. Its header comes number by number, so that a call of it has them in registers.
 fn deliver_kind(
     w: &mut Words,
     strings: &mut Strings,
@@ -125,15 +134,14 @@ fn deliver_kind(
     i: usize,
     role: u8,
     kind: u8,
-    h: Header,
+    code: u8,
+    param: u32,
+    len: u64,
     payload: &[u8],
 ) -> Delivery
-    requires { ⌜ (c < connectionLimit) × (h .len ≤ payloadLimit) × (length (now payload) ≡ h .len) × (outputMinimum ≤ length (now out)) × ((s : List ℕ) → slotIn (locksOf (now w) s .entries) c ≡ i) × ((role ≡ 0 → ⊥) → i < sessionLimit) × (role ≡ 0 → Unshown (now w) c) ⌝ }
-    ensures { λ r. ⌜ ((ro : Role) → roleNumber ro ≡ role → Did (finish (view (memory (now (w .entry)) (now (strings .entry)))) (effect (judged ro (view (memory (now (w .entry)) (now (strings .entry)))) i (message kind (h .code) (h .param) (h .len)) (now (payload .entry))) (whole (message kind (h .code) (h .param) (h .len)) (now (payload .entry))) ro (view (memory (now (w .entry)) (now (strings .entry)))) i c)) r (memory (now (w .entry)) (now (strings .entry))) (memory (now (w .exit)) (now (strings .exit))) (now (out .entry)) (now (out .exit))) ⌝ }
+    requires { ⌜ (c < connectionLimit) × (len ≤ payloadLimit) × (length (now payload) ≡ len) × (outputMinimum ≤ length (now out)) × ((s : List ℕ) → slotIn (locksOf (now w) s .entries) c ≡ i) × ((role ≡ 0 → ⊥) → i < sessionLimit) × (role ≡ 0 → Unshown (now w) c) ⌝ }
+    ensures { λ r. ⌜ ((ro : Role) → roleNumber ro ≡ role → Did (finish (view (memory (now (w .entry)) (now (strings .entry)))) (effect (judged ro (view (memory (now (w .entry)) (now (strings .entry)))) i (message kind code param len) (now (payload .entry))) (whole (message kind code param len) (now (payload .entry))) ro (view (memory (now (w .entry)) (now (strings .entry)))) i c)) r (memory (now (w .entry)) (now (strings .entry))) (memory (now (w .exit)) (now (strings .exit))) (now (out .entry)) (now (out .exit))) ⌝ }
 {
-    let code = h.code;
-    let param = h.param;
-    let len = h.len;
     let v = whole::whole_verdict(w, role, i, kind, code, param, len, payload);
     if v == ACTS {
         return act(w, strings, out, c, i, role, kind, code, param, len, payload);
@@ -145,8 +153,189 @@ fn deliver_kind(
     told
 }
 
-// A whole message. For the kinds that come most often role and kind are told as constants: checks and effect are then compiled for the one
-// kind, and are reached by one test of it in place of two dispatches.
+// A whole Data or DataEND of a session of which no release stands.
+fn deliver_plain(
+    w: &mut Words,
+    strings: &mut Strings,
+    out: &mut [u8],
+    c: u64,
+    i: usize,
+    kind: u8,
+    code: u8,
+    param: u32,
+    len: u64,
+    payload: &[u8],
+) -> Delivery
+    requires { ⌜ (c < connectionLimit) × (len ≤ payloadLimit) × (length (now payload) ≡ len) × (outputMinimum ≤ length (now out)) × ((s : List ℕ) → slotIn (locksOf (now w) s .entries) c ≡ i) × (i < sessionLimit) × (isCommand kind ≡ true) × ((s : List ℕ) → stands ((at (locksOf (now w) s .entries) i) .standing) ≡ false) ⌝ }
+    ensures { λ r. ⌜ Did (finish (view (memory (now (w .entry)) (now (strings .entry)))) (effect (judged r-synchronous (view (memory (now (w .entry)) (now (strings .entry)))) i (message kind code param len) (now (payload .entry))) (whole (message kind code param len) (now (payload .entry))) r-synchronous (view (memory (now (w .entry)) (now (strings .entry)))) i c)) r (memory (now (w .entry)) (now (strings .entry))) (memory (now (w .exit)) (now (strings .exit))) (now (out .entry)) (now (out .exit)) ⌝ }
+{
+    let v = on_synchronous::synchronous_verdict(w, i, kind, code, len);
+    if v == ACTS {
+        return synchronous::act_plainly(w, i, kind, code, param, len);
+    }
+    if v == HELD {
+        return answer::quiet(outcome::HELD, 0);
+    }
+    let told = apply(w, strings, out, c, i, v, 16 + len, 0);
+    told
+}
+
+// A lock message that passed all checks acts: code 0 releases, 1 requests. Both are calls that return a number; the answer is formed here.
+fn act_lock(
+    w: &mut Words,
+    strings: &mut Strings,
+    out: &mut [u8],
+    c: u64,
+    i: usize,
+    code: u8,
+    param: u32,
+    len: u64,
+    payload: &[u8],
+) -> Delivery
+    requires { ⌜ (i < sessionLimit) × (len ≤ payloadLimit) × (outputMinimum ≤ length (now out)) ⌝ }
+    ensures { λ r. ⌜ Did (finish (view (memory (now (w .entry)) (now (strings .entry)))) (acts r-asynchronous (view (memory (now (w .entry)) (now (strings .entry)))) i c (message 4 code param len) (now (payload .entry)))) r (memory (now (w .entry)) (now (strings .entry))) (memory (now (w .exit)) (now (strings .exit))) (now (out .entry)) (now (out .exit)) ⌝ }
+{
+    let n = tables::entry(w, i, tables::NUMBER);
+    if code == 0 {
+        let end = release::release_lock(w, strings, out, 0, i, param);
+        return answer::acted(n, len, end as u64);
+    }
+    let end = request::request_lock(w, strings, out, 0, i, param, payload);
+    answer::acted(n, len, end as u64)
+}
+
+// A whole lock message.
+fn deliver_lock(
+    w: &mut Words,
+    strings: &mut Strings,
+    out: &mut [u8],
+    c: u64,
+    i: usize,
+    code: u8,
+    param: u32,
+    len: u64,
+    payload: &[u8],
+) -> Delivery
+    requires { ⌜ (c < connectionLimit) × (len ≤ payloadLimit) × (length (now payload) ≡ len) × (outputMinimum ≤ length (now out)) × ((s : List ℕ) → slotIn (locksOf (now w) s .entries) c ≡ i) × (i < sessionLimit) ⌝ }
+    ensures { λ r. ⌜ Did (finish (view (memory (now (w .entry)) (now (strings .entry)))) (effect (judged r-asynchronous (view (memory (now (w .entry)) (now (strings .entry)))) i (message 4 code param len) (now (payload .entry))) (whole (message 4 code param len) (now (payload .entry))) r-asynchronous (view (memory (now (w .entry)) (now (strings .entry)))) i c)) r (memory (now (w .entry)) (now (strings .entry))) (memory (now (w .exit)) (now (strings .exit))) (now (out .entry)) (now (out .exit)) ⌝ }
+{
+    let v = on_asynchronous::asynchronous_verdict(ASYNC_LOCK, code, len);
+    if v == ACTS {
+        return act_lock(w, strings, out, c, i, code, param, len, payload);
+    }
+    if v == HELD {
+        return answer::quiet(outcome::HELD, 0);
+    }
+    let told = apply(w, strings, out, c, i, v, 16 + len, 0);
+    told
+}
+
+// A whole message on a session's synchronous channel. Data and DataEND, unless a release stands that they may complete, are told as constants:
+// checks and effect are then compiled for the one kind. All else is a call, whose answer goes through a local as that of `apply` does.
+fn deliver_synchronous(
+    w: &mut Words,
+    strings: &mut Strings,
+    out: &mut [u8],
+    c: u64,
+    i: usize,
+    kind: u8,
+    code: u8,
+    param: u32,
+    len: u64,
+    payload: &[u8],
+) -> Delivery
+    requires { ⌜ (c < connectionLimit) × (len ≤ payloadLimit) × (length (now payload) ≡ len) × (outputMinimum ≤ length (now out)) × ((s : List ℕ) → slotIn (locksOf (now w) s .entries) c ≡ i) × (i < sessionLimit) ⌝ }
+    ensures { λ r. ⌜ Did (finish (view (memory (now (w .entry)) (now (strings .entry)))) (effect (judged r-synchronous (view (memory (now (w .entry)) (now (strings .entry)))) i (message kind code param len) (now (payload .entry))) (whole (message kind code param len) (now (payload .entry))) r-synchronous (view (memory (now (w .entry)) (now (strings .entry)))) i c)) r (memory (now (w .entry)) (now (strings .entry))) (memory (now (w .exit)) (now (strings .exit))) (now (out .entry)) (now (out .exit)) ⌝ }
+{
+    if standing::stands(w, i) {
+        let told = deliver_kind(
+            w,
+            strings,
+            out,
+            c,
+            i,
+            ON_SYNCHRONOUS,
+            kind,
+            code,
+            param,
+            len,
+            payload,
+        );
+        return told;
+    }
+    if kind == DATA {
+        return deliver_plain(w, strings, out, c, i, DATA, code, param, len, payload);
+    }
+    if kind == DATA_END {
+        return deliver_plain(w, strings, out, c, i, DATA_END, code, param, len, payload);
+    }
+    let told = deliver_kind(
+        w,
+        strings,
+        out,
+        c,
+        i,
+        ON_SYNCHRONOUS,
+        kind,
+        code,
+        param,
+        len,
+        payload,
+    );
+    told
+}
+
+// The same on the asynchronous channel, with status queries and lock messages.
+fn deliver_asynchronous(
+    w: &mut Words,
+    strings: &mut Strings,
+    out: &mut [u8],
+    c: u64,
+    i: usize,
+    kind: u8,
+    code: u8,
+    param: u32,
+    len: u64,
+    payload: &[u8],
+) -> Delivery
+    requires { ⌜ (c < connectionLimit) × (len ≤ payloadLimit) × (length (now payload) ≡ len) × (outputMinimum ≤ length (now out)) × ((s : List ℕ) → slotIn (locksOf (now w) s .entries) c ≡ i) × (i < sessionLimit) ⌝ }
+    ensures { λ r. ⌜ Did (finish (view (memory (now (w .entry)) (now (strings .entry)))) (effect (judged r-asynchronous (view (memory (now (w .entry)) (now (strings .entry)))) i (message kind code param len) (now (payload .entry))) (whole (message kind code param len) (now (payload .entry))) r-asynchronous (view (memory (now (w .entry)) (now (strings .entry)))) i c)) r (memory (now (w .entry)) (now (strings .entry))) (memory (now (w .exit)) (now (strings .exit))) (now (out .entry)) (now (out .exit)) ⌝ }
+{
+    if kind == ASYNC_STATUS_QUERY {
+        return deliver_kind(
+            w,
+            strings,
+            out,
+            c,
+            i,
+            ON_ASYNCHRONOUS,
+            ASYNC_STATUS_QUERY,
+            code,
+            param,
+            len,
+            payload,
+        );
+    }
+    if kind == ASYNC_LOCK {
+        return deliver_lock(w, strings, out, c, i, code, param, len, payload);
+    }
+    let told = deliver_kind(
+        w,
+        strings,
+        out,
+        c,
+        i,
+        ON_ASYNCHRONOUS,
+        kind,
+        code,
+        param,
+        len,
+        payload,
+    );
+    told
+}
+
+// A whole message, by its role.
 fn deliver_whole(
     w: &mut Words,
     strings: &mut Strings,
@@ -161,30 +350,17 @@ fn deliver_whole(
     ensures { λ r. ⌜ ((ro : Role) → roleNumber ro ≡ role → Did (finish (view (memory (now (w .entry)) (now (strings .entry)))) (effect (judged ro (view (memory (now (w .entry)) (now (strings .entry)))) i h (now (payload .entry))) (whole h (now (payload .entry))) ro (view (memory (now (w .entry)) (now (strings .entry)))) i c)) r (memory (now (w .entry)) (now (strings .entry))) (memory (now (w .exit)) (now (strings .exit))) (now (out .entry)) (now (out .exit))) ⌝ }
 {
     let kind = h.kind;
+    let code = h.code;
+    let param = h.param;
+    let len = h.len;
     if role == ON_SYNCHRONOUS {
-        if kind == DATA {
-            return deliver_kind(w, strings, out, c, i, ON_SYNCHRONOUS, DATA, h, payload);
-        }
-        if kind == DATA_END {
-            return deliver_kind(w, strings, out, c, i, ON_SYNCHRONOUS, DATA_END, h, payload);
-        }
+        return deliver_synchronous(w, strings, out, c, i, kind, code, param, len, payload);
     }
     if role == ON_ASYNCHRONOUS {
-        if kind == ASYNC_STATUS_QUERY {
-            return deliver_kind(
-                w,
-                strings,
-                out,
-                c,
-                i,
-                ON_ASYNCHRONOUS,
-                ASYNC_STATUS_QUERY,
-                h,
-                payload,
-            );
-        }
+        return deliver_asynchronous(w, strings, out, c, i, kind, code, param, len, payload);
     }
-    deliver_kind(w, strings, out, c, i, role, kind, h, payload)
+    let told = deliver_kind(w, strings, out, c, i, role, kind, code, param, len, payload);
+    told
 }
 
 // At least sixteen bytes, with nothing to skip. The place of the connection is looked up on each way by itself, right before its role is

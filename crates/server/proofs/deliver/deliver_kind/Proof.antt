@@ -26,7 +26,7 @@ returns c =
     let a = c .before .before .before .before .before .before .before .before .before .before .before .args in
     let v = c .before .before .before .before .before .before .before .whole-verdict in
     let d = view (memory (a .w .now) (a .strings .now)) in
-    let h = message (a .kind) (a .h .code) (a .h .param) (a .h .len) in
+    let h = message (a .kind) (a .code) (a .param) (a .len) in
     λ ro e. acts-done d (a .c) (a .i) h (a .payload .now) ro _ _ _ _ _ (judged ro d (a .i) h (a .payload .now))
     (v .ensures (a .strings .now) ro e .case ∙ ap verdictOf (c .before .before .before .before .before .before .if1 .taken)) (c .before .before .act .ensures ro e)
 
@@ -35,7 +35,7 @@ returns-2 c =
     let a = c .before .before .before .before .before .before .before .args in
     let v = c .before .before .before .whole-verdict in
     let d = view (memory (a .w .now) (a .strings .now)) in
-    let h = message (a .kind) (a .h .code) (a .h .param) (a .h .len) in
+    let h = message (a .kind) (a .code) (a .param) (a .len) in
     let x = whole h (a .payload .now) in
     λ ro e. by-verdict d (a .c) (a .i) x ro _ _ _ _ _ (judged ro d (a .i) h (a .payload .now)) (verdictOf (v .result)) (v .ensures (a .strings .now) ro e .case)
     (held-done d (a .c) (a .i) x ro _ _ _ _ _ (v .result) (c .before .if2 .taken) (did-nothing 0 (took held 0 0) _ _ _ (ap numbersOf (c .quiet .ensures))))
@@ -45,7 +45,7 @@ returns-3 c =
     let a = c .before .before .before .before .before .before .before .before .before .before .before .before .args in
     let v = c .before .before .before .before .before .before .before .before .whole-verdict in
     let d = view (memory (a .w .now) (a .strings .now)) in
-    let h = message (a .kind) (a .h .code) (a .h .param) (a .h .len) in
+    let h = message (a .kind) (a .code) (a .param) (a .len) in
     λ ro e. by-verdict d (a .c) (a .i) (whole h (a .payload .now)) ro _ _ _ _ _ (judged ro d (a .i) h (a .payload .now)) (verdictOf (v .result))
     (v .ensures (a .strings .now) ro e .case) (c .before .before .apply .ensures ro (whole h (a .payload .now)) refl refl)
 
