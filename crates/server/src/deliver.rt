@@ -174,7 +174,7 @@ fn deliver_plain(
         return synchronous::act_plainly(w, i, kind, code, param, len);
     }
     if v == HELD {
-        return answer::quiet(outcome::HELD, 0);
+        return answer::quiet(outcome::HELD, 0); // none of it is taken
     }
     let told = apply(w, strings, out, c, i, v, 16 + len, 0);
     told
