@@ -27,6 +27,8 @@ pub struct Settings {
     pub sub_address: String,
     /// Longest wait for an answer.
     pub patience: Duration,
+    /// Overlap mode is asked for, also of a server that prefers synchronized.
+    pub overlap: bool,
 }
 
 pub struct Client {
@@ -45,6 +47,8 @@ pub struct Client {
     interrupted: bool,
     /// Overlap mode: answers come in order with numbers of the server's own.
     overlap: bool,
+    /// Device clears ask for overlap mode, whatever the server prefers.
+    wants_overlap: bool,
     /// In overlap mode, the number of the most recent answer delivered.
     delivered: u32,
 }
@@ -81,10 +85,23 @@ impl Client {
             rmt_delivered: false,
             interrupted: false,
             overlap: opened.code & OVERLAP != 0,
+            wants_overlap: settings.overlap,
             delivered: BEFORE_FIRST,
         };
         client.exchange_sizes()?;
+        client.enter_mode()?;
         Ok(client)
+    }
+
+    /// A mode changes in a device clear alone (3.1.2, 6.12).
+    fn enter_mode(&mut self) -> Result<()> {
+        if self.wants_overlap && !self.overlap {
+            self.clear()?;
+        }
+        match self.wants_overlap && !self.overlap {
+            true => Err(Trouble::NotGranted("overlap mode not granted".into())),
+            false => Ok(()),
+        }
     }
 
     fn exchange_sizes(&mut self) -> Result<()> {
@@ -267,7 +284,7 @@ impl Client {
     }
 
     /// Device clear, steps 2 to 8: everything but the two acknowledgements is dropped meanwhile. The
-    /// mode that the server prefers is asked for.
+    /// mode that the server prefers is asked for, or overlap where it is wanted.
     pub fn clear(&mut self) -> Result<()> {
         send(
             &mut self.asynchronous,
@@ -275,7 +292,7 @@ impl Client {
         )?;
         let what = "AsyncDeviceClearAcknowledge";
         let prefers = drop_until(&mut self.asynchronous, ASYNC_DEVICE_CLEAR_ACKNOWLEDGE, what)?;
-        let asked = prefers.code & OVERLAP;
+        let asked = (prefers.code & OVERLAP) | u8::from(self.wants_overlap);
         send(&mut self.sync, &bytes(DEVICE_CLEAR_COMPLETE, asked, 0, b""))?;
         let what = "DeviceClearAcknowledge";
         let granted = drop_until(&mut self.sync, DEVICE_CLEAR_ACKNOWLEDGE, what)?;

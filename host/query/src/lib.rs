@@ -1,4 +1,4 @@
-//! A HiSLIP client by IVI-6.1's client rules in synchronized mode, and the names of the protocol's
+//! A HiSLIP client by IVI-6.1's client rules in both modes, and the names of the protocol's
 //! numbers. It needs neither the server library nor anything else outside std.
 
 mod arguments;

@@ -11,6 +11,7 @@ options:
   --to ADDR:PORT       the server (127.0.0.1:4880)
   --sub-address NAME   the device (hislip0)
   --timeout-ms N       longest wait for an answer (5000)
+  --overlap            overlap mode, by a device clear where the server begins otherwise
   --help
 steps, done in order in one session:
   TEXT                 with a `?` it is sent and its answer is printed, beginning with `*` it is sent
@@ -62,6 +63,7 @@ pub fn parse(arguments: impl IntoIterator<Item = String>) -> Result<Command, Str
             to: "127.0.0.1:4880".into(),
             sub_address: "hislip0".into(),
             patience: Duration::from_secs(5),
+            overlap: false,
         },
         steps: Vec::new(),
         help: false,
@@ -70,6 +72,7 @@ pub fn parse(arguments: impl IntoIterator<Item = String>) -> Result<Command, Str
         let mut next = || rest.next().ok_or(format!("{word} wants a value"));
         match &word[..] {
             "--help" => command.help = true,
+            "--overlap" => command.settings.overlap = true,
             "--to" => command.settings.to = next()?,
             "--sub-address" => command.settings.sub_address = next()?,
             "--timeout-ms" => {

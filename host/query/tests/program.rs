@@ -62,6 +62,13 @@ fn every_step() {
         done(to, &["write", "*IDN?", "clear", "*OPC?", "remote", "3"]),
         "1\n"
     );
+    assert_eq!(
+        done(
+            to,
+            &["--overlap", "*IDN?", "*OPC?", "status", "clear", "*OPC?"]
+        ),
+        "EXAMPLE,SIMULATED METER,0,1.0\n1\n0\n1\n"
+    );
     let locking = ["lock", "cal", "0", "lock", "", "0", "lockinfo", "unlock"];
     assert_eq!(
         done(to, &[&locking[..], &["unlock", "lockinfo"]].concat()),
@@ -179,6 +186,7 @@ fn a_lock_of_another() {
         to: gateway.address.to_string(),
         sub_address: String::new(),
         patience: Duration::from_secs(2),
+        overlap: false,
     };
     let mut holder = query::Client::open(&settings).expect("opens");
     holder.lock(b"", 0).expect("free");

@@ -149,6 +149,25 @@ fn overlap_mode_is_followed() {
 }
 
 #[test]
+fn overlap_mode_is_asked_for_by_a_device_clear() {
+    let asynchronous = || vec![message::bytes(23, 0, 0, b"")];
+    let granted = vec![message::bytes(9, 1, 0, b""), end(0xffff_ff00)];
+    let (to, serving) = scripted(granted, asynchronous());
+    assert_eq!(done(to, &["--overlap", "A?"]), "1\n");
+    let heard = serving.join().expect("no panic");
+    let expected = [(8, 1, 0), (7, 0, 0xffff_ff00), (19, 0, 0)];
+    assert_eq!(numbers(&heard), expected);
+
+    let (to, serving) = scripted(vec![message::bytes(9, 0, 0, b"")], asynchronous());
+    let (status, _, line) = query(to, &["--overlap", "A?"]);
+    assert_eq!(
+        (status, &line[..]),
+        (1, "query: overlap mode not granted\n")
+    );
+    serving.join().expect("no panic");
+}
+
+#[test]
 fn a_release_after_a_device_clear_names_none() {
     let asynchronous = vec![message::bytes(23, 0, 0, b""), message::bytes(5, 2, 0, b"")];
     let synchronous = vec![end(0xffff_ff00), message::bytes(9, 0, 0, b"")];
