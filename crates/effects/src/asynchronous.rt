@@ -78,7 +78,7 @@ fn status_of(w: &Words, i: usize, param: u32) -> u8
 }
 
 // AsyncStatusQuery.
-fn query_status(
+pub fn query_status(
     w: &mut Words,
     out: &mut [u8],
     c: u64,

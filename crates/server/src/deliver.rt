@@ -230,6 +230,32 @@ fn deliver_lock(
     told
 }
 
+// A whole status query.
+fn deliver_status(
+    w: &mut Words,
+    strings: &mut Strings,
+    out: &mut [u8],
+    c: u64,
+    i: usize,
+    code: u8,
+    param: u32,
+    len: u64,
+    payload: &[u8],
+) -> Delivery
+    requires { ⌜ (c < connectionLimit) × (len ≤ payloadLimit) × (length (now payload) ≡ len) × (outputMinimum ≤ length (now out)) × ((s : List ℕ) → slotIn (locksOf (now w) s .entries) c ≡ i) × (i < sessionLimit) ⌝ }
+    ensures { λ r. ⌜ Did (finish (view (memory (now (w .entry)) (now (strings .entry)))) (effect (judged r-asynchronous (view (memory (now (w .entry)) (now (strings .entry)))) i (message 21 code param len) (now (payload .entry))) (whole (message 21 code param len) (now (payload .entry))) r-asynchronous (view (memory (now (w .entry)) (now (strings .entry)))) i c)) r (memory (now (w .entry)) (now (strings .entry))) (memory (now (w .exit)) (now (strings .exit))) (now (out .entry)) (now (out .exit)) ⌝ }
+{
+    let v = on_asynchronous::asynchronous_verdict(ASYNC_STATUS_QUERY, code, len);
+    if v == ACTS {
+        return asynchronous::query_status(w, out, c, i, code, param, len);
+    }
+    if v == HELD {
+        return answer::quiet(outcome::HELD, 0);
+    }
+    let told = apply(w, strings, out, c, i, v, 16 + len, 0);
+    told
+}
+
 // A whole message on a session's synchronous channel. Data and DataEND, unless a release stands that they may complete, are told as constants:
 // checks and effect are then compiled for the one kind. All else is a call, whose answer goes through a local as that of `apply` does.
 fn deliver_synchronous(
@@ -302,19 +328,7 @@ fn deliver_asynchronous(
     ensures { λ r. ⌜ Did (finish (view (memory (now (w .entry)) (now (strings .entry)))) (effect (judged r-asynchronous (view (memory (now (w .entry)) (now (strings .entry)))) i (message kind code param len) (now (payload .entry))) (whole (message kind code param len) (now (payload .entry))) r-asynchronous (view (memory (now (w .entry)) (now (strings .entry)))) i c)) r (memory (now (w .entry)) (now (strings .entry))) (memory (now (w .exit)) (now (strings .exit))) (now (out .entry)) (now (out .exit)) ⌝ }
 {
     if kind == ASYNC_STATUS_QUERY {
-        return deliver_kind(
-            w,
-            strings,
-            out,
-            c,
-            i,
-            ON_ASYNCHRONOUS,
-            ASYNC_STATUS_QUERY,
-            code,
-            param,
-            len,
-            payload,
-        );
+        return deliver_status(w, strings, out, c, i, code, param, len, payload);
     }
     if kind == ASYNC_LOCK {
         return deliver_lock(w, strings, out, c, i, code, param, len, payload);
