@@ -33,6 +33,7 @@ fn measure(to: &str, pid: Option<&str>) -> Result<(), Trouble> {
         to: to.into(),
         sub_address: "hislip0".into(),
         patience: Duration::from_secs(5),
+        overlap: false,
     };
     let (mut a, mut b) = (Client::open(&settings)?, Client::open(&settings)?);
     let rate = closed_loop(&mut a)?;
