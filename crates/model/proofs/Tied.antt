@@ -270,7 +270,14 @@ list-ties b (e ∷ es) d f t = list-ties b es ((step d e) .server) (λ n. track 
 fresh-ties : (v : Making) → Ties (v .prefersOverlap) (fresh v) (λ n. nothingYet (v .prefersOverlap))
 fresh-ties v = record { inv = inv-fresh; sized = refl; prefers = refl; tied = λ j u. absurd (false≢true (rw (blank-at sessionLimit j) at u)) }
 
--- every answer that is not refused
+-- of a live session, after any list, the log tells the track
+pub track-run : (v : Making) (es : List Event) (n : ℕ) → live (at ((final (fresh v) es) .locks .entries) (slotOfNumber ((final (fresh v) es) .locks .entries) n)) ≡ true
+    → trackOf (exchangeAt ((final (fresh v) es) .rest) (slotOfNumber ((final (fresh v) es) .locks .entries) n)) ≡ said v es n
+track-run v es n alive =
+    let d = final (fresh v) es in
+    (list-ties (v .prefersOverlap) es (fresh v) (λ n. nothingYet (v .prefersOverlap)) (fresh-ties v)) .tied (slotOfNumber (d .locks .entries) n) alive ∙ ap (λ m. said v es m) (live-found (d .locks .entries) n alive)
+
+-- every answer that is sent
 pub tie : (v : Making) (es : List Event) (n : ℕ) (x : List ℕ) (end : Bool) (sh : List ℕ) (room : ℕ) → (step (final (fresh v) es) (answer n x end sh room)) .reply ≡ Reply.done → Tie v es n x end sh room
 unfolding step answered plan finish change refusal causes
 tie v es n x end sh room r =
@@ -313,7 +320,7 @@ tie v es n x end sh room r =
     alive = not-off _ (causeless .1 .0)
 
     track-is : trackOf y ≡ said v es n
-    track-is = (list-ties (v .prefersOverlap) es (fresh v) (λ n. nothingYet (v .prefersOverlap)) (fresh-ties v)) .tied k alive ∙ ap (λ m. said v es m) (live-found (d .locks .entries) n alive)
+    track-is = track-run v es n alive
 
     asks : mayAnswer e y ≡ true
     asks = not-off _ (causeless .1 .1 .0)

@@ -53,4 +53,5 @@ pub mod Statements
 pub mod Sending
 pub mod Outcomes
 pub mod Missing
+pub mod NextQuestion
 pub mod Asking

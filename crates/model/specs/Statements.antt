@@ -37,6 +37,7 @@ use Rattle.model.specs.Count.{Count}
 use Rattle.model.specs.ReadBack.{ReadsBack}
 use Rattle.model.specs.Demand3.{Seen, Calls, Demand3}
 use Rattle.model.specs.Tie.{Tie}
+use Rattle.model.specs.NextQuestion.{NextQuestion}
 use Rattle.model.specs.Isolation.{Isolated}
 use Rattle.model.specs.IsolationRun.{IsolationRun}
 use Rattle.model.specs.Fewer.{FewerNeverHurts}
@@ -106,6 +107,8 @@ pub record Demand3Parts : Type 1 where
 pub record Beyond : Type 0 where
   -- the tie of an answer to its command: of each one that is sent (02, Q-5: one that is withheld is not)
   pub tie : (v : Making) (es : List Event) (n : ℕ) (x : List ℕ) (end : Bool) (sh : List ℕ) (room : ℕ) → (step (final (fresh v) es) (answer n x end sh room)) .reply ≡ done → Tie v es n x end sh room
+  -- 02, Q-5: no client gets the end of an answer after its next question has arrived
+  pub next-question : (v : Making) (es : List Event) → NextQuestion v es
   -- isolation of whoever holds exclusive, at a call and over time
   pub isolated : (v : Making) (es : List Event) → Isolated (final (fresh v) es)
   pub isolation : (v : Making) (es : List Event) (j : ℕ) → IsolationRun v es j
