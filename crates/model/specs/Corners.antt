@@ -327,6 +327,8 @@ interruptions-of =
     ∷ corner (query ++ (answer 1 [] true (message 7 0 0xffffff02 []) 2048 ∷ [])) (answer 1 [] true [] 2048) (refused 5) []
     ∷ corner query (answer 1 [] true (take 16 (message 6 9 0xffffff02 cal)) 2048) withheld (numbered 1 14 2 ++ numbered 0 13 2)
     ∷ corner (query ++ (request 3 0 [] ∷ [])) (answer 1 [] true (message 12 0 0xffffff02 []) 2048) withheld (numbered 1 14 2 ++ numbered 0 13 2)
+    -- the message that interrupts stays unread, and acts when it is delivered, without a second interruption
+    ∷ corner (query ++ (answer 1 [] true (message 7 0 0xffffff02 []) 2048 ∷ [])) (send 0 (message 7 0 0xffffff02 [])) (took acted 16 1) []
     -- sent: without END; fifteen bytes; another type first; wrong prologue; a remainder to skip
     ∷ corner query (answer 1 [] false (message 7 0 0xffffff02 []) 2048) done (numbered 0 6 0)
     ∷ corner query (answer 1 [] true (take 15 (message 7 0 0xffffff02 [])) 2048) done (numbered 0 7 0)
@@ -342,6 +344,9 @@ interruptions-of =
     ∷ corner (ended ++ (send 0 (message 7 0 0xffffff02 []) ∷ [])) (send 0 (message 6 0 0xffffff04 [])) (took acted 16 1) []
     ∷ corner three (send 0 (message 6 1 0xffffff00 [])) (took acted 16 1) (numbered 1 14 0 ++ numbered 0 13 0)
     ∷ corner (ended ++ (send 0 (message 6 0 0xffffff02 []) ∷ [])) (send 1 (message 21 0 0 [])) (took acted 16 1) (plain 1 22 0)
+    -- a message that is held or answered Error is not tested
+    ∷ corner (ended ++ (request 3 0 [] ∷ [])) (send 0 (message 7 0 0xffffff02 [])) (took held 0 0) []
+    ∷ corner (ended ++ (send 0 (message 7 2 0xffffff02 []) ∷ [])) (send 0 (message 7 0 0xffffff02 [])) (took acted 16 1) (numbered 1 14 2 ++ numbered 0 13 2)
     -- an answer without END expects nothing; a status query with RMT-delivered and a device clear clear the expectation
     ∷ corner (query ++ (answer 1 [] false [] 2048 ∷ [])) (send 0 (message 6 0 0xffffff02 [])) (took acted 16 1) []
     ∷ corner (ended ++ (send 1 (message 21 1 0 []) ∷ [])) (send 0 (message 6 0 0xffffff02 [])) (took acted 16 1) []
