@@ -13,6 +13,7 @@ pub mod Refusals
 pub mod Step
 pub mod Table
 pub mod Bench
+pub mod Figures
 pub mod Corners
 pub mod Canonical
 pub mod Post
