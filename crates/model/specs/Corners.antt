@@ -11,7 +11,7 @@ use Rattle.wire.specs.Frame.{frameBytes, bytesOf}
 use Rattle.wire.specs.Class.{classOf}
 use Rattle.model.specs.Sizes.{sessionLimit}
 use Rattle.model.specs.State.{Making, Server, RemoteLocal, fresh, withSession}
-use Rattle.model.specs.Interface.{Event, Event.opening, Event.delivery, Event.cut, Event.clock, Event.answer, Event.status, Outcome.more-needed, Outcome.skipped, Outcome.held, Outcome.ignored, Outcome.error-sent, Outcome.closed, Outcome.acted, Reply.refused, Reply.done, Reply.withheld, Reply.took, outcomeNumber, deliveryAnswer, doneAnswer}
+use Rattle.model.specs.Interface.{Event, Event.opening, Event.delivery, Event.cut, Event.clock, Event.answer, Event.status, Outcome.more-needed, Outcome.skipped, Outcome.held, Outcome.ignored, Outcome.error-sent, Outcome.closed, Outcome.acted, Reply.refused, Reply.done, Reply.withheld, Reply.took, outcomeNumber, deliveryAnswer, doneAnswer, answeredAnswer}
 use Rattle.model.specs.Scan.{freshScan, scan}
 use Rattle.model.specs.Place.{placeOf}
 use Rattle.model.specs.Locks.{issued, mayGrant, access, passOver, grantPass, change}
@@ -510,6 +510,9 @@ pub answers-hold : deliveryAnswer (refused 7) 0 0 ∷ deliveryAnswer (took acted
     ∷ []
 answers-hold = refl
 
-pub done-hold : doneAnswer (refused 3) 0 ∷ doneAnswer done 34 ∷ doneAnswer withheld 34 ∷ []
-    ≡ record { refusal = 3; withheld = 0; output = 0 } ∷ record { refusal = 0; withheld = 0; output = 34 } ∷ record { refusal = 0; withheld = 1; output = 34 } ∷ []
+pub done-hold : doneAnswer (refused 3) 0 ∷ doneAnswer done 34 ∷ [] ≡ record { refusal = 3; output = 0 } ∷ record { refusal = 0; output = 34 } ∷ []
 done-hold = refl
+
+pub answered-hold : answeredAnswer (refused 5) 0 ∷ answeredAnswer done 17 ∷ answeredAnswer withheld 34 ∷ []
+    ≡ record { refusal = 5; withheld = 0; output = 0 } ∷ record { refusal = 0; withheld = 0; output = 17 } ∷ record { refusal = 0; withheld = 1; output = 34 } ∷ []
+answered-hold = refl

@@ -89,14 +89,25 @@ deliveryAnswer done output missing = record { refusal = 0; outcome = 0; session 
 deliveryAnswer withheld output missing = record { refusal = 0; outcome = 0; session = 0; taken = 0; output = output; missing = 0 }
 deliveryAnswer (took o k n) output missing = record { refusal = 0; outcome = outcomeNumber o; session = n; taken = k; output = output; missing = missing }
 
--- what the other calls return; 02, Q-5: whether the answer was withheld
+-- what an opening, a cut and a clock reading return
 pub record DoneAnswer : Type 0 where
+  pub refusal : ℕ
+  pub output : ℕ
+
+abbrev pub doneAnswer : Reply → ℕ → DoneAnswer
+doneAnswer (refused n) output = record { refusal = n; output = 0 }
+doneAnswer done output = record { refusal = 0; output = output }
+doneAnswer withheld output = record { refusal = 0; output = output }
+doneAnswer (took o k n) output = record { refusal = 0; output = output }
+
+-- what hislip_answer returns; 02, Q-5: "A withheld answer is reported to the host by name": 1 if it was withheld
+pub record AnsweredAnswer : Type 0 where
   pub refusal : ℕ
   pub withheld : ℕ
   pub output : ℕ
 
-abbrev pub doneAnswer : Reply → ℕ → DoneAnswer
-doneAnswer (refused n) output = record { refusal = n; withheld = 0; output = 0 }
-doneAnswer done output = record { refusal = 0; withheld = 0; output = output }
-doneAnswer withheld output = record { refusal = 0; withheld = 1; output = output }
-doneAnswer (took o k n) output = record { refusal = 0; withheld = 0; output = output }
+abbrev pub answeredAnswer : Reply → ℕ → AnsweredAnswer
+answeredAnswer (refused n) output = record { refusal = n; withheld = 0; output = 0 }
+answeredAnswer done output = record { refusal = 0; withheld = 0; output = output }
+answeredAnswer withheld output = record { refusal = 0; withheld = 1; output = output }
+answeredAnswer (took o k n) output = record { refusal = 0; withheld = 0; output = output }
