@@ -13,11 +13,12 @@ use lib.Seq.{getD-set-same, getD-set-other}
 use borrow.Author.Tests.{eqb-true, eqb-false}
 use Rattle.model.specs.Sizes.{sessionLimit, connectionLimit, stringLimit}
 use Rattle.model.specs.State.{Entry, Waiting, Locks, Exchange, Connection, RemoteLocal, Rest, Server, blank, at, freshExchange, closedConnection, exchangeAt, connectionAt}
+use Rattle.model.specs.Exchange.{withAnswering, withClear, withClientSize, withMode, withCount}
 use Rattle.model.specs.Locks.{withOrder}
 use Rattle.state.specs.Table.{tab, tab-same, tab-set, getD-tab, apart}
 use Rattle.state.specs.Grid.{upd, upd-set, part, grid, grid-set, grid-off, getD-grid, word-of}
 use Rattle.state.specs.Bits.{bit}
-use Rattle.state.specs.Layout.{LOCKS, CLOCK, VENDOR, STATUS, LAST, ENABLE, LOCKOUT, REMOTE, HOLDER, SHARERS, KEY, COUNT, ENTRIES, ENTRY, ORDERS, ORDER, EXCHANGES, EXCHANGE, CONNECTIONS, CONNECTION, HOME, REQUESTS, REQUEST, QUEUE, WORDS}
+use Rattle.state.specs.Layout.{LOCKS, CLOCK, VENDOR, PREFERENCE, STATUS, LAST, ENABLE, LOCKOUT, REMOTE, HOLDER, SHARERS, KEY, COUNT, ENTRIES, ENTRY, ORDERS, ORDER, EXCHANGES, EXCHANGE, CONNECTIONS, CONNECTION, HOME, REQUESTS, REQUEST, QUEUE, WORDS}
 use Rattle.state.specs.View.{Memory, memory, standingOf, word, flag, keyOf, rowWord, homeAt, homeOf, fieldOf, orderWord, entryFrom, entryAt, entriesOf, slotAt, requestAt, waitingOf, locksOf, askedOf, exchangeFrom, exchangeOf, connectionFrom, connectionOf, restFrom, restOf, view}
 use Rattle.state.specs.Confirmed.{field-same, field-small}
 
@@ -30,10 +31,13 @@ connectionWord w i f = word w (CONNECTIONS + i * CONNECTION + f)
 
 -- a field of a row, by its place
 abbrev pub exchangeWith : ℕ → ℕ → Exchange → Exchange
-exchangeWith zero v x = record { inClear = flag v; asked = x .asked; messageAvailable = x .messageAvailable; clientSize = x .clientSize }
-exchangeWith (suc zero) v x = record { inClear = x .inClear; asked = askedOf v; messageAvailable = x .messageAvailable; clientSize = x .clientSize }
-exchangeWith (suc (suc zero)) v x = record { inClear = x .inClear; asked = x .asked; messageAvailable = flag v; clientSize = x .clientSize }
-exchangeWith (suc (suc (suc f))) v x = record { inClear = x .inClear; asked = x .asked; messageAvailable = x .messageAvailable; clientSize = v }
+exchangeWith zero v x = withClear (flag v) x
+exchangeWith (suc zero) v x = withAnswering (askedOf v) (x .messageAvailable) x
+exchangeWith (suc (suc zero)) v x = withAnswering (x .asked) (flag v) x
+exchangeWith (suc (suc (suc zero))) v x = withClientSize v x
+exchangeWith (suc (suc (suc (suc zero)))) v x = withMode (flag v) x
+exchangeWith (suc (suc (suc (suc (suc zero))))) v x = withCount (v % 2 ^ 32) (x .anySent) x
+exchangeWith (suc (suc (suc (suc (suc (suc f)))))) v x = withCount (x .count) (flag v) x
 
 abbrev pub connectionWith : ℕ → ℕ → Connection → Connection
 connectionWith zero v x = record { isOpen = flag v; remainder = x .remainder }
@@ -48,17 +52,18 @@ abbrev pub orderWith : ℕ → ℕ → Entry → Entry
 orderWith zero v e = withOrder (v % 2 ^ 32) (e .standing) e
 orderWith (suc f) v e = withOrder (e .last) (standingOf v) e
 
--- a single value of the rest, by its place: vendor number, status byte, last SessionID, the three flags
+-- a single value of the rest, by its place: vendor number, preference, status byte, last SessionID, the three flags
 abbrev pub flagsWith : ℕ → ℕ → RemoteLocal → RemoteLocal
 flagsWith zero v x = record { enable = flag v; lockout = x .lockout; remote = x .remote }
 flagsWith (suc zero) v x = record { enable = x .enable; lockout = flag v; remote = x .remote }
 flagsWith (suc (suc f)) v x = record { enable = x .enable; lockout = x .lockout; remote = flag v }
 
 abbrev pub singleWith : ℕ → ℕ → Rest → Rest
-singleWith zero v r = record { exchanges = r .exchanges; connections = r .connections; lastIssued = r .lastIssued; vendor = v % 65536; status = r .status; remoteLocal = r .remoteLocal }
-singleWith (suc zero) v r = record { exchanges = r .exchanges; connections = r .connections; lastIssued = r .lastIssued; vendor = r .vendor; status = v % 256; remoteLocal = r .remoteLocal }
-singleWith (suc (suc zero)) v r = record { exchanges = r .exchanges; connections = r .connections; lastIssued = v % 65536; vendor = r .vendor; status = r .status; remoteLocal = r .remoteLocal }
-singleWith (suc (suc (suc f))) v r = record { exchanges = r .exchanges; connections = r .connections; lastIssued = r .lastIssued; vendor = r .vendor; status = r .status; remoteLocal = flagsWith f v (r .remoteLocal) }
+singleWith zero v r = record { exchanges = r .exchanges; connections = r .connections; lastIssued = r .lastIssued; made = record { vendor = v % 65536; prefersOverlap = r .made .prefersOverlap }; status = r .status; remoteLocal = r .remoteLocal }
+singleWith (suc zero) v r = record { exchanges = r .exchanges; connections = r .connections; lastIssued = r .lastIssued; made = record { vendor = r .made .vendor; prefersOverlap = flag v }; status = r .status; remoteLocal = r .remoteLocal }
+singleWith (suc (suc zero)) v r = record { exchanges = r .exchanges; connections = r .connections; lastIssued = r .lastIssued; made = r .made; status = v % 256; remoteLocal = r .remoteLocal }
+singleWith (suc (suc (suc zero))) v r = record { exchanges = r .exchanges; connections = r .connections; lastIssued = v % 65536; made = r .made; status = r .status; remoteLocal = r .remoteLocal }
+singleWith (suc (suc (suc (suc f)))) v r = record { exchanges = r .exchanges; connections = r .connections; lastIssued = r .lastIssued; made = r .made; status = r .status; remoteLocal = flagsWith f v (r .remoteLocal) }
 
 abbrev pub withClock : Server → ℕ → Server
 withClock d t = record { locks = record { clock = t; entries = d .locks .entries; waiting = d .locks .waiting }; rest = d .rest }
@@ -75,7 +80,7 @@ onExchange d i g =
         exchanges = upd (d .rest .exchanges) i g;
         connections = d .rest .connections;
         lastIssued = d .rest .lastIssued;
-        vendor = d .rest .vendor;
+        made = d .rest .made;
         status = d .rest .status;
         remoteLocal = d .rest .remoteLocal;
       };
@@ -89,7 +94,7 @@ onConnection d i g =
         exchanges = d .rest .exchanges;
         connections = upd (d .rest .connections) i g;
         lastIssued = d .rest .lastIssued;
-        vendor = d .rest .vendor;
+        made = d .rest .made;
         status = d .rest .status;
         remoteLocal = d .rest .remoteLocal;
       };
@@ -192,7 +197,7 @@ module _ (w : List ℕ) where
         exchanges = grid-off exchangeOf EXCHANGES EXCHANGE sessionLimit w a v (inr (omega arith)) k;
         connections = grid-off connectionOf CONNECTIONS CONNECTION connectionLimit w a v (inr (omega arith)) k;
         lastIssued = off a v LAST (omega arith) k % 65536;
-        vendor = off a v VENDOR (omega arith) k % 65536;
+        made = record { vendor = off a v VENDOR (omega arith) k % 65536; prefersOverlap = flag (off a v PREFERENCE (omega arith) k) };
         status = off a v STATUS (omega arith) k % 256;
         remoteLocal = record {
           enable = flag (off a v ENABLE (omega arith) k);
@@ -211,14 +216,26 @@ row-stored r f v g h =
 exchange-row : (r : List ℕ) (f v : ℕ) → length r ≡ EXCHANGE → f < EXCHANGE → exchangeOf (set r f v) ≡ exchangeWith f v (exchangeOf r)
 exchange-row r f v h l =
     let t : (g : ℕ) → word (set r f v) g ≡ cond (eqb g f) v (word r g) = (λ g. row-stored r f v g (omega arith)) in
-    (λ k. record { inClear = flag (t 0 k); asked = askedOf (t 1 k); messageAvailable = flag (t 2 k); clientSize = t 3 k }) ∙ by f l
+    (λ k. record {
+      inClear = flag (t 0 k);
+      asked = askedOf (t 1 k);
+      messageAvailable = flag (t 2 k);
+      clientSize = t 3 k;
+      overlap = flag (t 4 k);
+      count = t 5 k % 2 ^ 32;
+      anySent = flag (t 6 k);
+    })
+    ∙ by f l
   where
     by : (f : ℕ) → f < EXCHANGE → exchangeFrom (λ (g : ℕ). cond (eqb g f) v (word r g)) ≡ exchangeWith f v (exchangeOf r)
     by zero l = refl
     by (suc zero) l = refl
     by (suc (suc zero)) l = refl
     by (suc (suc (suc zero))) l = refl
-    by (suc (suc (suc (suc f)))) l = absurd (omega arith)
+    by (suc (suc (suc (suc zero)))) l = refl
+    by (suc (suc (suc (suc (suc zero))))) l = refl
+    by (suc (suc (suc (suc (suc (suc zero)))))) l = refl
+    by (suc (suc (suc (suc (suc (suc (suc f))))))) l = absurd (omega arith)
 
 connection-row : (r : List ℕ) (f v : ℕ) → length r ≡ CONNECTION → f < HOME → connectionOf (set r f v) ≡ connectionWith f v (connectionOf r)
 connection-row r f v h l =
@@ -242,7 +259,7 @@ module _ (w s : List ℕ) (i f v : ℕ) (long : length w ≡ WORDS) where
           exchanges = grid-set exchangeOf EXCHANGES EXCHANGE sessionLimit w i f v (exchangeWith f v) (λ r e. exchange-row r f v e l) h l (omega arith) k;
           connections = grid-off connectionOf CONNECTIONS CONNECTION connectionLimit w a v (inl (omega arith)) k;
           lastIssued = off w a v LAST (omega arith) k % 65536;
-          vendor = off w a v VENDOR (omega arith) k % 65536;
+          made = record { vendor = off w a v VENDOR (omega arith) k % 65536; prefersOverlap = flag (off w a v PREFERENCE (omega arith) k) };
           status = off w a v STATUS (omega arith) k % 256;
           remoteLocal = record { enable = flag (off w a v ENABLE (omega arith) k); lockout = flag (off w a v LOCKOUT (omega arith) k); remote = flag (off w a v REMOTE (omega arith) k) };
         };
@@ -259,7 +276,7 @@ module _ (w s : List ℕ) (i f v : ℕ) (long : length w ≡ WORDS) where
           exchanges = grid-off exchangeOf EXCHANGES EXCHANGE sessionLimit w a v (inr (omega arith)) k;
           connections = grid-set connectionOf CONNECTIONS CONNECTION connectionLimit w i f v (connectionWith f v) (λ r e. connection-row r f v e l) h (omega arith) (omega arith) k;
           lastIssued = off w a v LAST (omega arith) k % 65536;
-          vendor = off w a v VENDOR (omega arith) k % 65536;
+          made = record { vendor = off w a v VENDOR (omega arith) k % 65536; prefersOverlap = flag (off w a v PREFERENCE (omega arith) k) };
           status = off w a v STATUS (omega arith) k % 256;
           remoteLocal = record { enable = flag (off w a v ENABLE (omega arith) k); lockout = flag (off w a v LOCKOUT (omega arith) k); remote = flag (off w a v REMOTE (omega arith) k) };
         };
@@ -353,7 +370,10 @@ module _ (w : List ℕ) (i : ℕ) where
       again (suc zero) l = refl
       again (suc (suc zero)) l = refl
       again (suc (suc (suc zero))) l = refl
-      again (suc (suc (suc (suc f)))) l = absurd (omega arith)
+      again (suc (suc (suc (suc zero)))) l = refl
+      again (suc (suc (suc (suc (suc zero))))) l = refl
+      again (suc (suc (suc (suc (suc (suc zero)))))) l = refl
+      again (suc (suc (suc (suc (suc (suc (suc f))))))) l = absurd (omega arith)
 
   connection-at : i < connectionLimit → connectionAt (restOf w) i ≡ connectionOf (part w (CONNECTIONS + i * CONNECTION) CONNECTION)
   unfolding restOf
@@ -418,7 +438,8 @@ module _ (w : List ℕ) (v : ℕ) (long : length w ≡ WORDS) where
   rest-by x y t (suc (suc (suc zero))) h = refl
   rest-by x y t (suc (suc (suc (suc zero)))) h = refl
   rest-by x y t (suc (suc (suc (suc (suc zero))))) h = refl
-  rest-by x y t (suc (suc (suc (suc (suc (suc f)))))) h = absurd (omega arith)
+  rest-by x y t (suc (suc (suc (suc (suc (suc zero)))))) h = refl
+  rest-by x y t (suc (suc (suc (suc (suc (suc (suc f))))))) h = absurd (omega arith)
 
   exchanges-keep : (f : ℕ) → f < EXCHANGES → grid exchangeOf EXCHANGES EXCHANGE sessionLimit (set w f v) ≡ grid exchangeOf EXCHANGES EXCHANGE sessionLimit w
   exchanges-keep f h = grid-off exchangeOf EXCHANGES EXCHANGE sessionLimit w f v (inl h)
@@ -434,7 +455,7 @@ module _ (w : List ℕ) (v : ℕ) (long : length w ≡ WORDS) where
         exchanges = exchanges-keep f h k;
         connections = connections-keep f h k;
         lastIssued = t LAST k % 65536;
-        vendor = t VENDOR k % 65536;
+        made = record { vendor = t VENDOR k % 65536; prefersOverlap = flag (t PREFERENCE k) };
         status = t STATUS k % 256;
         remoteLocal = record { enable = flag (t ENABLE k); lockout = flag (t LOCKOUT k); remote = flag (t REMOTE k) };
       })
@@ -451,4 +472,5 @@ single-read w (suc (suc zero)) h = refl
 single-read w (suc (suc (suc zero))) h = refl
 single-read w (suc (suc (suc (suc zero)))) h = refl
 single-read w (suc (suc (suc (suc (suc zero))))) h = refl
-single-read w (suc (suc (suc (suc (suc (suc f)))))) h = absurd (omega arith)
+single-read w (suc (suc (suc (suc (suc (suc zero)))))) h = refl
+single-read w (suc (suc (suc (suc (suc (suc (suc f))))))) h = absurd (omega arith)

@@ -14,7 +14,7 @@ use Rattle.model.specs.Locks.{joined}
 use Rattle.state.specs.Table.{tab-same}
 use Rattle.state.specs.Grid.{upd, upd-same, grid, grid-set, grid-off}
 use Rattle.state.specs.Bits.{bit}
-use Rattle.state.specs.Layout.{CLOCK, VENDOR, STATUS, LAST, ENABLE, LOCKOUT, REMOTE, HOLDER, SHARERS, ENTRIES, ENTRY, ORDERS, ORDER, EXCHANGES, EXCHANGE, CONNECTIONS, CONNECTION, HOME, WORDS}
+use Rattle.state.specs.Layout.{CLOCK, VENDOR, PREFERENCE, STATUS, LAST, ENABLE, LOCKOUT, REMOTE, HOLDER, SHARERS, ENTRIES, ENTRY, ORDERS, ORDER, EXCHANGES, EXCHANGE, CONNECTIONS, CONNECTION, HOME, WORDS}
 use Rattle.state.specs.View.{memory, standingOf, word, flag, keyOf, orderWord, rowWord, homeIn, homeAt, homeOf, fieldOf, entryAt, entriesOf, locksOf, exchangeOf, connectionOf, restOf, view}
 use Rattle.state.specs.Confirmed.{field-same, field-else, field-number, field-free, field-past, field-shown, Shows, shows}
 use Rattle.state.specs.Change.{onEntry, off, here, key-off, waiting-off, rest-off, entries-change}
@@ -57,7 +57,7 @@ home-rest w c v long h =
       connections = (grid-set connectionOf CONNECTIONS CONNECTION connectionLimit w c HOME v (λ (x : Connection). x) (λ r e. home-row r v) h (lit< tt) (omega arith)
           ∙ upd-same (grid connectionOf CONNECTIONS CONNECTION connectionLimit w) c) k;
       lastIssued = off w a v LAST (omega arith) k % 65536;
-      vendor = off w a v VENDOR (omega arith) k % 65536;
+      made = record { vendor = off w a v VENDOR (omega arith) k % 65536; prefersOverlap = flag (off w a v PREFERENCE (omega arith) k) };
       status = off w a v STATUS (omega arith) k % 256;
       remoteLocal = record { enable = flag (off w a v ENABLE (omega arith) k); lockout = flag (off w a v LOCKOUT (omega arith) k); remote = flag (off w a v REMOTE (omega arith) k) };
     }

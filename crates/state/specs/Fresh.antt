@@ -1,6 +1,6 @@
 -- The memory of a fresh server, word for word and byte for byte; and that it shows the fresh server. Assumes nothing.
 use mathlib.Core.Path.{_≡_, refl, sym, ap, ap₂, _∙_}
-use mathlib.Core.Bool.{cond}
+use mathlib.Core.Bool.{Bool, true, false, cond}
 use mathlib.Core.List.{List, [], _∷_, _++_}
 use Prim.Native.Nat.{ℕ, zero, suc, _+_, _*_, _-_, _%_, _^_, _≤_, _<_}
 use native.Mathlib.Nat.{mod-eq-of-lt, zero-add}
@@ -8,8 +8,9 @@ use native.Mathlib.Numerals.{add-one}
 use lib.Dec.{eqb, ltb}
 use lib.ListN.{length, getD, set, take, replicate}
 use lib.Seq.{take-all, take-suc, take-suc-set}
+use Rattle.wire.specs.MessageId.{start}
 use Rattle.model.specs.Sizes.{sessionLimit, connectionLimit, payloadLimit, beforeFirst}
-use Rattle.model.specs.State.{Server, Rest, fresh}
+use Rattle.model.specs.State.{Making, Server, Rest, fresh}
 use Rattle.state.specs.Table.{tab, getD-tab}
 use Rattle.state.specs.Grid.{grid}
 use Rattle.state.specs.Layout.{EXCHANGES, EXCHANGE, CONNECTIONS, CONNECTION, ENTRY, ORDERS, ORDER, REQUESTS, REQUEST, WORDS, STRINGS}
@@ -20,13 +21,18 @@ abbrev pub rows : ℕ → List ℕ → List ℕ
 rows zero r = []
 rows (suc n) r = r ++ rows n r
 
--- vendor number; status, last SessionID and the flags; exchanges (the client's size is 1,024); connections; clock, holder, sharers, key,
--- count; entries (free); orders (no message acted); requests; queue
-abbrev pub freshWords : ℕ → List ℕ
+-- the word of a flag
+abbrev pub flagWord : Bool → ℕ
+flagWord b = cond b 1 0
+
+-- vendor number; preference; status, last SessionID and the flags; exchanges (the client's size is 1,024, the count at its start);
+-- connections; clock, holder, sharers, key, count; entries (free); orders (no message acted); requests; queue
+abbrev pub freshWords : Making → List ℕ
 freshWords v =
-    v
+    v .vendor
+    ∷ flagWord (v .prefersOverlap)
     ∷ replicate 5 0
-    ++ rows sessionLimit (0 ∷ 0 ∷ 0 ∷ payloadLimit ∷ [])
+    ++ rows sessionLimit (0 ∷ 0 ∷ 0 ∷ payloadLimit ∷ 0 ∷ start ∷ 0 ∷ [])
     ++ replicate (connectionLimit * CONNECTION) 0
     ++ replicate 5 0
     ++ replicate (sessionLimit * ENTRY) 0
@@ -34,28 +40,42 @@ freshWords v =
     ++ replicate (sessionLimit * REQUEST) 0
     ++ replicate sessionLimit 0
 
+-- the word of an exchange's field
+abbrev pub freshField : ℕ → ℕ
+freshField f = cond (eqb f 3) payloadLimit (cond (eqb f 5) start 0)
+
 -- the word at a place
 unfoldable pub freshWord : ℕ → ℕ
 freshWord i =
     cond (ltb i EXCHANGES) 0
-    (cond (ltb i CONNECTIONS) (cond (eqb ((i - EXCHANGES) % EXCHANGE) 3) payloadLimit 0)
+    (cond (ltb i CONNECTIONS) (freshField ((i - EXCHANGES) % EXCHANGE))
     (cond (ltb i ORDERS) 0 (cond (ltb i REQUESTS) (cond (eqb ((i - ORDERS) % ORDER) 0) beforeFirst 0) 0)))
 
+-- nothing said: vendor number 0, and no preference for overlap mode
+abbrev pub unmade : Making
+unmade = record { vendor = 0; prefersOverlap = false }
+
 -- it is that of the list: computed over every place
-fresh-table : tab freshWord 0 WORDS ≡ freshWords 0
+fresh-table : tab freshWord 0 WORDS ≡ freshWords unmade
 unfolding tab freshWord
 fresh-table = refl
 
-pub fresh-at : (i : ℕ) → i < WORDS → getD (freshWords 0) i 0 ≡ freshWord i
+pub fresh-at : (i : ℕ) → i < WORDS → getD (freshWords unmade) i 0 ≡ freshWord i
 fresh-at i h = ap (λ (l : List ℕ). getD l i 0) (sym fresh-table) ∙ getD-tab freshWord 0 WORDS i 0 h ∙ ap freshWord (zero-add i)
 
 abbrev pub freshStrings : List ℕ
 freshStrings = replicate STRINGS 0
 
-pub fresh-view : (v : ℕ) → v < 2 ^ 16 → view (memory (freshWords v) freshStrings) ≡ fresh v
+flag-back : (b : Bool) → eqb (flagWord b) 1 ≡ b
+flag-back true = refl
+flag-back false = refl
+
+pub fresh-view : (v : Making) → v .vendor < 2 ^ 16 → view (memory (freshWords v) freshStrings) ≡ fresh v
 unfolding locksOf restOf keyOf entriesOf entryAt fieldOf waitingOf grid tab
 fresh-view v h =
-    ap (λ (x : ℕ). record { locks = fresh v .locks; rest = record { exchanges = fresh v .rest .exchanges; connections = fresh v .rest .connections; lastIssued = 0; vendor = x; status = 0; remoteLocal = fresh v .rest .remoteLocal } }) (mod-eq-of-lt h)
+    let r : Rest = fresh v .rest in
+    ap₂ (λ (x : ℕ) (b : Bool). record { locks = fresh v .locks; rest = record { exchanges = r .exchanges; connections = r .connections; lastIssued = 0; made = record { vendor = x; prefersOverlap = b }; status = 0; remoteLocal = r .remoteLocal } })
+    (mod-eq-of-lt h) (flag-back (v .prefersOverlap))
 
 -- copying element by element: a turn, and the end
 pub copy-turn : (w src : List ℕ) (i x : ℕ) → i < length w → i < length src → getD src i 0 ≡ x → take i w ≡ take i src → take (i + 1) (set w i x) ≡ take (i + 1) src

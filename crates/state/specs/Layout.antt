@@ -7,31 +7,36 @@ use Rattle.model.specs.Sizes.{sessionLimit, connectionLimit, stringLimit}
 abbrev pub VENDOR : ℕ
 VENDOR = 0
 
+-- 02, Q-1: the mode that the host prefers
+abbrev pub PREFERENCE : ℕ
+PREFERENCE = 1
+
 -- the instrument's status byte
 abbrev pub STATUS : ℕ
-STATUS = 1
+STATUS = 2
 
 -- the SessionID issued last
 abbrev pub LAST : ℕ
-LAST = 2
+LAST = 3
 
 -- the three remote/local flags
 abbrev pub ENABLE : ℕ
-ENABLE = 3
+ENABLE = 4
 
 abbrev pub LOCKOUT : ℕ
-LOCKOUT = 4
+LOCKOUT = 5
 
 abbrev pub REMOTE : ℕ
-REMOTE = 5
+REMOTE = 6
 
--- a row for each slot: in device clear, what is asked (plus 1), message available, the client's size
+-- a row for each slot: in device clear, what is asked (plus 1), message available, the client's size; 02, Q-1: in overlap mode, the number
+-- of its next answer there, whether some answer was sent
 abbrev pub EXCHANGES : ℕ
-EXCHANGES = 6
+EXCHANGES = 7
 
 -- words a row
 abbrev pub EXCHANGE : ℕ
-EXCHANGE = 4
+EXCHANGE = 7
 
 -- a row for each connection: open, remainder to skip, its home (the slot and the place in the slot's row that have it; 0: none)
 abbrev pub CONNECTIONS : ℕ

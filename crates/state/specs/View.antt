@@ -10,7 +10,7 @@ use Rattle.model.specs.State.{Entry, Kind.exclusive-lock, Kind.shared-lock, Sta
 use Rattle.state.specs.Table.{tab}
 use Rattle.state.specs.Grid.{part, grid}
 use Rattle.state.specs.Bits.{bit}
-use Rattle.state.specs.Layout.{CLOCK, VENDOR, STATUS, LAST, ENABLE, LOCKOUT, REMOTE, HOLDER, SHARERS, KEY, COUNT, ENTRIES, ENTRY, ORDERS, ORDER, EXCHANGES, EXCHANGE, CONNECTIONS, CONNECTION, HOME, REQUESTS, REQUEST, QUEUE}
+use Rattle.state.specs.Layout.{CLOCK, VENDOR, PREFERENCE, STATUS, LAST, ENABLE, LOCKOUT, REMOTE, HOLDER, SHARERS, KEY, COUNT, ENTRIES, ENTRY, ORDERS, ORDER, EXCHANGES, EXCHANGE, CONNECTIONS, CONNECTION, HOME, REQUESTS, REQUEST, QUEUE}
 
 -- all that the host lends
 pub record Memory : Type 0 where
@@ -94,7 +94,16 @@ abbrev pub askedOf : ℕ → Asked
 askedOf x = cond (eqb x 0) none (some ((x - 1) % 2 ^ 32))
 
 abbrev pub exchangeFrom : (ℕ → ℕ) → Exchange
-exchangeFrom t = record { inClear = flag (t 0); asked = askedOf (t 1); messageAvailable = flag (t 2); clientSize = t 3 }
+exchangeFrom t =
+    record {
+      inClear = flag (t 0);
+      asked = askedOf (t 1);
+      messageAvailable = flag (t 2);
+      clientSize = t 3;
+      overlap = flag (t 4);
+      count = t 5 % 2 ^ 32;
+      anySent = flag (t 6);
+    }
 
 abbrev pub exchangeOf : List ℕ → Exchange
 exchangeOf r = exchangeFrom (word r)
@@ -111,7 +120,7 @@ restFrom x y t =
       exchanges = x;
       connections = y;
       lastIssued = t LAST % 65536;
-      vendor = t VENDOR % 65536;
+      made = record { vendor = t VENDOR % 65536; prefersOverlap = flag (t PREFERENCE) };
       status = t STATUS % 256;
       remoteLocal = record { enable = flag (t ENABLE); lockout = flag (t LOCKOUT); remote = flag (t REMOTE) };
     }

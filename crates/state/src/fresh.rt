@@ -1,6 +1,6 @@
 // A fresh server: every word and every byte is written, whatever was there.
 ghost use Rattle.model.specs.State.{fresh};
-ghost use Rattle.state.specs.Fresh.{freshStrings, freshWord, freshWords};
+ghost use Rattle.state.specs.Fresh.{freshField, freshStrings, freshWord, freshWords, unmade};
 ghost use Rattle.state.specs.View.{memory, view};
 ghost use lib.ListN.{length, replicate};
 ghost use mathlib.Core.Path.{_≡_};
@@ -16,11 +16,31 @@ use crate::sizes::BEFORE_FIRST;
 use crate::sizes::PAYLOAD;
 use crate::sizes::Strings;
 use crate::sizes::Words;
+use crate::tables::ANSWER_COUNT;
 use crate::tables::CLIENT_SIZE;
 use crate::tables::LAST_NUMBER;
+use crate::tables::PREFERENCE;
 use crate::tables::VENDOR;
+use crate::tables::word_of;
+use wire::message_id::MessageId;
 
-// The word of a fresh server at a place: an exchange has the client's size, in no slot a message acted, all else is 0.
+// The number of a session's first answer in overlap mode.
+pub const START: u64 = MessageId::START as u64;
+
+// The word of a fresh exchange's field: the client's size, and the count at its start; all else is 0.
+fn fresh_field(f: usize) -> u64
+    ensures { λ r. ⌜ r ≡ freshField f ⌝ }
+{
+    if f == CLIENT_SIZE {
+        return PAYLOAD;
+    }
+    if f == ANSWER_COUNT {
+        return START;
+    }
+    0
+}
+
+// The word of a fresh server at a place: an exchange has the client's size and the count, in no slot a message acted, all else is 0.
 fn fresh_word(at: usize) -> u64
     ensures { λ r. ⌜ r ≡ freshWord at ⌝ }
 {
@@ -28,10 +48,7 @@ fn fresh_word(at: usize) -> u64
         return 0;
     }
     if at < CONNECTIONS {
-        if (at - EXCHANGES) % EXCHANGE == CLIENT_SIZE {
-            return PAYLOAD;
-        }
-        return 0;
+        return fresh_field((at - EXCHANGES) % EXCHANGE);
     }
     if at < ORDERS {
         return 0;
@@ -47,7 +64,7 @@ fn fresh_word(at: usize) -> u64
 
 fn put_words(w: &mut [u64])
     requires { ⌜ length (now w) ≡ WORDS ⌝ }
-    ensures { λ _. ⌜ now (w .exit) ≡ freshWords 0 ⌝ }
+    ensures { λ _. ⌜ now (w .exit) ≡ freshWords unmade ⌝ }
 {
     let mut i = 0;
     while i < sizes::WORDS {
@@ -66,18 +83,19 @@ fn put_zeros(s: &mut [u8])
     }
 }
 
-fn start_in(w: &mut [u64], strings: &mut [u8], vendor: u16)
+fn start_in(w: &mut [u64], strings: &mut [u8], vendor: u16, overlap: bool)
     requires { ⌜ (length (now w) ≡ WORDS) × (length (now strings) ≡ STRINGS) ⌝ }
-    ensures { λ _. ⌜ (now (w .exit) ≡ freshWords vendor) × (now (strings .exit) ≡ freshStrings) ⌝ }
+    ensures { λ _. ⌜ (now (w .exit) ≡ freshWords (record { vendor = vendor; prefersOverlap = overlap })) × (now (strings .exit) ≡ freshStrings) ⌝ }
 {
     put_words(w);
     w[VENDOR] = vendor as u64;
+    w[PREFERENCE] = word_of(overlap);
     put_zeros(strings);
 }
 
-// Makes a fresh server in the lent memory.
-pub fn start(w: &mut Words, strings: &mut Strings, vendor: u16)
-    ensures { λ _. ⌜ (now (w .exit) ≡ freshWords vendor) × (now (strings .exit) ≡ freshStrings) × (view (memory (now (w .exit)) (now (strings .exit))) ≡ fresh vendor) ⌝ }
+// Makes a fresh server in the lent memory, which prefers overlap mode or not.
+pub fn start(w: &mut Words, strings: &mut Strings, vendor: u16, overlap: bool)
+    ensures { λ _. ⌜ (now (w .exit) ≡ freshWords (record { vendor = vendor; prefersOverlap = overlap })) × (now (strings .exit) ≡ freshStrings) × (view (memory (now (w .exit)) (now (strings .exit))) ≡ fresh (record { vendor = vendor; prefersOverlap = overlap })) ⌝ }
 {
-    start_in(w, strings, vendor);
+    start_in(w, strings, vendor, overlap);
 }

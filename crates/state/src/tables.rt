@@ -5,6 +5,7 @@ ghost use Rattle.model.specs.State.{at, connectionAt, exchangeAt};
 ghost use Rattle.state.specs.Change.{connectionWith, connectionWord, entryWith, exchangeWith, exchangeWord, onConnection, onEntry, onExchange, onRest, orderWith, singleWith, withClock};
 ghost use Rattle.state.specs.View.{fieldOf, homeIn, homeOf, locksOf, memory, orderWord, restOf, rowWord, view, word};
 ghost use lib.ListN.{length};
+ghost use mathlib.Core.Bool.{cond};
 ghost use mathlib.Core.List.{List};
 ghost use mathlib.Core.Path.{_≡_};
 ghost use Rattle.model.specs.Sizes.{connectionLimit, sessionLimit};
@@ -24,7 +25,8 @@ use crate::sizes::NO_CONNECTION;
 use crate::sizes::Words;
 use crate::words::store;
 
-// The fields of an exchange: in device clear, what is asked (plus 1), message available, the client's size.
+// The fields of an exchange: in device clear, what is asked (plus 1), message available, the client's size; in overlap mode, the number of
+// its next answer there, whether some answer was sent.
 pub const IN_CLEAR: usize = 0;
 
 pub const ASKED: usize = 1;
@@ -32,6 +34,12 @@ pub const ASKED: usize = 1;
 pub const AVAILABLE: usize = 2;
 
 pub const CLIENT_SIZE: usize = 3;
+
+pub const OVERLAP: usize = 4;
+
+pub const ANSWER_COUNT: usize = 5;
+
+pub const ANY_SENT: usize = 6;
 
 // The fields of a connection: open, remainder to skip.
 pub const IS_OPEN: usize = 0;
@@ -51,32 +59,44 @@ pub const LAST_NUMBER: usize = 0;
 
 pub const STANDING: usize = 1;
 
-// The single values: the vendor number, the instrument's status byte, the SessionID issued last, the three remote/local flags.
+// The single values: the vendor number, the mode that the host prefers, the instrument's status byte, the SessionID issued last, the three remote/local flags.
 pub const VENDOR: usize = 0;
 
-pub const STATUS: usize = 1;
+pub const PREFERENCE: usize = 1;
 
-pub const LAST: usize = 2;
+pub const STATUS: usize = 2;
 
-pub const ENABLE: usize = 3;
+pub const LAST: usize = 3;
 
-pub const LOCKOUT: usize = 4;
+pub const ENABLE: usize = 4;
 
-pub const REMOTE: usize = 5;
+pub const LOCKOUT: usize = 5;
+
+pub const REMOTE: usize = 6;
+
+// The word of a flag.
+pub fn word_of(on: bool) -> u64
+    ensures { λ r. ⌜ r ≡ cond on 1 0 ⌝ }
+{
+    if on {
+        return 1;
+    }
+    0
+}
 
 // A connection's number is below this.
 const CONNECTION_NUMBERS: u64 = sizes::CONNECTIONS;
 
 // What a session has asked and been sent.
 pub fn exchange(w: &Words, i: usize, f: usize) -> u64
-    requires { ⌜ (i < sessionLimit) × (f < 4) ⌝ }
+    requires { ⌜ (i < sessionLimit) × (f < 7) ⌝ }
     ensures { λ r. ⌜ (exchangeWith f r (exchangeAt (restOf (now (w .entry))) i) ≡ exchangeAt (restOf (now (w .entry))) i) × (r ≡ exchangeWord (now (w .entry)) i f) ⌝ }
 {
     w[EXCHANGES + i * EXCHANGE + f]
 }
 
 pub fn set_exchange(w: &mut Words, i: usize, f: usize, v: u64)
-    requires { ⌜ (i < sessionLimit) × (f < 4) ⌝ }
+    requires { ⌜ (i < sessionLimit) × (f < 7) ⌝ }
     ensures { λ _. ⌜ ((s : List ℕ) → view (memory (now (w .exit)) s) ≡ onExchange (view (memory (now (w .entry)) s)) i (exchangeWith f v)) ⌝ }
 {
     store(w, EXCHANGES + i * EXCHANGE + f, v);
@@ -158,14 +178,14 @@ pub fn set_order(w: &mut Words, i: usize, f: usize, v: u64)
 
 // A single value; its place is its word.
 pub fn single(w: &Words, f: usize) -> u64
-    requires { ⌜ f < 6 ⌝ }
+    requires { ⌜ f < 7 ⌝ }
     ensures { λ r. ⌜ (singleWith f r (restOf (now (w .entry))) ≡ restOf (now (w .entry))) × (r ≡ word (now (w .entry)) f) ⌝ }
 {
     w[f]
 }
 
 pub fn set_single(w: &mut Words, f: usize, v: u64)
-    requires { ⌜ f < 6 ⌝ }
+    requires { ⌜ f < 7 ⌝ }
     ensures { λ _. ⌜ ((s : List ℕ) → view (memory (now (w .exit)) s) ≡ onRest (view (memory (now (w .entry)) s)) (singleWith f v)) ⌝ }
 {
     store(w, f, v);

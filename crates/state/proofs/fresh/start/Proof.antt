@@ -11,7 +11,7 @@ use Rattle.state.proofs.fresh.start.Tie as tie
 returns : tie.Need-returns
 returns c = let a = c .before .before .before .args in
     let e = c .start-in .ensures in
-    (e .0, e .1, ap₂ (λ (x y : List ℕ). view (memory x y)) (e .0) (e .1) ∙ fresh-view (a .vendor) (search needs))
+    (e .0, e .1, ap₂ (λ (x y : List ℕ). view (memory x y)) (e .0) (e .1) ∙ fresh-view (record { vendor = a .vendor; prefersOverlap = a .overlap }) (search needs))
 
 pub start-spec : {M : Type 1} → statement M
 start-spec = tie.close (tie.spec (λ c κs. search needs) returns)
