@@ -11,7 +11,9 @@ use lib.Seq.{set-out}
 use borrow.Author.Tests.{eq-eqb, ne-eqb}
 use Rattle.model.specs.Sizes.{sessionLimit, connectionLimit, noConnection}
 use Rattle.model.specs.Lists.{all, position, keep}
-use Rattle.model.specs.State.{Entry, Waiting, Locks, Exchange, Connection, Rest, Server, at, blank, live, freshExchange, closedConnection, exchangeAt, withConnections, withExchange}
+use Rattle.model.specs.State.{Entry, Waiting, Locks, Exchange, Connection, Rest, Server, at, blank, live, freshExchange, openExchange, closedConnection, exchangeAt, withConnections, withExchange}
+use Rattle.wire.specs.MessageId.{start}
+use Rattle.model.specs.Exchange.{withCount}
 use Rattle.model.specs.Place.{onConnection, placeOf, slotIn, slotOf}
 use Rattle.model.specs.Locks.{LockResult, LockEvent.close, elsewhere, change, grantPass}
 use Rattle.model.specs.Step.{channels, shutAll, closing, lockFrame}
@@ -54,13 +56,14 @@ shut-past w s x h =
     let l : length (restOf w .connections) ≤ x = rw (connections-held w) h in
     ap (λ (y : List Connection). onRest (view (memory w s)) (λ (r : Rest). withConnections r y)) (sym (set-out (restOf w .connections) x closedConnection l))
 
--- four stores make an exchange new
-pub renewed : (i : ℕ) (d d₁ d₂ d₃ d₄ : Server) → d₁ ≡ onExchange d i (exchangeWith 0 0) → d₂ ≡ onExchange d₁ i (exchangeWith 1 0) → d₃ ≡ onExchange d₂ i (exchangeWith 2 0) → d₄ ≡ onExchange d₃ i (exchangeWith 3 1024)
-    → d₄ ≡ onRest d (λ (r : Rest). withExchange r i freshExchange)
-renewed i d d₁ d₂ d₃ d₄ e₁ e₂ e₃ e₄ =
-    rw (e₄, e₃, e₂, e₁, upd-upd, upd-upd, upd-upd)
-    (ap (λ (l : List Exchange). onRest d (λ (r : Rest). record { exchanges = l; connections = r .connections; lastIssued = r .lastIssued; vendor = r .vendor; status = r .status; remoteLocal = r .remoteLocal }))
-    (sym (upd-set (d .rest .exchanges) i freshExchange (λ (x : Exchange). freshExchange))))
+-- a store for each field makes an exchange new, in the mode of a word; the count has its own function
+pub renewed : (i v : ℕ) (d d₁ d₂ d₃ d₄ d₅ d₆ : Server) → d₁ ≡ onExchange d i (exchangeWith 0 0) → d₂ ≡ onExchange d₁ i (exchangeWith 1 0) → d₃ ≡ onExchange d₂ i (exchangeWith 2 0)
+    → d₄ ≡ onExchange d₃ i (exchangeWith 3 1024) → d₅ ≡ onExchange d₄ i (exchangeWith 4 v) → d₆ ≡ onExchange d₅ i (withCount start false)
+    → d₆ ≡ onRest d (λ (r : Rest). withExchange r i (openExchange (eqb v 1)))
+renewed i v d d₁ d₂ d₃ d₄ d₅ d₆ e₁ e₂ e₃ e₄ e₅ e₆ =
+    rw (e₆, e₅, e₄, e₃, e₂, e₁, upd-upd, upd-upd, upd-upd, upd-upd, upd-upd)
+    (ap (λ (l : List Exchange). onRest d (λ (r : Rest). record { exchanges = l; connections = r .connections; lastIssued = r .lastIssued; made = r .made; status = r .status; remoteLocal = r .remoteLocal }))
+    (sym (upd-set (d .rest .exchanges) i freshExchange (λ (x : Exchange). openExchange (eqb v 1)))))
 
 -- what a search finds passes
 found-step : {A : Type 0} (p : A → Bool) (e : A) (es : List A) (d : A) (b : Bool) → p e ≡ b → cond b 0 (suc (position p es)) < suc (length es)
@@ -138,7 +141,7 @@ module _ (w s : List ℕ) (c i : ℕ) (found : slotIn (locksOf w s .entries) c �
       e
       ∙ (λ k. record { locks = sym (close-past w s i h) k; rest = r })
       ∙ ap (λ (x : Rest). record { locks = (change (locksOf w s) (close i)) .locks; rest = x })
-      (ap (λ (x : List Exchange). record { exchanges = x; connections = r .connections; lastIssued = r .lastIssued; vendor = r .vendor; status = r .status; remoteLocal = r .remoteLocal }) (sym (set-out (r .exchanges) i freshExchange l))
+      (ap (λ (x : List Exchange). record { exchanges = x; connections = r .connections; lastIssued = r .lastIssued; made = r .made; status = r .status; remoteLocal = r .remoteLocal }) (sym (set-out (r .exchanges) i freshExchange l))
       ∙ ap₂ (λ (x : List ℕ) (j : ℕ). withExchange (withConnections (restOf w) (shutAll (restOf w .connections) x)) j freshExchange) (sym (channels-none w s c i found h)) (sym found))
 
   -- a session: its connections, its exchange, its slot and its request

@@ -28,7 +28,7 @@ abbrev pub controlling : ℕ → Rest → Rest
 controlling code r = withRemoteLocal r (controlled code (r .remoteLocal))
 
 -- the three words, read
-pub flags-read : (r : Rest) (e l m : ℕ) → singleWith 3 e r ≡ r → singleWith 4 l r ≡ r → singleWith 5 m r ≡ r → flags (flag e) (flag l) (flag m) ≡ r .remoteLocal
+pub flags-read : (r : Rest) (e l m : ℕ) → singleWith 4 e r ≡ r → singleWith 5 l r ≡ r → singleWith 6 m r ≡ r → flags (flag e) (flag l) (flag m) ≡ r .remoteLocal
 flags-read r e l m p q o = λ k. record { enable = p k .remoteLocal .enable; lockout = q k .remoteLocal .lockout; remote = o k .remoteLocal .remote }
 
 flag-word : (b : Bool) (v : ℕ) → v ≡ cond b 1 0 → flag v ≡ b
@@ -38,9 +38,9 @@ flag-word false v e = ap flag e
 module _ (d : Server) where
   -- the three words, stored one after the other
   pub flagged : (d₁ d₂ d₃ : Server) (x : RemoteLocal) (e l m : ℕ) → e ≡ cond (x .enable) 1 0 → l ≡ cond (x .lockout) 1 0 → m ≡ cond (x .remote) 1 0
-      → d₁ ≡ onRest d (singleWith 3 e) → d₂ ≡ onRest d₁ (singleWith 4 l) → d₃ ≡ onRest d₂ (singleWith 5 m) → d₃ ≡ onRest d (flagging x)
+      → d₁ ≡ onRest d (singleWith 4 e) → d₂ ≡ onRest d₁ (singleWith 5 l) → d₃ ≡ onRest d₂ (singleWith 6 m) → d₃ ≡ onRest d (flagging x)
   flagged d₁ d₂ d₃ x e l m p q o v₁ v₂ v₃ =
-      v₃ ∙ ap (λ (y : Server). onRest y (singleWith 5 m)) (v₂ ∙ ap (λ (y : Server). onRest y (singleWith 4 l)) v₁)
+      v₃ ∙ ap (λ (y : Server). onRest y (singleWith 6 m)) (v₂ ∙ ap (λ (y : Server). onRest y (singleWith 5 l)) v₁)
       ∙ (λ k. onRest d (flagging (record { enable = flag-word (x .enable) e p k; lockout = flag-word (x .lockout) l q k; remote = flag-word (x .remote) m o k })))
 
   -- read, made anew by the code, stored

@@ -9,48 +9,48 @@ use lib.ListN.{length}
 use borrow.Author.Tests.{eq-eqb, ne-eqb}
 use Rattle.wire.specs.Frame.{Frame, frameOf, frameBytes, bytesOf, written, length-frame, bytes-one}
 use Rattle.wire.specs.Splice.{splice}
-use Rattle.model.specs.State.{Exchange, Rest, Server, at, slotOfNumber, exchangeAt, freshExchange, openConnection, withConnection, withExchange, withStatus}
+use Rattle.model.specs.State.{Exchange, Rest, Server, at, slotOfNumber, exchangeAt, openConnection, withConnection, withExchange, withStatus}
 use Rattle.model.specs.Exchange.{numberAsked, answerNumber, answeredWith}
 use Rattle.model.specs.Interface.{Event.opening, Event.answer, Event.status, Reply.done}
 use Rattle.model.specs.Locks.{change}
 use Rattle.model.specs.Step.{finish, plan, answerType}
-use Rattle.state.specs.Grid.{upd-upd, upd-set}
 use Rattle.state.specs.Change.{onRest, onExchange, exchangeWith, singleWith}
 use Rattle.state.specs.View.{askedOf}
+use Rattle.effects.specs.Synchronous.{withSlot, slot-twice, slot-then}
+use Rattle.effects.specs.Mode.{counted}
 
 -- one store is the status byte
-pub status-stored : (d d₁ : Server) (b : ℕ) → b < 256 → d₁ ≡ onRest d (singleWith 1 b) → d₁ ≡ onRest d (λ (r : Rest). withStatus r b)
+pub status-stored : (d d₁ : Server) (b : ℕ) → b < 256 → d₁ ≡ onRest d (singleWith 2 b) → d₁ ≡ onRest d (λ (r : Rest). withStatus r b)
 status-stored d d₁ b h e = e ∙ ap (λ (x : ℕ). onRest d (λ (r : Rest). withStatus r x)) (mod-eq-of-lt h)
 
--- what is asked, from the word that was read
-module _ (x : Exchange) (v : ℕ) (e : exchangeWith 1 v x ≡ x) where
-  asked-read : x .asked ≡ askedOf v
-  asked-read = sym (ap (λ (y : Exchange). y .asked) e)
-
-  pub nothing-number : v ≡ 0 → answerNumber x ≡ 0
+-- an answer's number: in synchronized mode what is asked, from the word that was read; in overlap mode the count
+module _ (x : Exchange) where
+  pub counted-number : x .overlap ≡ true → (n : ℕ) → x .count ≡ n → answerNumber x ≡ n
   unfolding answerNumber
-  nothing-number h = ap numberAsked asked-read ∙ rw (eq-eqb v 0 h)
+  counted-number o n e = rw o e
 
-  pub asked-number : (v ≡ 0 → ⊥) → answerNumber x ≡ (v - 1) % 4294967296
-  unfolding answerNumber
-  asked-number h = ap numberAsked asked-read ∙ rw (ne-eqb v 0 h)
+  module _ (v : ℕ) (o : x .overlap ≡ false) (e : exchangeWith 1 v x ≡ x) where
+    asked-read : x .asked ≡ askedOf v
+    asked-read = sym (ap (λ (y : Exchange). y .asked) e)
 
--- an answer without END: message available goes on; with END nothing is asked any more
-module _ (d d₁ : Server) (i : ℕ) (e₁ : d₁ ≡ onExchange d i (exchangeWith 2 1)) where
-  pub answered-part : (end : Bool) → end ≡ false → d₁ ≡ onRest d (λ (r : Rest). withExchange r i (answeredWith end (exchangeAt r i)))
-  answered-part end q =
-      rw q
-      (e₁
-      ∙ ap (λ (l : List Exchange). onRest d (λ (r : Rest). record { exchanges = l; connections = r .connections; lastIssued = r .lastIssued; vendor = r .vendor; status = r .status; remoteLocal = r .remoteLocal }))
-      (sym (upd-set (d .rest .exchanges) i freshExchange (answeredWith false))))
+    pub nothing-number : v ≡ 0 → answerNumber x ≡ 0
+    unfolding answerNumber
+    nothing-number h = rw o (ap numberAsked asked-read ∙ rw (eq-eqb v 0 h))
 
-  pub answered-whole : (end : Bool) → end ≡ true → (d₂ : Server) → d₂ ≡ onExchange d₁ i (exchangeWith 1 0) → d₂ ≡ onRest d (λ (r : Rest). withExchange r i (answeredWith end (exchangeAt r i)))
-  answered-whole end q d₂ e₂ =
-      rw q
-      (e₂
-      ∙ ap (λ (y : Server). onExchange y i (exchangeWith 1 0)) e₁
-      ∙ ap (λ (l : List Exchange). onRest d (λ (r : Rest). record { exchanges = l; connections = r .connections; lastIssued = r .lastIssued; vendor = r .vendor; status = r .status; remoteLocal = r .remoteLocal }))
-      (upd-upd (d .rest .exchanges) i (exchangeWith 2 1) (exchangeWith 1 0) ∙ sym (upd-set (d .rest .exchanges) i freshExchange (answeredWith true))))
+    pub asked-number : (v ≡ 0 → ⊥) → answerNumber x ≡ (v - 1) % 4294967296
+    unfolding answerNumber
+    asked-number h = rw o (ap numberAsked asked-read ∙ rw (ne-eqb v 0 h))
+
+-- an answer without END: message available goes on, and it is counted; with END nothing is asked any more
+module _ (d d₁ d₂ : Server) (i : ℕ) (e₁ : d₁ ≡ onExchange d i (exchangeWith 2 1)) (e₂ : d₂ ≡ onRest d₁ (withSlot i counted)) where
+  answered : d₂ ≡ onRest d (withSlot i (answeredWith false))
+  answered = slot-twice d d₁ d₂ i (exchangeWith 2 1) counted e₁ e₂
+
+  pub answered-part : (end : Bool) → end ≡ false → d₂ ≡ onRest d (λ (r : Rest). withExchange r i (answeredWith end (exchangeAt r i)))
+  answered-part end q = rw q answered
+
+  pub answered-whole : (end : Bool) → end ≡ true → (d₃ : Server) → d₃ ≡ onExchange d₂ i (exchangeWith 1 0) → d₃ ≡ onRest d (λ (r : Rest). withExchange r i (answeredWith end (exchangeAt r i)))
+  answered-whole end q d₃ e₃ = rw q (slot-then d d₂ d₃ i (answeredWith false) (exchangeWith 1 0) answered e₃)
 
 -- the frame of an answer of slot i
 abbrev pub answerFrame : Server → ℕ → Bool → List ℕ → Frame

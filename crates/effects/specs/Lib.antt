@@ -2,6 +2,7 @@ pub mod Closing
 pub mod Did
 pub mod Replies
 pub mod Synchronous
+pub mod Mode
 pub mod Opening
 pub mod SessionIds
 pub mod Events

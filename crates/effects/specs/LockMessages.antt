@@ -11,9 +11,10 @@ use Rattle.wire.specs.Frame.{Frame, frameOf, frameBytes, bytesOf, written, byte
 use Rattle.wire.specs.Splice.{splice, splice-splice}
 use Rattle.model.specs.State.{Locks, Rest, Server, Standing, Standing.no-release, Standing.release-of, at, exchangeAt, withExchange}
 use Rattle.model.specs.Interface.{Reply.took, Outcome.acted}
-use Rattle.model.specs.Exchange.{enterClear}
+use Rattle.wire.specs.MessageId.{start}
+use Rattle.model.specs.Exchange.{withCount, enterClear}
 use Rattle.model.specs.Locks.{LockEvent, LockEvent.request, LockEvent.release, LockEvent.clear, LockResult, stands, isDue, dueAny, change, frees, settle, grantPass}
-use Rattle.model.specs.Acts.{AsynchronousKind.k-lock, AsynchronousKind.k-deviceClear, asynchronousRest, asynchronousSaid, asynchronousEvent}
+use Rattle.model.specs.Acts.{preference, AsynchronousKind.k-lock, AsynchronousKind.k-deviceClear, asynchronousRest, asynchronousSaid, asynchronousEvent}
 use Rattle.model.specs.Step.{Result, finish, lockFrame}
 use Rattle.state.specs.Grid.{upd-upd}
 use Rattle.state.specs.Change.{onExchange, exchangeWith, entryWith}
@@ -35,10 +36,10 @@ module _ (xs ys : List Frame) (a : ℕ) (e : a ≡ 0 + length (bytesOf xs)) wher
   pub behind-length : (r : ℕ) → r ≡ a + length (bytesOf ys) → r ≡ length (bytesOf (xs ++ ys))
   behind-length r p = omega (arith, ap length (bytesOf-append xs ys), length-append (bytesOf xs) (bytesOf ys))
 
--- three stores enter device clear
-pub clear-entered : (i : ℕ) (d d₁ d₂ d₃ : Server) → d₁ ≡ onExchange d i (exchangeWith 0 1) → d₂ ≡ onExchange d₁ i (exchangeWith 1 0) → d₃ ≡ onExchange d₂ i (exchangeWith 2 0)
-    → d₃ ≡ onExchange d i enterClear
-clear-entered i d d₁ d₂ d₃ e₁ e₂ e₃ = rw (e₃, e₂, e₁, upd-upd, upd-upd)
+-- three stores enter device clear, and the count begins anew
+pub clear-entered : (i : ℕ) (d d₁ d₂ d₃ d₄ : Server) → d₁ ≡ onExchange d i (exchangeWith 0 1) → d₂ ≡ onExchange d₁ i (exchangeWith 1 0) → d₃ ≡ onExchange d₂ i (exchangeWith 2 0)
+    → d₄ ≡ onExchange d₃ i (withCount start false) → d₄ ≡ onExchange d i enterClear
+clear-entered i d d₁ d₂ d₃ d₄ e₁ e₂ e₃ e₄ = rw (e₄, e₃, e₂, e₁, upd-upd, upd-upd, upd-upd)
 
 -- an event that says nothing but its answers, with the pass behind it; other stores came first
 pub did-settled : (m m₁ m′ : Memory) (out out′ : List ℕ) (i n len r : ℕ) (q : Rest) (v : LockEvent) (told : Delivery) → told ≡ delivered n len r
@@ -58,9 +59,10 @@ stood-due : (x : Standing) (b : Bool) → stands x ≡ b → isDue (dueAny x) �
 stood-due no-release b e = e
 stood-due (release-of k n) b e = e
 
-module _ (w s w₁ w₂ out out₁ out₂ : List ℕ) (i c n a len : ℕ) (e : entryWith 0 n (at (locksOf w s .entries) i) ≡ at (locksOf w s .entries) i) (fits : a + 17 ≤ length out)
+module _ (w s w₁ w₂ out out₁ out₂ : List ℕ) (i c n a k len : ℕ) (e : entryWith 0 n (at (locksOf w s .entries) i) ≡ at (locksOf w s .entries) i) (fits : a + 17 ≤ length out)
     (told : Delivery) (x : Met (change (locksOf w s) (clear i)) (memory w s) (memory w₁ s) out out₁ 0 a)
-    (v : view (memory w₂ s) ≡ onExchange (view (memory w₁ s)) i enterClear) (o : out₂ ≡ splice out₁ a (frameBytes (frameOf c 23 0 0 []))) where
+    (v : view (memory w₂ s) ≡ onExchange (view (memory w₁ s)) i enterClear)
+    (prefers : preference (view (memory w s)) ≡ k) (o : out₂ ≡ splice out₁ a (frameBytes (frameOf c 23 k 0 []))) where
   abbrev d : Server
   d = view (memory w s)
 
@@ -71,7 +73,7 @@ module _ (w s w₁ w₂ out out₁ out₂ : List ℕ) (i c n a len : ℕ) (e : e
   q = withExchange (d .rest) i (enterClear (exchangeAt (d .rest) i))
 
   abbrev f : Frame
-  f = frameOf c 23 0 0 []
+  f = frameOf c 23 (preference d) 0 []
 
   abbrev xs : List Frame
   xs = map lockFrame (left .answers)
@@ -89,7 +91,8 @@ module _ (w s w₁ w₂ out out₁ out₂ : List ℕ) (i c n a len : ℕ) (e : e
 
   -- the answers and the acknowledgement behind them
   acknowledged : out₂ ≡ written out (xs ++ (f ∷ []))
-  acknowledged = behind xs (f ∷ []) a (x .place) out out₁ out₂ (omega arith) (x .buffer) (o ∙ ap (splice out₁ a) (sym (bytes-one f)))
+  acknowledged = behind xs (f ∷ []) a (x .place) out out₁ out₂ (omega arith) (x .buffer)
+      (o ∙ ap (λ (y : ℕ). splice out₁ a (frameBytes (frameOf c 23 y 0 []))) (sym prefers) ∙ ap (splice out₁ a) (sym (bytes-one f)))
 
   acknowledged-length : a + 17 ≡ length (bytesOf (xs ++ (f ∷ [])))
   acknowledged-length = behind-length xs (f ∷ []) a (x .place) (a + 17) (ap (λ (y : ℕ). a + y) (one-length f 0 refl))

@@ -12,12 +12,12 @@ use Rattle.wire.specs.Frame.{Frame, frameOf, frameBytes, bytesOf, written, leng
 use Rattle.wire.specs.Splice.{splice}
 use Rattle.model.specs.Sizes.{sessionLimit, protocolVersion}
 use Rattle.model.specs.MessageTypes.{InitializeResponse, AsyncInitializeResponse}
-use Rattle.model.specs.State.{Locks, Rest, Server, slotOfNumber, freshExchange, withExchange, withSession}
+use Rattle.model.specs.State.{Locks, Rest, Server, slotOfNumber, openExchange, withExchange, withSession}
 use Rattle.model.specs.Interface.{Reply, Reply.took, Outcome.acted, deliveryAnswer}
 use Rattle.model.specs.Canonical.{omits}
 use Rattle.model.specs.Place.{Role.r-none}
 use Rattle.model.specs.Locks.{Answer, LockResult, LockEvent, LockEvent.enter, LockEvent.join, change, frees, settle, issued}
-use Rattle.model.specs.Acts.{Plan, opens, acts}
+use Rattle.model.specs.Acts.{Plan, preference, opens, acts}
 use Rattle.model.specs.Step.{Result, finish, lockFrame}
 use Rattle.state.specs.Change.{onRest, singleWith}
 use Rattle.state.specs.View.{Memory, view}
@@ -71,36 +71,37 @@ did-with-frame d k n q c t code p e r m m′ out out′ a f g v b =
     did-quietly d (took acted k n) q (x ∷ []) e r m m′ out out′ a f
     (g ∙ ap (λ (z : ℕ). deliveryAnswer (took acted k n) z 0) (sym l)) v (b ∙ ap (splice out 0) (sym (bytes-one x))) refl
 
--- a session's slot, exchange and number are stored
-pub session-entered : (d d₁ d₂ d₃ : Server) (l : Locks) (i n : ℕ) → n < 65536 → d₁ .locks ≡ l → d₁ .rest ≡ d .rest
-    → d₂ ≡ onRest d₁ (λ (r : Rest). withExchange r i freshExchange) → d₃ ≡ onRest d₂ (singleWith 2 n)
+-- a session's slot, exchange (in the preferred mode) and number are stored
+pub session-entered : (d d₁ d₂ d₃ : Server) (l : Locks) (i n : ℕ) (b : Bool) → n < 65536 → d₁ .locks ≡ l → d₁ .rest ≡ d .rest → d₁ .rest .made .prefersOverlap ≡ b
+    → d₂ ≡ onRest d₁ (λ (r : Rest). withExchange r i (openExchange b)) → d₃ ≡ onRest d₂ (singleWith 3 n)
     → d₃ ≡ record { locks = l; rest = withSession (d .rest) i n }
-session-entered d d₁ d₂ d₃ l i n h p q e₂ e₃ =
+session-entered d d₁ d₂ d₃ l i n b h p q o e₂ e₃ =
     let r : Rest = d .rest in
     e₃
-    ∙ ap (λ (x : Server). onRest x (singleWith 2 n)) e₂
-    ∙ (λ k. record { locks = p k; rest = singleWith 2 n (withExchange (q k) i freshExchange) })
-    ∙ ap (λ (x : ℕ). record { locks = l; rest = record { exchanges = set (r .exchanges) i freshExchange; connections = r .connections; lastIssued = x; vendor = r .vendor; status = r .status; remoteLocal = r .remoteLocal } })
+    ∙ ap (λ (x : Server). onRest x (singleWith 3 n)) e₂
+    ∙ ap (λ (x : Bool). onRest d₁ (λ (r : Rest). singleWith 3 n (withExchange r i (openExchange x)))) (sym o)
+    ∙ (λ k. record { locks = p k; rest = singleWith 3 n (withExchange (q k) i (openExchange (q k .made .prefersOverlap))) })
+    ∙ ap (λ (x : ℕ). record { locks = l; rest = record { exchanges = set (r .exchanges) i (openExchange (r .made .prefersOverlap)); connections = r .connections; lastIssued = x; made = r .made; status = r .status; remoteLocal = r .remoteLocal } })
     (mod-eq-of-lt h)
 
 -- Initialize: from the slot and the number that were found
-pub initialized : (d : Server) (c i n v : ℕ) (h : Header) (r : Delivery) (m m′ : Memory) (out out′ : List ℕ)
-    → slotOfNumber (d .locks .entries) 0 ≡ i → issued sessionLimit 0 (d .locks .entries) (d .rest .lastIssued) ≡ n → v ≡ min (h .param / 65536) protocolVersion
+pub initialized : (d : Server) (c i n v m₀ : ℕ) (h : Header) (r : Delivery) (m m′ : Memory) (out out′ : List ℕ)
+    → slotOfNumber (d .locks .entries) 0 ≡ i → issued sessionLimit 0 (d .locks .entries) (d .rest .lastIssued) ≡ n → v ≡ min (h .param / 65536) protocolVersion → preference d ≡ m₀
     → numbersOf r ≡ record { refusal = 0; outcome = 6; session = n; taken = 16 + h .len; output = 17; missing = 0 }
     → view m′ ≡ changed d (enter i n c) (withSession (d .rest) i n)
-    → out′ ≡ splice out 0 (frameBytes (frameOf c InitializeResponse 0 (v * 65536 + n) []))
+    → out′ ≡ splice out 0 (frameBytes (frameOf c InitializeResponse m₀ (v * 65536 + n) []))
     → Did (finish d (opens true d c h)) r m m′ out out′
 unfolding change
-initialized d c i n v h r m m′ out out′ e f g x s b =
-    let plan : ℕ → ℕ → ℕ → Plan =
-    (λ j k u. planned (took acted (16 + h .len) k) (withSession (d .rest) j k) (frameOf c InitializeResponse 0 (u * 65536 + k) [] ∷ []) (enter j k c)) in
-    let z : plan i n v ≡ opens true d c h = (λ k. plan (sym e k) (sym f k) (g k)) in
+initialized d c i n v m₀ h r m m′ out out′ e f g o x s b =
+    let plan : ℕ → ℕ → ℕ → ℕ → Plan =
+    (λ j k u y. planned (took acted (16 + h .len) k) (withSession (d .rest) j k) (frameOf c InitializeResponse y (u * 65536 + k) [] ∷ []) (enter j k c)) in
+    let z : plan i n v m₀ ≡ opens true d c h = (λ k. plan (sym e k) (sym f k) (g k) (sym o k)) in
     subst (λ (p : Plan). Did (finish d p) r m m′ out out′) z
-    (did-with-frame d (16 + h .len) n (withSession (d .rest) i n) c InitializeResponse 0 (v * 65536 + n) (enter i n c) r m m′ out out′ refl refl x s b)
+    (did-with-frame d (16 + h .len) n (withSession (d .rest) i n) c InitializeResponse m₀ (v * 65536 + n) (enter i n c) r m m′ out out′ refl refl x s b)
 
 -- AsyncInitialize: from the slot that was found and the vendor number that was read
 pub async-initialized : (d : Server) (c i v : ℕ) (h : Header) (r : Delivery) (m m′ : Memory) (out out′ : List ℕ)
-    → slotOfNumber (d .locks .entries) (h .param) ≡ i → d .rest .vendor ≡ v
+    → slotOfNumber (d .locks .entries) (h .param) ≡ i → d .rest .made .vendor ≡ v
     → numbersOf r ≡ record { refusal = 0; outcome = 6; session = h .param; taken = 16 + h .len; output = 17; missing = 0 }
     → view m′ .locks ≡ (change (d .locks) (join i c)) .locks → view m′ .rest ≡ d .rest
     → out′ ≡ splice out 0 (frameBytes (frameOf c AsyncInitializeResponse 0 v []))

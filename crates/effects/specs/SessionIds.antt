@@ -16,11 +16,11 @@ use Rattle.state.specs.View.{locksOf}
 use Rattle.effects.specs.Closing.{sessions-held, found-passes}
 
 -- the single values that are read
-pub last-read : (q : Rest) (r : ℕ) → singleWith 2 r q ≡ q → q .lastIssued ≡ r % 65536
+pub last-read : (q : Rest) (r : ℕ) → singleWith 3 r q ≡ q → q .lastIssued ≡ r % 65536
 last-read q r e = sym (ap (λ (x : Rest). x .lastIssued) e)
 
-pub vendor-read : (q : Rest) (r : ℕ) → singleWith 0 r q ≡ q → q .vendor ≡ r % 65536
-vendor-read q r e = sym (ap (λ (x : Rest). x .vendor) e)
+pub vendor-read : (q : Rest) (r : ℕ) → singleWith 0 r q ≡ q → q .made .vendor ≡ r % 65536
+vendor-read q r e = sym (ap (λ (x : Rest). x .made .vendor) e)
 
 -- a number is a live session's if the search finds it
 module _ (w s : List ℕ) (n i : ℕ) (found : slotOfNumber (locksOf w s .entries) n ≡ i) where

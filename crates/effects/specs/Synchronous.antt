@@ -15,7 +15,7 @@ use Rattle.wire.specs.declared.Header.{Header}
 use Rattle.model.specs.MessageTypes.{Data, DataEND, Trigger, DeviceClearAcknowledge}
 use Rattle.model.specs.State.{Server, Rest, Exchange, Asked, Asked.none, Asked.some, at, freshExchange, exchangeAt, withExchange}
 use Rattle.model.specs.Interface.{Reply.took, Outcome.acted}
-use Rattle.model.specs.Exchange.{afterRmt, noteRmt, ask, leaveClear}
+use Rattle.model.specs.Exchange.{afterRmt, withAnswering, noteRmt, ask, bit0, leaveClear}
 use Rattle.model.specs.Place.{Role.r-synchronous}
 use Rattle.model.specs.Locks.{LockEvent.nothing, LockEvent.command}
 use Rattle.model.specs.Acts.{Plan, say, SynchronousKind, SynchronousKind.k-data, SynchronousKind.k-dataEnd, SynchronousKind.k-trigger, SynchronousKind.k-clearComplete, synchronousKind, synchronousExchange, synchronousSaid, synchronousEvent, acts}
@@ -34,21 +34,28 @@ withSlot i g r = withExchange r i (g (exchangeAt r i))
 -- a change of one exchange, as the state has it and as the model has it
 pub slot-changed : (d : Server) (i : ℕ) (g : Exchange → Exchange) → onExchange d i g ≡ onRest d (withSlot i g)
 slot-changed d i g =
-    ap (λ (l : List Exchange). onRest d (λ (r : Rest). record { exchanges = l; connections = r .connections; lastIssued = r .lastIssued; vendor = r .vendor; status = r .status; remoteLocal = r .remoteLocal })) (sym (upd-set (d .rest .exchanges) i freshExchange g))
+    ap (λ (l : List Exchange). onRest d (λ (r : Rest). record { exchanges = l; connections = r .connections; lastIssued = r .lastIssued; made = r .made; status = r .status; remoteLocal = r .remoteLocal })) (sym (upd-set (d .rest .exchanges) i freshExchange g))
 
 -- two changes of one exchange
 pub slot-twice : (d d₁ d₂ : Server) (i : ℕ) (f g : Exchange → Exchange) → d₁ ≡ onExchange d i f → d₂ ≡ onRest d₁ (withSlot i g) → d₂ ≡ onRest d (withSlot i (λ (x : Exchange). g (f x)))
 slot-twice d d₁ d₂ i f g e₁ e₂ =
     e₂ ∙ sym (slot-changed d₁ i g) ∙ ap (λ (x : Server). onExchange x i g) e₁
-    ∙ ap (λ (l : List Exchange). onRest d (λ (r : Rest). record { exchanges = l; connections = r .connections; lastIssued = r .lastIssued; vendor = r .vendor; status = r .status; remoteLocal = r .remoteLocal })) (upd-upd (d .rest .exchanges) i f g)
+    ∙ ap (λ (l : List Exchange). onRest d (λ (r : Rest). record { exchanges = l; connections = r .connections; lastIssued = r .lastIssued; made = r .made; status = r .status; remoteLocal = r .remoteLocal })) (upd-upd (d .rest .exchanges) i f g)
     ∙ slot-changed d i (λ (x : Exchange). g (f x))
+
+pub slot-then : (d d₁ d₂ : Server) (i : ℕ) (f g : Exchange → Exchange) → d₁ ≡ onRest d (withSlot i f) → d₂ ≡ onExchange d₁ i g → d₂ ≡ onRest d (withSlot i (λ (x : Exchange). g (f x)))
+slot-then d d₁ d₂ i f g e₁ e₂ = slot-twice d d₁ d₂ i f g (e₁ ∙ sym (slot-changed d i f)) (e₂ ∙ slot-changed d₁ i g)
+
+-- DeviceClearComplete: two stores, the second by the code's bit 0
+pub clear-left : (d d₁ d₂ : Server) (i code : ℕ) → d₁ ≡ onExchange d i (exchangeWith 0 0) → d₂ ≡ onExchange d₁ i (exchangeWith 4 (code % 2)) → d₂ ≡ onRest d (withSlot i (leaveClear code))
+clear-left d d₁ d₂ i code e₁ e₂ = slot-twice d d₁ d₂ i (exchangeWith 0 0) (exchangeWith 4 (code % 2)) e₁ (e₂ ∙ slot-changed d₁ i (exchangeWith 4 (code % 2)))
 
 -- RMT-delivered: the word that is stored says what the word that stood there and the code say
 pub rmt-kept : (d : Server) (i code : ℕ) (d₁ : Server) (a v : ℕ) → exchangeWith 2 a (exchangeAt (d .rest) i) ≡ exchangeAt (d .rest) i
     → eqb v 1 ≡ (not (eqb code 1) && eqb a 1) → d₁ ≡ onExchange d i (exchangeWith 2 v) → d₁ ≡ onRest d (withSlot i (noteRmt code))
 rmt-kept d i code d₁ a v x e q =
     q ∙ slot-changed d i (exchangeWith 2 v)
-    ∙ ap (λ (b : Bool). onRest d (withSlot i (λ (x : Exchange). record { inClear = x .inClear; asked = x .asked; messageAvailable = b; clientSize = x .clientSize })))
+    ∙ ap (λ (b : Bool). onRest d (withSlot i (λ (x : Exchange). withAnswering (x .asked) b x)))
     (e ∙ ap (λ (z : Exchange). not (eqb code 1) && z .messageAvailable) x)
 
 -- a product is a test
@@ -73,7 +80,7 @@ asked-stored p h =
 pub asked-told : (d d₁ d₂ : Server) (i code p : ℕ) → p < 2 ^ 32 → d₁ ≡ onExchange d i (exchangeWith 1 (p + 1)) → d₂ ≡ onRest d₁ (withSlot i (noteRmt code)) → d₂ ≡ onRest d (withSlot i (ask code p))
 asked-told d d₁ d₂ i code p h e₁ e₂ =
     slot-twice d d₁ d₂ i (exchangeWith 1 (p + 1)) (noteRmt code) e₁ e₂
-    ∙ ap (λ (y : Asked). onRest d (withSlot i (λ (x : Exchange). record { inClear = x .inClear; asked = y; messageAvailable = afterRmt code (x .messageAvailable); clientSize = x .clientSize }))) (asked-stored p h)
+    ∙ ap (λ (y : Asked). onRest d (withSlot i (λ (x : Exchange). withAnswering y (afterRmt code (x .messageAvailable)) x))) (asked-stored p h)
 
 -- a Data, DataEND or Trigger, and what it notes
 abbrev pub isCommand : ℕ → Bool
@@ -106,7 +113,7 @@ module _ (d : Server) (i c : ℕ) (h : Header) (p : List ℕ) where
   kinds x y z = cond x k-data (cond y k-dataEnd (cond z k-trigger k-clearComplete))
 
   abbrev planBy : SynchronousKind → Plan
-  planBy k = planWith d i (h .len) (withSlot i (synchronousExchange k h) (d .rest)) (synchronousSaid k c) (synchronousEvent k i h)
+  planBy k = planWith d i (h .len) (withSlot i (synchronousExchange k h) (d .rest)) (synchronousSaid k c h) (synchronousEvent k i h)
 
   pub plan-command : isCommand (h .kind) ≡ true
       → acts r-synchronous d i c h p ≡ planWith d i (h .len) (withSlot i (commandNotes (h .kind) (h .code) (h .param)) (d .rest)) [] (command i (h .param))
@@ -120,11 +127,11 @@ module _ (d : Server) (i c : ℕ) (h : Header) (p : List ℕ) where
       by false false true q = refl
       by false false false q = absurd (true≢false (sym q))
 
-  pub plan-complete : isCommand (h .kind) ≡ false → acts r-synchronous d i c h p ≡ planWith d i (h .len) (withSlot i leaveClear (d .rest)) (say c DeviceClearAcknowledge 0 0) nothing
+  pub plan-complete : isCommand (h .kind) ≡ false → acts r-synchronous d i c h p ≡ planWith d i (h .len) (withSlot i (leaveClear (h .code)) (d .rest)) (say c DeviceClearAcknowledge (bit0 (h .code)) 0) nothing
   unfolding acts synchronousExchange synchronousSaid
   plan-complete = by (eqb (h .kind) Data) (eqb (h .kind) DataEND) (eqb (h .kind) Trigger)
     where
-      by : (x y z : Bool) → (x || (y || z)) ≡ false → planBy (kinds x y z) ≡ planWith d i (h .len) (withSlot i leaveClear (d .rest)) (say c DeviceClearAcknowledge 0 0) nothing
+      by : (x y z : Bool) → (x || (y || z)) ≡ false → planBy (kinds x y z) ≡ planWith d i (h .len) (withSlot i (leaveClear (h .code)) (d .rest)) (say c DeviceClearAcknowledge (bit0 (h .code)) 0) nothing
       by true y z q = absurd (true≢false q)
       by false true z q = absurd (true≢false q)
       by false false true q = absurd (true≢false q)

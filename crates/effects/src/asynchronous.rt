@@ -3,6 +3,7 @@ ghost use Prim.Native.Nat.{ℕ, _+_, _<_, _≤_};
 ghost use Rattle.effects.specs.Asynchronous.{DidKind, heading};
 ghost use Rattle.effects.specs.Control.{controlling, flagging};
 ghost use Rattle.effects.specs.Did.{Did};
+ghost use Rattle.effects.specs.StatusQuery.{availableNow, unreadBy};
 ghost use Rattle.model.specs.Acts.AsynchronousKind.{k-deviceClear, k-lock, k-lockInfo, k-maximumSize, k-remoteLocal, k-statusQuery};
 ghost use Rattle.model.specs.Acts.{acts};
 ghost use Rattle.model.specs.Exchange.{enterClear, statusByte};
@@ -19,6 +20,7 @@ ghost use mathlib.Core.Path.{_≡_};
 ghost use Rattle.model.specs.Sizes.{connectionLimit, outputMinimum, payloadLimit, sessionLimit};
 use crate::Delivery;
 use crate::answer;
+use crate::mode;
 use crate::synchronous::note_rmt;
 use crate::synchronous::same_number;
 use locks::complete;
@@ -33,28 +35,64 @@ use state::sizes::Strings;
 use state::sizes::Words;
 use state::tables;
 use wire::frame;
+use wire::message_id::MessageId;
 use wire::number;
 use wire::types;
 
-// The instrument's status byte, with value 16 replaced by message available of slot i.
-fn status_of(w: &Words, i: usize) -> u8
+// In overlap mode, 1 where some answer was sent and its number is not the one that the query carries.
+fn unread(w: &Words, i: usize, param: u32) -> u64
     requires { ⌜ i < sessionLimit ⌝ }
-    ensures { λ r. ⌜ r ≡ statusByte (restOf (now (w .entry)) .status) ((exchangeAt (restOf (now (w .entry))) i) .messageAvailable) ⌝ }
+    ensures { λ r. ⌜ (r ≡ cond (unreadBy param (exchangeAt (restOf (now (w .entry))) i)) 1 0) × (r ≤ 1) ⌝ }
+{
+    if tables::exchange(w, i, tables::ANY_SENT) != 1 {
+        return 0;
+    }
+    let count = mode::count_of(w, i);
+    let behind = MessageId::new(param).next();
+    if behind.number == count.number {
+        return 0;
+    }
+    1
+}
+
+// Message available of slot i, as a number.
+fn available(w: &Words, i: usize, param: u32) -> u64
+    requires { ⌜ i < sessionLimit ⌝ }
+    ensures { λ r. ⌜ (r ≡ cond (availableNow param (exchangeAt (restOf (now (w .entry))) i)) 1 0) × (r ≤ 1) ⌝ }
+{
+    if mode::is_overlap(w, i) {
+        return unread(w, i, param);
+    }
+    same_number(tables::exchange(w, i, tables::AVAILABLE), 1)
+}
+
+// The instrument's status byte, with value 16 replaced by message available of slot i.
+fn status_of(w: &Words, i: usize, param: u32) -> u8
+    requires { ⌜ i < sessionLimit ⌝ }
+    ensures { λ r. ⌜ r ≡ statusByte (restOf (now (w .entry)) .status) (availableNow param (exchangeAt (restOf (now (w .entry))) i)) ⌝ }
 {
     let all = tables::single(w, tables::STATUS) % 256;
     let low = all % 16 + all / 32 * 32;
-    let on = same_number(tables::exchange(w, i, tables::AVAILABLE), 1);
+    let on = available(w, i, param);
     (low + on * 16) as u8
 }
 
 // AsyncStatusQuery.
-fn query_status(w: &mut Words, out: &mut [u8], c: u64, i: usize, code: u8, len: u64) -> Delivery
+fn query_status(
+    w: &mut Words,
+    out: &mut [u8],
+    c: u64,
+    i: usize,
+    code: u8,
+    param: u32,
+    len: u64,
+) -> Delivery
     requires { ⌜ (i < sessionLimit) × (c < connectionLimit) × (len ≤ payloadLimit) × (outputMinimum ≤ length (now out)) ⌝ }
-    ensures { λ r. ⌜ ((s p : List ℕ) (param : ℕ) → DidKind k-statusQuery i c code param len p r (memory (now (w .entry)) s) (memory (now (w .exit)) s) (now (out .entry)) (now (out .exit))) ⌝ }
+    ensures { λ r. ⌜ ((s p : List ℕ) → DidKind k-statusQuery i c code param len p r (memory (now (w .entry)) s) (memory (now (w .exit)) s) (now (out .entry)) (now (out .exit))) ⌝ }
 {
     let n = tables::entry(w, i, tables::NUMBER);
     note_rmt(w, i, code);
-    let b = status_of(w, i);
+    let b = status_of(w, i, param);
     frame::put_frame(out, 0, c as u8, types::ASYNC_STATUS_RESPONSE, b, 0);
     answer::acted(n, len, 17)
 }
@@ -82,23 +120,13 @@ fn flags_of(w: &Words) -> RemoteLocal
     }
 }
 
-// The word of a flag.
-fn word_of(on: bool) -> u64
-    ensures { λ r. ⌜ r ≡ cond on 1 0 ⌝ }
-{
-    if on {
-        return 1;
-    }
-    0
-}
-
 // The three flags, stored.
 fn set_flags(w: &mut Words, f: RemoteLocal)
     ensures { λ _. ⌜ ((s : List ℕ) → view (memory (now (w .exit)) s) ≡ onRest (view (memory (now (w .entry)) s)) (flagging (shown f))) ⌝ }
 {
-    tables::set_single(w, tables::ENABLE, word_of(f.enable));
-    tables::set_single(w, tables::LOCKOUT, word_of(f.lockout));
-    tables::set_single(w, tables::REMOTE, word_of(f.remote));
+    tables::set_single(w, tables::ENABLE, tables::word_of(f.enable));
+    tables::set_single(w, tables::LOCKOUT, tables::word_of(f.lockout));
+    tables::set_single(w, tables::REMOTE, tables::word_of(f.remote));
 }
 
 // What the code makes of the three flags: read, changed in place, stored.
@@ -141,7 +169,7 @@ fn note_size(w: &mut Words, out: &mut [u8], c: u64, i: usize, len: u64, payload:
     answer::acted(n, len, 25)
 }
 
-// In device clear, with nothing asked and no message available.
+// In device clear, with nothing asked, no message available and no answer counted.
 fn enter_clear(w: &mut Words, i: usize)
     requires { ⌜ i < sessionLimit ⌝ }
     ensures { λ _. ⌜ ((s : List ℕ) → view (memory (now (w .exit)) s) ≡ onExchange (view (memory (now (w .entry)) s)) i enterClear) ⌝ }
@@ -149,6 +177,7 @@ fn enter_clear(w: &mut Words, i: usize)
     tables::set_exchange(w, i, tables::IN_CLEAR, 1);
     tables::set_exchange(w, i, tables::ASKED, 0);
     tables::set_exchange(w, i, tables::AVAILABLE, 0);
+    mode::reset_count(w, i);
 }
 
 // AsyncDeviceClear: the answers to a request that waits and to a release that stands, the acknowledgement, and, where a lock was freed,
@@ -165,6 +194,7 @@ fn clear(
     ensures { λ r. ⌜ ((p : List ℕ) (code param : ℕ) → DidKind k-deviceClear i c code param len p r (memory (now (w .entry)) (now (strings .entry))) (memory (now (w .exit)) (now (strings .exit))) (now (out .entry)) (now (out .exit))) ⌝ }
 {
     let n = tables::entry(w, i, tables::NUMBER);
+    let mode = mode::preference(w);
     let stood = standing::stands(w, i);
     let at = complete::at_clear(w, out, 0, i);
     enter_clear(w, i);
@@ -173,7 +203,7 @@ fn clear(
         at,
         c as u8,
         types::ASYNC_DEVICE_CLEAR_ACKNOWLEDGE,
-        0,
+        mode,
         0,
     );
     let end = at + 17;
@@ -236,7 +266,7 @@ pub fn act_asynchronous(
         return clear(w, strings, out, c, i, len);
     }
     if kind == types::ASYNC_STATUS_QUERY {
-        return query_status(w, out, c, i, code, len);
+        return query_status(w, out, c, i, code, param, len);
     }
     tell_locks(w, out, c, i, len)
 }

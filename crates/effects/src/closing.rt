@@ -4,7 +4,7 @@ ghost use Rattle.effects.specs.Closing.{Closes, closedServer, shut};
 ghost use Rattle.model.specs.Bound.{answersRoom};
 ghost use Rattle.model.specs.Place.{slotIn};
 ghost use Rattle.model.specs.Sizes.{noConnection};
-ghost use Rattle.model.specs.State.{at, freshExchange, withConnections, withExchange};
+ghost use Rattle.model.specs.State.{at, openExchange, withConnections, withExchange};
 ghost use Rattle.model.specs.Step.{shutAll};
 ghost use Rattle.state.specs.Change.{onRest};
 ghost use Rattle.state.specs.View.{locksOf, memory, view};
@@ -14,6 +14,7 @@ ghost use mathlib.Core.Bool.{cond};
 ghost use mathlib.Core.List.{List, [], _∷_};
 ghost use mathlib.Core.Path.{_≡_};
 ghost use Rattle.model.specs.Sizes.{sessionLimit};
+use crate::mode::reset_count;
 use locks::grant_pass;
 use locks::sessions;
 use state::sizes::CONNECTIONS;
@@ -35,15 +36,17 @@ fn shut_connection(w: &mut Words, x: u64)
     tables::set_connection(w, x as usize, tables::REMAINDER, 0);
 }
 
-// Slot i's exchange is as of a session that opens.
-pub fn renew_exchange(w: &mut Words, i: usize)
+// Slot i's exchange is as of a session that opens, in overlap mode where the word of its mode is 1.
+pub fn renew_exchange(w: &mut Words, i: usize, mode: u64)
     requires { ⌜ i < sessionLimit ⌝ }
-    ensures { λ _. ⌜ ((s : List ℕ) → view (memory (now (w .exit)) s) ≡ onRest (view (memory (now (w .entry)) s)) (λ r. withExchange r i freshExchange)) ⌝ }
+    ensures { λ _. ⌜ ((s : List ℕ) → view (memory (now (w .exit)) s) ≡ onRest (view (memory (now (w .entry)) s)) (λ r. withExchange r i (openExchange (eqb mode 1)))) ⌝ }
 {
     tables::set_exchange(w, i, tables::IN_CLEAR, 0);
     tables::set_exchange(w, i, tables::ASKED, 0);
     tables::set_exchange(w, i, tables::AVAILABLE, 0);
     tables::set_exchange(w, i, tables::CLIENT_SIZE, PAYLOAD);
+    tables::set_exchange(w, i, tables::OVERLAP, mode);
+    reset_count(w, i);
 }
 
 // The connections of slot i's session are closed.
@@ -70,7 +73,7 @@ fn close_parts(w: &mut Words, c: u64, i: usize)
         return;
     }
     shut_channels(w, i);
-    renew_exchange(w, i);
+    renew_exchange(w, i, 0);
     sessions::close_slot(w, i);
 }
 

@@ -10,6 +10,8 @@ ghost use lib.ListN.{length};
 ghost use mathlib.Core.List.{List};
 ghost use mathlib.Core.Path.{_≡_};
 ghost use Rattle.model.specs.Sizes.{connectionLimit, outputMinimum, payloadLimit, sessionLimit};
+use crate::mode;
+use crate::mode::NUMBERS;
 use crate::replies::keep_open;
 use state::sizes::Words;
 use state::tables;
@@ -32,24 +34,28 @@ pub fn set_status(w: &mut Words, b: u8)
     tables::set_single(w, tables::STATUS, b as u64);
 }
 
-// The number that an answer of slot i carries: that of the message asked, 0 if nothing is asked.
-fn number_asked(w: &Words, i: usize) -> MessageId
+// The number that an answer of slot i carries: in overlap mode the count; else that of the message asked, 0 if nothing is asked.
+fn answer_number(w: &Words, i: usize) -> MessageId
     requires { ⌜ i < sessionLimit ⌝ }
     ensures { λ r. ⌜ answerNumber (exchangeAt (restOf (now (w .entry))) i) ≡ r .number ⌝ }
 {
+    if mode::is_overlap(w, i) {
+        return mode::count_of(w, i);
+    }
     let v = tables::exchange(w, i, tables::ASKED);
     if v == 0 {
         return MessageId::new(0);
     }
-    MessageId::new(((v - 1) % 4294967296) as u32)
+    MessageId::new(((v - 1) % NUMBERS) as u32)
 }
 
-// Slot i was sent an answer: message available goes on, and with END nothing is asked any more.
+// Slot i was sent an answer: message available goes on, it is counted, and with END nothing is asked any more.
 fn note_answer(w: &mut Words, i: usize, end: bool)
     requires { ⌜ i < sessionLimit ⌝ }
     ensures { λ _. ⌜ ((s : List ℕ) → view (memory (now (w .exit)) s) ≡ onRest (view (memory (now (w .entry)) s)) (λ r. withExchange r i (answeredWith end (exchangeAt r i)))) ⌝ }
 {
     tables::set_exchange(w, i, tables::AVAILABLE, 1);
+    mode::count_answer(w, i);
     if !end {
         return;
     }
@@ -72,7 +78,7 @@ pub fn send_answer(w: &mut Words, out: &mut [u8], i: usize, end: bool, payload: 
     ensures { λ r. ⌜ ((s : List ℕ) → Answers (view (memory (now (w .entry)) s)) i end (now (payload .entry)) (view (memory (now (w .exit)) s)) (now (out .entry)) (now (out .exit)) r) ⌝ }
 {
     let c = (tables::entry(w, i, tables::SYNCHRONOUS) % 256) as u8;
-    let id = number_asked(w, i);
+    let id = answer_number(w, i);
     note_answer(w, i, end);
     frame::put_message(out, 0, c, answer_kind(end), 0, id.number, payload);
     17 + payload.len()

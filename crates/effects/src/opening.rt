@@ -17,6 +17,7 @@ ghost use Rattle.model.specs.Sizes.{connectionLimit, outputMinimum, payloadLimi
 use crate::Delivery;
 use crate::answer;
 use crate::closing::renew_exchange;
+use crate::mode;
 use crate::session_id;
 use locks::sessions;
 use state::search;
@@ -25,13 +26,14 @@ use state::tables;
 use wire::frame;
 use wire::types;
 
-// Session n opens in slot i over connection c.
+// Session n opens in slot i over connection c, in the mode that the host prefers.
 fn enter_session(w: &mut Words, i: usize, n: u64, c: u64)
     requires { ⌜ (i < sessionLimit) × (n < 65536) × (n ≡ 0 → ⊥) × (c < connectionLimit) × Unshown (now w) c ⌝ }
     ensures { λ _. ⌜ ((s : List ℕ) → view (memory (now (w .exit)) s) ≡ changed (view (memory (now (w .entry)) s)) (enter i n c) (withSession (restOf (now (w .entry))) i n)) ⌝ }
 {
     sessions::enter_slot(w, i, n, c);
-    renew_exchange(w, i);
+    let mode = tables::single(w, tables::PREFERENCE);
+    renew_exchange(w, i, mode);
     tables::set_single(w, tables::LAST, n);
 }
 
@@ -54,13 +56,14 @@ pub fn initialize(w: &mut Words, out: &mut [u8], c: u64, param: u32, len: u64) -
     let i = search::slot_of_number(w, 0);
     let n = session_id::next_session_id(w);
     let v = version(param);
+    let mode = mode::preference(w);
     enter_session(w, i, n, c);
     frame::put_frame(
         out,
         0,
         c as u8,
         types::INITIALIZE_RESPONSE,
-        0,
+        mode,
         v * 65536 + n as u32,
     );
     answer::acted(n, len, 17)

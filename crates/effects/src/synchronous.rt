@@ -67,11 +67,13 @@ fn note_asked(w: &mut Words, i: usize, code: u8, id: MessageId)
     note_rmt(w, i, code);
 }
 
-fn leave_clear(w: &mut Words, i: usize)
+// The device clear ends, and the session is in the mode that bit 0 of the code asks for.
+fn leave_clear(w: &mut Words, i: usize, code: u8)
     requires { ⌜ i < sessionLimit ⌝ }
-    ensures { λ _. ⌜ ((s : List ℕ) → view (memory (now (w .exit)) s) ≡ onRest (view (memory (now (w .entry)) s)) (withSlot i leaveClear)) ⌝ }
+    ensures { λ _. ⌜ ((s : List ℕ) → view (memory (now (w .exit)) s) ≡ onRest (view (memory (now (w .entry)) s)) (withSlot i (leaveClear code))) ⌝ }
 {
     tables::set_exchange(w, i, tables::IN_CLEAR, 0);
+    tables::set_exchange(w, i, tables::OVERLAP, (code % 2) as u64);
 }
 
 // Is this a Data, DataEND or Trigger?
@@ -120,7 +122,14 @@ pub fn act_synchronous(
         let end = complete::at_message(w, strings, out, 0, i, param);
         return answer::acted(session, len, end as u64);
     }
-    leave_clear(w, i);
-    frame::put_frame(out, 0, c as u8, types::DEVICE_CLEAR_ACKNOWLEDGE, 0, 0);
+    leave_clear(w, i, code);
+    frame::put_frame(
+        out,
+        0,
+        c as u8,
+        types::DEVICE_CLEAR_ACKNOWLEDGE,
+        code % 2,
+        0,
+    );
     answer::acted(session, len, 17)
 }

@@ -14,10 +14,10 @@ fn heading(example: &[u8]) {
     text::say(b"\n");
 }
 
-// A fresh server, vendor "AA".
+// A fresh server, vendor "AA", that prefers synchronized mode.
 fn fresh(words: &mut Words, strings: &mut Strings, example: &[u8]) {
     heading(example);
-    server::hislip_new(words, strings, 0x4141);
+    server::hislip_new(words, strings, 0x4141, 0);
 }
 
 // The same with session A, on connections 0 and 1.

@@ -1,7 +1,6 @@
 // Remote and local control: the three flags, and what a control code makes of them.
-ghost use Prim.Native.Nat.{ℕ};
 ghost use Rattle.model.specs.Exchange.{controlled};
-ghost use Rattle.model.specs.State.{fresh};
+ghost use Rattle.model.specs.State.{Making, fresh};
 ghost use Rattle.remote.specs.Shown.{shown};
 ghost use mathlib.Core.Path.{_≡_};
 
@@ -15,7 +14,7 @@ pub struct RemoteLocal {
 impl RemoteLocal {
     // The flags start off.
     pub fn start() -> RemoteLocal
-        ensures { λ r. ⌜ ((v : ℕ) → shown r ≡ fresh v .rest .remoteLocal) ⌝ }
+        ensures { λ r. ⌜ ((v : Making) → shown r ≡ fresh v .rest .remoteLocal) ⌝ }
     {
         RemoteLocal {
             enable: false,

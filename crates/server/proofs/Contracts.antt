@@ -9,6 +9,7 @@ use contract.Lifetimes.{Lfts}
 use borrow.Fn.Kinds.{Dens, resT, endedOf}
 use denote.Triple.Clauses.{AtExit}
 use Rattle.model.specs.Interface.{Event.opening, Event.delivery, Event.cut, Event.clock, Event.answer, Event.status, Reply.done}
+use Rattle.model.specs.State.{Making}
 use Rattle.model.specs.Demand3.{Seen}
 use Rattle.state.specs.View.{Memory, memory}
 use Rattle.server.specs.Events.{Fresh}
@@ -29,10 +30,10 @@ use Rattle.server.proofs.hislip_answer.Kinds as answer-kinds
 use Rattle.server.proofs.hislip_status.Reads as status-says
 use Rattle.server.proofs.hislip_status.Kinds as status-kinds
 
--- memory that hislip_new wrote, of vendor number v
-pub data Written : ℕ → Memory → Type 0 where
+-- memory that hislip_new wrote, for a server made as v says
+pub data Written : Making → Memory → Type 0 where
   hislip-new : (κs : Lfts 2) (a : Dens κs new-kinds.ps) (r : resT new-kinds.r κs .Denot) (s : AtExit (endedOf 2 new-kinds.ps new-kinds.r) κs)
-      → new-says.Post κs a r s → Written (a .1 .1 .0) (memory (s .0 .now) (s .1 .0 .now))
+      → new-says.Post κs a r s → Written (record { vendor = a .1 .1 .0; prefersOverlap = not (eqb (a .1 .1 .1 .0) 0) }) (memory (s .0 .now) (s .1 .0 .now))
 
 -- from one memory to another by calls of the exported functions; nobody else writes it, and each call lends whatever buffer
 pub data Executed : Memory → List Seen → Memory → Type 0 where
@@ -59,7 +60,7 @@ pub data Executed : Memory → List Seen → Memory → Type 0 where
       → Executed (memory (a .0 .now) (a .1 .0 .now)) (record { event = status (a .1 .1 .0); reply = done; output = [] } ∷ ss) m″
 
 -- each contract is the premise of `Fresh` and `Run`, word for word
-fresh : {v : ℕ} {m : Memory} → Written v m → Fresh v m
+fresh : {v : Making} {m : Memory} → Written v m → Fresh v m
 fresh (hislip-new κs a r s p) = p
 
 runs : {m m′ : Memory} {ss : List Seen} → Executed m ss m′ → Run m ss m′

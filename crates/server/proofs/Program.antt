@@ -9,7 +9,7 @@ use lib.ListN.{length, take}
 use lib.Seq.{take-nil}
 use Rattle.wire.specs.declared.Header.{Header}
 use Rattle.wire.specs.Frame.{bytesOf, bytes-one, frameBytes, frameOf}
-use Rattle.model.specs.State.{Server, Asked, Asked.none, at, fresh, slotOfNumber}
+use Rattle.model.specs.State.{Making, Server, at, fresh, slotOfNumber}
 use Rattle.model.specs.Interface.{Event, Event.opening, Event.delivery, Event.cut, Event.clock, Event.answer, Event.status, Outcome, Outcome.more-needed, Outcome.skipped, Outcome.held, Outcome.ignored, Outcome.error-sent, Outcome.closed, Outcome.acted, Reply, Reply.refused, Reply.done, Reply.took, outcomeNumber, DeliveryAnswer, deliveryAnswer, DoneAnswer, doneAnswer}
 use Rattle.model.specs.Scan.{Scan, Scan.empty, Scan.few, Scan.wrong, Scan.skipping, Scan.long, Scan.part, Scan.whole}
 use Rattle.model.specs.Place.{Role, Role.r-none, Role.r-halfOpen, Role.r-synchronous, Role.r-asynchronous}
@@ -19,7 +19,7 @@ use Rattle.model.specs.Refusals.{refusal}
 use Rattle.model.specs.Step.{Line, answerType, answered, effect, final, finish, log, plan, received, step}
 use Rattle.model.specs.Post.{Post}
 use Rattle.model.specs.Demand3.{Seen, seen, seenEvents, Calls, Calls.none as no-call, Calls.call}
-use Rattle.model.specs.Tie.{track, askedBy}
+use Rattle.model.specs.Tie.{Track, nothingYet, track, trackOfLog, said}
 use Rattle.model.specs.IsolationRun as Log
 use Rattle.model.specs.IsolationRun.{Undisturbed}
 use Rattle.model.proofs.Demand3.{demand3, made, one}
@@ -43,7 +43,7 @@ use Rattle.effects.specs.Did.{numbersOf}
 use Rattle.server.specs.declared.Done.{Done}
 use Rattle.server.specs.Calls.{Delivered}
 use Rattle.server.specs.Events.{Called, Fresh, doneNumbers}
-use Rattle.server.specs.Program.{outcomeOf, refusedOr, deliveryReply, doneReply, Run, Run.stop, Run.hislip-open, Run.hislip-deliver, Run.hislip-cut, Run.hislip-clock, Run.hislip-answer, Run.hislip-status, askedIn, Tied, OnlyOf, Program}
+use Rattle.server.specs.Program.{outcomeOf, refusedOr, deliveryReply, doneReply, Run, Run.stop, Run.hislip-open, Run.hislip-deliver, Run.hislip-cut, Run.hislip-clock, Run.hislip-answer, Run.hislip-status, trackIn, shownOf, Tied, OnlyOf, Program}
 
 -- was the call done?
 abbrev Done? : Reply → Type 0
@@ -142,11 +142,11 @@ calls {m = m} (hislip-answer {m′ = m′} n q end out out′ r p g) =
     call (answer n q (not (eqb end 0)) (length out)) out out′ (doneReply r) (r .output) (call-post (answer n q (not (eqb end 0)) (length out)) m m′ out out′ refl r p) (calls g)
 calls (hislip-status b p g) = call (status b) [] [] done 0 p (calls g)
 
--- what was asked, by what the host saw and by the log
-asked-seen : (ls : List Line) (n : ℕ) (p : Asked) → askedIn (map seen ls) n p ≡ askedBy ls n p
-unfolding askedBy
-asked-seen [] n p = refl
-asked-seen (l ∷ ls) n p = asked-seen ls n (track (l .event) (l .reply) n p)
+-- a session's track, by what the host saw and by the log
+track-seen : (w : Bool) (ls : List Line) (n : ℕ) (p : Track) → trackIn w (map seen ls) n p ≡ trackOfLog w ls n p
+unfolding trackOfLog
+track-seen w [] n p = refl
+track-seen w (l ∷ ls) n p = track-seen w ls n (track w (l .event) (l .reply) n p)
 
 -- a call that was not refused, by what the host saw
 not-refused : (d : Server) (e : Event) → (step d e) .reply ≡ done → refusal d e ≡ 0
@@ -160,8 +160,8 @@ not-refused d e q = go (refusal d e) q
     go zero q = refl
     go (suc k) q = absurd (done≢refused k q)
 
-tied : (v : ℕ) (m m′ m″ : Memory) (ss : List Seen) (s : Seen) → Fresh v m → Run m ss m′ → Run m′ (s ∷ []) m″
-    → (n : ℕ) (payload : List ℕ) (end : Bool) (room : ℕ) → s .event ≡ answer n payload end room → s .reply ≡ done → Tied ss m′ n payload end (s .output)
+tied : (v : Making) (m m′ m″ : Memory) (ss : List Seen) (s : Seen) → Fresh v m → Run m ss m′ → Run m′ (s ∷ []) m″
+    → (n : ℕ) (payload : List ℕ) (end : Bool) (room : ℕ) → s .event ≡ answer n payload end room → s .reply ≡ done → Tied v ss m′ n payload end (s .output)
 unfolding log
 tied v m m′ m″ ss s f g g′ n payload end room x y =
     let es : List Event = seenEvents ss in
@@ -172,9 +172,11 @@ tied v m m′ m″ ss s f g g′ n payload end room x y =
     let o : s ≡ seen record { event = e; reply = (step (final (fresh v) es) e) .reply; frames = (step (final (fresh v) es) e) .frames } =
     ap first (made view (calls g′) .0 ∙ ap₂ (λ (a : Server) (b : Event). map seen (log a (b ∷ []))) d x) in
     let q = tie v es n payload end room (not-refused (final (fresh v) es) e (sym (ap (λ (a : Seen). a .reply) o) ∙ y)) in
+    let k : shownOf v ss n ≡ said v es n = ap (λ (a : List Seen). shownOf v a n) t ∙ track-seen (v .prefersOverlap) (log (fresh v) es) n (nothingYet (v .prefersOverlap)) in
     record {
       number = q .number;
-      asked = ap (λ (a : List Seen). askedIn a n Asked.none) t ∙ asked-seen (log (fresh v) es) n Asked.none ∙ q .asked;
+      asked = λ z. ap (λ (a : Track). a .asked) k ∙ q .asked (sym (ap (λ (a : Track). a .overlap) k) ∙ z);
+      counted = λ z. ap (λ (a : Track). a .count) k ∙ q .counted (sym (ap (λ (a : Track). a .overlap) k) ∙ z);
       sent =
           ap (λ (a : Seen). a .output) o
           ∙ ap bytesOf (q .sent)
@@ -200,7 +202,7 @@ only-seen : (n : ℕ) (ls : List Line) → Log.OnlyOf n ls → OnlyOf n (map see
 only-seen n [] o = tt
 only-seen n (l ∷ ls) o = (o .0, only-seen n ls (o .1))
 
-isolated : (v : ℕ) (m m′ m″ : Memory) (ss rs : List Seen) → Fresh v m → Run m ss m′
+isolated : (v : Making) (m m′ m″ : Memory) (ss rs : List Seen) → Fresh v m → Run m ss m′
     → (j : ℕ) → (at (view m′ .locks .entries) j) .exclusive ≡ true → Run m′ rs m″ → Undisturbed j (view m′) (seenEvents rs)
     → OnlyOf ((at (view m′ .locks .entries) j) .number) rs
 isolated v m m′ m″ ss rs f g j h g′ u =
@@ -213,7 +215,7 @@ isolated v m m′ m″ ss rs f g j h g′ u =
     subst (OnlyOf ((at (view m′ .locks .entries) j) .number)) (sym (made view (calls g′) .0)) (only-seen _ (log (view m′) fs) (whole (view m′) d h u))
 
 -- the server that a run from a new one leaves
-left : (v : ℕ) (m m′ : Memory) (ss : List Seen) → Fresh v m → Run m ss m′ → view m′ ≡ final (fresh v) (seenEvents ss)
+left : (v : Making) (m m′ : Memory) (ss : List Seen) → Fresh v m → Run m ss m′ → view m′ ≡ final (fresh v) (seenEvents ss)
 left v m m′ ss f g = made view (calls g) .1 ∙ ap (λ (x : Server). final x (seenEvents ss)) (f .shows)
 
 pub program : Program Fresh Run

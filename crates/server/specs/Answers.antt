@@ -9,10 +9,10 @@ use borrow.Author.Tests.{lt-ltb, le-ltb, eq-eqb, ne-eqb}
 use Rattle.model.specs.Sizes.{sessionLimit, outputMinimum, payloadLimit}
 use Rattle.model.specs.State.{Server, Entry, Exchange, at, blank, live, slotOfNumber, exchangeAt}
 use Rattle.model.specs.Interface.{Event.answer}
-use Rattle.model.specs.Exchange.{isAsked, mayAnswer}
+use Rattle.model.specs.Exchange.{mayAnswer}
 use Rattle.model.specs.Refusals.{causes, refusal, firstCause, Cause, smallRoom}
 use Rattle.state.specs.Change.{exchangeWith}
-use Rattle.state.specs.View.{Memory, view, locksOf, askedOf}
+use Rattle.state.specs.View.{Memory, view, locksOf}
 use Rattle.effects.specs.Closing.{sessions-held}
 use Rattle.effects.specs.Events.{Answers, answerFrame, answer-finishes}
 use Rattle.server.specs.declared.Done.{Done}
@@ -24,14 +24,14 @@ module _ (d : Server) (n i : ℕ) (p : List ℕ) (end : Bool) (room : ℕ) (foun
   row : List Cause
   row =
       record { test = not (live (at (d .locks .entries) i)); number = 8 }
-      ∷ record { test = not (mayAnswer (exchangeAt (d .rest) i)); number = 5 }
+      ∷ record { test = not (mayAnswer (at (d .locks .entries) i) (exchangeAt (d .rest) i)); number = 5 }
       ∷ record { test = ltb payloadLimit (length p) || ltb ((exchangeAt (d .rest) i) .clientSize) (length p); number = 6 }
       ∷ []
 
   at-row : causes d (answer n p end room) ≡ smallRoom room ∷ row
   unfolding causes row
   at-row =
-      ap (λ (j : ℕ). smallRoom room ∷ record { test = not (live (at (d .locks .entries) j)); number = 8 } ∷ record { test = not (mayAnswer (exchangeAt (d .rest) j)); number = 5 } ∷ record { test = ltb payloadLimit (length p) || ltb ((exchangeAt (d .rest) j) .clientSize) (length p); number = 6 } ∷ []) found
+      ap (λ (j : ℕ). smallRoom room ∷ record { test = not (live (at (d .locks .entries) j)); number = 8 } ∷ record { test = not (mayAnswer (at (d .locks .entries) j) (exchangeAt (d .rest) j)); number = 5 } ∷ record { test = ltb payloadLimit (length p) || ltb ((exchangeAt (d .rest) j) .clientSize) (length p); number = 6 } ∷ []) found
 
   pub answer-short-room : room < outputMinimum → refusal d (answer n p end room) ≡ 7
   answer-short-room = short-room d (answer n p end room) room row at-row
@@ -43,19 +43,19 @@ module _ (d : Server) (n i : ℕ) (p : List ℕ) (end : Bool) (room : ℕ) (foun
   unfolding row
   answer-nobody h l = then-row h ∙ rw l
 
-  pub answer-unasked : outputMinimum ≤ room → live (at (d .locks .entries) i) ≡ true → mayAnswer (exchangeAt (d .rest) i) ≡ false → refusal d (answer n p end room) ≡ 5
+  pub answer-unasked : outputMinimum ≤ room → live (at (d .locks .entries) i) ≡ true → mayAnswer (at (d .locks .entries) i) (exchangeAt (d .rest) i) ≡ false → refusal d (answer n p end room) ≡ 5
   unfolding row
   answer-unasked h l a = then-row h ∙ rw (l, a)
 
-  pub answer-long : outputMinimum ≤ room → live (at (d .locks .entries) i) ≡ true → mayAnswer (exchangeAt (d .rest) i) ≡ true → payloadLimit < length p → refusal d (answer n p end room) ≡ 6
+  pub answer-long : outputMinimum ≤ room → live (at (d .locks .entries) i) ≡ true → mayAnswer (at (d .locks .entries) i) (exchangeAt (d .rest) i) ≡ true → payloadLimit < length p → refusal d (answer n p end room) ≡ 6
   unfolding row
   answer-long h l a q = then-row h ∙ rw (l, a, lt-ltb payloadLimit (length p) q)
 
-  pub answer-over : outputMinimum ≤ room → live (at (d .locks .entries) i) ≡ true → mayAnswer (exchangeAt (d .rest) i) ≡ true → length p ≤ payloadLimit → (exchangeAt (d .rest) i) .clientSize < length p → refusal d (answer n p end room) ≡ 6
+  pub answer-over : outputMinimum ≤ room → live (at (d .locks .entries) i) ≡ true → mayAnswer (at (d .locks .entries) i) (exchangeAt (d .rest) i) ≡ true → length p ≤ payloadLimit → (exchangeAt (d .rest) i) .clientSize < length p → refusal d (answer n p end room) ≡ 6
   unfolding row
   answer-over h l a q r = then-row h ∙ rw (l, a, le-ltb payloadLimit (length p) q, lt-ltb ((exchangeAt (d .rest) i) .clientSize) (length p) r)
 
-  pub answer-taken : outputMinimum ≤ room → live (at (d .locks .entries) i) ≡ true → mayAnswer (exchangeAt (d .rest) i) ≡ true → length p ≤ payloadLimit → length p ≤ (exchangeAt (d .rest) i) .clientSize → refusal d (answer n p end room) ≡ 0
+  pub answer-taken : outputMinimum ≤ room → live (at (d .locks .entries) i) ≡ true → mayAnswer (at (d .locks .entries) i) (exchangeAt (d .rest) i) ≡ true → length p ≤ payloadLimit → length p ≤ (exchangeAt (d .rest) i) .clientSize → refusal d (answer n p end room) ≡ 0
   unfolding row
   answer-taken h l a q r = then-row h ∙ rw (l, a, le-ltb payloadLimit (length p) q, le-ltb ((exchangeAt (d .rest) i) .clientSize) (length p) r)
 
@@ -71,17 +71,8 @@ not-live e r p q = ap not (eq-eqb (e .number) 0 (p ∙ q))
 pub is-live : (e : Entry) (r : ℕ) → e .number ≡ r → (r ≡ 0 → ⊥) → live e ≡ true
 is-live e r p q = ap not (ne-eqb (e .number) 0 (λ z. q (sym p ∙ z)))
 
-module _ (x : Exchange) (r : ℕ) where
-  pub unasked : exchangeWith 1 r x ≡ x → r ≡ 0 → mayAnswer x ≡ false
-  unfolding mayAnswer
-  unasked e z = ap isAsked (sym (ap (λ (y : Exchange). y .asked) e) ∙ ap askedOf z)
-
-  pub asked : exchangeWith 1 r x ≡ x → (r ≡ 0 → ⊥) → mayAnswer x ≡ true
-  unfolding mayAnswer
-  asked e o = ap isAsked (sym (ap (λ (y : Exchange). y .asked) e)) ∙ rw (ne-eqb r 0 o)
-
-  pub size-read : exchangeWith 3 r x ≡ x → r ≡ x .clientSize
-  size-read e = ap (λ (y : Exchange). y .clientSize) e
+pub size-read : (x : Exchange) (r : ℕ) → exchangeWith 3 r x ≡ x → r ≡ x .clientSize
+size-read x r e = ap (λ (y : Exchange). y .clientSize) e
 
 pub answer-call : (n i : ℕ) (p : List ℕ) (end : Bool) (room : ℕ) (r : Done) (m m′ : Memory) (out out′ : List ℕ) (k : ℕ) → slotOfNumber (view m .locks .entries) n ≡ i → refusal (view m) (answer n p end room) ≡ 0
     → Answers (view m) i end p (view m′) out out′ k → r ≡ record { refusal = 0; output = k } → Called (answer n p end room) r m m′ out out′

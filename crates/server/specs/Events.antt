@@ -9,7 +9,7 @@ use borrow.Author.Tests.{lt-ltb, le-ltb, le-leb, lt-leb}
 use Rattle.wire.specs.Frame.{Frame, bytesOf, written}
 use Rattle.wire.specs.Splice.{splice-nil}
 use Rattle.model.specs.Sizes.{connectionLimit, outputMinimum, clockLimit}
-use Rattle.model.specs.State.{Server, Rest, fresh, connectionAt, withStatus}
+use Rattle.model.specs.State.{Making, Server, Rest, fresh, connectionAt, withStatus}
 use Rattle.model.specs.Interface.{Event, Event.opening, Event.cut, Event.clock, Event.status, Reply.refused, Reply.done, DoneAnswer, doneAnswer}
 use Rattle.model.specs.Canonical.{omits}
 use Rattle.model.specs.Refusals.{causes, refusal}
@@ -33,7 +33,7 @@ pub record Called (e : Event) (r : Done) (m m′ : Memory) (out out′ : List �
   pub post : Post view e m m′ out out′ ((step (view m) e) .reply) (length (bytesOf ((step (view m) e) .frames)))
 
 -- what hislip_new leaves: every word and byte is written, whatever was there, and the memory shows the fresh server
-pub record Fresh (v : ℕ) (m : Memory) : Type 0 where
+pub record Fresh (v : Making) (m : Memory) : Type 0 where
   pub words : m .words ≡ freshWords v
   pub strings : m .strings ≡ freshStrings
   pub shows : view m ≡ fresh v

@@ -2,7 +2,7 @@
 -- memory that `hislip_new` wrote. What the host saw is read off the structs that the calls returned and the buffers that they wrote.
 -- The predicates are the model's; proofs/Contracts.antt has `about-the-code`, whose premises are the functions' own contracts.
 use mathlib.Core.Path.{_≡_}
-use mathlib.Core.Bool.{Bool, true, not, cond}
+use mathlib.Core.Bool.{Bool, true, false, not, cond}
 use mathlib.Core.List.{List, [], _∷_, map}
 use Prim.Native.Nat.{ℕ, zero, suc, _<_, _^_}
 use lib.Dec.{eqb}
@@ -11,12 +11,12 @@ use Rattle.wire.specs.Class.{one-of}
 use Rattle.wire.specs.Frame.{frameOf, frameBytes}
 use Rattle.wire.specs.Message.{header}
 use Rattle.model.specs.Interface.{Event.opening, Event.delivery, Event.cut, Event.clock, Event.answer, Event.status, Outcome, Outcome.more-needed, Outcome.skipped, Outcome.held, Outcome.ignored, Outcome.error-sent, Outcome.closed, Outcome.acted, Reply, Reply.refused, Reply.done, Reply.took}
-use Rattle.model.specs.State.{Asked, Asked.none, Asked.some, Kind, at, fresh, slotOfNumber}
+use Rattle.model.specs.State.{Asked.some, Kind, Making, at, fresh, slotOfNumber}
 use Rattle.model.specs.Step.{final, log, answerType}
 use Rattle.model.specs.Post.{Post}
 use Rattle.model.specs.MessageTypes.{commands}
 use Rattle.model.specs.IsolationRun.{Undisturbed}
-use Rattle.model.specs.Tie.{track}
+use Rattle.model.specs.Tie.{Track, nothingYet, track}
 use Rattle.model.specs.Demand3.{Seen, seen, seenEvents, Demand3}
 use Rattle.model.specs.LockModel.{freshModel}
 use Rattle.model.specs.Deciding.{EachDecides}
@@ -77,16 +77,21 @@ pub record ByDefinition (m m′ : Memory) (ss : List Seen) : Type 0 where
   pub seen-is : ss ≡ map seen (log (view m) (seenEvents ss))
   pub server-is : view m′ ≡ final (view m) (seenEvents ss)
 
--- what session n has asked, read off what the host saw (the rule is the tie's)
-abbrev pub askedIn : List Seen → ℕ → Asked → Asked
-askedIn [] n p = p
-askedIn (s ∷ ss) n p = askedIn ss n (track (s .event) (s .reply) n p)
+-- of session n, read off what the host saw (the rule is the tie's): its mode, what is asked, the number of its next answer in overlap mode
+abbrev pub trackIn : Bool → List Seen → ℕ → Track → Track
+trackIn w [] n p = p
+trackIn w (s ∷ ss) n p = trackIn w ss n (track w (s .event) (s .reply) n p)
 
--- F about the program: an answer of the instrument that is not refused writes one frame, to the session's synchronous connection, and
--- its MessageID is that of the last DataEND or Trigger of the session that acted, with no device clear and no END answer since
-pub record Tied (ss : List Seen) (m : Memory) (n : ℕ) (payload : List ℕ) (end : Bool) (output : List ℕ) : Type 0 where
+abbrev pub shownOf : Making → List Seen → ℕ → Track
+shownOf v ss n = trackIn (v .prefersOverlap) ss n (nothingYet (v .prefersOverlap))
+
+-- F about the program: an answer of the instrument that is not refused writes one frame, to the session's synchronous connection. In
+-- synchronized mode its MessageID is that of the last DataEND or Trigger of the session that acted, with no device clear and no END answer
+-- since; 02, Q-1: in overlap mode it is the count of the session's answers since it opened or was cleared
+pub record Tied (v : Making) (ss : List Seen) (m : Memory) (n : ℕ) (payload : List ℕ) (end : Bool) (output : List ℕ) : Type 0 where
   pub number : ℕ
-  pub asked : askedIn ss n Asked.none ≡ some number
+  pub asked : (shownOf v ss n) .overlap ≡ false → (shownOf v ss n) .asked ≡ some number
+  pub counted : (shownOf v ss n) .overlap ≡ true → (shownOf v ss n) .count ≡ number
   pub sent : output ≡ frameBytes (frameOf ((at (view m .locks .entries) (slotOfNumber (view m .locks .entries) n)) .synchronous) (answerType end) 0 number payload)
 
 -- every Data, DataEND and Trigger that acted is session n's
@@ -96,31 +101,31 @@ OnlyOf n (s ∷ ss) =
     ((c : ℕ) (bs : List ℕ) (room k m : ℕ) → s .event ≡ delivery c bs room → s .reply ≡ took acted k m → one-of commands ((header bs) .kind) ≡ true → m ≡ n)
     × OnlyOf n ss
 
--- the claims, for memory that is new (of vendor number v) and for runs, in whatever way the two are told: by the words of the contracts
+-- the claims, for memory that is new (made as v says) and for runs, in whatever way the two are told: by the words of the contracts
 -- (`Fresh`, `Run`), or by what the toolchain reads off the functions themselves (proofs/Contracts.antt)
-pub record Program (New : ℕ → Memory → Type 0) (Ran : Memory → List Seen → Memory → Type 0) : Type 0 where
+pub record Program (New : Making → Memory → Type 0) (Ran : Memory → List Seen → Memory → Type 0) : Type 0 where
   pub by-definition : (m m′ : Memory) (ss : List Seen) → Ran m ss m′ → ByDefinition m m′ ss
   -- the view shows everything that a later call can depend on: from two memories with one view the same events show the host the same
   pub view-decides : (m m′ n n′ : Memory) (ss rs : List Seen) → view m ≡ view n → Ran m ss m′ → Ran n rs n′ → seenEvents ss ≡ seenEvents rs
       → (ss ≡ rs) × (view m′ ≡ view n′)
-  pub demand3 : (v : ℕ) (m m′ : Memory) (ss : List Seen) → New v m → Ran m ss m′ → Demand3 view v ss m′
+  pub demand3 : (v : Making) (m m′ : Memory) (ss : List Seen) → New v m → Ran m ss m′ → Demand3 view v ss m′
   -- each call of the list decides by the lock model's holders just before it: held or not, granted or not, AsyncLockInfo's frame
-  pub decides : (v : ℕ) (m m′ : Memory) (ss : List Seen) → New v m → Ran m ss m′ → EachDecides (fresh v) freshModel (seenEvents ss)
+  pub decides : (v : Making) (m m′ : Memory) (ss : List Seen) → New v m → Ran m ss m′ → EachDecides (fresh v) freshModel (seenEvents ss)
   -- each kept delivery shows one whole message, the header of one that is too long, or skipped bytes that are owed
-  pub taken-whole : (v : ℕ) (m m′ : Memory) (ss : List Seen) → New v m → Ran m ss m′ → AllPossible (seenEvents ss) → OnlyWhole (λ c. 0) (kept (log (fresh v) (seenEvents ss)))
+  pub taken-whole : (v : Making) (m m′ : Memory) (ss : List Seen) → New v m → Ran m ss m′ → AllPossible (seenEvents ss) → OnlyWhole (λ c. 0) (kept (log (fresh v) (seenEvents ss)))
   -- the frames, and among them the lock answers, are read off the bytes that the host saw
-  pub reads-back : (v : ℕ) (m m′ : Memory) (ss : List Seen) → v < 2 ^ 16 → New v m → Ran m ss m′ → AllPossible (seenEvents ss) → ReadBack v ss
+  pub reads-back : (v : Making) (m m′ : Memory) (ss : List Seen) → v .vendor < 2 ^ 16 → New v m → Ran m ss m′ → AllPossible (seenEvents ss) → ReadBack v ss
   -- after the list: a delivery acts exactly where the table of forms permits it; what opens and joins a session, and how
-  pub acts-exactly : (v : ℕ) (m m′ : Memory) (ss : List Seen) → New v m → Ran m ss m′ → (c : ℕ) (bs : List ℕ) (room : ℕ) → ActsExactly (view m′) (lastInLog (log (fresh v) (seenEvents ss)) 0) c bs room
-  pub opens : (v : ℕ) (m m′ : Memory) (ss : List Seen) → New v m → Ran m ss m′ → (c : ℕ) (bs : List ℕ) (room : ℕ) → Opens (view m′) v c bs room
+  pub acts-exactly : (v : Making) (m m′ : Memory) (ss : List Seen) → New v m → Ran m ss m′ → (c : ℕ) (bs : List ℕ) (room : ℕ) → ActsExactly (view m′) (lastInLog (log (fresh v) (seenEvents ss)) 0) c bs room
+  pub opens : (v : Making) (m m′ : Memory) (ss : List Seen) → New v m → Ran m ss m′ → (c : ℕ) (bs : List ℕ) (room : ℕ) → Opens (view m′) v c bs room
   -- from any memory: which call changed which field, and to what
   pub locality : (m m′ : Memory) (ss : List Seen) → Ran m ss m′ → LocalRun (view m) (seenEvents ss)
   -- of an answer that was not refused
-  pub tie : (v : ℕ) (m m′ m″ : Memory) (ss : List Seen) (s : Seen) → New v m → Ran m ss m′ → Ran m′ (s ∷ []) m″
-      → (n : ℕ) (payload : List ℕ) (end : Bool) (room : ℕ) → s .event ≡ answer n payload end room → s .reply ≡ done → Tied ss m′ n payload end (s .output)
+  pub tie : (v : Making) (m m′ m″ : Memory) (ss : List Seen) (s : Seen) → New v m → Ran m ss m′ → Ran m′ (s ∷ []) m″
+      → (n : ℕ) (payload : List ℕ) (end : Bool) (room : ℕ) → s .event ≡ answer n payload end room → s .reply ≡ done → Tied v ss m′ n payload end (s .output)
   -- Q about the program: a release that is not answered at once stands until its message, a device clear or its session's closing
-  pub standing : (v : ℕ) (m m′ : Memory) (ss : List Seen) → New v m → Ran m ss m′ → (j : ℕ) (k : Kind) (n : ℕ) → StandsOn (view m′) j k n
+  pub standing : (v : Making) (m m′ : Memory) (ss : List Seen) → New v m → Ran m ss m′ → (j : ℕ) (k : Kind) (n : ℕ) → StandsOn (view m′) j k n
   -- N about the program: from where a session holds exclusive until its release is answered or its closing, nobody else's command acts
-  pub isolation : (v : ℕ) (m m′ m″ : Memory) (ss rs : List Seen) → New v m → Ran m ss m′
+  pub isolation : (v : Making) (m m′ m″ : Memory) (ss rs : List Seen) → New v m → Ran m ss m′
       → (j : ℕ) → (at (view m′ .locks .entries) j) .exclusive ≡ true → Ran m′ rs m″ → Undisturbed j (view m′) (seenEvents rs)
       → OnlyOf ((at (view m′ .locks .entries) j) .number) rs

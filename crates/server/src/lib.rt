@@ -19,6 +19,7 @@ use effects::Delivery;
 use effects::answer;
 use effects::closing;
 use effects::events;
+use effects::mode;
 use locks::waiting;
 use state::fresh as start;
 use state::search;
@@ -142,12 +143,23 @@ pub extern "C" fn hislip_status(words: &mut Words, strings: &mut Strings, status
     events::set_status(words, status);
 }
 
-// A fresh server in the lent memory.
-#[no_mangle]
-pub extern "C" fn hislip_new(words: &mut Words, strings: &mut Strings, vendor: u16)
-    ensures { λ _. ⌜ Fresh vendor (memory (now (words .exit)) (now (strings .exit))) ⌝ }
+// Any value but 0 says yes.
+fn is_set(b: u8) -> bool
+    ensures { λ r. ⌜ not (eqb b 0) ≡ r ⌝ }
 {
-    start::start(words, strings, vendor);
+    if b == 0 {
+        return false;
+    }
+    true
+}
+
+// A fresh server in the lent memory, which prefers synchronized mode if `overlap` is 0, else overlap mode.
+#[no_mangle]
+pub extern "C" fn hislip_new(words: &mut Words, strings: &mut Strings, vendor: u16, overlap: u8)
+    ensures { λ _. ⌜ Fresh (record { vendor = vendor; prefersOverlap = not (eqb overlap 0) }) (memory (now (words .exit)) (now (strings .exit))) ⌝ }
+{
+    let prefers = is_set(overlap);
+    start::start(words, strings, vendor, prefers);
 }
 
 // How many words and bytes to lend.
@@ -163,15 +175,6 @@ pub extern "C" fn hislip_string_bytes() -> u64
     ensures { λ r. ⌜ r ≡ STRINGS ⌝ }
 {
     sizes::string_bytes()
-}
-
-fn is_end(end: u8) -> bool
-    ensures { λ r. ⌜ not (eqb end 0) ≡ r ⌝ }
-{
-    if end == 0 {
-        return false;
-    }
-    true
 }
 
 // The instrument answers a session, with END unless `end` is 0.
@@ -196,7 +199,7 @@ pub extern "C" fn hislip_answer(
     if tables::entry(words, i, tables::NUMBER) == 0 {
         return told(8, 0);
     }
-    if tables::exchange(words, i, tables::ASKED) == 0 {
+    if !mode::may_answer(words, i) {
         return told(5, 0);
     }
     if payload.len() > PAYLOAD_LIMIT {
@@ -205,7 +208,7 @@ pub extern "C" fn hislip_answer(
     if tables::exchange(words, i, tables::CLIENT_SIZE) < payload.len() as u64 {
         return told(6, 0);
     }
-    let with_end = is_end(end);
+    let with_end = is_set(end);
     let n = events::send_answer(words, out, i, with_end, payload);
     told(0, n as u64)
 }

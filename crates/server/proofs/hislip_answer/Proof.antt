@@ -1,8 +1,9 @@
 -- `hislip_answer` meets its contract: the refusals in their order, then the answer's frame.
-use Rattle.server.specs.Answers.{answer-short-room, answer-nobody, answer-unasked, answer-long, answer-over, answer-taken, not-there, not-live, is-live, unasked, asked, size-read, answer-call, same-end}
+use Rattle.server.specs.Answers.{answer-short-room, answer-nobody, answer-unasked, answer-long, answer-over, answer-taken, not-there, not-live, is-live, size-read, answer-call, same-end}
 use mathlib.Core.Path.{_≡_, refl, sym, ap, _∙_}
 use mathlib.Core.Bool.{Bool, true, not}
 use lib.Dec.{eqb}
+use borrow.Author.Tests.{not-true, not-false}
 use native.Mathlib.Omega.{arith}
 use lib.ListN.{length}
 use Rattle.model.specs.State.{at, live, slotOfNumber, exchangeAt}
@@ -77,7 +78,7 @@ returns-4 c = let a = c .before .before .before .before .before .before .before 
     let found = c .before .before .before .before .before .before .before .before .slot-of-number .ensures .1 s in
     let r1 = c .before .before .before .before .before .before .before .before .before .before .if1 .left in
     let l : live e ≡ true = is-live e (c .before .before .before .before .before .entry .result) (number-read e (c .before .before .before .before .before .entry .result) (c .before .before .before .before .before .entry .ensures .0 s)) (c .before .before .before .before .if3 .left) in
-    refused-call (answer (a .session) p end room) 4 _ m out (answer-unasked d (a .session) i p end room found r1 l (unasked x (c .before .before .exchange .result) (c .before .before .exchange .ensures .0) (c .before .if4 .taken))) (c .told4 .ensures)
+    refused-call (answer (a .session) p end room) 4 _ m out (answer-unasked d (a .session) i p end room found r1 l (c .before .before .may-answer .ensures s ∙ not-true (c .before .before .may-answer .result) (c .before .if4 .taken))) (c .told4 .ensures)
 
 returns-5 : tie.Need-returns-5
 returns-5 c = let a = c .before .before .before .before .before .before .before .before .before .before .before .before .before .before .args in
@@ -95,7 +96,7 @@ returns-5 c = let a = c .before .before .before .before .before .before .before 
     let found = c .before .before .before .before .before .before .before .before .before .slot-of-number .ensures .1 s in
     let r1 = c .before .before .before .before .before .before .before .before .before .before .before .if1 .left in
     let l : live e ≡ true = is-live e (c .before .before .before .before .before .before .entry .result) (number-read e (c .before .before .before .before .before .before .entry .result) (c .before .before .before .before .before .before .entry .ensures .0 s)) (c .before .before .before .before .before .if3 .left) in
-    let k : mayAnswer x ≡ true = asked x (c .before .before .before .exchange .result) (c .before .before .before .exchange .ensures .0) (c .before .before .if4 .left) in
+    let k : mayAnswer e x ≡ true = c .before .before .before .may-answer .ensures s ∙ not-false (c .before .before .before .may-answer .result) (c .before .before .if4 .left) in
     refused-call (answer (a .session) p end room) 5 _ m out (answer-long d (a .session) i p end room found r1 l k (c .before .if5 .taken)) (c .told5 .ensures)
 
 returns-6 : tie.Need-returns-6
@@ -114,8 +115,8 @@ returns-6 c = let a = c .before .before .before .before .before .before .before 
     let found = c .before .before .before .before .before .before .before .before .before .before .before .before .slot-of-number .ensures .1 s in
     let r1 = c .before .before .before .before .before .before .before .before .before .before .before .before .before .before .if1 .left in
     let l : live e ≡ true = is-live e (c .before .before .before .before .before .before .before .before .before .entry .result) (number-read e (c .before .before .before .before .before .before .before .before .before .entry .result) (c .before .before .before .before .before .before .before .before .before .entry .ensures .0 s)) (c .before .before .before .before .before .before .before .before .if3 .left) in
-    let k : mayAnswer x ≡ true = asked x (c .before .before .before .before .before .before .exchange .result) (c .before .before .before .before .before .before .exchange .ensures .0) (c .before .before .before .before .before .if4 .left) in
-    let z : c .before .before .exchange2 .result ≡ x .clientSize = size-read x (c .before .before .exchange2 .result) (c .before .before .exchange2 .ensures .0) in
+    let k : mayAnswer e x ≡ true = c .before .before .before .before .before .before .may-answer .ensures s ∙ not-false (c .before .before .before .before .before .before .may-answer .result) (c .before .before .before .before .before .if4 .left) in
+    let z : c .before .before .exchange .result ≡ x .clientSize = size-read x (c .before .before .exchange .result) (c .before .before .exchange .ensures .0) in
     refused-call (answer (a .session) p end room) 5 _ m out (answer-over d (a .session) i p end room found r1 l k (c .before .before .before .before .if5 .left) (omega arith)) (c .told6 .ensures)
 
 returns-7 : tie.Need-returns-7
@@ -134,9 +135,9 @@ returns-7 c = let a = c .before .before .before .before .before .before .before 
     let found = c .before .before .before .before .before .before .before .before .before .before .before .before .before .before .before .before .before .before .slot-of-number .ensures .1 s in
     let r1 = c .before .before .before .before .before .before .before .before .before .before .before .before .before .before .before .before .before .before .before .before .if1 .left in
     let l : live e ≡ true = is-live e (c .before .before .before .before .before .before .before .before .before .before .before .before .before .before .before .entry .result) (number-read e (c .before .before .before .before .before .before .before .before .before .before .before .before .before .before .before .entry .result) (c .before .before .before .before .before .before .before .before .before .before .before .before .before .before .before .entry .ensures .0 s)) (c .before .before .before .before .before .before .before .before .before .before .before .before .before .before .if3 .left) in
-    let k : mayAnswer x ≡ true = asked x (c .before .before .before .before .before .before .before .before .before .before .before .before .exchange .result) (c .before .before .before .before .before .before .before .before .before .before .before .before .exchange .ensures .0) (c .before .before .before .before .before .before .before .before .before .before .before .if4 .left) in
-    let z : c .before .before .before .before .before .before .before .before .exchange2 .result ≡ x .clientSize = size-read x (c .before .before .before .before .before .before .before .before .exchange2 .result) (c .before .before .before .before .before .before .before .before .exchange2 .ensures .0) in
-    answer-call (a .session) i p end room _ m _ out _ (c .before .before .before .send-answer .result) found (answer-taken d (a .session) i p end room found r1 l k (c .before .before .before .before .before .before .before .before .before .before .if5 .left) (omega arith)) (same-end d _ i end (c .before .before .before .before .before .before .is-end .result) p out _ (c .before .before .before .send-answer .result) (c .before .before .before .before .before .before .is-end .ensures) (c .before .before .before .send-answer .ensures s)) (c .told7 .ensures)
+    let k : mayAnswer e x ≡ true = c .before .before .before .before .before .before .before .before .before .before .before .before .may-answer .ensures s ∙ not-false (c .before .before .before .before .before .before .before .before .before .before .before .before .may-answer .result) (c .before .before .before .before .before .before .before .before .before .before .before .if4 .left) in
+    let z : c .before .before .before .before .before .before .before .before .exchange .result ≡ x .clientSize = size-read x (c .before .before .before .before .before .before .before .before .exchange .result) (c .before .before .before .before .before .before .before .before .exchange .ensures .0) in
+    answer-call (a .session) i p end room _ m _ out _ (c .before .before .before .send-answer .result) found (answer-taken d (a .session) i p end room found r1 l k (c .before .before .before .before .before .before .before .before .before .before .if5 .left) (omega arith)) (same-end d _ i end (c .before .before .before .before .before .before .is-set .result) p out _ (c .before .before .before .send-answer .result) (c .before .before .before .before .before .before .is-set .ensures) (c .before .before .before .send-answer .ensures s)) (c .told7 .ensures)
 
 pub hislip-answer-spec : {M : Type 1} → statement M
 hislip-answer-spec =

@@ -38,7 +38,7 @@ returns-5 : tie.Need-returns-5
 returns-5 c =
     let a = c .before .before .before .before .before .before .before .before .before .before .before .before .args in
     did-message k-statusQuery (a .i) (a .c) (a .kind) (a .code) (a .param) (a .len) (a .payload .now) (c .before .before .query-status .result) (memory (a .w .now) (a .strings .now)) _ (a .out .now) _
-    (ap asynchronousKind (c .before .before .before .before .before .if5 .taken)) (c .before .before .query-status .ensures (a .strings .now) (a .payload .now) (a .param))
+    (ap asynchronousKind (c .before .before .before .before .before .if5 .taken)) (c .before .before .query-status .ensures (a .strings .now) (a .payload .now))
 
 returns-6 : tie.Need-returns-6
 returns-6 c =

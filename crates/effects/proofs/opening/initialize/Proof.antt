@@ -11,19 +11,20 @@ use Rattle.effects.proofs.opening.initialize.Statement.{statement}
 use Rattle.effects.proofs.opening.initialize.Tie as tie
 
 enter-session-requires : tie.Need-enter-session-requires
-enter-session-requires c κs = let p = c .before .before .before .before .before .before .before .pre in let r = p .3 [] in let q = c .before .before .before .before .slot-of-number .ensures .1 [] in (omega arith, omega arith, omega arith, search needs, p .4)
+enter-session-requires c κs = let p = c .before .before .before .before .before .before .before .before .before .pre in let r = p .3 [] in let q = c .before .before .before .before .before .before .slot-of-number .ensures .1 [] in (omega arith, omega arith, omega arith, search needs, p .4)
 
 returns : tie.Need-returns
-returns c = let a = c .before .before .before .before .before .before .before .before .before .before .before .before .before .args in
+returns c = let a = c .before .before .before .before .before .before .before .before .before .before .before .before .before .before .before .args in
     let h : Header = record { kind = 0; code = 0; param = a .param; len = a .len } in
-    λ s. initialized (view (memory (a .w .now) s)) (a .c) (c .before .before .before .before .before .before .before .before .before .before .slot-of-number .result) (c .before .before .before .before .before .before .before .before .next-session-id .result) (c .before .before .before .before .before .before .before .version .result) h _ _ _ _ _
-    (c .before .before .before .before .before .before .before .before .before .before .slot-of-number .ensures .1 s) (c .before .before .before .before .before .before .before .before .next-session-id .ensures .2 s) (c .before .before .before .before .before .before .before .version .ensures .0) (ap numbersOf (c .acted .ensures))
+    λ s. initialized (view (memory (a .w .now) s)) (a .c) (c .before .before .before .before .before .before .before .before .before .before .before .before .slot-of-number .result) (c .before .before .before .before .before .before .before .before .before .before .next-session-id .result) (c .before .before .before .before .before .before .before .before .before .version .result) (c .before .before .before .before .before .before .before .preference .result) h _ _ _ _ _
+    (c .before .before .before .before .before .before .before .before .before .before .before .before .slot-of-number .ensures .1 s) (c .before .before .before .before .before .before .before .before .before .before .next-session-id .ensures .2 s) (c .before .before .before .before .before .before .before .before .before .version .ensures .0) (c .before .before .before .before .before .before .before .preference .ensures) (ap numbersOf (c .acted .ensures))
     (c .before .before .before .before .before .enter-session .ensures s) (c .before .before .before .put-frame .ensures)
 
 pub initialize-spec : {M : Type 1} → statement M
 initialize-spec =
     tie.close
     (tie.spec
+    (λ c κs. search needs)
     (λ c κs. search needs)
     (λ c κs. search needs)
     (λ c κs. search needs)

@@ -4,7 +4,7 @@ use mathlib.Core.List.{[]}
 use Rattle.wire.specs.declared.Header.{Header}
 use Rattle.wire.specs.Frame.{frameOf}
 use Rattle.model.specs.Acts.{acts}
-use Rattle.model.specs.Exchange.{leaveClear}
+use Rattle.model.specs.Exchange.{bit0, leaveClear}
 use Rattle.model.specs.Locks.{LockEvent.command}
 use Rattle.model.specs.MessageTypes.{DeviceClearAcknowledge}
 use Rattle.model.specs.Place.{Role.r-synchronous}
@@ -32,7 +32,7 @@ returns-2 c = let a = c .before .before .before .before .before .before .before 
     let s = a .strings .now in
     let d : Server = view (memory (a .w .now) s) in
     λ p. did-plan d (acts r-synchronous d (a .i) (a .c) h p) _ _ _ _ _ _ (plan-complete d (a .i) (a .c) h p (c .before .before .before .before .before .before .before .before .is-command .ensures ∙ c .before .before .before .before .before .before .before .if1 .left))
-    (did-one d (a .i) (c .before .before .before .before .before .before .before .before .before .entry .result) (a .len) 0 (withSlot (a .i) leaveClear (d .rest)) (frameOf (a .c) DeviceClearAcknowledge 0 0 []) (frameOf (a .c) DeviceClearAcknowledge 0 0 []) _ _ _ _ _
+    (did-one d (a .i) (c .before .before .before .before .before .before .before .before .before .entry .result) (a .len) 0 (withSlot (a .i) (leaveClear (a .code)) (d .rest)) (frameOf (a .c) DeviceClearAcknowledge (bit0 (a .code)) 0 []) (frameOf (a .c) DeviceClearAcknowledge (bit0 (a .code)) 0 []) _ _ _ _ _
     (c .acted2 .ensures) (c .before .before .before .before .before .before .before .before .before .entry .ensures .0 s) refl refl (c .before .before .before .before .before .leave-clear .ensures s) (c .before .before .before .put-frame .ensures))
 
 pub act-synchronous-spec : {M : Type 1} → statement M

@@ -1,5 +1,4 @@
 -- `fresh::fresh_word` meets its contract: by the part that the place is in.
-use mathlib.Core.Path.{_∙_}
 use Prim.Native.Nat.{ℕ, _-_, _%_}
 use native.Mathlib.Omega.{arith}
 use borrow.Author.Tests.{lt-ltb, le-ltb, eq-eqb, ne-eqb}

@@ -1,0 +1,38 @@
+-- `asynchronous::unread` meets its contract: some answer was sent, and the two numbers differ.
+use mathlib.Core.Path.{sym, ap, _∙_}
+use borrow.Author.Tests.{eq-eqb, ne-eqb}
+use Rattle.wire.specs.MessageId.{next}
+use Rattle.model.specs.State.{exchangeAt}
+use Rattle.state.specs.View.{restOf}
+use Rattle.effects.specs.Mode.{sent-read}
+use Rattle.effects.specs.StatusQuery.{unread-none, unread-last, unread-other}
+use borrow.Author.Needs.{needs}
+use Rattle.effects.proofs.asynchronous.unread.Statement.{statement}
+use Rattle.effects.proofs.asynchronous.unread.Tie as tie
+
+returns : tie.Need-returns
+returns c = let a = c .before .before .args in
+    let x = exchangeAt (restOf (a .w .now)) (a .i) in
+    let r = c .before .exchange in
+    (unread-none x (a .param) (sent-read x (r .result) (r .ensures .0) ∙ ne-eqb (r .result) 1 (c .if1 .taken)), search needs)
+
+returns-2 : tie.Need-returns-2
+returns-2 c = let a = c .before .before .before .before .before .before .before .before .args in
+    let x = exchangeAt (restOf (a .w .now)) (a .i) in
+    let r = c .before .before .before .before .before .before .before .exchange in (
+      unread-last x (a .param) (sent-read x (r .result) (r .ensures .0) ∙ eq-eqb (r .result) 1 (c .before .before .before .before .before .before .if1 .left))
+          (ap next (sym (c .before .before .before .before .new .ensures)) ∙ sym (c .before .before .before .next .ensures) ∙ c .if2 .taken ∙ sym (c .before .before .before .before .before .count-of .ensures)),
+      search needs,
+    )
+
+returns-3 : tie.Need-returns-3
+returns-3 c = let a = c .before .before .before .before .before .before .before .before .args in
+    let x = exchangeAt (restOf (a .w .now)) (a .i) in
+    let r = c .before .before .before .before .before .before .before .exchange in (
+      unread-other x (a .param) (sent-read x (r .result) (r .ensures .0) ∙ eq-eqb (r .result) 1 (c .before .before .before .before .before .before .if1 .left))
+          (λ z. c .if2 .left (c .before .before .before .next .ensures ∙ ap next (c .before .before .before .before .new .ensures) ∙ z ∙ c .before .before .before .before .before .count-of .ensures)),
+      search needs,
+    )
+
+pub unread-spec : {M : Type 1} → statement M
+unread-spec = tie.close (tie.spec (λ c κs. search needs) returns (λ c κs. search needs) (λ c κs. search needs) (λ c κs. search needs) returns-2 returns-3)
