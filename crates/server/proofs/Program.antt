@@ -209,7 +209,7 @@ module _ (v : Making) (m m′ m″ : Memory) (ss : List Seen) (s : Seen) (f : Fr
   first (a ∷ rest) = a
 
   then : (e : Event) → s .event ≡ e → s ≡ seen record { event = e; reply = (step d e) .reply; frames = (step d e) .frames }
-  unfolding log
+  unfolding log first
   then e x = ap first (made view (calls g′) .0 ∙ ap₂ (λ (a : Server) (b : Event). map seen (log a (b ∷ []))) there x)
 
   shown-said : (n : ℕ) → shownOf v ss n ≡ said v es n

@@ -189,7 +189,7 @@ pub struct Answered {
     pub output: u64,
 }
 
-fn answered(refusal: u64, withheld: u64, output: u64) -> Answered
+fn replied(refusal: u64, withheld: u64, output: u64) -> Answered
     ensures { λ r. ⌜ r ≡ record { refusal = refusal; withheld = withheld; output = output } ⌝ }
 {
     Answered {
@@ -213,10 +213,10 @@ fn give_answer(
 {
     if interrupted::withholds(words, i, end, shown) {
         let n = interrupted::withhold(words, out, i, shown);
-        return answered(0, 1, n as u64);
+        return replied(0, 1, n as u64);
     }
     let n = events::send_answer(words, out, i, end, payload);
-    answered(0, 0, n as u64)
+    replied(0, 0, n as u64)
 }
 
 // The instrument answers a session, with END unless `end` is 0; `shown` is what is unread of the session's synchronous connection.
@@ -233,23 +233,23 @@ pub extern "C" fn hislip_answer(
     ensures { λ r. ⌜ Replied (answer session (now (payload .entry)) (not (eqb end 0)) (now (shown .entry)) (length (now (out .entry)))) r (memory (now (words .entry)) (now (strings .entry))) (memory (now (words .exit)) (now (strings .exit))) (now (out .entry)) (now (out .exit)) ⌝ }
 {
     if out.len() < OUTPUT_MINIMUM {
-        return answered(7, 0, 0);
+        return replied(7, 0, 0);
     }
     let i = search::slot_of_number(words, session as u64);
     if i >= SESSION_LIMIT {
-        return answered(8, 0, 0);
+        return replied(8, 0, 0);
     }
     if tables::entry(words, i, tables::NUMBER) == 0 {
-        return answered(8, 0, 0);
+        return replied(8, 0, 0);
     }
     if !mode::may_answer(words, i) {
-        return answered(5, 0, 0);
+        return replied(5, 0, 0);
     }
     if payload.len() > PAYLOAD_LIMIT {
-        return answered(6, 0, 0);
+        return replied(6, 0, 0);
     }
     if tables::exchange(words, i, tables::CLIENT_SIZE) < payload.len() as u64 {
-        return answered(6, 0, 0);
+        return replied(6, 0, 0);
     }
     let with_end = is_set(end);
     give_answer(words, out, i, with_end, payload, shown)

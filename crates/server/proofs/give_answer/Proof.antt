@@ -19,12 +19,12 @@ withhold-requires c κs = let a = c .before .before .before .before .before .bef
 returns : tie.Need-returns
 returns c = let a = c .before .before .before .before .before .before .before .before .before .before .before .before .args in
     λ s. gives-withheld (view (memory (a .words .now) s)) (a .i) (a .«end») (a .payload .now) (a .shown .now) _ _ _ _ (c .before .before .before .withhold .result) (c .before .before .before .before .before .before .before .withholds .ensures s ∙ c .before .before .before .before .before .before .if1 .taken)
-    (c .before .before .before .withhold .ensures s) (c .answered .ensures)
+    (c .before .before .before .withhold .ensures s) (c .replied .ensures)
 
 returns-2 : tie.Need-returns-2
 returns-2 c = let a = c .before .before .before .before .before .before .before .before .before .before .before .before .args in
     λ s. gives-sent (view (memory (a .words .now) s)) (a .i) (a .«end») (a .payload .now) (a .shown .now) _ _ _ _ (c .before .before .before .send-answer .result) (c .before .before .before .before .before .before .before .withholds .ensures s ∙ c .before .before .before .before .before .before .if1 .left)
-    (c .before .before .before .send-answer .ensures s) (c .answered2 .ensures)
+    (c .before .before .before .send-answer .ensures s) (c .replied2 .ensures)
 
 pub give-answer-spec : {M : Type 1} → statement M
 give-answer-spec =

@@ -27,7 +27,7 @@ returns c = let a = c .before .before .before .before .before .args in
     let out = a .out .now in
     let room = length out in
     let end = not (eqb (a .end) 0) in
-    refused-answer (answer (a .session) p end sh room) 6 _ m out (answer-short-room d (a .session) (slotOfNumber (d .locks .entries) (a .session)) p end sh room refl (c .before .if1 .taken)) (c .answered .ensures)
+    refused-answer (answer (a .session) p end sh room) 6 _ m out (answer-short-room d (a .session) (slotOfNumber (d .locks .entries) (a .session)) p end sh room refl (c .before .if1 .taken)) (c .replied .ensures)
 
 returns-2 : tie.Need-returns-2
 returns-2 c = let a = c .before .before .before .before .before .before .before .before .args in
@@ -45,7 +45,7 @@ returns-2 c = let a = c .before .before .before .before .before .before .before 
     let x = exchangeAt (restOf w) i in
     let found = c .before .before .slot-of-number .ensures .1 s in
     let r1 = c .before .before .before .before .if1 .left in
-    refused-answer (answer (a .session) p end sh room) 7 _ m out (answer-nobody d (a .session) i p end sh room found r1 (not-there w s i (c .before .if2 .taken))) (c .answered2 .ensures)
+    refused-answer (answer (a .session) p end sh room) 7 _ m out (answer-nobody d (a .session) i p end sh room found r1 (not-there w s i (c .before .if2 .taken))) (c .replied2 .ensures)
 
 returns-3 : tie.Need-returns-3
 returns-3 c = let a = c .before .before .before .before .before .before .before .before .before .before .before .args in
@@ -63,7 +63,7 @@ returns-3 c = let a = c .before .before .before .before .before .before .before 
     let x = exchangeAt (restOf w) i in
     let found = c .before .before .before .before .before .slot-of-number .ensures .1 s in
     let r1 = c .before .before .before .before .before .before .before .if1 .left in
-    refused-answer (answer (a .session) p end sh room) 7 _ m out (answer-nobody d (a .session) i p end sh room found r1 (not-live e (c .before .before .entry .result) (number-read e (c .before .before .entry .result) (c .before .before .entry .ensures .0 s)) (c .before .if3 .taken))) (c .answered3 .ensures)
+    refused-answer (answer (a .session) p end sh room) 7 _ m out (answer-nobody d (a .session) i p end sh room found r1 (not-live e (c .before .before .entry .result) (number-read e (c .before .before .entry .result) (c .before .before .entry .ensures .0 s)) (c .before .if3 .taken))) (c .replied3 .ensures)
 
 returns-4 : tie.Need-returns-4
 returns-4 c = let a = c .before .before .before .before .before .before .before .before .before .before .before .before .before .before .args in
@@ -82,7 +82,7 @@ returns-4 c = let a = c .before .before .before .before .before .before .before 
     let found = c .before .before .before .before .before .before .before .before .slot-of-number .ensures .1 s in
     let r1 = c .before .before .before .before .before .before .before .before .before .before .if1 .left in
     let l : live e ≡ true = is-live e (c .before .before .before .before .before .entry .result) (number-read e (c .before .before .before .before .before .entry .result) (c .before .before .before .before .before .entry .ensures .0 s)) (c .before .before .before .before .if3 .left) in
-    refused-answer (answer (a .session) p end sh room) 4 _ m out (answer-unasked d (a .session) i p end sh room found r1 l (c .before .before .may-answer .ensures s ∙ not-true (c .before .before .may-answer .result) (c .before .if4 .taken))) (c .answered4 .ensures)
+    refused-answer (answer (a .session) p end sh room) 4 _ m out (answer-unasked d (a .session) i p end sh room found r1 l (c .before .before .may-answer .ensures s ∙ not-true (c .before .before .may-answer .result) (c .before .if4 .taken))) (c .replied4 .ensures)
 
 returns-5 : tie.Need-returns-5
 returns-5 c = let a = c .before .before .before .before .before .before .before .before .before .before .before .before .before .before .before .args in
@@ -102,7 +102,7 @@ returns-5 c = let a = c .before .before .before .before .before .before .before 
     let r1 = c .before .before .before .before .before .before .before .before .before .before .before .if1 .left in
     let l : live e ≡ true = is-live e (c .before .before .before .before .before .before .entry .result) (number-read e (c .before .before .before .before .before .before .entry .result) (c .before .before .before .before .before .before .entry .ensures .0 s)) (c .before .before .before .before .before .if3 .left) in
     let k : mayAnswer e x ≡ true = c .before .before .before .may-answer .ensures s ∙ not-false (c .before .before .before .may-answer .result) (c .before .before .if4 .left) in
-    refused-answer (answer (a .session) p end sh room) 5 _ m out (answer-long d (a .session) i p end sh room found r1 l k (c .before .if5 .taken)) (c .answered5 .ensures)
+    refused-answer (answer (a .session) p end sh room) 5 _ m out (answer-long d (a .session) i p end sh room found r1 l k (c .before .if5 .taken)) (c .replied5 .ensures)
 
 returns-6 : tie.Need-returns-6
 returns-6 c = let a = c .before .before .before .before .before .before .before .before .before .before .before .before .before .before .before .before .before .before .args in
@@ -123,7 +123,7 @@ returns-6 c = let a = c .before .before .before .before .before .before .before 
     let l : live e ≡ true = is-live e (c .before .before .before .before .before .before .before .before .before .entry .result) (number-read e (c .before .before .before .before .before .before .before .before .before .entry .result) (c .before .before .before .before .before .before .before .before .before .entry .ensures .0 s)) (c .before .before .before .before .before .before .before .before .if3 .left) in
     let k : mayAnswer e x ≡ true = c .before .before .before .before .before .before .may-answer .ensures s ∙ not-false (c .before .before .before .before .before .before .may-answer .result) (c .before .before .before .before .before .if4 .left) in
     let z : c .before .before .exchange .result ≡ x .clientSize = size-read x (c .before .before .exchange .result) (c .before .before .exchange .ensures .0) in
-    refused-answer (answer (a .session) p end sh room) 5 _ m out (answer-over d (a .session) i p end sh room found r1 l k (c .before .before .before .before .if5 .left) (omega arith)) (c .answered6 .ensures)
+    refused-answer (answer (a .session) p end sh room) 5 _ m out (answer-over d (a .session) i p end sh room found r1 l k (c .before .before .before .before .if5 .left) (omega arith)) (c .replied6 .ensures)
 
 returns-7 : tie.Need-returns-7
 returns-7 c = let a = c .before .before .before .before .before .before .before .before .before .before .before .before .before .before .before .before .before .before .before .before .before .before .before .args in
