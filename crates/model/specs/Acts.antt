@@ -9,17 +9,19 @@ use Rattle.wire.specs.Field.{field, number}
 use Rattle.wire.specs.Frame.{Frame, frameOf}
 use Rattle.model.specs.Lists.{all, tally}
 use Rattle.model.specs.Sizes.{sessionLimit, payloadLimit, protocolVersion}
-use Rattle.model.specs.MessageTypes.{Initialize, InitializeResponse, AsyncLock, Data, DataEND, DeviceClearAcknowledge, AsyncRemoteLocalControl, AsyncRemoteLocalResponse, Trigger, AsyncMaximumMessageSize, AsyncMaximumMessageSizeResponse, AsyncInitializeResponse, AsyncDeviceClear, AsyncStatusQuery, AsyncStatusResponse, AsyncDeviceClearAcknowledge, AsyncLockInfoResponse}
+use Rattle.model.specs.MessageTypes.{Initialize, InitializeResponse, AsyncLock, Data, DataEND, DeviceClearAcknowledge, AsyncRemoteLocalControl, AsyncRemoteLocalResponse, Trigger, Interrupted, AsyncInterrupted, AsyncMaximumMessageSize, AsyncMaximumMessageSizeResponse, AsyncInitializeResponse, AsyncDeviceClear, AsyncStatusQuery, AsyncStatusResponse, AsyncDeviceClearAcknowledge, AsyncLockInfoResponse}
 use Rattle.model.specs.State.{Server, Rest, Entry, Exchange, at, slotOfNumber, exchangeAt, withExchange, withRemoteLocal, withSession}
 use Rattle.model.specs.Interface.{Reply, Reply.took, Outcome.acted}
 use Rattle.model.specs.Place.{Role, Role.r-none, Role.r-halfOpen, Role.r-synchronous, Role.r-asynchronous}
 use Rattle.model.specs.Locks.{LockEvent, LockEvent.nothing, LockEvent.enter, LockEvent.join, LockEvent.request, LockEvent.release, LockEvent.command, LockEvent.clear, noExclusive, noShared, issued}
-use Rattle.model.specs.Exchange.{noteRmt, ask, enterClear, leaveClear, withClientSize, bit0, availableAt, statusByte, controlled}
+use Rattle.model.specs.Exchange.{tested, outOfTurn, queried, noteRmt, ask, enterClear, leaveClear, withClientSize, bit0, availableAt, statusByte, controlled}
 
--- what a call does: its reply, all but the locks, what it says directly, and its event for the locks
+-- what a call does: its reply, all but the locks, what it says before the lock answers of its event and after them, and its event for
+-- the locks
 pub record Plan : Type 0 where
   pub reply : Reply
   pub rest : Rest
+  pub first : List Frame
   pub said : List Frame
   pub event : LockEvent
 
@@ -41,6 +43,7 @@ opens true d c h =
       reply = took acted (16 + h .len) n;
       rest = withSession (d .rest) i n;
       -- control 0 (02, Q-1: the preference in bit 0); upper half the smaller of client version and 0100 hex; lower half the SessionID
+      first = [];
       said = say c InitializeResponse (preference d) (min (h .param / 65536) protocolVersion * 65536 + n);
       event = enter i n c;
     }
@@ -49,6 +52,7 @@ opens false d c h =
       reply = took acted (16 + h .len) (h .param);
       rest = d .rest;
       -- vendor number in the lower half
+      first = [];
       said = say c AsyncInitializeResponse 0 (d .rest .made .vendor);
       event = join (slotOfNumber (d .locks .entries) (h .param)) c;
     }
@@ -61,10 +65,20 @@ abbrev pub synchronousKind : ℕ → SynchronousKind
 synchronousKind t = cond (eqb t Data) k-data (cond (eqb t DataEND) k-dataEnd (cond (eqb t Trigger) k-trigger k-clearComplete))
 
 unfoldable pub synchronousExchange : SynchronousKind → Header → Exchange → Exchange
-synchronousExchange k-data h x = noteRmt (h .code) x
-synchronousExchange k-dataEnd h x = ask (h .code) (h .param) x
-synchronousExchange k-trigger h x = ask (h .code) (h .param) x
+synchronousExchange k-data h x = noteRmt (h .code) (tested (h .code) x)
+synchronousExchange k-dataEnd h x = ask (h .code) (h .param) (tested (h .code) x)
+synchronousExchange k-trigger h x = ask (h .code) (h .param) (tested (h .code) x)
 synchronousExchange k-clearComplete h x = leaveClear (h .code) x
+
+-- 02, Q-5: AsyncInterrupted, then Interrupted, with the number of the interrupting message
+abbrev pub interruptions : Entry → ℕ → List Frame
+interruptions e n = frameOf (e .asynchronous) AsyncInterrupted 0 n [] ∷ frameOf (e .synchronous) Interrupted 0 n [] ∷ []
+
+abbrev pub synchronousFirst : SynchronousKind → Entry → Exchange → Header → List Frame
+synchronousFirst k-data e x h = cond (outOfTurn (h .code) x) (interruptions e (h .param)) []
+synchronousFirst k-dataEnd e x h = cond (outOfTurn (h .code) x) (interruptions e (h .param)) []
+synchronousFirst k-trigger e x h = cond (outOfTurn (h .code) x) (interruptions e (h .param)) []
+synchronousFirst k-clearComplete e x h = []
 
 -- 02, Q-1: type 9 carries what DeviceClearComplete asked
 unfoldable pub synchronousSaid : SynchronousKind → ℕ → Header → List Frame
@@ -96,7 +110,7 @@ asynchronousRest k-lock r i h p = r
 asynchronousRest k-remoteLocal r i h p = withRemoteLocal r (controlled (h .code) (r .remoteLocal))
 asynchronousRest k-maximumSize r i h p = withExchange r i (withClientSize (number p) (exchangeAt r i))
 asynchronousRest k-deviceClear r i h p = withExchange r i (enterClear (exchangeAt r i))
-asynchronousRest k-statusQuery r i h p = withExchange r i (noteRmt (h .code) (exchangeAt r i))
+asynchronousRest k-statusQuery r i h p = withExchange r i (queried (h .code) (exchangeAt r i))
 asynchronousRest k-lockInfo r i h p = r
 
 -- AsyncLockInfo: code 1 if exclusive is held; parameter, sessions holding any lock, each once
@@ -128,12 +142,13 @@ asynchronousEvent k-lockInfo i h p = nothing
 -- on connection c, of the session in slot i. A half-open session's connection never gets here (check 3)
 unfoldable pub acts : Role → Server → ℕ → ℕ → Header → List ℕ → Plan
 acts r-none d i c h p = opens (eqb (h .kind) Initialize) d c h
-acts r-halfOpen d i c h p = record { reply = took acted (16 + h .len) 0; rest = d .rest; said = []; event = nothing }
+acts r-halfOpen d i c h p = record { reply = took acted (16 + h .len) 0; rest = d .rest; first = []; said = []; event = nothing }
 acts r-synchronous d i c h p =
     let k = synchronousKind (h .kind) in
     record {
       reply = took acted (16 + h .len) ((at (d .locks .entries) i) .number);
       rest = withExchange (d .rest) i (synchronousExchange k h (exchangeAt (d .rest) i));
+      first = synchronousFirst k (at (d .locks .entries) i) (exchangeAt (d .rest) i) h;
       said = synchronousSaid k c h;
       event = synchronousEvent k i h;
     }
@@ -142,6 +157,7 @@ acts r-asynchronous d i c h p =
     record {
       reply = took acted (16 + h .len) ((at (d .locks .entries) i) .number);
       rest = asynchronousRest k (d .rest) i h p;
+      first = [];
       said = asynchronousSaid k d i c h;
       event = asynchronousEvent k i h p;
     }
