@@ -97,49 +97,50 @@ module _ (d : Server) (i n : ℕ) where
         place = x .place ∙ ap (λ (b : Bool). length (bytesOf (pair-if b))) t;
       }
 
-  -- the test, by the two words that are compared
+  -- the test, by whether RMT-delivered differs from what is expected
+  and-false : (b : Bool) → (b && false) ≡ false
+  and-false true = refl
+  and-false false = refl
+
+  and-true : (b : Bool) → (b && true) ≡ b
+  and-true true = refl
+  and-true false = refl
+
+  pub tested-in-turn : (code : ℕ) (d′ : Server) (out : List ℕ) → differs (eqb code 1) (mine .rmtExpected) ≡ false → d′ ≡ onExchange d i (exchangeWith 7 0) → Tested code d′ out out 0
+  unfolding bytesOf
+  tested-in-turn code d′ out h v =
+      let t : false ≡ outOfTurn code mine = sym (ap (λ (b : Bool). not (mine .overlap) && b) h ∙ and-false (not (mine .overlap))) in
+      record {
+        server = v ∙ slot-changed d i (exchangeWith 7 0) ∙ ap left-if t;
+        buffer = sym (splice-nil out 0) ∙ ap (λ (b : Bool). written out (pair-if b)) t;
+        place = ap (λ (b : Bool). length (bytesOf (pair-if b))) t;
+      }
+
+  pub tested-out-of-turn : (code : ℕ) (d′ : Server) (out out′ : List ℕ) (r : ℕ) → differs (eqb code 1) (mine .rmtExpected) ≡ true → OutOfTurn d′ out out′ r → Tested code d′ out out′ r
+  tested-out-of-turn code d′ out out′ r h z =
+      let t : not (mine .overlap) ≡ outOfTurn code mine = sym (ap (λ (b : Bool). not (mine .overlap) && b) h ∙ and-true (not (mine .overlap))) in
+      record {
+        server = z .server ∙ ap left-if t;
+        buffer = z .buffer ∙ ap (λ (b : Bool). written out (pair-if b)) t;
+        place = z .place ∙ ap (λ (b : Bool). length (bytesOf (pair-if b))) t;
+      }
+
+-- the comparison of two words that are 1 or 0
+module _ (x : Exchange) (code a n m : ℕ) (read : exchangeWith 7 a x ≡ x) (p : n ≡ cond (eqb code 1) 1 0) (q : m ≡ cond (eqb a 1) 1 0) where
   abbrev bit : Bool → ℕ
   bit b = cond b 1 0
 
-  in-turn : (o p q : Bool) → bit p ≡ bit q → (not o && differs p q) ≡ false
-  in-turn true p q h = refl
-  in-turn false true true h = refl
-  in-turn false false false h = refl
-  in-turn false true false h = absurd (true≢false (ap (λ (x : ℕ). eqb x 1) h))
-  in-turn false false true h = absurd (true≢false (sym (ap (λ (x : ℕ). eqb x 1) h)))
+  as-bits : (b c : Bool) → differs b c ≡ not (eqb (bit b) (bit c))
+  as-bits true true = refl
+  as-bits true false = refl
+  as-bits false true = refl
+  as-bits false false = refl
 
-  off-turn : (o p q : Bool) → (bit p ≡ bit q → ⊥) → (not o && differs p q) ≡ not o
-  off-turn true p q h = refl
-  off-turn false true false h = refl
-  off-turn false false true h = refl
-  off-turn false true true h = absurd (h refl)
-  off-turn false false false h = absurd (h refl)
+  expected : x .rmtExpected ≡ eqb a 1
+  expected = sym (ap (λ (z : Exchange). z .rmtExpected) read)
 
-  module _ (code a x y : ℕ) (read : exchangeWith 7 a mine ≡ mine) (p : x ≡ bit (eqb code 1)) (q : y ≡ bit (eqb a 1)) where
-    expected : eqb a 1 ≡ mine .rmtExpected
-    expected = ap (λ (z : Exchange). z .rmtExpected) read
-
-    same : bit (eqb code 1) ≡ bit (mine .rmtExpected) → x ≡ y
-    same h = p ∙ h ∙ ap bit (sym expected) ∙ sym q
-
-    pub tested-in-turn : (d′ : Server) (out : List ℕ) → x ≡ y → d′ ≡ onExchange d i (exchangeWith 7 0) → Tested code d′ out out 0
-    unfolding bytesOf
-    tested-in-turn d′ out h v =
-        let t : false ≡ outOfTurn code mine = sym (in-turn (mine .overlap) (eqb code 1) (mine .rmtExpected) (sym p ∙ h ∙ q ∙ ap bit expected)) in
-        record {
-          server = v ∙ slot-changed d i (exchangeWith 7 0) ∙ ap left-if t;
-          buffer = sym (splice-nil out 0) ∙ ap (λ (b : Bool). written out (pair-if b)) t;
-          place = ap (λ (b : Bool). length (bytesOf (pair-if b))) t;
-        }
-
-    pub tested-out-of-turn : (d′ : Server) (out out′ : List ℕ) (r : ℕ) → (x ≡ y → ⊥) → OutOfTurn d′ out out′ r → Tested code d′ out out′ r
-    tested-out-of-turn d′ out out′ r h z =
-        let t : not (mine .overlap) ≡ outOfTurn code mine = sym (off-turn (mine .overlap) (eqb code 1) (mine .rmtExpected) (λ e. h (same e))) in
-        record {
-          server = z .server ∙ ap left-if t;
-          buffer = z .buffer ∙ ap (λ (b : Bool). written out (pair-if b)) t;
-          place = z .place ∙ ap (λ (b : Bool). length (bytesOf (pair-if b))) t;
-        }
+  pub differs-by-words : differs (eqb code 1) (x .rmtExpected) ≡ not (eqb n m)
+  differs-by-words = as-bits (eqb code 1) (x .rmtExpected) ∙ ap₂ (λ (u v : ℕ). not (eqb u v)) (sym p) (ap bit expected ∙ sym q)
 
 -- the bytes shown with an answer
 commands-are : (k : ℕ) → isCommand k ≡ one-of commands k

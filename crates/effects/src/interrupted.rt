@@ -4,7 +4,7 @@ ghost use Prim.Native.Nat.{ℕ, _<_, _≤_};
 ghost use Rattle.effects.specs.Interrupted.{Noted, OutOfTurn, Tested, withheldAt};
 ghost use Rattle.effects.specs.Synchronous.{withSlot};
 ghost use Rattle.model.specs.Acts.{interruptions};
-ghost use Rattle.model.specs.Exchange.{queried};
+ghost use Rattle.model.specs.Exchange.{differs, queried};
 ghost use Rattle.model.specs.Exchange;
 ghost use Rattle.model.specs.Sizes.{outputMinimum, sessionLimit};
 ghost use Rattle.model.specs.State.{at, connectionAt, exchangeAt};
@@ -13,7 +13,9 @@ ghost use Rattle.state.specs.View.{locksOf, memory, restOf, view};
 ghost use Rattle.wire.specs.Frame.{bytesOf};
 ghost use Rattle.wire.specs.Message.{header};
 ghost use Rattle.wire.specs.Splice.{splice};
+ghost use lib.Dec.{eqb};
 ghost use lib.ListN.{length};
+ghost use mathlib.Core.Bool.{not};
 ghost use mathlib.Core.List.{List};
 ghost use mathlib.Core.Path.{_≡_};
 use crate::mode::is_overlap;
@@ -73,14 +75,22 @@ fn out_of_turn(w: &mut Words, out: &mut [u8], i: usize, id: u32) -> usize
     end
 }
 
+// Is RMT-delivered, by a message's control code, what is expected of slot i?
+pub fn in_turn(w: &Words, i: usize, code: u8) -> bool
+    requires { ⌜ i < sessionLimit ⌝ }
+    ensures { λ r. ⌜ differs (eqb code 1) ((exchangeAt (restOf (now (w .entry))) i) .rmtExpected) ≡ not r ⌝ }
+{
+    let expected = same_number(tables::exchange(w, i, tables::RMT_EXPECTED), 1);
+    same_number(wide(code), 1) == expected
+}
+
 // A Data, DataEND or Trigger just before it acts: RMT-delivered is tested against the expectation, which is cleared; how many bytes of
 // the output say that it interrupts.
 pub fn take_turn(w: &mut Words, out: &mut [u8], i: usize, code: u8, id: u32) -> usize
     requires { ⌜ (i < sessionLimit) × (outputMinimum ≤ length (now out)) ⌝ }
     ensures { λ r. ⌜ (r ≤ 34) × ((s : List ℕ) → Tested (view (memory (now (w .entry)) s)) i id code (view (memory (now (w .exit)) s)) (now (out .entry)) (now (out .exit)) r) ⌝ }
 {
-    let expected = same_number(tables::exchange(w, i, tables::RMT_EXPECTED), 1);
-    if same_number(wide(code), 1) == expected {
+    if in_turn(w, i, code) {
         tables::set_exchange(w, i, tables::RMT_EXPECTED, 0);
         return 0;
     }

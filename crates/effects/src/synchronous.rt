@@ -3,13 +3,13 @@ ghost use Prim.Native.Nat.{ℕ, _+_, _<_, _≤_};
 ghost use Rattle.effects.specs.Did.{Did};
 ghost use Rattle.effects.specs.Synchronous.{commandNotes, isCommand, withSlot};
 ghost use Rattle.model.specs.Acts.{acts};
-ghost use Rattle.model.specs.Exchange.{ask, leaveClear, noteRmt};
+ghost use Rattle.model.specs.Exchange.{ask, differs, leaveClear, noteRmt};
 ghost use Rattle.model.specs.Locks.{stands};
 ghost use Rattle.model.specs.Place.{Role.r-synchronous};
-ghost use Rattle.model.specs.State.{at};
+ghost use Rattle.model.specs.State.{at, exchangeAt};
 ghost use Rattle.model.specs.Step.{finish};
 ghost use Rattle.state.specs.Change.{onRest};
-ghost use Rattle.state.specs.View.{locksOf, memory, view};
+ghost use Rattle.state.specs.View.{locksOf, memory, restOf, view};
 ghost use lib.Dec.{eqb};
 ghost use lib.ListN.{length};
 ghost use mathlib.Core.Bool.{_&&_, cond, false, not, true};
@@ -139,12 +139,13 @@ pub fn act_synchronous(
     answer::acted(session, len, 17)
 }
 
-// A Data, DataEND or Trigger acts while no release of its session stands: there is nothing to send.
+// A Data, DataEND or Trigger in turn acts while no release of its session stands: there is nothing to send.
 pub fn act_plainly(w: &mut Words, i: usize, kind: u8, code: u8, param: u32, len: u64) -> Delivery
-    requires { ⌜ (i < sessionLimit) × (len ≤ payloadLimit) × (isCommand kind ≡ true) × ((s : List ℕ) → stands ((at (locksOf (now w) s .entries) i) .standing) ≡ false) ⌝ }
+    requires { ⌜ (i < sessionLimit) × (len ≤ payloadLimit) × (isCommand kind ≡ true) × ((s : List ℕ) → stands ((at (locksOf (now w) s .entries) i) .standing) ≡ false) × (differs (eqb code 1) ((exchangeAt (restOf (now w)) i) .rmtExpected) ≡ false) ⌝ }
     ensures { λ r. ⌜ ((s p out : List ℕ) (c : ℕ) → Did (finish (view (memory (now (w .entry)) s)) (acts r-synchronous (view (memory (now (w .entry)) s)) i c (record { kind = kind; code = code; param = param; len = len }) p)) r (memory (now (w .entry)) s) (memory (now (w .exit)) s) out out) ⌝ }
 {
     let session = tables::entry(w, i, tables::NUMBER);
+    tables::set_exchange(w, i, tables::RMT_EXPECTED, 0);
     note_command(w, i, kind, code, param);
     complete::note_message(w, i, param);
     answer::acted(session, len, 0)
