@@ -262,7 +262,7 @@ fn deliver_status(
 // May a message with this control code do more than it says: complete a release that stands, or interrupt?
 fn is_eventful(w: &Words, i: usize, code: u8) -> bool
     requires { ⌜ i < sessionLimit ⌝ }
-    ensures { λ r. ⌜ r ≡ false → ((s : List ℕ) → stands ((at (locksOf (now (w .entry)) s .entries) i) .standing) ≡ false) × (differs (eqb code 1) ((exchangeAt (restOf (now (w .entry))) i) .rmtExpected) ≡ false) ⌝ }
+    ensures { λ r. ⌜ (r ≡ false → ((s : List ℕ) → stands ((at (locksOf (now (w .entry)) s .entries) i) .standing) ≡ false) × (differs (eqb code 1) ((exchangeAt (restOf (now (w .entry))) i) .rmtExpected) ≡ false)) ⌝ }
 {
     if standing::stands(w, i) {
         return true;
