@@ -20,6 +20,7 @@ use Rattle.model.specs.Checks.{verdict}
 use Rattle.model.specs.Acts.{acts, synchronousExchange, synchronousSaid, asynchronousRest, asynchronousSaid, asynchronousEvent}
 use Rattle.model.specs.Refusals.{refusal, causes}
 use Rattle.model.specs.Step.{final, log, step, answered, plan, finish, received, effect}
+use Rattle.model.specs.InStep.{countUp, numbering, numberingOf}
 use Rattle.model.specs.Table.{benchMaking, Corner, corner, found, foundOn, sought, message, send, request, release, releaseOf, cal, Cal, eightZeros, initialize, asyncInitialize, three}
 
 -- a message without payload and with parameter 0, to a connection
@@ -393,6 +394,12 @@ inStep =
     ∷ corner (three ++ (send 1 (message 19 0 0 []) ∷ send 0 (message 6 0 0xffffff00 []) ∷ send 0 (message 8 0 0 []) ∷ [])) (send 0 (message 6 0 0xffffff00 [])) (took acted 16 1) []
     ∷ corner (three ++ (send 1 (message 19 0 0 []) ∷ send 0 (message 6 0 0xffffff00 (replicate 1025 7)) ∷ send 0 (replicate 1025 7) ∷ send 0 (message 8 0 0 []) ∷ [])) (send 0 (message 6 0 0xffffff00 [])) (took acted 16 1) []
     ∷ corner (three ++ (send 0 (message 6 0 0xffffff00 []) ∷ cleared 0)) (send 0 (message 6 0 0xffffff00 [])) (took acted 16 1) []
+    -- in a clear none is tested; a held one is tested when it is taken; a too large one moves it without access too
+    ∷ corner (three ++ (send 1 (message 19 0 0 []) ∷ [])) (send 0 (message 6 0 7 [])) (took ignored 16 0) []
+    ∷ corner (exclusive ++ (send 2 (message 6 0 7 []) ∷ release 1 ∷ [])) (send 2 (message 6 0 7 [])) (took error-sent 16 0) (plain 2 3 0)
+    ∷ corner (exclusive ++ (send 2 (message 6 0 0xffffff00 (replicate 1025 7)) ∷ send 2 (replicate 1025 7) ∷ release 1 ∷ [])) (send 2 (message 6 0 0xffffff02 [])) (took acted 16 2) []
+    -- each session has its own
+    ∷ corner (three ++ (send 0 (message 6 0 0xffffff00 []) ∷ [])) (send 2 (message 6 0 0xffffff00 [])) (took acted 16 2) []
     -- other types and the other channel carry no number that is tested
     ∷ corner three (send 1 (message 21 0 7 [])) (took acted 16 1) (plain 1 22 0)
     ∷ []
@@ -400,6 +407,17 @@ inStep =
 pub in-step-hold : map found inStep ≡ map sought inStep
 unfolding inStep log final step refusal causes answered plan finish received effect verdict placeOf acts synchronousExchange synchronousSaid asynchronousRest asynchronousSaid asynchronousEvent controlled mayAnswer answerNumber availableAt scan freshScan header field encode headerBytes frameBytes bytesOf classOf mayGrant access passOver grantPass change
 in-step-hold = refl
+
+-- a client that counts: B, through a message in two pieces, one held, one with a wrong code and one too large; what the reader has of it
+abbrev counting : List Event
+counting =
+    three
+    ++ (send 2 (message 6 0 0xffffff00 cal) ∷ send 2 (take 9 (message 7 0 0xffffff02 [])) ∷ request 1 0 [] ∷ send 2 (message 7 0 0xffffff02 []) ∷ release 1
+    ∷ send 2 (message 7 0 0xffffff02 []) ∷ send 2 (message 6 9 0xffffff04 []) ∷ send 2 (message 6 0 0xffffff06 (replicate 1025 7)) ∷ send 2 (replicate 1025 7) ∷ [])
+
+pub counting-holds : (numbering benchMaking counting 2) .taken ≡ countUp 4
+unfolding numberingOf log final step refusal causes answered plan finish received effect verdict placeOf acts synchronousExchange synchronousSaid asynchronousRest asynchronousSaid asynchronousEvent controlled mayAnswer answerNumber availableAt scan freshScan header field encode headerBytes frameBytes bytesOf classOf mayGrant access passOver grantPass change
+counting-holds = refl
 
 -- clear, status, remote, sizes, answers
 pub exchanges : List Corner
