@@ -1,22 +1,21 @@
 -- Numbers in step: what the reader of specs/InStep.antt knows, and that a client that counts is never out of step.
 use mathlib.Core.Path.{_≡_, refl, sym, ap, ap₂, subst, _∙_}
-use mathlib.Core.Bool.{Bool, true, false, not, _&&_, cond, false≢true, true≢false}
+use mathlib.Core.Bool.{Bool, true, false, not, _&&_, cond, true≢false}
 use mathlib.Core.List.{List, [], _∷_}
-use Prim.Native.Nat.{ℕ, zero, suc, _+_, _%_, _^_, _<_}
+use Prim.Native.Nat.{ℕ, zero, suc, _+_, _<_}
 use native.Mathlib.Omega.{arith}
 use lib.Dec.{eqb, ltb}
 use lib.ListN.{getD, set, length}
-use borrow.Author.Tests.{eqb-true, eq-eqb, ne-eqb, ltb-true}
+use borrow.Author.Tests.{eq-eqb, ne-eqb, ltb-true}
 use Rattle.wire.specs.declared.Header.{Header}
 use Rattle.wire.specs.Message.{header, payloadOf}
 use Rattle.wire.specs.MessageId.{next, nth, nth-first, nth-next}
 use Rattle.wire.specs.Class.{one-of, classOf}
-use Rattle.wire.specs.Frame.{Frame, frameOf}
 use Rattle.model.specs.Sizes.{noConnection}
 use Rattle.model.specs.MessageTypes.{Error, Trigger, commands}
 use Rattle.model.specs.Lists.{all}
-use Rattle.model.specs.State.{Server, Exchange, Connection, at, live, exchangeAt, connectionAt, freshExchange, closedConnection, openConnection, fresh, Making}
-use Rattle.model.specs.Interface.{Event, Event.delivery, Outcome.error-sent, Outcome.acted, Reply, Reply.took}
+use Rattle.model.specs.State.{Server, Exchange, Connection, at, exchangeAt, connectionAt, freshExchange, closedConnection, openConnection, fresh, Making}
+use Rattle.model.specs.Interface.{Event, Event.delivery, Outcome.error-sent, Reply, Reply.took}
 use Rattle.model.specs.Scan.{Scan, Scan.empty, Scan.few, Scan.wrong, Scan.skipping, Scan.long, Scan.part, Scan.whole, scan}
 use Rattle.model.specs.Place.{slotOf, entryOf, Role, Role.r-none, Role.r-halfOpen, Role.r-synchronous, Role.r-asynchronous, roleOf}
 use Rattle.model.specs.Locks.{access, change}
@@ -25,16 +24,15 @@ use Rattle.model.specs.Checks
 use Rattle.model.specs.Checks.{Verdict, Verdict.v-more, Verdict.v-skipped, Verdict.v-held, Verdict.v-ignored, Verdict.v-closed, Verdict.v-acts, Verdict.v-error, Verdict.v-fatal, Rule, first, verdict, either}
 use Rattle.model.specs.Acts
 use Rattle.model.specs.Refusals.{causes, refusal}
-use Rattle.model.specs.Step.{Line, Result, counted, effect, finish, step, final, log}
+use Rattle.model.specs.Step.{Result, counted, effect, finish, step, final, log}
 use Rattle.model.specs.Access.{Command, accessOf}
-use Rattle.model.specs.Permitted.{commandForms, permits}
-use Rattle.model.specs.Happening.{Heard, Heard.with-code, heard, happened}
+use Rattle.model.specs.Happening.{Heard.with-code, heard}
 use Rattle.model.specs.InStep.{Numbering, opened, took-one, expected, noted-line, numbering, countUp, error-0, Counts, OnlyPayload, NeverOut, OutOfStep, InStep}
 use Rattle.model.proofs.Basics.{and-l, and-r, not-of, not-off}
 use Rattle.model.proofs.Fits.{uncaused, real-delivery}
 use Rattle.model.proofs.ReadOff.{each-of}
 use Rattle.model.proofs.Scanning.{whole-scan}
-use Rattle.model.proofs.Replies.{Erring, accepted, erring}
+use Rattle.model.proofs.Replies.{accepted, erring}
 use Rattle.model.proofs.Access.{accessed, sync-role, role-sync}
 use Rattle.model.proofs.Forms.{_also_, typed, command-passes}
 use Rattle.model.proofs.Permitted.{whole-step, whole-does}

@@ -1,10 +1,10 @@
 -- The reader of specs/InStep.antt knows every live session's synchronous connection, whether it is in a clear, and the number expected: kept from
 -- call to call, by the table of locality.
 use mathlib.Core.Path.{_≡_, refl, sym, ap, subst, _∙_}
-use mathlib.Core.Bool.{Bool, true, false, not, _&&_, _||_, cond, false≢true, true≢false}
+use mathlib.Core.Bool.{Bool, true, false, not, _&&_, cond, false≢true}
 use mathlib.Core.List.{List, [], _∷_}
 use mathlib.Core.Logic.{_⊎_, inl, inr}
-use Prim.Native.Nat.{ℕ, zero, suc, _+_, _%_, _^_, _<_}
+use Prim.Native.Nat.{ℕ, _+_, _%_, _^_, _<_}
 use native.Mathlib.Omega.{arith}
 use lib.Dec.{eqb}
 use lib.ListN.{length}
@@ -14,16 +14,17 @@ use Rattle.wire.specs.Message.{header, payloadOf}
 use Rattle.wire.specs.Class.{one-of}
 use Rattle.model.specs.Sizes.{noConnection, sessionLimit}
 use Rattle.model.specs.MessageTypes.{commands}
-use Rattle.model.specs.State.{Server, Entry, Exchange, at, live, blank, slotOfNumber, exchangeAt, fresh, Making}
+use Rattle.model.specs.State.{Server, Entry, Exchange, at, live, slotOfNumber, exchangeAt, fresh, Making}
 use Rattle.model.specs.Interface.{Event, Event.opening, Event.delivery, Event.cut, Event.clock, Event.answer, Event.status, Outcome, Outcome.more-needed, Outcome.skipped, Outcome.held, Outcome.ignored, Outcome.error-sent, Outcome.closed, Outcome.acted, Reply, Reply.refused, Reply.done, Reply.withheld, Reply.took}
 use Rattle.model.specs.Place.{onConnection, slotIn, slotOf}
 use Rattle.model.specs.Checks.{judged}
 use Rattle.model.specs.Step.{Result, step, final, log}
 use Rattle.model.specs.Happening.{Heard, Action, Happening, Happening.unmoved, Happening.connected, Happening.disconnected, Happening.skipped-over, Happening.errored, Happening.message-acted, Happening.clock-read, Happening.status-set, Happening.answer-sent, Happening.answer-withheld, happened}
-use Rattle.model.specs.LocalityRows.{Row, kindOf, slotActed, inSlot, clear-row, step-row, number-row, synchronous-row}
+use Rattle.model.specs.LocalityRows.{kindOf, slotActed, inSlot, clear-row, step-row, number-row, synchronous-row}
+use Rattle.model.specs.LocalityReplies.{sessionSaid}
 use Rattle.model.specs.Locality.{atCall, Local}
 use Rattle.model.specs.InStep.{Numbering, opened, took-one, expected, actedFor, actedForAnother, refusedOne, noted, numberingOf, numbering, Knows}
-use Rattle.model.proofs.Basics.{and-l, and-r, both, not-off, inside, same?}
+use Rattle.model.proofs.Basics.{both, not-off, inside, same?}
 use Rattle.model.proofs.Invariant.{Inv}
 use Rattle.model.proofs.Events.{Enters, inv-fresh, blank-at}
 use Rattle.model.proofs.Place.{place-unique}
@@ -96,7 +97,7 @@ delivered d i z c bs room acted k n e =
     slot = cond (eqb ((header bs) .kind) 0) (slotOfNumber es 0) (cond (eqb ((header bs) .kind) 17) (slotOfNumber es ((header bs) .param)) (slotOf d c))
 
     said : n ≡ cond (eqb ((header bs) .kind) 0) n ((at es slot) .number)
-    said = subst (λ (r : Reply). n ≡ Rattle.model.specs.LocalityReplies.sessionSaid d (happened (delivery c bs room) r ((step d (delivery c bs room)) .frames)) n) e ((local-call d (delivery c bs room)) .session acted k n e)
+    said = subst (λ (r : Reply). n ≡ sessionSaid d (happened (delivery c bs room) r ((step d (delivery c bs room)) .frames)) n) e ((local-call d (delivery c bs room)) .session acted k n e)
 
 facts : (d : Server) → Inv (d .locks) → length (d .rest .exchanges) ≡ length (d .locks .entries) → (e : Event) (r : Reply) → (step d e) .reply ≡ r → Facts d (happened e r ((step d e) .frames))
 facts d i z (delivery c bs room) (refused n) q = tt

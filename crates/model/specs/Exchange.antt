@@ -20,25 +20,102 @@ afterRmt code available = not (eqb code 1) && available
 -- a change of one part: what is asked and message available; the device clear; the client's size; the mode; the count of answers; whether an
 -- RMT is expected; the number expected
 abbrev pub withAnswering : Asked → Bool → Exchange → Exchange
-withAnswering a m x = record { inClear = x .inClear; asked = a; messageAvailable = m; clientSize = x .clientSize; overlap = x .overlap; count = x .count; anySent = x .anySent; rmtExpected = x .rmtExpected; numberExpected = x .numberExpected }
+withAnswering a m x =
+    record {
+      inClear = x .inClear;
+      asked = a;
+      messageAvailable = m;
+      clientSize = x .clientSize;
+      overlap = x .overlap;
+      count = x .count;
+      anySent = x .anySent;
+      rmtExpected = x .rmtExpected;
+      numberExpected = x .numberExpected;
+    }
 
 abbrev pub withClear : Bool → Exchange → Exchange
-withClear b x = record { inClear = b; asked = x .asked; messageAvailable = x .messageAvailable; clientSize = x .clientSize; overlap = x .overlap; count = x .count; anySent = x .anySent; rmtExpected = x .rmtExpected; numberExpected = x .numberExpected }
+withClear b x =
+    record {
+      inClear = b;
+      asked = x .asked;
+      messageAvailable = x .messageAvailable;
+      clientSize = x .clientSize;
+      overlap = x .overlap;
+      count = x .count;
+      anySent = x .anySent;
+      rmtExpected = x .rmtExpected;
+      numberExpected = x .numberExpected;
+    }
 
 abbrev pub withClientSize : ℕ → Exchange → Exchange
-withClientSize n x = record { inClear = x .inClear; asked = x .asked; messageAvailable = x .messageAvailable; clientSize = n; overlap = x .overlap; count = x .count; anySent = x .anySent; rmtExpected = x .rmtExpected; numberExpected = x .numberExpected }
+withClientSize n x =
+    record {
+      inClear = x .inClear;
+      asked = x .asked;
+      messageAvailable = x .messageAvailable;
+      clientSize = n;
+      overlap = x .overlap;
+      count = x .count;
+      anySent = x .anySent;
+      rmtExpected = x .rmtExpected;
+      numberExpected = x .numberExpected;
+    }
 
 abbrev pub withMode : Bool → Exchange → Exchange
-withMode b x = record { inClear = x .inClear; asked = x .asked; messageAvailable = x .messageAvailable; clientSize = x .clientSize; overlap = b; count = x .count; anySent = x .anySent; rmtExpected = x .rmtExpected; numberExpected = x .numberExpected }
+withMode b x =
+    record {
+      inClear = x .inClear;
+      asked = x .asked;
+      messageAvailable = x .messageAvailable;
+      clientSize = x .clientSize;
+      overlap = b;
+      count = x .count;
+      anySent = x .anySent;
+      rmtExpected = x .rmtExpected;
+      numberExpected = x .numberExpected;
+    }
 
 abbrev pub withCount : ℕ → Bool → Exchange → Exchange
-withCount n b x = record { inClear = x .inClear; asked = x .asked; messageAvailable = x .messageAvailable; clientSize = x .clientSize; overlap = x .overlap; count = n; anySent = b; rmtExpected = x .rmtExpected; numberExpected = x .numberExpected }
+withCount n b x =
+    record {
+      inClear = x .inClear;
+      asked = x .asked;
+      messageAvailable = x .messageAvailable;
+      clientSize = x .clientSize;
+      overlap = x .overlap;
+      count = n;
+      anySent = b;
+      rmtExpected = x .rmtExpected;
+      numberExpected = x .numberExpected;
+    }
 
 abbrev pub withExpectation : Bool → Exchange → Exchange
-withExpectation b x = record { inClear = x .inClear; asked = x .asked; messageAvailable = x .messageAvailable; clientSize = x .clientSize; overlap = x .overlap; count = x .count; anySent = x .anySent; rmtExpected = b; numberExpected = x .numberExpected }
+withExpectation b x =
+    record {
+      inClear = x .inClear;
+      asked = x .asked;
+      messageAvailable = x .messageAvailable;
+      clientSize = x .clientSize;
+      overlap = x .overlap;
+      count = x .count;
+      anySent = x .anySent;
+      rmtExpected = b;
+      numberExpected = x .numberExpected;
+    }
 
 abbrev pub withNumber : ℕ → Exchange → Exchange
-withNumber n x = record { inClear = x .inClear; asked = x .asked; messageAvailable = x .messageAvailable; clientSize = x .clientSize; overlap = x .overlap; count = x .count; anySent = x .anySent; rmtExpected = x .rmtExpected; numberExpected = n }
+withNumber n x =
+    record {
+      inClear = x .inClear;
+      asked = x .asked;
+      messageAvailable = x .messageAvailable;
+      clientSize = x .clientSize;
+      overlap = x .overlap;
+      count = x .count;
+      anySent = x .anySent;
+      rmtExpected = x .rmtExpected;
+      numberExpected = n;
+    }
 
 -- 02, Q-10: "each next two more, wrapping"
 abbrev pub stepped : Exchange → Exchange

@@ -87,7 +87,8 @@ pub record SubAddress (p : List ℕ) : Type 0 where
 -- the forms that a connection of an established session takes of a message with number n
 pub data Takes (d : Server) (c n : ℕ) : List Form → Type 0 where
   -- outside a device clear, with access; 02, Q-10: "must carry the number expected"
-  commands : OnSynchronous d c → (exchangeAt (d .rest) (slotOf d c)) .inClear ≡ false → accessOf d c ≡ true → n ≡ (exchangeAt (d .rest) (slotOf d c)) .numberExpected → Takes d c n commandForms
+  commands : OnSynchronous d c → (exchangeAt (d .rest) (slotOf d c)) .inClear ≡ false → accessOf d c ≡ true
+      → n ≡ (exchangeAt (d .rest) (slotOf d c)) .numberExpected → Takes d c n commandForms
   -- in a device clear
   clear-complete : OnSynchronous d c → (exchangeAt (d .rest) (slotOf d c)) .inClear ≡ true → Takes d c n clearForms
   -- 01: "Asynchronous messages are not held"

@@ -99,7 +99,18 @@ blank = record { number = 0; synchronous = noConnection; asynchronous = noConnec
 -- 01: a client's size starts at 1,024 per session; 02, Q-1: a session starts in the preferred mode, and its count at ffffff00 hex; 02, Q-10: and
 -- so does the number expected
 abbrev pub openExchange : Bool → Exchange
-openExchange b = record { inClear = false; asked = none; messageAvailable = false; clientSize = payloadLimit; overlap = b; count = start; anySent = false; rmtExpected = false; numberExpected = start }
+openExchange b =
+    record {
+      inClear = false;
+      asked = none;
+      messageAvailable = false;
+      clientSize = payloadLimit;
+      overlap = b;
+      count = start;
+      anySent = false;
+      rmtExpected = false;
+      numberExpected = start;
+    }
 
 abbrev pub freshExchange : Exchange
 freshExchange = openExchange false
