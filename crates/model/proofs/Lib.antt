@@ -67,4 +67,8 @@ pub mod Missing
 pub mod NextQuestion
 pub mod Numbering
 pub mod InStep
+pub mod WaitingOne
+pub mod AnsweredFrames
+pub mod AnsweredQuiet
+pub mod AnsweredOnce
 pub mod Asking
