@@ -16,3 +16,6 @@ pub mod Channels
 pub mod Search
 pub mod OneLook
 pub mod Fresh
+pub mod Tidy
+pub mod OneMemory
+pub mod FreshTidy
