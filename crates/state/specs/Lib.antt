@@ -17,5 +17,6 @@ pub mod Search
 pub mod OneLook
 pub mod Fresh
 pub mod Tidy
+pub mod Keeping
 pub mod OneMemory
 pub mod FreshTidy

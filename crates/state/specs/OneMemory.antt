@@ -21,7 +21,7 @@ use Rattle.state.specs.Requests.{countOf, Idle, stringAt}
 use Rattle.state.specs.Queue.{noRequest, count-is, waiting-at}
 use Rattle.state.specs.Strings.{key-part, string-part, string-length}
 use Rattle.state.specs.Confirmed.{field-number, Shows, shows}
-use Rattle.state.specs.Tidy.{Tidy, TidyHome, Shown, TidyRequest}
+use Rattle.state.specs.Tidy.{Tidy, Away, Counted, Shown}
 
 -- words that are read alike, within the range that they are read in
 flag-one : (x y : ℕ) → x ≤ 1 → y ≤ 1 → eqb x 1 ≡ eqb y 1 → x ≡ y
@@ -382,12 +382,18 @@ module _ (w s w′ s′ : List ℕ) (t : Tidy (memory w s)) (t′ : Tidy (memory
       let c : word w COUNT ≡ word w′ COUNT = count-same in
       ⊎-elim
       (λ (x : j < word w COUNT). mod-one (word w (QUEUE + j)) (word w′ (QUEUE + j)) sessionLimit (t .queue .slots j x) (t′ .queue .slots j (omega arith)) (slot-same j (omega arith)))
-      (λ (x : word w COUNT ≤ j). t .queue .behind j x h ∙ sym (t′ .queue .behind j (omega arith) h))
+      (λ (x : word w COUNT ≤ j). t .queue .behind j (λ y. omega arith) h ∙ sym (t′ .queue .behind j (λ y. omega arith) h))
       (below j (word w COUNT))
 
   -- the requests: one that waits is seen, another is not there
   idle-too : (i : ℕ) → Idle w i → Idle w′ i
   idle-too i o j h q = let c : countOf w ≡ countOf w′ = counts-same in let l : j < countOf w = omega arith in o j l (slot-same j l ∙ q)
+
+  away : (i : ℕ) → Idle w i → Away (Counted w) w i
+  away i o j h = let c : word w COUNT ≤ sessionLimit = t .singles .count in o j (omega arith)
+
+  away-too : (i : ℕ) → Idle w i → Away (Counted w′) w′ i
+  away-too i o j h = let c : word w′ COUNT ≤ sessionLimit = t′ .singles .count in idle-too i o j (omega arith)
 
   request-same : (i : ℕ) → Waits w i (countOf w) → requestAt w s i ≡ requestAt w′ s′ i
   request-same i x =
@@ -405,7 +411,7 @@ module _ (w s w′ s′ : List ℕ) (t : Tidy (memory w s)) (t′ : Tidy (memory
       let z : REQUESTS + i * REQUEST + 0 ≡ REQUESTS + i * REQUEST = omega arith in
       ⊎-elim
       (λ (x : Waits w i (countOf w)). ap (word w) z ∙ deadline-same i x ∙ ap (word w′) (sym z))
-      (λ (o : Idle w i). t .requests i h .no-deadline o ∙ sym (t′ .requests i h .no-deadline (idle-too i o)))
+      (λ (o : Idle w i). t .requests i h .no-deadline (away i o) ∙ sym (t′ .requests i h .no-deadline (away-too i o)))
       (waits w i (countOf w))
   request-word i (suc zero) h l =
       ⊎-elim
@@ -416,7 +422,7 @@ module _ (w s w′ s′ : List ℕ) (t : Tidy (memory w s)) (t′ : Tidy (memory
       let c : word w (REQUESTS + i * REQUEST + 1) ≤ stringLimit = t .requests i h .fits in
       let d : word w′ (REQUESTS + i * REQUEST + 1) ≤ stringLimit = t′ .requests i h .fits in
       omega arith)
-      (λ (o : Idle w i). t .requests i h .no-string o ∙ sym (t′ .requests i h .no-string (idle-too i o)))
+      (λ (o : Idle w i). t .requests i h .no-string (away i o) ∙ sym (t′ .requests i h .no-string (away-too i o)))
       (waits w i (countOf w))
   request-word i (suc (suc f)) h l = absurd (omega arith)
 
@@ -433,7 +439,7 @@ module _ (w s w′ s′ : List ℕ) (t : Tidy (memory w s)) (t′ : Tidy (memory
       sym (word-of s b (min n stringLimit) j (omega arith))
       ∙ ap (λ (k : List ℕ). getD k j 0) (sym (string-part w s i) ∙ string-same i y ∙ string-part w′ s′ i)
       ∙ word-of s′ b (min n′ stringLimit) j (omega arith))
-      (λ (o : Idle w i). let z : n ≡ 0 = t .requests i h .no-string o in absurd (omega arith))
+      (λ (o : Idle w i). let z : n ≡ 0 = t .requests i h .no-string (away i o) in absurd (omega arith))
       (waits w i (countOf w)))
       (λ (x : n ≤ j). t .requests i h .behind j x l ∙ sym (t′ .requests i h .behind j (omega arith) l))
       (below j n)

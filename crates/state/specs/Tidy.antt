@@ -11,8 +11,7 @@ use lib.Dec.{eqb}
 use lib.ListN.{length}
 use Rattle.model.specs.Sizes.{sessionLimit, connectionLimit, stringLimit}
 use Rattle.state.specs.Layout.{EXCHANGES, EXCHANGE, CONNECTIONS, CONNECTION, HOME, CLOCK, HOLDER, SHARERS, KEY, COUNT, ENTRY, ORDERS, ORDER, REQUESTS, REQUEST, QUEUE, WORDS, STRINGS}
-use Rattle.state.specs.View.{Memory, word, rowWord, homeOf, fieldOf}
-use Rattle.state.specs.Requests.{Idle}
+use Rattle.state.specs.View.{Memory, word, rowWord, homeOf, fieldOf, slotAt}
 
 -- any word
 abbrev pub Any : ℕ → Type 0
@@ -76,17 +75,21 @@ pub record Shown (w : List ℕ) (c : ℕ) : Type 0 where
 abbrev pub TidyHome : List ℕ → ℕ → Type 0
 TidyHome w c = (homeOf w c ≡ 0) ⊎ Shown w c
 
+-- slot i stands at none of some places of the queue
+abbrev pub Away : (ℕ → Type 0) → List ℕ → ℕ → Type 0
+Away In w i = (j : ℕ) → In j → slotAt w j ≡ i → ⊥
+
 -- slot i's request: no bytes behind its string; one that does not wait has no deadline and no string
-pub record TidyRequest (w s : List ℕ) (i : ℕ) : Type 0 where
+pub record TidyRequest (In : ℕ → Type 0) (w s : List ℕ) (i : ℕ) : Type 0 where
   pub fits : word w (REQUESTS + i * REQUEST + 1) ≤ stringLimit
   pub behind : (j : ℕ) → word w (REQUESTS + i * REQUEST + 1) ≤ j → j < stringLimit → word s (stringLimit + i * stringLimit + j) ≡ 0
-  pub no-deadline : Idle w i → word w (REQUESTS + i * REQUEST + 0) ≡ 0
-  pub no-string : Idle w i → word w (REQUESTS + i * REQUEST + 1) ≡ 0
+  pub no-deadline : Away In w i → word w (REQUESTS + i * REQUEST + 0) ≡ 0
+  pub no-string : Away In w i → word w (REQUESTS + i * REQUEST + 1) ≡ 0
 
--- the queue: slots as far as the count, and no more
-pub record TidyQueue (w : List ℕ) : Type 0 where
-  pub slots : (j : ℕ) → j < word w COUNT → word w (QUEUE + j) < sessionLimit
-  pub behind : (j : ℕ) → word w COUNT ≤ j → j < sessionLimit → word w (QUEUE + j) ≡ 0
+-- the queue: slots at its places, and nowhere else
+pub record TidyQueue (In : ℕ → Type 0) (w : List ℕ) : Type 0 where
+  pub slots : (j : ℕ) → In j → word w (QUEUE + j) < sessionLimit
+  pub behind : (j : ℕ) → (In j → ⊥) → j < sessionLimit → word w (QUEUE + j) ≡ 0
 
 -- the shared string: no bytes behind it; where nobody shares there is none
 pub record TidyKey (w s : List ℕ) : Type 0 where
@@ -95,7 +98,8 @@ pub record TidyKey (w s : List ℕ) : Type 0 where
   pub no-length : word w SHARERS ≡ 0 → word w KEY ≡ 0
   pub no-byte : word w SHARERS ≡ 0 → word s 0 ≡ 0
 
-pub record Tidy (m : Memory) : Type 0 where
+-- memory in order whose queue has these places
+pub record TidyOver (In : ℕ → Type 0) (m : Memory) : Type 0 where
   pub long : length (m .words) ≡ WORDS
   pub room : length (m .strings) ≡ STRINGS
   pub values : (f : ℕ) → f < EXCHANGES → SingleRange f (word (m .words) f)
@@ -105,6 +109,13 @@ pub record Tidy (m : Memory) : Type 0 where
   pub singles : TidySingles (m .words)
   pub rows : (i : ℕ) → i < sessionLimit → TidyRow (m .words) i
   pub homes : (c : ℕ) → c < connectionLimit → TidyHome (m .words) c
-  pub requests : (i : ℕ) → i < sessionLimit → TidyRequest (m .words) (m .strings) i
-  pub queue : TidyQueue (m .words)
+  pub requests : (i : ℕ) → i < sessionLimit → TidyRequest In (m .words) (m .strings) i
+  pub queue : TidyQueue In (m .words)
   pub key : TidyKey (m .words) (m .strings)
+
+-- the places of the queue: as far as the count
+abbrev pub Counted : List ℕ → ℕ → Type 0
+Counted w j = j < word w COUNT
+
+abbrev pub Tidy : Memory → Type 0
+Tidy m = TidyOver (Counted (m .words)) m
