@@ -12,6 +12,7 @@ use lib.Seq.{ext-getD, getD-take}
 use borrow.Author.Tests.{eq-eqb, ne-eqb, eqb-true, eqb-false, ltb-true, ltb-false}
 use Rattle.model.specs.Sizes.{sessionLimit, connectionLimit, stringLimit}
 use Rattle.model.specs.State.{Entry, Waiting, Locks, Kind, Kind.exclusive-lock, Kind.shared-lock, Standing, Standing.no-release, Standing.release-of, Asked, Asked.none, Asked.some, Exchange, Connection, Rest, Server, at, freshExchange, closedConnection}
+use Rattle.state.specs.Table.{below}
 use Rattle.state.specs.Grid.{part, word-of, grid, getD-grid}
 use Rattle.state.specs.Bits.{bit, low-bits, Member, member}
 use Rattle.state.specs.Layout.{LOCKS, VENDOR, STATUS, LAST, ENABLE, LOCKOUT, REMOTE, EXCHANGES, EXCHANGE, CONNECTIONS, CONNECTION, HOME, CLOCK, HOLDER, SHARERS, KEY, COUNT, ENTRIES, ENTRY, ORDERS, ORDER, REQUESTS, REQUEST, QUEUE, WORDS, STRINGS}
@@ -126,13 +127,6 @@ shared-one true true k k′ h l e = refl
 shared-one false false k k′ h l e = refl
 shared-one true false k k′ h l e = let z : length k ≡ 0 = ap length e in absurd (omega arith)
 shared-one false true k k′ h l e = let z : 0 ≡ length k′ = ap length e in absurd (omega arith)
-
-below : (a b : ℕ) → (a < b) ⊎ (b ≤ a)
-below a b = by (ltb a b) refl
-  where
-    by : (x : Bool) → ltb a b ≡ x → (a < b) ⊎ (b ≤ a)
-    by true e = inl (ltb-true a b e)
-    by false e = inr (ltb-false a b e)
 
 -- a place in a table: its row and its field
 record Found (b k n p : ℕ) : Type 0 where
