@@ -14,15 +14,15 @@ use Rattle.wire.specs.Splice.{splice, length-splice}
 use Rattle.model.specs.Sizes.{sessionLimit, connectionLimit, stringLimit}
 use Rattle.state.specs.Table.{apart, below}
 use Rattle.state.specs.Grid.{part, word-of}
-use Rattle.state.specs.Bits.{bit, with-bit, with-same, with-other}
+use Rattle.state.specs.Bits.{bit, with-bit, with-same, with-other, empty-bits}
 use Rattle.state.specs.Layout.{EXCHANGES, EXCHANGE, CONNECTIONS, CONNECTION, HOME, CLOCK, HOLDER, SHARERS, KEY, COUNT, ENTRIES, ENTRY, ORDERS, ORDER, REQUESTS, REQUEST, QUEUE, WORDS, STRINGS}
-use Rattle.state.specs.View.{memory, word, homeAt, slotAt}
+use Rattle.state.specs.View.{memory, word, homeAt, slotAt, view}
 use Rattle.state.specs.Change.{off, here}
 use Rattle.state.specs.Requests.{countOf, Idle, part-behind, part-before, slot-small}
-use Rattle.state.specs.Queue.{slot-here, slot-off}
+use Rattle.state.specs.Queue.{slot-off, past-count}
 use Rattle.state.specs.Tidy.{Tidy, TidyOver, Counted, Away, ExchangeRange, ConnectionRange, OrderRange, TidyRequest, TidyQueue, TidyKey}
 use Rattle.state.specs.Keeping.{kept-values, kept-range, kept-singles, kept-rows, kept-homes, kept-request, kept-queue, kept-key}
-use Rattle.state.specs.Wiping.{Wiped}
+use Rattle.state.specs.Wiping.{Wiped, undated, emptied, request-wiped}
 
 -- memory that agrees with w, s in order in all but the queue, the count and the requests
 module _ (In In′ : ℕ → Type 0) (w w′ s s′ : List ℕ) (t : TidyOver In (memory w s)) (long : length w′ ≡ WORDS) (room : length s′ ≡ length s)
@@ -345,3 +345,160 @@ over-tidy w s n m t e =
     queue-tidy (Still n m m) (Counted w) w w s s t (t .long) refl (λ a h o. refl) (λ j h. refl) (t .singles .count)
     (λ i h. kept-request (Still n m m) w w s s t (Counted w) i h (λ f x. refl) (λ j x. refl) (λ o q x z. o q (to q x) z))
     (kept-queue (Still n m m) w w s s t (Counted w) (λ j. refl) from to)
+
+-- slot x stands at one of the first n places
+pub record Waits (w : List ℕ) (x n : ℕ) : Type 0 where
+  pub place : ℕ
+  pub before : place < n
+  pub is : slotAt w place ≡ x
+
+-- the slots of the first n places, as the bits of one word
+abbrev pub Members : List ℕ → ℕ → ℕ → Type 0
+Members w n m = (x : ℕ) → x < sessionLimit → (bit m x ≡ 1 → Waits w x n) × (bit m x ≡ 0 → (q : ℕ) → q < n → slotAt w q ≡ x → ⊥)
+
+pub no-members : (w : List ℕ) → Members w 0 0
+no-members w x h =
+    let z : bit 0 x ≡ 0 = empty-bits 0 sessionLimit x refl h in
+    (λ o. absurd (omega arith), λ o q l e. omega arith)
+
+pub members-more : (w : List ℕ) (j m : ℕ) → Members w j m → Members w (j + 1) (with-bit sessionLimit m (slotAt w j))
+members-more w j m y x h = by (eqb x (slotAt w j)) refl
+  where
+    by : (b : Bool) → eqb x (slotAt w j) ≡ b
+        → (bit (with-bit sessionLimit m (slotAt w j)) x ≡ 1 → Waits w x (j + 1)) × (bit (with-bit sessionLimit m (slotAt w j)) x ≡ 0 → (q : ℕ) → q < j + 1 → slotAt w q ≡ x → ⊥)
+    by true e =
+        let z : x ≡ slotAt w j = eqb-true x (slotAt w j) e in
+        let o : bit (with-bit sessionLimit m (slotAt w j)) x ≡ 1 = ap (λ (i : ℕ). bit (with-bit sessionLimit m (slotAt w j)) i) z ∙ with-same sessionLimit m (slotAt w j) (slot-small w j) in
+        (λ a. record { place = j; before = omega arith; is = sym z }, λ a. absurd (let i : 1 ≡ 0 = sym o ∙ a in omega arith))
+    by false e =
+        let o : x ≡ slotAt w j → ⊥ = eqb-false x (slotAt w j) e in
+        let b : bit (with-bit sessionLimit m (slotAt w j)) x ≡ bit m x = with-other sessionLimit m (slotAt w j) (slot-small w j) x h o in (
+          λ a. let r : Waits w x j = y x h .0 (sym b ∙ a) in record { place = r .place; before = omega (arith, r .before); is = r .is },
+          λ a q l i. ⊎-elim (λ (k : q < j). y x h .1 (sym b ∙ a) q k i) (λ (k : j ≤ q). o (let z : q ≡ j = omega arith in sym i ∙ ap (slotAt w) z)) (below q j),
+        )
+
+-- what is done with place p, behind the count
+pub record Left (w s w′ s′ : List ℕ) (p : ℕ) : Type 0 where
+  pub shown : view (memory w′ s′) ≡ view (memory w s)
+  pub long : length w′ ≡ WORDS
+  pub room : length s′ ≡ STRINGS
+  pub count : word w′ COUNT ≡ word w COUNT
+  pub slots : (q : ℕ) → (q ≡ p → ⊥) → slotAt w′ q ≡ slotAt w q
+  pub tidy : (n m : ℕ) → TidyOver (Still n p m) (memory w s) → word w COUNT ≡ n → n ≤ p → p < m → TidyOver (Still n (p + 1) m) (memory w′ s′)
+
+pub members-left : (w s w′ s′ : List ℕ) (p n m : ℕ) → Left w s w′ s′ p → n ≤ p → Members w n m → Members w′ n m
+members-left w s w′ s′ p n m x h y i l = (
+  λ a. let r : Waits w i n = y i l .0 a in record { place = r .place; before = r .before; is = x .slots (r .place) (omega (arith, r .before)) ∙ r .is },
+  λ a q k e. y i l .1 a q k (sym (x .slots q (omega arith)) ∙ e),
+)
+
+module _ (w s : List ℕ) (p : ℕ) (few : p < sessionLimit) (long : length w ≡ WORDS) (room : length s ≡ STRINGS) (past : countOf w ≤ p) where
+  -- its slot waits still: the place alone is wiped
+  pub kept-left : Waits w (slotAt w p) (countOf w) → Left w s (set w (QUEUE + p) 0) s p
+  kept-left x =
+      let w′ : List ℕ = set w (QUEUE + p) 0 in
+      let long′ : length w′ ≡ WORDS = length-set w (QUEUE + p) 0 ∙ long in
+      let slot : (q : ℕ) → (q ≡ p → ⊥) → slotAt w′ q ≡ slotAt w q = (λ q o. slot-off w (QUEUE + p) 0 q (λ e. o (let z : q ≡ p = omega arith in z))) in
+      record {
+        shown = past-count w s p 0 past;
+        long = long′;
+        room = room;
+        count = off w (QUEUE + p) 0 COUNT (omega arith);
+        slots = slot;
+        tidy = λ n m t c a b.
+            left-tidy w s w′ s n p m t a b long′ refl
+            (λ i l. off w (QUEUE + p) 0 i (omega arith))
+            (here w (QUEUE + p) 0 (omega arith))
+            (λ q o. off w (QUEUE + p) 0 (QUEUE + q) (λ e. o (let z : q ≡ p = omega arith in z)))
+            (λ j l. refl)
+            (λ i f l k o. off w (QUEUE + p) 0 (REQUESTS + i * REQUEST + f) (omega arith))
+            (λ i j l k o. refl)
+            (kept-request (Still n p m) w w′ s s t (Still n (p + 1) m) (slotAt w p) (slot-small w p) (λ f k. off w (QUEUE + p) 0 (REQUESTS + slotAt w p * REQUEST + f) (omega (arith, slot-small w p))) (λ j k. refl)
+            (λ o. absurd (o (x .place) (inl (omega (arith, x .before))) (slot (x .place) (omega (arith, x .before)) ∙ x .is))));
+      }
+
+  -- its slot waits no more: its request is wiped with it
+  module _ (s′ : List ℕ) (idle : Idle w (slotAt w p)) (x : Wiped s s′ (stringLimit + slotAt w p * stringLimit) (min (word w (REQUESTS + slotAt w p * REQUEST + 1)) stringLimit)) where
+    abbrev i : ℕ
+    i = slotAt w p
+
+    abbrev k : ℕ
+    k = min (word w (REQUESTS + i * REQUEST + 1)) stringLimit
+
+    abbrev u : List ℕ
+    u = set (set w (REQUESTS + i * REQUEST + 0) 0) (REQUESTS + i * REQUEST + 1) 0
+
+    abbrev u′ : List ℕ
+    u′ = set u (QUEUE + p) 0
+
+    short : i < sessionLimit
+    short = slot-small w p
+
+    long-1 : length (set w (REQUESTS + i * REQUEST + 0) 0) ≡ WORDS
+    long-1 = length-set w (REQUESTS + i * REQUEST + 0) 0 ∙ long
+
+    long-2 : length u ≡ WORDS
+    long-2 = length-set (set w (REQUESTS + i * REQUEST + 0) 0) (REQUESTS + i * REQUEST + 1) 0 ∙ long-1
+
+    long-3 : length u′ ≡ WORDS
+    long-3 = length-set u (QUEUE + p) 0 ∙ long-2
+
+    same-word : (a : ℕ) → (a ≡ QUEUE + p → ⊥) → ((f : ℕ) → f < REQUEST → a ≡ REQUESTS + i * REQUEST + f → ⊥) → word u′ a ≡ word w a
+    same-word a o q = off u (QUEUE + p) 0 a o ∙ off (set w (REQUESTS + i * REQUEST + 0) 0) (REQUESTS + i * REQUEST + 1) 0 a (q 1 (lit< tt)) ∙ off w (REQUESTS + i * REQUEST + 0) 0 a (q 0 (lit< tt))
+
+    no-date : word u′ (REQUESTS + i * REQUEST + 0) ≡ 0
+    no-date =
+        off u (QUEUE + p) 0 (REQUESTS + i * REQUEST + 0) (omega (arith, short))
+        ∙ off (set w (REQUESTS + i * REQUEST + 0) 0) (REQUESTS + i * REQUEST + 1) 0 (REQUESTS + i * REQUEST + 0) (omega arith)
+        ∙ here w (REQUESTS + i * REQUEST + 0) 0 (omega (arith, short))
+
+    no-long : word u′ (REQUESTS + i * REQUEST + 1) ≡ 0
+    no-long = off u (QUEUE + p) 0 (REQUESTS + i * REQUEST + 1) (omega (arith, short)) ∙ here (set w (REQUESTS + i * REQUEST + 0) 0) (REQUESTS + i * REQUEST + 1) 0 (omega (arith, short, long-1))
+
+    queue-same : (q : ℕ) → (q ≡ p → ⊥) → word u′ (QUEUE + q) ≡ word w (QUEUE + q)
+    queue-same q o = same-word (QUEUE + q) (λ e. o (let z : q ≡ p = omega arith in z)) (λ f l e. omega (arith, short))
+
+    slots-same : (q : ℕ) → (q ≡ p → ⊥) → slotAt u′ q ≡ slotAt w q
+    unfolding slotAt
+    slots-same q o = ap (λ (y : ℕ). y % sessionLimit) (queue-same q o)
+
+    front-same : (a : ℕ) → a < REQUESTS → word u′ a ≡ word w a
+    front-same a l = same-word a (omega arith) (λ f m e. omega arith)
+
+    no-bytes : (n m : ℕ) → TidyOver (Still n p m) (memory w s) → (j : ℕ) → j < stringLimit → (j < k) ⊎ (k ≤ j) → word s′ (stringLimit + i * stringLimit + j) ≡ 0
+    no-bytes n m t j l =
+        ⊎-elim
+        (λ (y : j < k). x .blank (stringLimit + i * stringLimit + j) (omega arith) (omega arith))
+        (λ (y : k ≤ j). x .others (stringLimit + i * stringLimit + j) (inr (omega arith)) ∙ t .requests i short .behind j (omega arith) l)
+
+    pub wiped-left : Left w s u′ s′ p
+    wiped-left =
+        record {
+          shown = past-count u s′ p 0 (omega (arith, off (set w (REQUESTS + i * REQUEST + 0) 0) (REQUESTS + i * REQUEST + 1) 0 COUNT (omega arith), off w (REQUESTS + i * REQUEST + 0) 0 COUNT (omega arith))) ∙ request-wiped w s s′ i k short long room (omega arith) x idle;
+          long = long-3;
+          room = x .room ∙ room;
+          count = front-same COUNT (omega arith);
+          slots = slots-same;
+          tidy = λ n m t c a b.
+              left-tidy w s u′ s′ n p m t a b long-3 (x .room)
+              front-same
+              (here u (QUEUE + p) 0 (omega (arith, long-2)))
+              queue-same
+              (λ j l. x .others j (inl (omega arith)))
+              (λ j f l m o. same-word (REQUESTS + j * REQUEST + f) (omega arith) (λ g y e. ⊎-elim (λ (z : j < i). omega arith) (λ (z : i < j). omega arith) (apart j i o)))
+              (λ j q l m o. x .others (stringLimit + j * stringLimit + q) (⊎-elim (λ (z : j < i). inl (omega arith)) (λ (z : i < j). inr (omega arith)) (apart j i o)))
+              record {
+                fits = omega (arith, no-long);
+                behind = λ j y l. no-bytes n m t j l (below j k);
+                no-deadline = λ o. no-date;
+                no-string = λ o. no-long;
+              };
+        }
+
+-- the queue cut short to n: all stay, or the places behind are wiped
+pub kept-all : (w s : List ℕ) (n m : ℕ) → length w ≡ WORDS → m ≡ countOf w → n ≡ m → Tidy (memory w s) → Tidy (memory (set w COUNT n) s)
+kept-all w s n m long c e t =
+    over-tidy (set w COUNT n) s n n (subst (λ (k : ℕ). TidyOver (Still n n k) (memory (set w COUNT n) s)) (sym e) (cut-tidy w s n m t c (omega arith))) (here w COUNT n (omega arith))
+
+pub kept-some : (w s w′ s′ : List ℕ) (n m : ℕ) → m ≡ countOf w → n ≤ m → (TidyOver (Still n n m) (memory (set w COUNT n) s) → Tidy (memory w′ s′)) → Tidy (memory w s) → Tidy (memory w′ s′)
+kept-some w s w′ s′ n m c l k t = k (cut-tidy w s n m t c l)

@@ -20,5 +20,6 @@ pub mod Fresh
 pub mod Tidy
 pub mod Keeping
 pub mod Leaving
+pub mod Unsharing
 pub mod OneMemory
 pub mod FreshTidy

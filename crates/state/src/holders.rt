@@ -55,10 +55,10 @@ pub fn no_other_exclusive(w: &Words, i: usize) -> bool
 }
 
 // Sets of slots, a bit each.
-const SETS: u64 = 1 << SESSION_LIMIT;
+pub const SETS: u64 = 1 << SESSION_LIMIT;
 
 // Bit i of a set.
-fn bit_of(m: u64, i: usize) -> u64
+pub fn bit_of(m: u64, i: usize) -> u64
     requires { ⌜ i < sessionLimit ⌝ }
     ensures { λ r. ⌜ r ≡ bit m i ⌝ }
 {
@@ -72,7 +72,8 @@ fn power_of(i: usize) -> u64
     1 << i
 }
 
-fn taken_out(m: u64, i: usize) -> u64
+// Without slot i.
+pub fn taken_out(m: u64, i: usize) -> u64
     requires { ⌜ i < sessionLimit ⌝ }
     ensures { λ r. ⌜ r ≡ without m i ⌝ }
 {
@@ -82,7 +83,8 @@ fn taken_out(m: u64, i: usize) -> u64
     m
 }
 
-fn put_in(m: u64, i: usize) -> u64
+// With slot i.
+pub fn put_in(m: u64, i: usize) -> u64
     requires { ⌜ i < sessionLimit ⌝ }
     ensures { λ r. ⌜ r ≡ with-bit sessionLimit m i ⌝ }
 {

@@ -6,6 +6,7 @@ ghost use Rattle.state.specs.Bits.{with-bit};
 ghost use Rattle.state.specs.Change.{onEntry};
 ghost use Rattle.state.specs.Queue.{noRequest, onWaiting};
 ghost use Rattle.state.specs.Requests.{Idle, countOf, stringAt};
+ghost use Rattle.state.specs.Tidy.{Tidy};
 ghost use Rattle.state.specs.View.{keyOf, locksOf, memory, requestAt, view};
 ghost use Rattle.wire.specs.Splice.{splice};
 ghost use lib.ListN.{drop, getD, length, set, take};
@@ -28,9 +29,10 @@ use crate::sizes::Words;
 use crate::words::store;
 
 // the shared string has a first byte, and so many more at the most
-const KEY_REST: usize = STRING_LIMIT - 1;
+pub const KEY_REST: usize = STRING_LIMIT - 1;
 
-fn least(a: u64, b: usize) -> usize
+// The lesser of the two.
+pub fn least(a: u64, b: usize) -> usize
     requires { ⌜ b ≤ stringLimit ⌝ }
     ensures { λ r. ⌜ (r ≡ min a b) × (r ≤ b) ⌝ }
 {
@@ -78,6 +80,17 @@ pub fn move_waiting(w: &mut Words, j: usize, k: usize)
 {
     let x = w[QUEUE + j] % SESSIONS;
     store(w, QUEUE + k, x);
+}
+
+// The j-th request that waits and the k-th change places: the same slots go on waiting.
+pub fn swap_waiting(w: &mut Words, j: usize, k: usize)
+    requires { ⌜ (j < countOf (now w)) × (k < countOf (now w)) ⌝ }
+    ensures { λ _. ⌜ ((s : List ℕ) → view (memory (now (w .exit)) s) ≡ onWaiting (view (memory (now (w .entry)) s)) (λ x. set (set x k (getD x j noRequest)) j (getD x k noRequest))) × ((s : List ℕ) → Tidy (memory (now (w .entry)) s) → Tidy (memory (now (w .exit)) s)) ⌝ }
+{
+    let x = w[QUEUE + j] % SESSIONS;
+    let y = w[QUEUE + k] % SESSIONS;
+    store(w, QUEUE + k, x);
+    store(w, QUEUE + j, y);
 }
 
 // Only the first n go on waiting.

@@ -1,23 +1,28 @@
 // The shared lock and its string: the string is written when the first session gets the lock. A later one's string is that string already.
 ghost use Prim.Native.Nat.{_<_, _≤_};
 ghost use Rattle.model.specs.Lists.{all};
-ghost use Rattle.model.specs.Locks.{fits, give, noShared};
+ghost use Rattle.model.specs.Locks.{fits, give, noShared, withoutShared};
 ghost use Rattle.model.specs.Sizes.{sessionLimit, stringLimit};
 ghost use Rattle.state.specs.Change.{onEntry};
 ghost use Rattle.state.specs.Layout.{STRINGS, WORDS};
 ghost use Rattle.state.specs.Requests.{stringAt};
+ghost use Rattle.state.specs.Tidy.{Tidy};
 ghost use Rattle.state.specs.View.{keyOf, locksOf, memory, view};
 ghost use lib.ListN.{length};
 ghost use mathlib.Core.Bool.{true};
 ghost use mathlib.Core.Path.{_≡_};
+use crate::holders::SETS;
 use crate::holders::first_sharer;
 use crate::holders::join_sharers;
 use crate::holders::nobody_shares;
+use crate::holders::taken_out;
 use crate::layout::KEY;
+use crate::layout::SHARERS;
 use crate::requests::copy_to_front;
 use crate::sizes::STRING_LIMIT;
 use crate::sizes::Strings;
 use crate::sizes::Words;
+use crate::wiping::wipe_key;
 
 // While nobody shares, a string becomes the one that the next session shares. Nobody sees it yet.
 fn lay_key(w: &mut [u64], strings: &mut [u8], string: &[u8])
@@ -61,4 +66,31 @@ pub fn give_shared(w: &mut Words, strings: &mut Strings, i: usize, n: usize)
         return;
     }
     join_sharers(w, i);
+}
+
+// Slot i leaves those that share, if it did; with the last the string goes.
+fn leave_sharers_in(w: &mut [u64], strings: &mut [u8], i: usize)
+    requires { ⌜ (i < sessionLimit) × (length (now w) ≡ WORDS) × (length (now strings) ≡ STRINGS) ⌝ }
+    ensures { λ _. ⌜ (view (memory (now (w .exit)) (now (strings .exit))) ≡ onEntry (view (memory (now (w .entry)) (now (strings .entry)))) i withoutShared) × (Tidy (memory (now (w .entry)) (now (strings .entry))) → Tidy (memory (now (w .exit)) (now (strings .exit)))) ⌝ }
+{
+    let before = w[SHARERS];
+    let left = taken_out(before, i);
+    w[SHARERS] = left;
+    // It did not share.
+    if left == before {
+        return;
+    }
+    // Others share.
+    if left % SETS != 0 {
+        return;
+    }
+    wipe_key(w, strings);
+}
+
+// Slot i holds the shared lock no more, if it did.
+pub fn leave_sharers(w: &mut Words, strings: &mut Strings, i: usize)
+    requires { ⌜ i < sessionLimit ⌝ }
+    ensures { λ _. ⌜ (view (memory (now (w .exit)) (now (strings .exit))) ≡ onEntry (view (memory (now (w .entry)) (now (strings .entry)))) i withoutShared) × (Tidy (memory (now (w .entry)) (now (strings .entry))) → Tidy (memory (now (w .exit)) (now (strings .exit)))) ⌝ }
+{
+    leave_sharers_in(w, strings, i);
 }
