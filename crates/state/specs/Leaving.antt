@@ -3,7 +3,7 @@
 use mathlib.Core.Path.{_≡_, refl, sym, ap, subst, _∙_}
 use mathlib.Core.Logic.{_⊎_, inl, inr, ⊎-elim}
 use mathlib.Core.Bool.{Bool, true, false}
-use mathlib.Core.List.{List}
+use mathlib.Core.List.{List, [], _∷_, _++_}
 use Prim.Native.Nat.{ℕ, zero, suc, _+_, _*_, _-_, _%_, _^_, _≤_, _<_, min}
 use native.Mathlib.Nat.{mod-eq-of-lt}
 use native.Mathlib.Omega.{arith}
@@ -12,14 +12,15 @@ use lib.ListN.{length, getD, set, length-set}
 use borrow.Author.Tests.{eqb-true, eqb-false}
 use Rattle.wire.specs.Splice.{splice, length-splice}
 use Rattle.model.specs.Sizes.{sessionLimit, connectionLimit, stringLimit}
+use Rattle.model.specs.State.{Waiting, Server}
 use Rattle.state.specs.Table.{apart, below}
 use Rattle.state.specs.Grid.{part, word-of}
 use Rattle.state.specs.Bits.{bit, with-bit, with-same, with-other, empty-bits}
 use Rattle.state.specs.Layout.{EXCHANGES, EXCHANGE, CONNECTIONS, CONNECTION, HOME, CLOCK, HOLDER, SHARERS, KEY, COUNT, ENTRIES, ENTRY, ORDERS, ORDER, REQUESTS, REQUEST, QUEUE, WORDS, STRINGS}
 use Rattle.state.specs.View.{memory, word, homeAt, slotAt, view}
 use Rattle.state.specs.Change.{off, here}
-use Rattle.state.specs.Requests.{countOf, Idle, part-behind, part-before, slot-small}
-use Rattle.state.specs.Queue.{slot-off, past-count}
+use Rattle.state.specs.Requests.{countOf, Idle, part-behind, part-before, slot-small, laid-view, laid-string}
+use Rattle.state.specs.Queue.{slot-off, past-count, onWaiting, queued}
 use Rattle.state.specs.Tidy.{Tidy, TidyOver, Counted, Away, ExchangeRange, ConnectionRange, OrderRange, TidyRequest, TidyQueue, TidyKey}
 use Rattle.state.specs.Keeping.{kept-values, kept-range, kept-singles, kept-rows, kept-homes, kept-request, kept-queue, kept-key}
 use Rattle.state.specs.Wiping.{Wiped, undated, emptied, request-wiped}
@@ -180,6 +181,22 @@ module _ (w s : List ℕ) (i d : ℕ) (x : List ℕ) (t : Tidy (memory w s)) (h 
         slots = λ j l. slots-now j l (eqb j n) refl;
         behind = λ j o l. queue-else j (λ z. o (omega arith)) ∙ t .queue .behind j (λ z. o (omega arith)) l;
       }
+
+-- and what it shows
+pub put-view : (w s : List ℕ) (i d : ℕ) (x : List ℕ) → i < sessionLimit → length x ≤ stringLimit → length w ≡ WORDS → length s ≡ STRINGS → Idle w i → countOf w < sessionLimit
+    → view (memory (set (set (set (set w (REQUESTS + i * REQUEST + 1) (length x)) (REQUESTS + i * REQUEST + 0) d) (QUEUE + countOf w) i) COUNT (countOf w + 1)) (splice s (stringLimit + i * stringLimit) x))
+    ≡ onWaiting (view (memory w s)) (λ (l : List Waiting). l ++ (record { slot = i; deadline = d; string = x } ∷ []))
+put-view w s i d x h small long room free left =
+    let a : ℕ = REQUESTS + i * REQUEST + 1 in
+    let y : List ℕ = set w a (length x) in
+    let z : List ℕ = splice s (stringLimit + i * stringLimit) x in
+    let k : word y COUNT ≡ word w COUNT = off w a (length x) COUNT (omega arith) in
+    let c : countOf w ≡ countOf y = omega arith in
+    let o : Idle y i = (λ j l e. free j (omega arith) (sym (slot-off w a (length x) j (omega arith)) ∙ e)) in
+    ap (λ (m : ℕ). view (memory (set (set (set y (REQUESTS + i * REQUEST + 0) d) (QUEUE + m) i) COUNT (m + 1)) z)) c
+    ∙ queued y z i d h (length-set w a (length x) ∙ long) (omega arith) o
+    ∙ ap (λ (r : List ℕ). onWaiting (view (memory y z)) (λ (l : List Waiting). l ++ (record { slot = i; deadline = d; string = r } ∷ []))) (laid-string w s i x h small long room)
+    ∙ ap (λ (v : Server). onWaiting v (λ (l : List Waiting). l ++ (record { slot = i; deadline = d; string = x } ∷ []))) (laid-view w s i x h small long room free)
 
 -- the requests at j and k change places
 module _ (w s : List ℕ) (j k : ℕ) (t : Tidy (memory w s)) (h : j < countOf w) (l : k < countOf w) where

@@ -112,6 +112,26 @@ pub fn queue_request(w: &mut Words, i: usize, deadline: u64)
     store(w, COUNT, n as u64 + 1);
 }
 
+fn put_request_in(w: &mut [u64], strings: &mut [u8], i: usize, deadline: u64, string: &[u8])
+    requires { ⌜ (i < sessionLimit) × (length (now string) ≤ stringLimit) × (length (now w) ≡ WORDS) × (length (now strings) ≡ STRINGS) × (countOf (now w) < sessionLimit) × Idle (now w) i ⌝ }
+    ensures { λ _. ⌜ (view (memory (now (w .exit)) (now (strings .exit))) ≡ onWaiting (view (memory (now (w .entry)) (now (strings .entry)))) (λ x. x ++ (record { slot = i; deadline = deadline; string = now (string .entry) } ∷ []))) × (Tidy (memory (now (w .entry)) (now (strings .entry))) → Tidy (memory (now (w .exit)) (now (strings .exit)))) ⌝ }
+{
+    let n = least(w[COUNT], SESSION_LIMIT);
+    wire::frame::put_payload(strings, STRING_LIMIT + i * STRING_LIMIT, string);
+    w[REQUESTS + i * REQUEST + 1] = string.len() as u64;
+    w[REQUESTS + i * REQUEST + 0] = deadline;
+    w[QUEUE + n] = i as u64;
+    w[COUNT] = n as u64 + 1;
+}
+
+// The request of slot i, which does not wait, goes to the end of the queue with a string and a deadline.
+pub fn put_request(w: &mut Words, strings: &mut Strings, i: usize, deadline: u64, string: &[u8])
+    requires { ⌜ (i < sessionLimit) × (length (now string) ≤ stringLimit) × (countOf (now w) < sessionLimit) × Idle (now w) i ⌝ }
+    ensures { λ _. ⌜ (view (memory (now (w .exit)) (now (strings .exit))) ≡ onWaiting (view (memory (now (w .entry)) (now (strings .entry)))) (λ x. x ++ (record { slot = i; deadline = deadline; string = now (string .entry) } ∷ []))) × (Tidy (memory (now (w .entry)) (now (strings .entry))) → Tidy (memory (now (w .exit)) (now (strings .exit)))) ⌝ }
+{
+    put_request_in(w, strings, i, deadline, string);
+}
+
 fn lay_request_in(w: &mut [u64], strings: &mut [u8], i: usize, string: &[u8])
     requires { ⌜ (i < sessionLimit) × (length (now string) ≤ stringLimit) × (length (now w) ≡ WORDS) × (length (now strings) ≡ STRINGS) × Idle (now w) i ⌝ }
     ensures { λ _. ⌜ (view (memory (now (w .exit)) (now (strings .exit))) ≡ view (memory (now (w .entry)) (now (strings .entry)))) × (stringAt (now (w .exit)) (now (strings .exit)) i ≡ now (string .entry)) ⌝ }
