@@ -8,7 +8,7 @@ use Prim.Native.Nat.{ℕ, zero, suc, _+_, _*_, _%_, _^_, _≤_, _<_}
 use native.Mathlib.Omega.{arith}
 use lib.Dec.{eqb, lit<}
 use lib.ListN.{length, set, length-set}
-use borrow.Author.Tests.{eqb-true, eqb-false}
+use borrow.Author.Tests.{eqb-true, eqb-false, ne-eqb}
 use Rattle.model.specs.Sizes.{sessionLimit, connectionLimit, stringLimit}
 use Rattle.state.specs.Layout.{EXCHANGES, EXCHANGE, CONNECTIONS, CONNECTION, HOME, LOCKS, CLOCK, HOLDER, SHARERS, KEY, COUNT, ENTRIES, ENTRY, ORDERS, ORDER, REQUESTS, REQUEST, QUEUE, WORDS, STRINGS}
 use Rattle.state.specs.View.{memory, word, rowWord, homeAt, homeOf, fieldOf, slotAt}
@@ -279,3 +279,38 @@ module _ (w s : List ℕ) (v : ℕ) (t : Tidy (memory w s)) where
 
   pub sharers-tidy : v < 2 ^ sessionLimit → (v ≡ 0 → word w SHARERS ≡ 0) → Tidy (memory (set w SHARERS v) s)
   sharers-tidy h z = lock-place SHARERS (omega arith) (omega arith) (λ e. absurd (omega arith)) (λ e. absurd (omega arith)) (λ e. h) (λ e. z)
+
+-- memory that agrees with w, s in order in all but the table of sessions and the homes
+module _ (w w′ s : List ℕ) (t : Tidy (memory w s)) (long : length w′ ≡ WORDS)
+    (same : (a : ℕ) → (a < ENTRIES) ⊎ (ORDERS ≤ a) → ((c : ℕ) → c < connectionLimit → a ≡ homeAt c → ⊥) → word w′ a ≡ word w a) where
+  pub table-tidy : ((i : ℕ) → i < sessionLimit → TidyRow w′ i) → ((c : ℕ) → c < connectionLimit → TidyHome w′ c) → Tidy (memory w′ s)
+  table-tidy r k =
+      let count : word w′ COUNT ≡ word w COUNT = same COUNT (inl (omega arith)) (λ c l e. omega arith) in
+      let sharers : word w′ SHARERS ≡ word w SHARERS = same SHARERS (inl (omega arith)) (λ c l e. omega arith) in
+      let queue : (j : ℕ) → word w′ (QUEUE + j) ≡ word w (QUEUE + j) = (λ j. same (QUEUE + j) (inr (omega arith)) (λ c l e. omega arith)) in
+      record {
+        long = long;
+        room = t .room;
+        values = kept-values (Counted w) w w′ s s t (λ p h. same p (inl (omega arith)) (λ c l e. omega arith));
+        exchanges = kept-range (Counted w) w w′ s s t ExchangeRange EXCHANGES EXCHANGE EXCHANGE sessionLimit (λ i f h l. same (EXCHANGES + i * EXCHANGE + f) (inl (omega arith)) (λ c m e. omega arith)) (t .exchanges);
+        connections = kept-range (Counted w) w w′ s s t ConnectionRange CONNECTIONS CONNECTION HOME connectionLimit (λ i f h l. same (CONNECTIONS + i * CONNECTION + f) (inl (omega arith)) (λ c m e. omega arith)) (t .connections);
+        orders = kept-range (Counted w) w w′ s s t OrderRange ORDERS ORDER ORDER sessionLimit (λ i f h l. same (ORDERS + i * ORDER + f) (inr (omega arith)) (λ c m e. omega arith)) (t .orders);
+        singles = kept-singles (Counted w) w w′ s s t (same CLOCK (inl (omega arith)) (λ c l e. omega arith)) (same HOLDER (inl (omega arith)) (λ c l e. omega arith))
+            (subst (λ (x : ℕ). x < 2 ^ sessionLimit) (sym sharers) (t .singles .sharers)) (subst (λ (x : ℕ). x ≤ sessionLimit) (sym count) (t .singles .count));
+        rows = r;
+        homes = k;
+        requests = λ i h.
+            kept-request (Counted w) w w′ s s t (Counted w′) i h (λ f l. same (REQUESTS + i * REQUEST + f) (inr (omega arith)) (λ c m e. omega arith)) (λ j l. refl)
+            (kept-away (Counted w) w w′ s s t (Counted w′) i queue (count-to w w′ count));
+        queue = kept-queue (Counted w) w w′ s s t (Counted w′) queue (count-from w w′ count) (count-to w w′ count);
+        key = kept-key (Counted w) w w′ s s t (same KEY (inl (omega arith)) (λ c l e. omega arith)) (λ z. sym sharers ∙ z) (λ j l. refl);
+      }
+
+-- a word of a live slot's row that is shown
+pub live-row : (w : List ℕ) (i f : ℕ) → (rowWord w i 0 ≡ 0 → ⊥) → rowWord w i f ≡ fieldOf w i f → rowWord w i f ≡ cond (eqb (rowWord w i 0) 0) 0 (fieldOf w i f)
+live-row w i f o e = e ∙ sym (ap (λ (b : Bool). cond b 0 (fieldOf w i f)) (ne-eqb (rowWord w i 0) 0 o))
+
+-- a row that stays, with what it shows
+pub same-row : (w w′ : List ℕ) (i f : ℕ) → rowWord w′ i 0 ≡ rowWord w i 0 → rowWord w′ i f ≡ rowWord w i f → fieldOf w′ i f ≡ fieldOf w i f
+    → rowWord w i f ≡ cond (eqb (rowWord w i 0) 0) 0 (fieldOf w i f) → rowWord w′ i f ≡ cond (eqb (rowWord w′ i 0) 0) 0 (fieldOf w′ i f)
+same-row w w′ i f a b c e = b ∙ e ∙ sym (ap₂ (λ (x y : ℕ). cond (eqb x 0) 0 y) a c)
