@@ -10,7 +10,7 @@ use lib.ListN.{length, set, length-set}
 use Rattle.wire.specs.Splice.{splice, length-splice}
 use Rattle.model.specs.Sizes.{sessionLimit, connectionLimit, stringLimit}
 use Rattle.state.specs.Table.{below}
-use Rattle.state.specs.Bits.{bit, without}
+use Rattle.state.specs.Bits.{bit, without, with-bit, with-small, with-some}
 use Rattle.state.specs.Layout.{EXCHANGES, EXCHANGE, CONNECTIONS, CONNECTION, HOME, CLOCK, HOLDER, SHARERS, KEY, COUNT, ENTRIES, ENTRY, ORDERS, ORDER, REQUESTS, REQUEST, QUEUE, WORDS, STRINGS}
 use Rattle.state.specs.View.{memory, word, homeAt}
 use Rattle.state.specs.Change.{off, here}
@@ -99,6 +99,12 @@ module _ (w s : List ℕ) (i left : ℕ) (t : Tidy (memory w s)) (e : left ≡ w
           no-length = λ z. no-length;
           no-byte = λ z. no-byte 0 (lit< tt);
         }
+
+-- slot i joins those that share
+pub joins-tidy : (w s : List ℕ) (i : ℕ) → i < sessionLimit → Tidy (memory w s) → Tidy (memory (set w SHARERS (with-bit sessionLimit (word w SHARERS) i)) s)
+joins-tidy w s i h t =
+    let m : ℕ = word w SHARERS in
+    sharers-tidy w s (with-bit sessionLimit m i) t (with-small sessionLimit m i h (t .singles .sharers)) (λ z. absurd (with-some sessionLimit m i z))
 
 -- slot i is the first that shares, with string k
 module _ (w s k : List ℕ) (i : ℕ) (t : Tidy (memory w s)) (h : i < sessionLimit) (some : 0 < length k) (fits : length k ≤ stringLimit)
