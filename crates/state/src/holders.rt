@@ -6,6 +6,8 @@ ghost use Rattle.model.specs.State.{at};
 ghost use Rattle.state.specs.Bits.{bit, with-bit, without};
 ghost use Rattle.state.specs.Change.{onEntry};
 ghost use Rattle.state.specs.Holders.{NoOther};
+ghost use Rattle.state.specs.Tidy.{Tidy};
+ghost use lib.ListN.{set};
 ghost use Rattle.state.specs.View.{keyOf, locksOf, memory, view, word};
 ghost use mathlib.Core.Bool.{not};
 ghost use mathlib.Core.List.{List, []};
@@ -137,7 +139,7 @@ pub fn drop_shared(w: &mut Words, i: usize)
 // Slot i joins those that share, with their string.
 pub fn join_sharers(w: &mut Words, i: usize)
     requires { ⌜ i < sessionLimit ⌝ }
-    ensures { λ _. ⌜ ((s : List ℕ) → view (memory (now (w .exit)) s) ≡ onEntry (view (memory (now (w .entry)) s)) i (give (keyOf (now (w .entry)) s))) ⌝ }
+    ensures { λ _. ⌜ ((s : List ℕ) → view (memory (now (w .exit)) s) ≡ onEntry (view (memory (now (w .entry)) s)) i (give (keyOf (now (w .entry)) s))) × ((s : List ℕ) → Tidy (memory (now (w .entry)) s) → Tidy (memory (now (w .exit)) s)) ⌝ }
 {
     let m = put_in(w[SHARERS], i);
     store(w, SHARERS, m);
@@ -146,7 +148,7 @@ pub fn join_sharers(w: &mut Words, i: usize)
 // The same where nobody shares: slot i is the only one.
 pub fn first_sharer(w: &mut Words, i: usize)
     requires { ⌜ (i < sessionLimit) × (word (now w) SHARERS % 2 ^ sessionLimit ≡ 0) ⌝ }
-    ensures { λ _. ⌜ ((s : List ℕ) → view (memory (now (w .exit)) s) ≡ onEntry (view (memory (now (w .entry)) s)) i (give (keyOf (now (w .entry)) s))) ⌝ }
+    ensures { λ _. ⌜ ((s : List ℕ) → view (memory (now (w .exit)) s) ≡ onEntry (view (memory (now (w .entry)) s)) i (give (keyOf (now (w .entry)) s))) × (now (w .exit) ≡ set (now (w .entry)) SHARERS (2 ^ i)) × (2 ^ i < 2 ^ sessionLimit) ⌝ }
 {
     let m = power_of(i);
     store(w, SHARERS, m);
