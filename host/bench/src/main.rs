@@ -8,6 +8,7 @@ mod instructions;
 mod options;
 mod page;
 mod plot;
+mod script;
 mod timing;
 mod workload;
 

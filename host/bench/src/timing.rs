@@ -10,7 +10,8 @@ use reference::Reply;
 
 use crate::contender::{Contender, Library, Ordinary};
 use crate::figures::Figures;
-use crate::workload::{Part, Step, Workload};
+use crate::script::{Part, Step};
+use crate::workload::Workload;
 
 /// Events between two looks at the clock.
 pub const SLICE: usize = 1_000;
@@ -118,4 +119,73 @@ pub fn measure(workload: &Workload, repetitions: usize) -> Times {
         }
     }
     Times { library, ordinary }
+}
+
+#[cfg(test)]
+mod tests {
+    use super::{one, outcome, ready, Ordinary, Outcomes, Step};
+    use crate::workload::{all, Workload};
+    use reference::event::frames;
+    use reference::limits::OUTPUT;
+    use reference::wire::kind;
+
+    /// What the events come to, and the frames sent: their types with their codes.
+    fn run(workload: &Workload) -> (Outcomes, Vec<(u8, u8)>) {
+        let mut out = vec![0; OUTPUT];
+        let mut server: Ordinary = ready(workload, &mut out);
+        let mut outcomes = Outcomes::new();
+        let mut sent = Vec::new();
+        for step in &workload.steps {
+            let told = one(&mut server, workload, *step, &mut out);
+            *outcomes.entry(outcome(*step, told)).or_default() += 1;
+            let told = frames(&out[..told.output as usize]).expect("whole frames");
+            sent.extend(told.iter().map(|frame| (frame.kind, frame.code)));
+        }
+        (outcomes, sent)
+    }
+
+    /// No Error, and no release stands: every lock message is answered once, and granted or released.
+    #[test]
+    fn programs_keep_step_with_the_server() {
+        const EVENTS: usize = 6_000;
+        for plan in all().iter().filter(|plan| !plan.clear) {
+            let workload = plan.make(EVENTS);
+            let (outcomes, sent) = run(&workload);
+            let name = &workload.name;
+            let wanted = ["acted on", "more needed", "held", "answers sent"];
+            assert!(
+                outcomes.keys().all(|told| wanted.contains(told)),
+                "{name}: {outcomes:?}"
+            );
+            assert_eq!(
+                outcomes.contains_key("held"),
+                name.contains("held"),
+                "{name}"
+            );
+            let locks = sent.iter().filter(|told| told.0 == kind::LOCK_RESPONSE);
+            let ours =
+                |told: &(u8, u8)| told.0 == kind::DATA_END || told.0 == kind::STATUS_RESPONSE;
+            assert!(locks.clone().all(|told| matches!(told.1, 1 | 2)), "{name}");
+            assert!(
+                sent.iter()
+                    .all(|told| told.0 == kind::LOCK_RESPONSE || ours(told)),
+                "{name}"
+            );
+            let asked = workload
+                .steps
+                .iter()
+                .filter(|step| is_lock(&workload, step));
+            let (asked, answered) = (asked.count(), locks.count());
+            // In a storm a release is answered with the grant of another's request.
+            assert!(asked.abs_diff(answered) <= 1, "{name}: {asked} {answered}");
+        }
+    }
+
+    fn is_lock(workload: &Workload, step: &Step) -> bool {
+        let Step::Deliver(connection, part) = step else {
+            return false;
+        };
+        let kind = workload.bytes.get(part.start as usize + 2);
+        connection % 2 == 1 && kind == Some(&kind::LOCK)
+    }
 }

@@ -1,25 +1,10 @@
 //! What is run: prepared events over prepared sessions, the same for both sides.
 
-use reference::compose::message;
-use reference::limits::{LOCK_STRING, PAYLOAD, SESSIONS};
+use reference::limits::{LOCK_STRING, SESSIONS};
+use reference::wire::kind;
 
 use crate::draw::Draw;
-
-/// A message or a payload in `Workload::bytes`.
-#[derive(Clone, Copy, PartialEq, Eq)]
-pub struct Part {
-    pub start: u32,
-    pub length: u32,
-}
-
-/// One event of a timed loop.
-#[derive(Clone, Copy)]
-pub enum Step {
-    /// Connection, and what it shows.
-    Deliver(u32, Part),
-    /// Session, and the payload.
-    Answer(u32, Part),
-}
+use crate::script::{Part, Script, Step};
 
 pub struct Workload {
     pub name: String,
@@ -38,18 +23,31 @@ pub struct Plan {
     pub name: String,
     /// The output buffer is cleared before each event.
     pub clear: bool,
-    make: fn(&Messages) -> Workload,
+    make: Make,
 }
+
+type Make = fn(&mut Author);
 
 impl Plan {
     /// With the first so many of its events.
     pub fn make(&self, events: usize) -> Workload {
-        let mut workload = (self.make)(&Messages::new(events));
-        workload.steps.truncate(events);
+        let mut author = Author {
+            events,
+            script: Script::new(),
+            before: Vec::new(),
+        };
+        (self.make)(&mut author);
+        let Script {
+            mut steps, bytes, ..
+        } = author.script;
+        steps.truncate(events);
         Workload {
             name: self.name.clone(),
+            sessions: ALL,
+            before: author.before,
+            steps,
+            bytes,
             clear: self.clear,
-            ..workload
         }
     }
 }
@@ -62,254 +60,235 @@ const ROUNDS: usize = 200_000;
 /// Events of a workload beside the mix.
 const EVENTS: usize = 400_000;
 
-/// The messages that workloads are made of, one behind the other.
-struct Messages {
-    /// No more events than these are wanted.
-    events: usize,
-    bytes: Vec<u8>,
-    /// Each with RMT-delivered 0 and 1.
-    data: [Part; 2],
-    data_end: [Part; 2],
-    status: [Part; 2],
-    exclusive: Part,
-    shared: Part,
-    release: Part,
-    /// Three pieces of a DataEND: less than a header, a header, and some payload.
-    pieces: [Part; 3],
-    /// Exclusive, with a long timeout.
-    wait: Part,
-    /// For each session a string of the greatest length, with a long timeout; the last byte tells them apart.
-    wait_long: Vec<Part>,
-    answer: Part,
+/// The kinds of the mix, even parts of it.
+#[derive(Clone, Copy, PartialEq, Eq)]
+enum Kind {
+    Data,
+    DataEnd,
+    Status,
+    Piece,
+    Request,
+    Release,
 }
 
-impl Messages {
-    fn new(events: usize) -> Messages {
-        let mut bytes = Vec::new();
-        let mut keep = |part: &[u8]| {
-            let start = bytes.len() as u32;
-            bytes.extend_from_slice(part);
-            let length = part.len() as u32;
-            Part { start, length }
-        };
-        let command = b"CONFigure:VOLTage:DC 10,0.001;:INITiate";
-        let numbered = |kind, code| message(kind, code, 0xffff_ff02, command);
-        let long = |session: u32| {
-            let mut string = [b's'; LOCK_STRING];
-            string[LOCK_STRING - 1] = session as u8;
-            message(4, 1, u32::MAX, &string)
-        };
-        Messages {
-            data: [0, 1].map(|code| keep(&numbered(6, code))),
-            data_end: [0, 1].map(|code| keep(&numbered(7, code))),
-            status: [0, 1].map(|code| keep(&message(21, code, 0xffff_ff02, b""))),
-            exclusive: keep(&message(4, 1, 0, b"")),
-            shared: keep(&message(4, 1, 0, b"calibration")),
-            release: keep(&message(4, 0, 0xffff_ff02, b"")),
-            pieces: [7, 16, 40].map(|length| keep(&numbered(7, 1)[..length])),
-            wait: keep(&message(4, 1, u32::MAX, b"")),
-            wait_long: (1..=ALL).map(|session| keep(&long(session))).collect(),
-            answer: keep(&[b'7'; PAYLOAD]),
-            bytes,
-            events,
-        }
-    }
+const KINDS: [Kind; 6] = [
+    Kind::Data,
+    Kind::DataEnd,
+    Kind::Status,
+    Kind::Piece,
+    Kind::Request,
+    Kind::Release,
+];
 
-    /// Steps without a name yet.
-    fn workload(&self, steps: Vec<Step>) -> Workload {
-        Workload {
-            name: String::new(),
-            sessions: ALL,
-            before: Vec::new(),
-            steps,
-            bytes: self.bytes.clone(),
-            clear: false,
-        }
-    }
+/// RMT-delivered of Data and DataEND.
+const CODES: [u8; 2] = [0, 1];
 
+/// One delivery of each kind: of which session, and what is drawn beside it.
+struct Round {
+    order: [Kind; 6],
+    data: (u32, u8),
+    data_end: (u32, u8),
+    status: (u32, Part),
+    piece: (u32, Part),
+    holder: u32,
+    request: Part,
+}
+
+/// Writes a workload.
+struct Author {
+    /// No more events than these are wanted.
+    events: usize,
+    script: Script,
+    before: Vec<Step>,
+}
+
+impl Author {
     /// 02's mix: 1,200,000 deliveries in even parts Data, DataEND, status queries, lock requests,
     /// releases and pieces of messages, each of a session drawn from so many. Only a release is of the
     /// session that holds the lock. Data and DataEND `between` a request and its release are mostly held;
-    /// without them every whole message acts.
-    fn mix(&self, sessions: u32, between: bool) -> Vec<Step> {
+    /// without them every whole message acts. Of the kinds only those `wanted` are sent.
+    fn mix(&mut self, sessions: u32, between: bool, wanted: &[Kind]) {
         let mut draw = Draw::new();
-        let mut steps = Vec::new();
         for _ in 0..ROUNDS.min(self.events) {
-            let mut order = [0, 1, 2, 3, 4, 5];
-            loop {
-                draw.shuffle(&mut order);
-                if orderly(&order, between) {
-                    break;
-                }
-            }
-            let six = self.round(&mut draw, sessions);
-            steps.extend(order.map(|which| six[which]));
+            let round = self.draw_round(&mut draw, sessions, between);
+            self.round(&round, wanted);
         }
-        steps
     }
 
-    /// Data, DataEND, a status query, a piece, a lock request and its release.
-    fn round(&self, draw: &mut Draw, sessions: u32) -> [Step; 6] {
-        let holder = asynchronous(draw.below(sessions));
-        let request = draw.pick(&[self.exclusive, self.shared]);
-        [
-            Step::Deliver(synchronous(draw.below(sessions)), draw.pick(&self.data)),
-            Step::Deliver(synchronous(draw.below(sessions)), draw.pick(&self.data_end)),
-            Step::Deliver(asynchronous(draw.below(sessions)), draw.pick(&self.status)),
-            Step::Deliver(synchronous(draw.below(sessions)), draw.pick(&self.pieces)),
-            Step::Deliver(holder, request),
-            Step::Deliver(holder, self.release),
-        ]
+    fn draw_round(&self, draw: &mut Draw, sessions: u32, between: bool) -> Round {
+        let mut order = KINDS;
+        loop {
+            draw.shuffle(&mut order);
+            if orderly(&order, between) {
+                break;
+            }
+        }
+        let script = &self.script;
+        Round {
+            order,
+            holder: draw.below(sessions),
+            request: draw.pick(&[script.exclusive, script.shared]),
+            data: (draw.below(sessions), draw.pick(&CODES)),
+            data_end: (draw.below(sessions), draw.pick(&CODES)),
+            status: (draw.below(sessions), draw.pick(&script.status)),
+            piece: (draw.below(sessions), draw.pick(&script.pieces)),
+        }
+    }
+
+    fn round(&mut self, round: &Round, wanted: &[Kind]) {
+        let script = &mut self.script;
+        let mut locked = false;
+        let message = |script: &mut Script, (session, code): (u32, u8), kind: u8, locked: bool| {
+            if locked && session != round.holder {
+                script.held(session, kind, code);
+            } else {
+                script.message(session, kind, code);
+            }
+        };
+        for kind in round.order.iter().filter(|kind| wanted.contains(kind)) {
+            match kind {
+                Kind::Data => message(script, round.data, kind::DATA, locked),
+                Kind::DataEnd => message(script, round.data_end, kind::DATA_END, locked),
+                Kind::Status => script.asynchronous(round.status.0, round.status.1),
+                Kind::Piece => script.synchronous(round.piece.0, round.piece.1),
+                Kind::Request => {
+                    script.asynchronous(round.holder, round.request);
+                    locked = true;
+                }
+                Kind::Release => {
+                    script.release(round.holder);
+                    locked = false;
+                }
+            }
+        }
     }
 
     /// The mix with every round alike and the sessions in turn: what it costs once a processor has
     /// learnt the order.
-    fn in_turn(&self) -> Vec<Step> {
-        let round = |round: usize| {
+    fn in_turn(&mut self) {
+        for round in 0..ROUNDS.min(self.events) {
             let session = round as u32 % ALL;
-            let (synchronous, asynchronous) = (synchronous(session), asynchronous(session));
-            let request = [self.exclusive, self.shared][round / SESSIONS % 2];
-            [
-                Step::Deliver(synchronous, self.data[0]),
-                Step::Deliver(synchronous, self.data_end[1]),
-                Step::Deliver(asynchronous, self.status[0]),
-                Step::Deliver(synchronous, self.pieces[round % 3]),
-                Step::Deliver(asynchronous, request),
-                Step::Deliver(asynchronous, self.release),
-            ]
-        };
-        (0..ROUNDS.min(self.events)).flat_map(round).collect()
-    }
-
-    /// The mix's deliveries of some kinds alone, in their order.
-    fn of_the_mix(&self, parts: &[Part]) -> Workload {
-        let wanted = |step: &Step| matches!(step, Step::Deliver(_, part) if parts.contains(part));
-        let mut steps = self.mix(ALL, false);
-        steps.retain(wanted);
-        self.workload(steps)
+            let script = &mut self.script;
+            let request = [script.exclusive, script.shared][round / SESSIONS % 2];
+            script.message(session, kind::DATA, 0);
+            script.message(session, kind::DATA_END, 1);
+            script.asynchronous(session, script.status[0]);
+            script.synchronous(session, script.pieces[round % 3]);
+            script.asynchronous(session, request);
+            script.release(session);
+        }
     }
 
     fn count(&self) -> usize {
         EVENTS.min(self.events)
     }
 
+    /// What was written so far is run before the time is taken.
+    fn begin(&mut self) {
+        self.before = std::mem::take(&mut self.script.steps);
+    }
+
     /// Data and DataEND of those who have no access, while the first session holds the lock.
-    fn held(&self) -> Workload {
+    fn held(&mut self) {
         let mut draw = Draw::new();
-        let held = |_| {
-            let part = draw.pick(&[self.data[0], self.data_end[1]]);
-            Step::Deliver(synchronous(1 + draw.below(ALL - 1)), part)
-        };
-        let steps = (0..self.count()).map(held).collect();
-        Workload {
-            before: vec![Step::Deliver(asynchronous(0), self.exclusive)],
-            ..self.workload(steps)
+        self.script.asynchronous(0, self.script.exclusive);
+        self.begin();
+        for _ in 0..self.count() {
+            let (kind, code) = draw.pick(&[(kind::DATA, 0), (kind::DATA_END, 1)]);
+            self.script.held(1 + draw.below(ALL - 1), kind, code);
         }
     }
 
     /// One session holds and all others wait; each release grants the next one, and who released asks
     /// again. `asks` is a session's request.
-    fn storm(&self, asks: impl Fn(u32) -> Part) -> Workload {
-        let wait = |session: u32| Step::Deliver(asynchronous(session), asks(session));
+    fn storm(&mut self, asks: fn(&Script, u32) -> Part) {
         let mut line = Draw::new().shuffled(ALL);
-        let before = line.iter().map(|session| wait(*session)).collect();
-        let mut steps = Vec::with_capacity(self.count());
-        while steps.len() < self.count() {
-            let first = line[0];
-            steps.push(Step::Deliver(asynchronous(first), self.release));
-            steps.push(wait(first));
-            line.rotate_left(1);
+        for session in &line {
+            self.script
+                .asynchronous(*session, asks(&self.script, *session));
         }
-        Workload {
-            before,
-            ..self.workload(steps)
+        self.begin();
+        while self.script.steps.len() < self.count() {
+            let first = line[0];
+            self.script.release(first);
+            self.script.asynchronous(first, asks(&self.script, first));
+            line.rotate_left(1);
         }
     }
 
     /// The first session shares with its string; it takes and releases the exclusive lock over and over,
     /// and of all others, who wait, nobody can be granted anything.
-    fn in_vain(&self, asks: impl Fn(u32) -> Part) -> Workload {
-        let first = |part: Part| Step::Deliver(asynchronous(0), part);
-        let wait = |session: u32| Step::Deliver(asynchronous(session), asks(session));
-        let mut before = vec![first(self.shared)];
-        let others = Draw::new().shuffled(ALL - 1);
-        before.push(first(self.exclusive));
-        before.extend(others.iter().map(|other| wait(1 + other)));
-        let pair = [first(self.release), first(self.exclusive)];
-        let steps = pair.into_iter().cycle().take(self.count()).collect();
-        Workload {
-            before,
-            ..self.workload(steps)
+    fn in_vain(&mut self, asks: fn(&Script, u32) -> Part) {
+        self.script.asynchronous(0, self.script.shared);
+        self.script.asynchronous(0, self.script.exclusive);
+        for other in Draw::new().shuffled(ALL - 1) {
+            let asked = asks(&self.script, 1 + other);
+            self.script.asynchronous(1 + other, asked);
+        }
+        self.begin();
+        while self.script.steps.len() < self.count() {
+            self.script.release(0);
+            self.script.asynchronous(0, self.script.exclusive);
         }
     }
 
-    /// DataEND of a session drawn at random, then the answer to one that has asked.
-    fn answers(&self) -> Workload {
+    /// The answer to one that has asked, then DataEND of a session drawn at random.
+    fn answers(&mut self) {
         let mut draw = Draw::new();
         let mut asked: Vec<u32> = (0..ALL).collect();
-        let before = asked
-            .iter()
-            .map(|asks| Step::Deliver(synchronous(*asks), self.data_end[1]))
-            .collect();
-        let mut steps = Vec::with_capacity(self.count());
-        while steps.len() < self.count() {
+        for asks in &asked {
+            self.script.message(*asks, kind::DATA_END, 1);
+        }
+        self.begin();
+        while self.script.steps.len() < self.count() {
             let answered = asked.swap_remove(draw.below(asked.len() as u32) as usize);
-            steps.push(Step::Answer(1 + answered, self.answer));
+            self.script.answer(answered);
             let asks = draw.below(ALL);
-            steps.push(Step::Deliver(synchronous(asks), self.data_end[1]));
+            self.script.message(asks, kind::DATA_END, 1);
             if !asked.contains(&asks) {
                 asked.push(asks);
             }
-        }
-        Workload {
-            before,
-            ..self.workload(steps)
         }
     }
 }
 
 /// In a round's order: the release comes after the request, and unless Data and DataEND may stand
 /// between them, neither does.
-fn orderly(order: &[usize; 6], between: bool) -> bool {
-    let place = |which: usize| order.iter().position(|other| *other == which);
-    let (data, data_end) = (place(0), place(1));
-    let locked = place(4)..place(5);
+fn orderly(order: &[Kind; 6], between: bool) -> bool {
+    let place = |which: Kind| order.iter().position(|other| *other == which);
+    let (data, data_end) = (place(Kind::Data), place(Kind::DataEnd));
+    let locked = place(Kind::Request)..place(Kind::Release);
     let apart = between || !(locked.contains(&data) || locked.contains(&data_end));
-    place(4) < place(5) && apart
-}
-
-/// The connections of a session, counted from 0.
-fn synchronous(session: u32) -> u32 {
-    2 * session
-}
-
-fn asynchronous(session: u32) -> u32 {
-    2 * session + 1
+    place(Kind::Request) < place(Kind::Release) && apart
 }
 
 /// The mix and each of its kinds.
-const OF_THE_MIX: [(&str, fn(&Messages) -> Workload); 6] = [
-    ("02's mix", |m| m.workload(m.mix(ALL, false))),
-    ("Data", |m| m.of_the_mix(&m.data)),
-    ("DataEND", |m| m.of_the_mix(&m.data_end)),
-    ("status queries", |m| m.of_the_mix(&m.status)),
-    ("lock requests and releases", |m| {
-        m.of_the_mix(&[m.exclusive, m.shared, m.release])
+const OF_THE_MIX: [(&str, Make); 6] = [
+    ("02's mix", |a| a.mix(ALL, false, &KINDS)),
+    ("Data", |a| a.mix(ALL, false, &[Kind::Data])),
+    ("DataEND", |a| a.mix(ALL, false, &[Kind::DataEnd])),
+    ("status queries", |a| a.mix(ALL, false, &[Kind::Status])),
+    ("lock requests and releases", |a| {
+        a.mix(ALL, false, &[Kind::Request, Kind::Release]);
     }),
-    ("pieces of messages", |m| m.of_the_mix(&m.pieces)),
+    ("pieces of messages", |a| a.mix(ALL, false, &[Kind::Piece])),
 ];
 
 /// The mix with fewer sessions.
-const FEWER: [(u32, fn(&Messages) -> Workload); 3] = [
-    (1, |m| m.workload(m.mix(1, false))),
-    (4, |m| m.workload(m.mix(4, false))),
-    (16, |m| m.workload(m.mix(16, false))),
+const FEWER: [(u32, Make); 3] = [
+    (1, |a| a.mix(1, false, &KINDS)),
+    (4, |a| a.mix(4, false, &KINDS)),
+    (16, |a| a.mix(16, false, &KINDS)),
 ];
+
+/// A session's request in the rows with waiting requests.
+const EXCLUSIVE: fn(&Script, u32) -> Part = |script, _| script.wait;
+const LONG: fn(&Script, u32) -> Part = |script, session| script.wait_long[session as usize];
 
 /// All workloads, in the page's order.
 pub fn all() -> Vec<Plan> {
     let mut all = Vec::new();
-    let mut plan = |name: &str, make: fn(&Messages) -> Workload, clear: bool| {
+    let mut plan = |name: &str, make: Make, clear: bool| {
         let name = name.to_owned();
         all.push(Plan { name, clear, make });
     };
@@ -325,26 +304,26 @@ pub fn all() -> Vec<Plan> {
         );
     }
     let others = ALL - 1;
-    let rest: [(&str, fn(&Messages) -> Workload); 8] = [
-        ("02's mix, in a fixed order", |m| m.workload(m.in_turn())),
-        ("02's mix, a third of Data held", |m| {
-            m.workload(m.mix(ALL, true))
+    let rest: [(&str, Make); 8] = [
+        ("02's mix, in a fixed order", Author::in_turn),
+        ("02's mix, a third of Data held", |a| {
+            a.mix(ALL, true, &KINDS);
         }),
-        ("Data and DataEND, held", Messages::held),
-        (&format!("exclusive, {others} waiting"), |m| {
-            m.storm(|_| m.wait)
+        ("Data and DataEND, held", Author::held),
+        (&format!("exclusive, {others} waiting"), |a| {
+            a.storm(EXCLUSIVE);
         }),
         (
             &format!("{LOCK_STRING}-byte strings, {others} waiting"),
-            |m| m.storm(|session| m.wait_long[session as usize]),
+            |a| a.storm(LONG),
         ),
-        (&format!("release in vain, {others} waiting"), |m| {
-            m.in_vain(|_| m.wait)
+        (&format!("release in vain, {others} waiting"), |a| {
+            a.in_vain(EXCLUSIVE);
         }),
-        (&format!("release in vain, {others} wait to share"), |m| {
-            m.in_vain(|session| m.wait_long[session as usize])
+        (&format!("release in vain, {others} wait to share"), |a| {
+            a.in_vain(LONG);
         }),
-        ("DataEND and 1,024-byte answers", Messages::answers),
+        ("DataEND and 1,024-byte answers", Author::answers),
     ];
     for (name, make) in rest {
         plan(name, make, false);

@@ -1,0 +1,130 @@
+//! What the sessions' programs send: messages with a count as their number, and releases that name the last one.
+
+use std::collections::BTreeMap;
+
+use reference::compose::message;
+use reference::limits::{LOCK_STRING, PAYLOAD, SESSIONS};
+use reference::wire::kind;
+
+/// A message or a payload in `Script::bytes`.
+#[derive(Clone, Copy, PartialEq, Eq)]
+pub struct Part {
+    pub start: u32,
+    pub length: u32,
+}
+
+/// One event of a timed loop.
+#[derive(Clone, Copy)]
+pub enum Step {
+    /// Connection, and what it shows.
+    Deliver(u32, Part),
+    /// Session, and the payload.
+    Answer(u32, Part),
+}
+
+/// MessageID of a program's first message.
+const FIRST: u32 = 0xffff_ff00;
+/// What a release names before it.
+const BEFORE_FIRST: u32 = FIRST - 2;
+const COMMAND: &[u8] = b"CONFigure:VOLTage:DC 10,0.001;:INITiate";
+
+/// Steps one after another, and the bytes that they show.
+pub struct Script {
+    pub steps: Vec<Step>,
+    pub bytes: Vec<u8>,
+    /// So many messages of each session have acted.
+    acted: [u32; SESSIONS],
+    /// Made when first sent; programs that are equally far send the same one. By type, code and count.
+    counted: BTreeMap<(u8, u8), Vec<Option<Part>>>,
+    /// With RMT-delivered 0 and 1.
+    pub status: [Part; 2],
+    pub exclusive: Part,
+    pub shared: Part,
+    /// Three pieces of a DataEND: less than a header, a header, and some payload.
+    pub pieces: [Part; 3],
+    /// Exclusive, with a long timeout.
+    pub wait: Part,
+    /// For each session a string of the greatest length, with a long timeout; the last byte tells them apart.
+    pub wait_long: Vec<Part>,
+    reading: Part,
+}
+
+impl Script {
+    pub fn new() -> Script {
+        let mut bytes = Vec::new();
+        let mut keep = |part: &[u8]| kept(&mut bytes, part);
+        let piece = message(kind::DATA_END, 0, FIRST, COMMAND);
+        let long = |session: u8| {
+            let mut string = [b's'; LOCK_STRING];
+            string[LOCK_STRING - 1] = session;
+            message(kind::LOCK, 1, u32::MAX, &string)
+        };
+        Script {
+            status: [0, 1].map(|code| keep(&message(kind::STATUS_QUERY, code, FIRST, b""))),
+            exclusive: keep(&message(kind::LOCK, 1, 0, b"")),
+            shared: keep(&message(kind::LOCK, 1, 0, b"calibration")),
+            pieces: [7, 16, 40].map(|length| keep(&piece[..length])),
+            wait: keep(&message(kind::LOCK, 1, u32::MAX, b"")),
+            wait_long: (1..=SESSIONS as u8)
+                .map(|session| keep(&long(session)))
+                .collect(),
+            reading: keep(&[b'7'; PAYLOAD]),
+            bytes,
+            steps: Vec::new(),
+            acted: [0; SESSIONS],
+            counted: BTreeMap::new(),
+        }
+    }
+
+    pub fn synchronous(&mut self, session: u32, part: Part) {
+        self.steps.push(Step::Deliver(2 * session, part));
+    }
+
+    pub fn asynchronous(&mut self, session: u32, part: Part) {
+        self.steps.push(Step::Deliver(2 * session + 1, part));
+    }
+
+    /// Data or DataEND of a session that has access; code 1 is RMT-delivered.
+    pub fn message(&mut self, session: u32, kind: u8, code: u8) {
+        self.held(session, kind, code);
+        self.acted[session as usize] += 1;
+    }
+
+    /// Data or DataEND of a session that has none: it will be sent again.
+    pub fn held(&mut self, session: u32, kind: u8, code: u8) {
+        let acted = self.acted[session as usize];
+        let number = FIRST.wrapping_add(2 * acted);
+        let part = self.counted(kind, code, acted, number, COMMAND);
+        self.synchronous(session, part);
+    }
+
+    pub fn release(&mut self, session: u32) {
+        let acted = self.acted[session as usize];
+        let number = BEFORE_FIRST.wrapping_add(2 * acted);
+        let part = self.counted(kind::LOCK, 0, acted, number, b"");
+        self.asynchronous(session, part);
+    }
+
+    /// The instrument's answer, with its end.
+    pub fn answer(&mut self, session: u32) {
+        self.steps.push(Step::Answer(1 + session, self.reading));
+    }
+
+    /// A message that carries a count; equal counts have equal numbers.
+    fn counted(&mut self, kind: u8, code: u8, count: u32, number: u32, payload: &[u8]) -> Part {
+        let made = self.counted.entry((kind, code)).or_default();
+        let place = count as usize;
+        if made.len() <= place {
+            made.resize(place + 1, None);
+        }
+        let bytes = &mut self.bytes;
+        *made[place].get_or_insert_with(|| kept(bytes, &message(kind, code, number, payload)))
+    }
+}
+
+fn kept(bytes: &mut Vec<u8>, part: &[u8]) -> Part {
+    let start = bytes.len() as u32;
+    bytes.extend_from_slice(part);
+    let length = part.len() as u32;
+    Part { start, length }
+}
