@@ -1,4 +1,4 @@
-/* hislip_server.h - the server side of HiSLIP protocol 1.0 (IVI-6.1), synchronized mode.
+/* hislip_server.h - the server side of HiSLIP protocol 1.0 (IVI-6.1), synchronized and overlap mode.
  *
  * The host owns sockets, clock and instrument; this library owns the protocol. The host tells the
  * server of six events: a connection opens, unread bytes of a connection are delivered, a connection
@@ -56,7 +56,7 @@
  *       hislip_delivery told;
  *       if (hislip_words() != HISLIP_WORDS || hislip_string_bytes() != HISLIP_STRING_BYTES)
  *           return 1; // header and archive are not of one version
- *       hislip_new(words, strings, 0x4141);
+ *       hislip_new(words, strings, 0x4141, HISLIP_SYNCHRONIZED);
  *       if (hislip_open(words, strings, 0).refusal != HISLIP_ACCEPTED)
  *           return 1;
  *       told = hislip_deliver(words, strings, 0, initialize, sizeof initialize, out, sizeof out);
@@ -83,9 +83,9 @@ extern "C" {
 /* The version of this interface. A change of the first number, or below 1.0 of the second, may ask
  * for changes in the host. */
 #define HISLIP_VERSION_MAJOR 0
-#define HISLIP_VERSION_MINOR 2
+#define HISLIP_VERSION_MINOR 3
 #define HISLIP_VERSION_PATCH 0
-#define HISLIP_VERSION "0.2.0"
+#define HISLIP_VERSION "0.3.0"
 
 /* Compilers that know these words warn; the others pass over them.
  * HISLIP_NOT_NULL: no pointer is null, see WHAT THE HOST OWES.
@@ -145,10 +145,15 @@ extern "C" {
 #define HISLIP_REFUSED_ALREADY_OPEN 2    /* opening one already open                                    */
 #define HISLIP_REFUSED_CLOCK_BACKWARDS 3 /* clock below the last reading (equal is fine)                */
 #define HISLIP_REFUSED_CLOCK_TOO_HIGH 4  /* clock above 2^62                                            */
-#define HISLIP_REFUSED_NOTHING_ASKED 5   /* the session has asked nothing                               */
+#define HISLIP_REFUSED_NOTHING_ASKED 5   /* the session has asked nothing; in overlap mode, it is
+                                            half-open or in a device clear                              */
 #define HISLIP_REFUSED_ANSWER_TOO_LONG 6 /* answer above 1,024 bytes or above the client's size         */
 #define HISLIP_REFUSED_SHORT_BUFFER 7    /* output buffer under 2,048 bytes                             */
 #define HISLIP_REFUSED_NO_SESSION 8      /* no live session of that number                              */
+
+/* Modes, for hislip_new. */
+#define HISLIP_SYNCHRONIZED 0
+#define HISLIP_OVERLAP 1
 
 /* Outcomes of a delivery. */
 #define HISLIP_MORE_NEEDED 0 /* too few bytes; show them again with more. Nothing taken, nothing changed   */
@@ -194,10 +199,12 @@ uint64_t hislip_words(void);
 uint64_t hislip_string_bytes(void);
 
 /* Makes a fresh server: clock 0, status byte 0, nothing open. `vendor` is the two-letter vendor
- * number, first letter in the upper byte ("AA" is 0x4141). Writes every lent word and byte; what they
+ * number, first letter in the upper byte ("AA" is 0x4141). `overlap` is the mode that the server prefers
+ * and that a session starts in: 0 (HISLIP_SYNCHRONIZED) for synchronized, any other value for overlap. A
+ * client may ask for either with the code of its DeviceClearComplete. Writes every lent word and byte; what they
  * held before does not matter. Never refused. */
 HISLIP_NOT_NULL
-void hislip_new(uint64_t *words, uint8_t *strings, uint16_t vendor);
+void hislip_new(uint64_t *words, uint8_t *strings, uint16_t vendor, uint8_t overlap);
 
 /* A connection opens. Refusals: 1 (above 63), 2 (already open). Sends nothing. */
 HISLIP_NOT_NULL
@@ -229,9 +236,11 @@ hislip_done hislip_clock(uint64_t *words, uint8_t *strings, uint64_t millisecond
                          uint8_t *out, size_t out_len);
 
 /* The instrument answers a session: sent as Data, or as DataEND if `end` is not 0, with the MessageID
- * of the question. `len` may be 0. Refusals, in this order: 7, 8 (no live session of that number),
- * 5 (it has asked nothing: no DataEND or Trigger since the last answer with END, or a device clear
- * came after it), 6 (`len` above 1,024 or above the size the client announced). */
+ * of the question; to a session in overlap mode, with a count of its answers, from ffffff00 hex by two.
+ * `len` may be 0. Refusals, in this order: 7, 8 (no live session of that number), 5 (it has asked
+ * nothing: no DataEND or Trigger since the last answer with END, or a device clear came after it; in
+ * overlap mode: it is half-open or in a device clear), 6 (`len` above 1,024 or above the size the client
+ * announced). */
 HISLIP_NOT_NULL HISLIP_USE_RESULT
 hislip_done hislip_answer(uint64_t *words, uint8_t *strings, uint32_t session,
                           const uint8_t *payload, size_t len, uint8_t end,

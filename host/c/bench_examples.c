@@ -121,7 +121,7 @@ static hislip_delivery call(const row *row, size_t length)
     hislip_delivery none = {0};
     switch (row->event) {
     case FRESH:
-        hislip_new(words, strings, 0x4141);
+        hislip_new(words, strings, 0x4141, HISLIP_SYNCHRONIZED);
         return none;
     case OPEN:
         return widened(hislip_open(words, strings, row->number));

@@ -15,7 +15,7 @@ static int first_session(void)
     hislip_delivery told;
     if (hislip_words() != HISLIP_WORDS || hislip_string_bytes() != HISLIP_STRING_BYTES)
         return 1; // header and archive are not of one version
-    hislip_new(words, strings, 0x4141);
+    hislip_new(words, strings, 0x4141, HISLIP_SYNCHRONIZED);
     if (hislip_open(words, strings, 0).refusal != HISLIP_ACCEPTED)
         return 1;
     told = hislip_deliver(words, strings, 0, initialize, sizeof initialize, out, sizeof out);

@@ -1,7 +1,7 @@
 //! The two sides. Each pays one call that is not inlined, with the same numbers in and out.
 
 use hislip::sys;
-use reference::Reply;
+use reference::{Mode, Reply};
 
 pub trait Contender {
     fn new() -> Self;
@@ -29,7 +29,7 @@ impl Contender for Library {
             strings: vec![0; strings as usize],
         };
         let (words, strings) = (library.words.as_mut_ptr(), library.strings.as_mut_ptr());
-        unsafe { sys::hislip_new(words, strings, VENDOR) };
+        unsafe { sys::hislip_new(words, strings, VENDOR, Mode::Synchronized as u8) };
         library
     }
 
@@ -75,7 +75,7 @@ pub struct Ordinary(Box<ordinary::Server>);
 
 impl Contender for Ordinary {
     fn new() -> Ordinary {
-        Ordinary(Box::new(ordinary::Server::new(VENDOR)))
+        Ordinary(Box::new(ordinary::Server::new(VENDOR, Mode::Synchronized)))
     }
 
     fn open(&mut self, connection: u32) {

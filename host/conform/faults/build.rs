@@ -71,7 +71,7 @@ fn changed(source: &str, entry: &Entry) -> String {
 fn module(code: &mut String, out: &Path, entry: &Entry) {
     let name = entry["name"];
     writeln!(code, "#[allow(warnings)]\nmod {name} {{").expect("string");
-    writeln!(code, "    pub use reference::lock_view;").expect("string");
+    writeln!(code, "    pub use reference::{{lock_view, mode}};").expect("string");
     for module in MODULES {
         let path = out.join(name).join(module).with_extension("rs");
         writeln!(code, "    #[path = {path:?}]\n    pub mod {module};").expect("string");
@@ -86,7 +86,7 @@ fn row(table: &mut String, entry: &Entry) {
     writeln!(
         table,
         "    Fault {{ name: {name:?}, breaks: {breaks:?}, alone: {alone}, \
-         new: |vendor| Box::new({name}::server::Server::new(vendor)) }},"
+         new: |fresh| Box::new(<{name}::server::Server as Subject>::new(fresh)) }},"
     )
     .expect("string");
 }

@@ -1,9 +1,9 @@
 //! The bench examples of 01: the bytes stand here, so that both servers cannot be wrong together.
 
 use reference::event::Frame;
-use reference::{Event, Reply};
+use reference::{Event, Fresh, Mode, Reply};
 
-use crate::bout::{Bout, Difference, Failed, Pair, VENDOR};
+use crate::bout::{Bout, Difference, Failed, Pair, BENCH};
 use crate::messages::{answer, clock, deliver, header, lock, message, release, session};
 
 /// One event with its outcome and whole output.
@@ -16,6 +16,7 @@ struct Example {
 
 /// Examples one after another, from a fresh server that has gone through some events.
 struct Conversation {
+    fresh: Fresh,
     before: Vec<Event>,
     examples: Vec<Example>,
 }
@@ -48,6 +49,7 @@ fn opening() -> Conversation {
     let joined = b"\x01\x48\x53\x12\x00\x00\x00\x41\x41\0\0\0\0\0\0\0\0".to_vec();
     let acted = Reply::ACTED_ON;
     Conversation {
+        fresh: BENCH,
         before: vec![open(0), open(1)],
         examples: vec![
             example("Initialize", deliver(0, initialize), acted, opened),
@@ -65,6 +67,7 @@ fn reading() -> Conversation {
     let (acted, error) = (Reply::ACTED_ON, Reply::ERROR_SENT);
     let fatal = [frame(2, 2, 1, 0), frame(3, 2, 1, 0)].concat();
     Conversation {
+        fresh: BENCH,
         before: three(),
         examples: vec![
             example("15 bytes", fifteen, Reply::MORE_NEEDED, vec![]),
@@ -88,6 +91,7 @@ fn told(name: &'static str, event: Event, connection: u8, code: u8) -> Example {
 
 fn exclusive() -> Conversation {
     Conversation {
+        fresh: BENCH,
         before: three(),
         examples: vec![
             told("A exclusive", lock(1, b"", 0), 1, 1),
@@ -99,6 +103,7 @@ fn exclusive() -> Conversation {
 
 fn shared() -> Conversation {
     Conversation {
+        fresh: BENCH,
         before: three(),
         examples: vec![
             told("A cal", lock(1, b"cal", 0), 1, 1),
@@ -116,6 +121,7 @@ fn shared() -> Conversation {
 fn waiting() -> Conversation {
     let waits = lock(3, b"", 500);
     Conversation {
+        fresh: BENCH,
         before: [three(), vec![clock(1000), lock(1, b"", 0)]].concat(),
         examples: vec![
             example("B waits 500", waits, Reply::ACTED_ON, vec![]),
@@ -131,8 +137,77 @@ fn status() -> Conversation {
     let query = deliver(1, header(21, 0, 0xffff_ff00, 0));
     let response = frame(1, 22, 0x51, 0);
     Conversation {
+        fresh: BENCH,
         before: [three(), then].concat(),
         examples: vec![example("status 51", query, Reply::ACTED_ON, response)],
+    }
+}
+
+/// a server that prefers overlap mode counts its answers; a clear may ask for the other mode.
+fn overlap() -> Conversation {
+    let acted = Reply::ACTED_ON;
+    let told = |number: u32| {
+        let mut bytes = vec![0];
+        bytes.extend(message(7, 0, number, b"x"));
+        bytes
+    };
+    let query = |number| deliver(1, header(21, 0, number, 0));
+    let question = deliver(0, message(7, 0, 0xffff_ff00, b"?"));
+    Conversation {
+        fresh: Fresh {
+            prefers: Mode::Overlap,
+            ..BENCH
+        },
+        before: vec![Event::Open { connection: 0 }, Event::Open { connection: 1 }],
+        examples: vec![
+            example(
+                "overlap preferred",
+                deliver(0, header(0, 0, 0x0100_4141, 0)),
+                acted,
+                frame(0, 1, 1, 0x0100_0001),
+            ),
+            example(
+                "joined",
+                deliver(1, header(17, 0, 1, 0)),
+                acted,
+                frame(1, 18, 0, 0x4141),
+            ),
+            example("nothing sent", query(0), acted, frame(1, 22, 0, 0)),
+            example("first answer", answer(1, b"x", 1), 0, told(0xffff_ff00)),
+            example("second answer", answer(1, b"x", 1), 0, told(0xffff_ff02)),
+            example(
+                "one is left",
+                query(0xffff_ff00),
+                acted,
+                frame(1, 22, 16, 0),
+            ),
+            example(
+                "none is left",
+                query(0xffff_ff02),
+                acted,
+                frame(1, 22, 0, 0),
+            ),
+            example(
+                "clear",
+                deliver(1, header(19, 0, 0, 0)),
+                acted,
+                frame(1, 23, 1, 0),
+            ),
+            example(
+                "synchronized asked for",
+                deliver(0, header(8, 2, 0, 0)),
+                acted,
+                frame(0, 9, 0, 0),
+            ),
+            example("a question", question, acted, vec![]),
+            example("its answer", answer(1, b"x", 1), 0, told(0xffff_ff00)),
+            example(
+                "not delivered",
+                query(0xffff_ff00),
+                acted,
+                frame(1, 22, 16, 0),
+            ),
+        ],
     }
 }
 
@@ -145,6 +220,7 @@ pub fn check(pair: Pair) -> Result<usize, Failed> {
         shared(),
         waiting(),
         status(),
+        overlap(),
     ];
     let mut count = 0;
     for conversation in all {
@@ -157,10 +233,13 @@ impl Conversation {
     fn check(&self, pair: Pair) -> Result<usize, Failed> {
         let events = self.examples.iter().map(|example| example.event.clone());
         let events: Vec<Event> = events.collect();
-        let failed = |found| Failed::after(&self.before, &events, found, "examples");
-        let mut bout = Bout::new(pair, VENDOR);
+        let failed =
+            |found| Failed::after(&self.before, &events, found, "examples").from(self.fresh);
+        let mut bout = Bout::new(pair, self.fresh);
         let before = bout.run(&self.before);
-        before.map_err(|found| Failed::after(&[], &self.before, found, "examples"))?;
+        before.map_err(|found| {
+            Failed::after(&[], &self.before, found, "examples").from(self.fresh)
+        })?;
         for (place, example) in self.examples.iter().enumerate() {
             example.check(&mut bout).map_err(|what| {
                 let what = format!("bench example \"{}\": {what}", example.name);

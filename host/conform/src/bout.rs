@@ -1,6 +1,6 @@
 //! Two servers, one list.
 
-use reference::{Event, Reply};
+use reference::{Event, Fresh, Reply};
 
 use crate::asking::Roll;
 use crate::demand3::Trial;
@@ -25,7 +25,7 @@ pub struct Difference {
 /// A list on which two servers differ.
 #[derive(Clone, Debug)]
 pub struct Failed {
-    pub vendor: u16,
+    pub fresh: Fresh,
     pub list: Vec<Event>,
     /// So many events at the beginning prepare what the list is about.
     pub prepares: usize,
@@ -38,7 +38,7 @@ impl Failed {
     /// A list that is not random; the difference's place is counted from the end of `prepares`.
     pub fn after(prepares: &[Event], list: &[Event], found: Difference, again: &str) -> Failed {
         Failed {
-            vendor: VENDOR,
+            fresh: BENCH,
             list: [prepares, list].concat(),
             prepares: prepares.len(),
             difference: Difference {
@@ -48,10 +48,15 @@ impl Failed {
             again: again.into(),
         }
     }
+
+    /// The same list from another fresh server than the bench's.
+    pub fn from(self, fresh: Fresh) -> Failed {
+        Failed { fresh, ..self }
+    }
 }
 
-/// Vendor number of the lists that are not random: "AA".
-pub const VENDOR: u16 = 0x4141;
+/// What most lists that are not random start from.
+pub const BENCH: Fresh = Fresh::BENCH;
 
 /// Two servers under watch, each with demand 3 beside it.
 pub struct Bout {
@@ -72,11 +77,11 @@ fn by_demand3(side: Side) -> impl Fn(Complaint) -> Complaint {
 }
 
 impl Bout {
-    pub fn new(pair: Pair, vendor: u16) -> Bout {
+    pub fn new(pair: Pair, fresh: Fresh) -> Bout {
         Bout {
             pair,
-            left: Trial::new(&pair.left, vendor),
-            right: Trial::new(&pair.right, vendor),
+            left: Trial::new(&pair.left, fresh),
+            right: Trial::new(&pair.right, fresh),
             roll: Roll::default(),
         }
     }
@@ -144,15 +149,15 @@ impl Bout {
 }
 
 /// Runs a list that is not random; returns the events run.
-pub fn check_list(pair: Pair, again: &str, list: &[Event]) -> Result<usize, Failed> {
-    let ran = Bout::new(pair, VENDOR).run(list);
-    ran.map_err(|difference| Failed::after(&[], list, difference, again))?;
+pub fn check_list(pair: Pair, fresh: Fresh, again: &str, list: &[Event]) -> Result<usize, Failed> {
+    let ran = Bout::new(pair, fresh).run(list);
+    ran.map_err(|difference| Failed::after(&[], list, difference, again).from(fresh))?;
     Ok(list.len())
 }
 
 /// Runs a list on one server with the checks that need no second one.
-pub fn run_alone(side: &Side, vendor: u16, list: &[Event]) -> Result<(), Complaint> {
-    let mut trial = Trial::new(side, vendor);
+pub fn run_alone(side: &Side, fresh: Fresh, list: &[Event]) -> Result<(), Complaint> {
+    let mut trial = Trial::new(side, fresh);
     for event in list {
         trial.watch.event(event)?;
         trial.demand3(event)?;

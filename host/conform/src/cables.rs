@@ -6,7 +6,7 @@ use std::ops::Range;
 use reference::limits::{CONNECTIONS, LOCK_STRING};
 use reference::{Event, Server, Subject};
 
-use crate::bout::{check_list, Failed, Pair, VENDOR};
+use crate::bout::{check_list, Failed, Pair, BENCH};
 use crate::messages::{answer, clock, cut, deliver, header, lock, message, session};
 
 const PIECES: [usize; 6] = [1, 3, 15, 16, 17, 2000];
@@ -61,7 +61,7 @@ impl Builder {
     fn new() -> Builder {
         let mut builder = Builder {
             list: Vec::new(),
-            server: Server::new(VENDOR),
+            server: <Server as Subject>::new(BENCH),
             out: vec![0; 2048],
             unread: [Vec::new(), Vec::new()],
         };
@@ -135,7 +135,7 @@ pub fn check(pair: Pair) -> Result<usize, Failed> {
         for cut_after in
             (1..=length()).filter(|n| !LONG.iter().any(|long| long.contains(n)) || n % 40 == 0)
         {
-            count += check_list(pair, "cables", &list(piece, cut_after))?;
+            count += check_list(pair, BENCH, "cables", &list(piece, cut_after))?;
         }
     }
     Ok(count)
@@ -144,11 +144,11 @@ pub fn check(pair: Pair) -> Result<usize, Failed> {
 #[cfg(test)]
 mod tests {
     use super::{length, list};
-    use reference::{Event, Reply, Server, Subject};
+    use reference::{Event, Fresh, Reply, Server, Subject};
 
     /// Outcomes of the whole script in one piece size.
     fn outcomes(piece: usize) -> Vec<u64> {
-        let mut server = <Server as Subject>::new(0x4141);
+        let mut server = <Server as Subject>::new(Fresh::BENCH);
         let mut out = [0; 2048];
         let mut found = Vec::new();
         for event in list(piece, length()) {

@@ -16,19 +16,19 @@ use crate::{
 
 pub const REFERENCE: Side = Side {
     name: "reference",
-    new: |vendor| Box::new(<reference::Server as Subject>::new(vendor)),
+    new: |fresh| Box::new(<reference::Server as Subject>::new(fresh)),
     see_locks: true,
 };
 
 pub const LIBRARY: Side = Side {
     name: "library",
-    new: |vendor| Box::new(Library::new(vendor)),
+    new: |fresh| Box::new(Library::new(fresh)),
     see_locks: false,
 };
 
 pub const ORDINARY: Side = Side {
     name: "ordinary server",
-    new: |vendor| Box::new(<ordinary::Server as Subject>::new(vendor)),
+    new: |fresh| Box::new(<ordinary::Server as Subject>::new(fresh)),
     see_locks: true,
 };
 

@@ -4,7 +4,7 @@ use reference::event::{frames, Frame};
 use reference::history::{omitted, trimmed};
 use reference::lock_model::{LockAnswer, LockModel};
 use reference::lock_view::LockView;
-use reference::{Event, Reply, Subject};
+use reference::{Event, Fresh, Reply, Subject};
 
 use crate::messages::{header, BEFORE_FIRST};
 use crate::watch::{Complaint, Side, Watch};
@@ -27,10 +27,10 @@ pub struct Trial {
 }
 
 impl Trial {
-    pub fn new(side: &Side, vendor: u16) -> Trial {
+    pub fn new(side: &Side, fresh: Fresh) -> Trial {
         Trial {
-            watch: Watch::new(side, vendor),
-            again: Watch::new(side, vendor),
+            watch: Watch::new(side, fresh),
+            again: Watch::new(side, fresh),
             model: LockModel::new(),
             answers: Vec::new(),
         }

@@ -2,7 +2,7 @@
 //! some run out of sessions; most get deep before they get wild.
 
 use reference::limits::{CONNECTIONS, LOCK_STRING};
-use reference::{Event, Reply, Subject};
+use reference::{Event, Fresh, Mode, Reply, Subject};
 
 use crate::bout::{Bout, Difference, Failed, Pair};
 use crate::messages::{header, message, BEFORE_FIRST, ROOM};
@@ -42,8 +42,8 @@ struct Temper {
 /// Runs the list of a seed on both; returns the events run and adds to what was reached.
 pub fn check(pair: Pair, seed: u64, reach: &mut Reach) -> Result<usize, Failed> {
     let author = Author::new(seed);
-    let vendor = author.vendor;
-    let mut bout = Bout::new(pair, vendor);
+    let fresh = author.fresh;
+    let mut bout = Bout::new(pair, fresh);
     let (list, ran) = play(&mut bout, author);
     match ran {
         Ok(()) => {
@@ -51,7 +51,7 @@ pub fn check(pair: Pair, seed: u64, reach: &mut Reach) -> Result<usize, Failed> 
             Ok(list.len())
         }
         Err(difference) => Err(Failed {
-            vendor,
+            fresh,
             list,
             prepares: 0,
             difference,
@@ -80,12 +80,12 @@ pub fn play(bout: &mut Bout, mut author: Author) -> (Vec<Event>, Result<(), Diff
 }
 
 /// The list of a seed as this server's answers lead to it.
-pub fn list(side: &Side, seed: u64) -> (u16, Vec<Event>) {
+pub fn list(side: &Side, seed: u64) -> (Fresh, Vec<Event>) {
     let author = Author::new(seed);
-    let vendor = author.vendor;
-    let mut subject = (side.new)(vendor);
+    let fresh = author.fresh;
+    let mut subject = (side.new)(fresh);
     let led = lead(subject.as_mut(), author);
-    (vendor, led.into_iter().map(|(event, _)| event).collect())
+    (fresh, led.into_iter().map(|(event, _)| event).collect())
 }
 
 /// An author's list from where a server is, led by its answers alone.
@@ -107,7 +107,7 @@ pub struct Author {
     world: World,
     /// The bytes of the last delivery were the wire's unread ones.
     own: bool,
-    pub vendor: u16,
+    pub fresh: Fresh,
     pub length: usize,
 }
 
@@ -115,14 +115,17 @@ impl Author {
     pub fn new(seed: u64) -> Author {
         let mut numbers = Numbers::new(seed);
         let temper = Temper::any(&mut numbers);
-        let vendor = numbers.any() as u16;
+        let fresh = Fresh {
+            vendor: numbers.any() as u16,
+            prefers: numbers.pick(&[Mode::Synchronized, Mode::Synchronized, Mode::Overlap]),
+        };
         let length = 30 + numbers.below(600);
         Author {
             numbers,
             temper,
-            world: World::new(),
+            world: World::new(fresh.prefers),
             own: false,
-            vendor,
+            fresh,
             length,
         }
     }
@@ -333,7 +336,7 @@ impl Author {
             .numbers
             .pick(&[0, 3, 20, 1024, 1025, 1 << 40, u64::MAX]);
         let bytes = match self.numbers.below(16) {
-            0..=5 => message(21, code, 0, b""),
+            0..=5 => message(21, code, self.delivered(&known), b""),
             6..=7 => message(24, code, 0, b""),
             8..=9 => message(10, self.numbers.below(8) as u8, 0, b""),
             10 => message(15, code, 0, &size.to_be_bytes()),
@@ -342,6 +345,15 @@ impl Author {
             _ => message(self.numbers.pick(&[10, 15, 19, 21, 24]), code, 0, b"x"),
         };
         self.send(connection, &bytes)
+    }
+
+    /// What a status query names: in overlap mode the last answer that its program has got, which may be
+    /// an older one; else its last message.
+    fn delivered(&mut self, known: &Known) -> u32 {
+        let (answer, sent) = (known.count.wrapping_sub(2), known.next.wrapping_sub(2));
+        let older = answer.wrapping_sub(2);
+        self.numbers
+            .pick(&[answer, answer, older, sent, known.count, 0])
     }
 
     /// Any type and code; sometimes a length that is too large, with some of its bytes.
@@ -412,7 +424,11 @@ impl Author {
 
     /// Mostly to a session that has asked.
     fn answer(&mut self) -> Event {
-        let asked = self.world.sessions.iter().filter(|known| known.asked);
+        let asked = self
+            .world
+            .sessions
+            .iter()
+            .filter(|known| known.may_answer());
         let asked: Vec<u32> = asked.map(|known| known.number.into()).collect();
         if asked.is_empty() && self.numbers.permille(800) {
             return self.synchronous_message();

@@ -2,7 +2,7 @@
 //! lent: a store outside the lent memory is seen.
 
 use hislip::sys;
-use reference::{Deadline, Reply, Size, Subject};
+use reference::{Deadline, Fresh, Reply, Size, Subject};
 
 const GUARD: usize = 8;
 const GUARD_WORD: u64 = 0x5afe_5afe_5afe_5afe;
@@ -26,9 +26,9 @@ impl Library {
     }
 
     /// A fresh server, whatever the memory held.
-    fn start(&mut self, vendor: u16) {
+    fn start(&mut self, fresh: Fresh) {
         let (words, strings) = self.lent();
-        unsafe { sys::hislip_new(words, strings, vendor) };
+        unsafe { sys::hislip_new(words, strings, fresh.vendor, fresh.prefers as u8) };
     }
 }
 
@@ -43,13 +43,13 @@ fn done(done: sys::hislip_done) -> Reply {
 // SAFETY of all calls: the lent memory has the lengths that the library asks for, between guards;
 // inputs and outputs are slices that Rust keeps apart; the borrow of `self` keeps calls one after another.
 impl Subject for Library {
-    fn new(vendor: u16) -> Library {
+    fn new(fresh: Fresh) -> Library {
         let (words, strings) = unsafe { (sys::hislip_words(), sys::hislip_string_bytes()) };
         let mut library = Library {
             words: vec![GUARD_WORD; words as usize + 2 * GUARD],
             strings: vec![GUARD_WORD as u8; strings as usize + 2 * GUARD],
         };
-        library.start(vendor);
+        library.start(fresh);
         library
     }
 
@@ -138,16 +138,16 @@ impl Subject for Library {
 #[cfg(test)]
 mod tests {
     use super::{Library, GUARD};
-    use reference::Subject;
+    use reference::{Fresh, Subject};
 
     #[test]
     fn a_fresh_server_does_not_show_what_its_memory_held() {
         let images = [0, u64::MAX, 0x0123_4567_89ab_cdef].map(|word: u64| {
-            let mut library = Library::new(0x4141);
+            let mut library = Library::new(Fresh::BENCH);
             let (words, strings) = (library.words.len(), library.strings.len());
             library.words[GUARD..words - GUARD].fill(word);
             library.strings[GUARD..strings - GUARD].fill(word as u8);
-            library.start(0x4141);
+            library.start(Fresh::BENCH);
             let mut image = Vec::new();
             library.memory(&mut image);
             image
@@ -158,7 +158,7 @@ mod tests {
 
     #[test]
     fn a_store_beside_the_lent_memory_is_seen() {
-        let library = Library::new(0x4141);
+        let library = Library::new(Fresh::BENCH);
         assert!(library.intact());
         let last = library.words.len() - 1;
         for place in [0, GUARD - 1, last - GUARD + 1, last] {

@@ -7,8 +7,8 @@ use crate::watch::{Complaint, Side, Watch};
 
 /// The events of a seed with one server's answers and frames.
 pub fn entries(side: &Side, seed: u64) -> Result<Vec<Entry>, Complaint> {
-    let (vendor, list) = hostile::list(side, seed);
-    let mut watch = Watch::new(side, vendor);
+    let (fresh, list) = hostile::list(side, seed);
+    let mut watch = Watch::new(side, fresh);
     let mut entries = Vec::with_capacity(list.len());
     for event in list {
         let reply = watch.event(&event)?;

@@ -3,7 +3,7 @@
 
 use reference::Event;
 
-use crate::bout::{Bout, Failed, Pair, VENDOR};
+use crate::bout::{Bout, Failed, Pair, BENCH};
 use crate::messages::{
     clock, cut, deliver, header, lock, message, message_id, release, release_after, session,
 };
@@ -91,10 +91,10 @@ fn lists(setup: u64, thin: u64) -> impl Iterator<Item = Vec<Event>> {
 pub fn check(pair: Pair, thin: u64) -> Result<usize, Failed> {
     let mut count = 0;
     for (place, setup) in (0..).zip(setups()) {
-        let mut ready = Bout::new(pair, VENDOR);
+        let mut ready = Bout::new(pair, BENCH);
         let ran = ready.run(&setup);
         ran.map_err(|found| Failed::after(&[], &setup, found, "orders"))?;
-        let mut bout = Bout::new(pair, VENDOR);
+        let mut bout = Bout::new(pair, BENCH);
         for list in lists(place, thin) {
             bout.restart_from(&ready);
             let ran = bout.run(&list);
@@ -116,7 +116,7 @@ pub fn whole(thin: u64) -> impl Iterator<Item = Vec<Event>> {
 #[cfg(test)]
 mod tests {
     use super::{ordered, setups};
-    use crate::bout::VENDOR;
+    use crate::bout::BENCH;
     use reference::{Event, Reply, Server, Subject};
 
     #[test]
@@ -135,7 +135,7 @@ mod tests {
     fn in_every_setup_the_release_stands() {
         let mut out = [0; 2048];
         for setup in setups() {
-            let mut server = <Server as Subject>::new(VENDOR);
+            let mut server = <Server as Subject>::new(BENCH);
             let replies = setup
                 .iter()
                 .map(|event| server.apply(event, &mut out[..event.room()]));

@@ -3,7 +3,7 @@
 use std::fmt::Write;
 use std::time::Duration;
 
-use reference::{Event, Reply};
+use reference::{Event, Fresh, Reply};
 
 use crate::bout::{Bout, Difference, Failed, Pair};
 use crate::shrink::shrink;
@@ -79,7 +79,7 @@ fn hex(bytes: &[u8]) -> String {
 /// goes wrong. What prepares the list is kept.
 pub fn shortest(pair: Pair, failed: &Failed) -> String {
     let Failed {
-        vendor, ref list, ..
+        fresh, ref list, ..
     } = *failed;
     let found = &failed.difference;
     let prepares = if found.place < failed.prepares {
@@ -88,36 +88,37 @@ pub fn shortest(pair: Pair, failed: &Failed) -> String {
         failed.prepares
     };
     let (before, rest) = list.split_at(prepares);
-    let mut ready = Bout::new(pair, vendor);
+    let mut ready = Bout::new(pair, fresh);
     let prepared = ready.run(before);
     let fails = |list: &[Event]| {
-        let mut bout = Bout::new(pair, vendor);
+        let mut bout = Bout::new(pair, fresh);
         bout.restart_from(&ready);
         bout.run(list).err()
     };
     if prepared.is_err() || fails(rest).is_none() {
         // It was found otherwise than by running the list, so it is told as it was found.
-        return text(pair, vendor, list, prepares, found);
+        return text(pair, fresh, list, prepares, found);
     }
     let (rest, mut difference) = shrink(rest, SHRINK_TIME, fails);
     difference.place += prepares;
     let list = [before, &rest].concat();
-    text(pair, vendor, &list, prepares, &difference)
+    text(pair, fresh, &list, prepares, &difference)
 }
 
 fn text(
     pair: Pair,
-    vendor: u16,
+    fresh: Fresh,
     list: &[Event],
     prepares: usize,
     difference: &Difference,
 ) -> String {
-    let mut text = format!("vendor {vendor:04x}\n");
+    let mode = fresh.prefers.name();
+    let mut text = format!("vendor {:04x}, prefers {mode}\n", fresh.vendor);
     let left_out = match list.len() {
         0..=SHOWN => 0..0,
         length => FEW..prepares.saturating_sub(FEW).max(length - SHOWN),
     };
-    let mut watch = Watch::new(&pair.left, vendor);
+    let mut watch = Watch::new(&pair.left, fresh);
     for (place, event) in list.iter().enumerate() {
         let told = match watch.event(event) {
             Ok(reply) => describe_reply(event, &reply),

@@ -6,7 +6,7 @@ use std::time::Instant;
 use faults::Fault;
 use reference::Subject;
 
-use crate::bout::{run_alone, Failed, Pair, VENDOR};
+use crate::bout::{run_alone, Failed, Pair, BENCH};
 use crate::command::REFERENCE;
 use crate::reach::Reach;
 use crate::tally::Tally;
@@ -44,7 +44,7 @@ const RIGHT: Fault = Fault {
     name: "reference",
     breaks: "nothing: no check may find it",
     alone: true,
-    new: |vendor| Box::new(<reference::Server as Subject>::new(vendor)),
+    new: |fresh| Box::new(<reference::Server as Subject>::new(fresh)),
 };
 
 /// Tries them all. `aside`: what is said goes to the error stream.
@@ -135,14 +135,14 @@ fn alone(fault: &Fault) -> Option<String> {
     let side = side(fault, true);
     let seeds = (1..=LISTS).find_map(|seed| {
         let ran = complaint(|| {
-            let (vendor, list) = hostile::list(&side, seed);
-            run_alone(&side, vendor, &list)
+            let (fresh, list) = hostile::list(&side, seed);
+            run_alone(&side, fresh, &list)
         });
         ran.map(|what| format!("seed {seed}: {what}"))
     });
     let orders = || {
         orders::whole(ORDERS_THIN).find_map(|list| {
-            let ran = complaint(|| run_alone(&side, VENDOR, &list));
+            let ran = complaint(|| run_alone(&side, BENCH, &list));
             ran.map(|what| format!("orders: {what}"))
         })
     };

@@ -1,9 +1,9 @@
 //! Answers and lock strings of every size, and connections of every number, around every limit.
 
 use reference::limits::{CONNECTIONS, LOCK_STRING, SESSIONS};
-use reference::Event;
+use reference::{Event, Fresh, Mode};
 
-use crate::bout::{check_list, Failed, Pair};
+use crate::bout::{check_list, Failed, Pair, BENCH};
 use crate::messages::{
     answer, cut, deliver, half_open, lock, message, message_id, release, release_after, session,
 };
@@ -87,8 +87,13 @@ pub fn list() -> Vec<Event> {
     list
 }
 
-/// Returns the events run.
+/// In both modes; in overlap mode the answers' numbers wrap. Returns the events run.
 pub fn check(pair: Pair) -> Result<usize, Failed> {
-    let sizes = check_list(pair, "sizes", &list())?;
-    Ok(sizes + check_list(pair, "sizes", &numbers())?)
+    let mut count = 0;
+    for prefers in [Mode::Synchronized, Mode::Overlap] {
+        let fresh = Fresh { prefers, ..BENCH };
+        count += check_list(pair, fresh, "sizes", &list())?;
+        count += check_list(pair, fresh, "sizes", &numbers())?;
+    }
+    Ok(count)
 }

@@ -5,9 +5,9 @@ use std::slice;
 use reference::history::omitted;
 use reference::limits::{CONNECTIONS, LOCK_STRING};
 use reference::wire::{class, Channel, Class};
-use reference::Event;
+use reference::{Event, Fresh, Mode};
 
-use crate::bout::{Bout, Difference, Failed, Pair, VENDOR};
+use crate::bout::{Bout, Difference, Failed, Pair, BENCH};
 use crate::messages::{
     answer, clock, cut, deliver, half_open, header, lock, message, release, release_after, session,
 };
@@ -46,6 +46,7 @@ enum Shown {
 
 pub struct State {
     pub name: &'static str,
+    fresh: Fresh,
     setup: Vec<Event>,
     /// The connection that gets the message.
     connection: u32,
@@ -73,6 +74,7 @@ fn crowd(live: u32) -> Vec<Event> {
 fn state(name: &'static str, connection: u32, parameter: u32, setup: Vec<Event>) -> State {
     State {
         name,
+        fresh: BENCH,
         setup,
         connection,
         parameter,
@@ -86,6 +88,7 @@ pub fn states() -> Vec<State> {
         clearing(),
         locking(),
         releasing(),
+        overlapping(),
         remaining(),
     ];
     all.into_iter().flatten().collect()
@@ -169,6 +172,38 @@ fn releasing() -> Vec<State> {
     ]
 }
 
+/// Overlap mode, preferred or asked for in a clear.
+fn overlapping() -> Vec<State> {
+    let clear = deliver(1, header(19, 0, 0, 0));
+    let asked = [clear.clone(), deliver(0, header(8, 1, 0, 0))];
+    let answers = [answer(1, b"x", 0), answer(1, b"y", 1)];
+    let answered = [&asked[..], &answers].concat();
+    let clearing = [&answered[..], &[clear]].concat();
+    let number = 0xffff_ff02;
+    let mut states = vec![
+        state("synchronous, overlap", 0, number, two(&asked)),
+        state("asynchronous, overlap", 1, number, two(&asked)),
+        state("overlap, all delivered", 1, number, two(&answered)),
+        state("overlap, one not delivered", 1, 0xffff_ff00, two(&answered)),
+        state("synchronous, clear in overlap", 0, 0, two(&clearing)),
+        state("asynchronous, clear in overlap", 1, 0, two(&clearing)),
+    ];
+    let undecided = [&half_open(0)[..], &[Event::Open { connection: 31 }]].concat();
+    let preferred = [
+        state("no role, overlap preferred", 31, 1, undecided),
+        state("half-open, overlap preferred", 0, 1, half_open(0).to_vec()),
+        state("overlap preferred, all delivered", 1, number, two(&answers)),
+    ];
+    states.extend(preferred.map(|state| State {
+        fresh: Fresh {
+            prefers: Mode::Overlap,
+            ..BENCH
+        },
+        ..state
+    }));
+    states
+}
+
 /// Connections with payload of a too large message still to come.
 fn remaining() -> Vec<State> {
     let skip = |on: u32, length: u64| deliver(on, header(6, 0, 0, length));
@@ -199,7 +234,7 @@ fn probes(state: &State) -> Vec<Event> {
         deliver(state.connection, header(3, 0, 0, 0)),
         deliver(0, message(7, 1, 8, b"probe")),
         deliver(2, message(6, 0, 8, b"probe")),
-        deliver(1, header(21, 0, 0, 0)),
+        deliver(1, header(21, 0, 0xffff_ff00, 0)),
         deliver(3, header(24, 0, 0, 0)),
         answer(1, b"1234567890", 1),
         answer(1, b"", 1),
@@ -250,12 +285,12 @@ fn cases(state: &State, thin: u64) -> impl Iterator<Item = Event> + '_ {
 fn check_state(pair: Pair, state: &State, thin: u64) -> Result<usize, Failed> {
     let failed = |before: &[Event], list: &[Event], mut found: Difference| {
         found.what = format!("state \"{}\": {}", state.name, found.what);
-        Failed::after(before, list, found, "systematic")
+        Failed::after(before, list, found, "systematic").from(state.fresh)
     };
-    let mut ready = Bout::new(pair, VENDOR);
+    let mut ready = Bout::new(pair, state.fresh);
     let ran = ready.run(&state.setup);
     ran.map_err(|found| failed(&[], &state.setup, found))?;
-    let mut bout = Bout::new(pair, VENDOR);
+    let mut bout = Bout::new(pair, state.fresh);
     let all_probes = probes(state);
     let mut count = state.setup.len();
     for (number, event) in (0..).zip(cases(state, thin)) {

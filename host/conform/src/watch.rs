@@ -6,7 +6,7 @@ use reference::event::frames;
 use reference::history::omitted;
 use reference::lock_view::LockView;
 use reference::wire::Header;
-use reference::{Deadline, Event, Reply, Subject};
+use reference::{Deadline, Event, Fresh, Reply, Subject};
 
 use crate::numbers::mix;
 
@@ -20,8 +20,8 @@ const SHIFTS: usize = 8;
 /// What went wrong, in words.
 pub type Complaint = String;
 
-/// Makes a fresh server of a vendor.
-pub type New = fn(u16) -> Box<dyn Subject>;
+/// Makes a fresh server.
+pub type New = fn(Fresh) -> Box<dyn Subject>;
 
 /// A server that takes part.
 #[derive(Clone, Copy)]
@@ -90,8 +90,8 @@ pub struct Watch {
 }
 
 impl Watch {
-    pub fn new(side: &Side, vendor: u16) -> Watch {
-        let subject = (side.new)(vendor);
+    pub fn new(side: &Side, fresh: Fresh) -> Watch {
+        let subject = (side.new)(fresh);
         let mut before = Vec::new();
         subject.memory(&mut before);
         Watch {

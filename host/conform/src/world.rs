@@ -2,7 +2,7 @@
 //! they have sent and nobody has taken yet, and which sessions they got.
 
 use reference::limits::CONNECTIONS;
-use reference::{Event, Reply};
+use reference::{Event, Mode, Reply};
 
 use crate::messages::BEFORE_FIRST;
 
@@ -36,6 +36,20 @@ pub struct Known {
     pub asked: bool,
     /// The last lock message asked for a lock.
     pub wants: bool,
+    pub mode: Mode,
+    pub in_clear: bool,
+    /// In overlap mode, the number of the next answer.
+    pub count: u32,
+}
+
+impl Known {
+    /// An answer would be sent.
+    pub fn may_answer(&self) -> bool {
+        match self.mode {
+            Mode::Synchronized => self.asked,
+            Mode::Overlap => self.asynchronous.is_some() && !self.in_clear,
+        }
+    }
 }
 
 #[derive(Clone, Debug)]
@@ -43,10 +57,12 @@ pub struct World {
     pub wires: Vec<Wire>,
     pub sessions: Vec<Known>,
     pub clock: u64,
+    /// The mode that sessions start in.
+    prefers: Mode,
 }
 
 impl World {
-    pub fn new() -> World {
+    pub fn new(prefers: Mode) -> World {
         let wire = Wire {
             role: Role::NotOpen,
             unread: Vec::new(),
@@ -55,6 +71,7 @@ impl World {
             wires: vec![wire; CONNECTIONS],
             sessions: Vec::new(),
             clock: 0,
+            prefers,
         }
     }
 
@@ -118,6 +135,7 @@ impl World {
             Event::Answer { session, end, .. } => {
                 if let Some(known) = self.known(*session) {
                     known.asked &= *end == 0;
+                    known.count = known.count.wrapping_add(2);
                 }
             }
             Event::Status { .. } => {}
@@ -142,10 +160,15 @@ impl World {
                 known.asked |= kind != 6;
                 known.last = u32::from_be_bytes([p0, p1, p2, p3]);
             }
-            8 => known.next = FIRST,
+            8 => {
+                known.next = FIRST;
+                known.in_clear = false;
+                known.mode = Mode::of_code(code);
+            }
             19 => {
                 known.asked = false;
-                (known.next, known.last) = (FIRST, BEFORE_FIRST);
+                known.in_clear = true;
+                (known.next, known.last, known.count) = (FIRST, BEFORE_FIRST, FIRST);
             }
             _ => {}
         }
@@ -173,6 +196,9 @@ impl World {
             last: BEFORE_FIRST,
             asked: false,
             wants: false,
+            mode: self.prefers,
+            in_clear: false,
+            count: FIRST,
         });
     }
 
@@ -201,11 +227,5 @@ impl World {
                 }
             }
         }
-    }
-}
-
-impl Default for World {
-    fn default() -> World {
-        World::new()
     }
 }

@@ -3,7 +3,7 @@
 
 use reference::Event;
 
-use crate::bout::{Bout, Difference, Failed, Pair, VENDOR};
+use crate::bout::{Bout, Difference, Failed, Pair, BENCH};
 use crate::hostile::{play, Author};
 use crate::messages::{answer, clock, cut, deliver, half_open, lock, message, release, session};
 
@@ -50,11 +50,11 @@ fn around_the_end() -> Vec<Event> {
 pub fn check(pair: Pair) -> Result<usize, Failed> {
     const AGAIN: &str = "wrap";
     let used_up = used_up();
-    let mut ready = Bout::new(pair, VENDOR);
+    let mut ready = Bout::new(pair, BENCH);
     let ran = ready.run(&used_up);
     ran.map_err(|found| Failed::after(&[], &used_up, found, AGAIN))?;
     let mut count = used_up.len();
-    let mut bout = Bout::new(pair, VENDOR);
+    let mut bout = Bout::new(pair, BENCH);
     let mut check = |list: Vec<Event>, ran: Result<(), Difference>| {
         count += list.len();
         ran.map_err(|found| Failed::after(&used_up, &list, found, AGAIN))
@@ -74,7 +74,7 @@ pub fn check(pair: Pair) -> Result<usize, Failed> {
 #[cfg(test)]
 mod tests {
     use super::{around_the_end, used_up, LISTS};
-    use crate::bout::VENDOR;
+    use crate::bout::BENCH;
     use crate::hostile::{lead, Author};
     use reference::{Event, Reply, Server, Subject};
 
@@ -105,7 +105,7 @@ mod tests {
 
     #[test]
     fn numbers_go_round_and_pass_over_live_ones() {
-        let mut server = <Server as Subject>::new(VENDOR);
+        let mut server = <Server as Subject>::new(BENCH);
         let numbers = issued(&run(&mut server, used_up()));
         assert_eq!(numbers, (1..=65_530).collect::<Vec<_>>());
         let list = run(server.fork().as_mut(), around_the_end());

@@ -2,7 +2,7 @@
 
 use std::fs;
 
-use conform::bout::VENDOR;
+use conform::bout::BENCH;
 use conform::command::LIBRARY;
 use conform::watch::Watch;
 use record::tree::root;
@@ -18,7 +18,7 @@ fn list() -> Vec<Entry> {
 
 #[test]
 fn the_library_gives_the_answers_of_the_list() {
-    let mut watch = Watch::new(&LIBRARY, VENDOR);
+    let mut watch = Watch::new(&LIBRARY, BENCH);
     for entry in list() {
         let reply = watch.event(&entry.event).expect("no complaint");
         let (_, output) = watch.log.last();

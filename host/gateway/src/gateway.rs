@@ -6,7 +6,7 @@ use std::net::{SocketAddr, TcpListener, ToSocketAddrs};
 use std::sync::mpsc::{channel, Receiver, Sender};
 use std::time::{Duration, Instant};
 
-use hislip::{Frames, Server, CONNECTIONS};
+use hislip::{Frames, Mode, Server, CONNECTIONS};
 use query::names;
 
 use crate::arrive::Newcomer;
@@ -27,6 +27,8 @@ pub struct Settings {
     /// ADDR:PORT; port 0 takes a free one.
     pub listen: String,
     pub vendor: [u8; 2],
+    /// The mode that sessions start in.
+    pub prefers: Mode,
     /// Time for a connection's session to have both its channels.
     pub initialize_within: Duration,
     /// Time for the instrument to do one request.
@@ -38,6 +40,7 @@ impl Default for Settings {
         Settings {
             listen: "127.0.0.1:4880".into(),
             vendor: *b"EX",
+            prefers: Mode::Synchronized,
             initialize_within: Duration::from_secs(10),
             instrument_within: Duration::from_secs(10),
         }
@@ -102,7 +105,7 @@ impl Gateway {
         let (name, trigger_answers) = (instrument.name(), instrument.trigger_answers());
         log.say(|| format!("gateway listens on {address} for {name}"));
         Ok(Gateway {
-            server: Server::new(settings.vendor),
+            server: Server::new(settings.vendor, settings.prefers),
             start: Instant::now(),
             queue,
             connections: [const { None }; CONNECTIONS],

@@ -2,6 +2,8 @@
 
 use std::time::Duration;
 
+use hislip::Mode;
+
 use crate::gateway::Settings;
 use crate::instrument::raw_socket::PORT;
 
@@ -9,6 +11,7 @@ pub const HELP: &str = "\
 usage: gateway [OPTION..]
   --listen ADDR:PORT        where programs connect (127.0.0.1:4880; [::1]:4880 for IPv6; port 0 for any)
   --vendor XX               two letters told to programs (EX)
+  --overlap                 sessions start in overlap mode (synchronized)
   --instrument tcp://HOST[:PORT]
                             an instrument on a raw SCPI socket (port 5025) in place of the simulated meter
   --measure-ms N            how long the simulated meter measures (0)
@@ -44,6 +47,7 @@ pub fn parse(arguments: impl IntoIterator<Item = String>) -> Result<Options, Str
         match &word[..] {
             "--help" => options.help = true,
             "--quiet" => options.quiet = true,
+            "--overlap" => options.settings.prefers = Mode::Overlap,
             "--listen" => options.settings.listen = address(next()?)?,
             "--vendor" => options.settings.vendor = vendor(&next()?)?,
             "--instrument" => options.instrument = Some(instrument(&next()?)?),

@@ -8,6 +8,7 @@ use std::time::{Duration, Instant};
 
 use common::client::{bytes, closed, closed_in_order, receive, silent, Client, FIRST};
 use common::Running;
+use gateway::instrument::simulated::Simulated;
 
 const RANGE: &str = "+1.00000000E+01";
 const READING_1: &str = "+1.25000000E+00";
@@ -95,6 +96,28 @@ fn two_programs_with_locks() {
     assert_eq!(a.lock(b"cal", 0), 1);
     assert_eq!(a.lock_info(), (0, 2));
     assert_eq!((b.release(), b.release()), (2, 3));
+}
+
+#[test]
+fn overlap_mode() {
+    let settings = gateway::Settings {
+        prefers: hislip::Mode::Overlap,
+        ..common::settings()
+    };
+    let meter = Simulated::new(Duration::ZERO);
+    let gateway = Running::with(&settings, Box::new(meter));
+    let mut a = gateway.open();
+    assert!(a.overlap);
+    a.send(7, b"*IDN?");
+    a.send(7, b"SAMP:COUN?");
+    let (first, second) = (receive(&mut a.sync), receive(&mut a.sync));
+    assert_eq!((first.kind, first.parameter), (7, FIRST));
+    assert_eq!((second.kind, second.parameter), (7, FIRST + 2));
+    assert_eq!(a.status_after(FIRST) & 16, 16, "one is not delivered");
+    assert_eq!(a.status_after(FIRST + 2) & 16, 0);
+    a.device_clear();
+    assert!(!a.overlap, "the client asks for synchronized");
+    assert_eq!(a.query("*OPC?"), "1");
 }
 
 #[test]

@@ -1,6 +1,6 @@
 //! One program opens a session, asks, and gets its answer: `cargo run --example first_session`.
 
-use hislip::{type_name, Frames, MessageType, Outcome, Refusal, Server, HEADER};
+use hislip::{type_name, Frames, MessageType, Mode, Outcome, Refusal, Server, HEADER};
 
 /// A whole message: type, control code, parameter, payload.
 fn message(kind: MessageType, code: u8, parameter: u32, payload: &[u8]) -> Vec<u8> {
@@ -23,7 +23,7 @@ fn send(frames: Frames) {
 }
 
 pub fn main() -> Result<(), Refusal> {
-    let mut server = Server::new(*b"AA");
+    let mut server = Server::new(*b"AA", Mode::Synchronized);
 
     // Two sockets: the synchronous channel, then the asynchronous one with the SessionID.
     server.open(0)?;

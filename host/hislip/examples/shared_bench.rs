@@ -1,7 +1,7 @@
 //! Two programs share the instrument: one holds the lock, the other waits and is held:
 //! `cargo run --example shared_bench`.
 
-use hislip::{type_name, Frames, MessageType, Outcome, Refusal, Server};
+use hislip::{type_name, Frames, MessageType, Mode, Outcome, Refusal, Server};
 
 /// Timeout of a lock request, in milliseconds.
 const PATIENCE: u32 = 500;
@@ -57,7 +57,7 @@ fn join(server: &mut Server, synchronous: u32) -> Result<(), Refusal> {
 }
 
 pub fn main() -> Result<(), Refusal> {
-    let mut server = Server::new(*b"AA");
+    let mut server = Server::new(*b"AA", Mode::Synchronized);
     join(&mut server, 0)?;
     join(&mut server, 2)?;
 

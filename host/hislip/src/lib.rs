@@ -5,9 +5,9 @@
 //! [`Server::deadline`] and [`Server::client_size`].
 //!
 //! ```
-//! use hislip::{MessageType, Outcome, Server};
+//! use hislip::{MessageType, Mode, Outcome, Server};
 //!
-//! let mut server = Server::new(*b"AA");
+//! let mut server = Server::new(*b"AA", Mode::Synchronized);
 //! server.open(0)?;
 //! let initialize = b"HS\x00\x00\x01\x00AA\0\0\0\0\0\0\0\0";
 //! let delivery = server.deliver(0, initialize)?;
@@ -27,6 +27,7 @@
 mod event;
 mod frame;
 mod message_type;
+mod mode;
 mod numbers;
 mod outcome;
 mod refusal;
@@ -37,6 +38,7 @@ pub mod sys;
 pub use event::{Answer, Event};
 pub use frame::{Frame, Frames};
 pub use message_type::{type_name, MessageType};
+pub use mode::Mode;
 pub use numbers::{Connection, SessionId};
 pub use outcome::{Delivery, Outcome};
 pub use refusal::Refusal;

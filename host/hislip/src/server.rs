@@ -1,6 +1,7 @@
 //! One server and its memory.
 
 use crate::frame::Frames;
+use crate::mode::Mode;
 use crate::numbers::{Connection, SessionId};
 use crate::outcome::{Delivery, Outcome};
 use crate::refusal::Refusal;
@@ -35,13 +36,13 @@ pub struct Server {
 }
 
 impl Server {
-    /// A fresh server of this two-letter vendor, clock 0 and status byte 0.
+    /// A fresh server of this two-letter vendor that prefers this mode, clock 0 and status byte 0.
     ///
     /// # Panics
     ///
     /// As [`Server`] says: never, with the proved archive.
-    pub fn new(vendor: [u8; 2]) -> Server {
-        Server::with_output(vendor, vec![0; OUTPUT])
+    pub fn new(vendor: [u8; 2], prefers: Mode) -> Server {
+        Server::with_output(vendor, prefers, vec![0; OUTPUT])
     }
 
     /// The same with an output buffer of the caller's; under [`OUTPUT`] bytes, the events that
@@ -50,7 +51,7 @@ impl Server {
     /// # Panics
     ///
     /// As [`Server`] says: never, with the proved archive.
-    pub fn with_output(vendor: [u8; 2], out: Vec<u8>) -> Server {
+    pub fn with_output(vendor: [u8; 2], prefers: Mode, out: Vec<u8>) -> Server {
         // SAFETY: both only return a number.
         let (words, strings) = unsafe { (sys::hislip_words(), sys::hislip_string_bytes()) };
         let length = |number: u64| usize::try_from(number).expect("some hundred");
@@ -60,8 +61,9 @@ impl Server {
             out: out.into(),
         };
         let (words, strings) = server.memory();
+        let (vendor, overlap) = (u16::from_be_bytes(vendor), prefers.number());
         // SAFETY: both have the lengths the library asked for and overlap nothing.
-        unsafe { sys::hislip_new(words, strings, u16::from_be_bytes(vendor)) };
+        unsafe { sys::hislip_new(words, strings, vendor, overlap) };
         server
     }
 
@@ -142,7 +144,8 @@ impl Server {
     }
 
     /// The instrument answers a session, with or without END; the frame has the MessageID of the
-    /// question. Refused: no live session of that number, nothing asked, or too long.
+    /// question, in overlap mode the session's count of answers. Refused: no live session of that
+    /// number, nothing asked (in overlap mode: half-open or in a device clear), or too long.
     ///
     /// # Panics
     ///
@@ -184,7 +187,7 @@ impl Server {
     /// nothing else to do may sleep until then. Holds until the next event; asking changes nothing.
     ///
     /// ```
-    /// let server = hislip::Server::new(*b"AA");
+    /// let server = hislip::Server::new(*b"AA", hislip::Mode::Synchronized);
     /// assert_eq!(server.deadline(), None);
     /// ```
     pub fn deadline(&self) -> Option<Deadline> {

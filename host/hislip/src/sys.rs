@@ -56,8 +56,8 @@ extern "C" {
     pub fn hislip_words() -> u64;
     /// How many bytes to lend.
     pub fn hislip_string_bytes() -> u64;
-    /// Writes a fresh server into lent memory.
-    pub fn hislip_new(words: *mut u64, strings: *mut u8, vendor: u16);
+    /// Writes a fresh server into lent memory; `overlap` 0 prefers synchronized mode.
+    pub fn hislip_new(words: *mut u64, strings: *mut u8, vendor: u16, overlap: u8);
     /// A connection opens.
     pub fn hislip_open(words: *mut u64, strings: *mut u8, connection: u32) -> hislip_done;
     /// Unread bytes of a connection.

@@ -1,14 +1,14 @@
 //! The safe wrapper: typed answers, and nothing that is passed can do harm.
 
 use hislip::{
-    sys, Answer, Connection, Deadline, Event, Frame, Frames, MessageType, Outcome, Refusal, Server,
-    OUTPUT,
+    sys, Answer, Connection, Deadline, Event, Frame, Frames, MessageType, Mode, Outcome, Refusal,
+    Server, OUTPUT,
 };
 use reference::compose::message;
 
 /// A server with session 1 on connections 0 and 1.
 fn with_session() -> Server {
-    let mut server = Server::new(*b"AA");
+    let mut server = Server::new(*b"AA", Mode::Synchronized);
     server.open(0).expect("not open");
     let opened = server.deliver(0, &message(0, 0, 0x0100_0000, b"hislip0"));
     let session = hislip::SessionId::new(1);
@@ -139,7 +139,7 @@ fn several_frames_come_in_order() {
 
 #[test]
 fn a_connection_without_a_session_closes_without_a_number() {
-    let mut server = Server::new(*b"ZZ");
+    let mut server = Server::new(*b"ZZ", Mode::Synchronized);
     server.open(63).expect("not open");
     let closed = server.deliver(63, &[0; 16]).expect("open");
     assert_eq!(closed.outcome, Outcome::Closed { session: None });
@@ -148,7 +148,7 @@ fn a_connection_without_a_session_closes_without_a_number() {
 #[test]
 fn any_output_buffer_is_safe() {
     for length in [0, 1, OUTPUT - 1] {
-        let mut server = Server::with_output(*b"AA", vec![0; length]);
+        let mut server = Server::with_output(*b"AA", Mode::Synchronized, vec![0; length]);
         server.open(0).expect("not open");
         assert_eq!(server.deliver(0, b"").unwrap_err(), Refusal::ShortBuffer);
         assert_eq!(server.cut(0).unwrap_err(), Refusal::ShortBuffer);
@@ -158,7 +158,7 @@ fn any_output_buffer_is_safe() {
             Refusal::ShortBuffer
         );
     }
-    let mut server = Server::with_output(*b"AA", vec![0; 5000]);
+    let mut server = Server::with_output(*b"AA", Mode::Synchronized, vec![0; 5000]);
     server.open(0).expect("not open");
     let waits = server.deliver(0, b"HS").expect("open");
     assert_eq!((waits.outcome, waits.missing), (Outcome::MoreNeeded, 14));
@@ -222,7 +222,7 @@ fn the_sizes_are_those_of_the_archive() {
 
 #[test]
 fn every_connection_number_can_be_said() {
-    let mut server = Server::new(*b"AA");
+    let mut server = Server::new(*b"AA", Mode::Synchronized);
     for connection in Connection::all() {
         server.open(connection).expect("not open");
     }
@@ -230,4 +230,18 @@ fn every_connection_number_can_be_said() {
         assert_eq!(server.open(number).unwrap_err(), Refusal::Connection);
     }
     assert_eq!(Connection::all().last(), Some(63.into()));
+}
+
+#[test]
+fn the_mode_preferred_is_told() {
+    for prefers in [Mode::Synchronized, Mode::Overlap] {
+        let mut server = Server::new(*b"AA", prefers);
+        server.open(0).expect("not open");
+        let initialize = message(0, 0, 0x0100_0000, b"");
+        let mut opened = server.deliver(0, &initialize).expect("open");
+        let told = opened.frames.next().expect("InitializeResponse");
+        assert_eq!(told.code, prefers.number());
+        assert_eq!(Mode::of_code(told.code), prefers);
+    }
+    assert_eq!(Mode::Overlap.to_string(), "overlap");
 }

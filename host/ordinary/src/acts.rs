@@ -2,11 +2,12 @@
 
 use reference::limits::PAYLOAD;
 use reference::wire::{fatal, kind};
+use reference::Mode;
 
 use crate::delivery::Message;
 use crate::frames::Frames;
 use crate::locks::{Released, Requested};
-use crate::server::{RemoteLocal, Role, Server, Session, Standing};
+use crate::server::{RemoteLocal, Role, Server, Session, Standing, FIRST};
 
 /// Highest protocol version spoken: 1.0.
 const VERSION: u16 = 0x0100;
@@ -36,8 +37,12 @@ impl Server {
         if message.code == 1 {
             session.message_available = false;
         }
+        let available = match session.mode {
+            Mode::Synchronized => session.message_available,
+            Mode::Overlap => session.sent.is_some_and(|sent| sent != message.parameter),
+        };
         let mut status = self.status & !MESSAGE_AVAILABLE;
-        if session.message_available {
+        if available {
             status |= MESSAGE_AVAILABLE;
         }
         frames.send(message.connection, kind::STATUS_RESPONSE, status, 0);
@@ -113,8 +118,11 @@ impl Server {
         session.asked = None;
         session.message_available = false;
         session.last = None;
+        (session.count, session.sent) = (FIRST, None);
         let released = self.end_standing(message.slot, frames);
-        frames.send(message.connection, kind::DEVICE_CLEAR_ACKNOWLEDGE, 0, 0);
+        let prefers = self.prefers as u8;
+        let acknowledged = kind::DEVICE_CLEAR_ACKNOWLEDGE;
+        frames.send(message.connection, acknowledged, prefers, 0);
         if released {
             self.grant_pass(frames);
         }
@@ -136,12 +144,13 @@ impl Server {
         let slot = slot.ok_or(fatal::TOO_MANY_CLIENTS)?;
         let number = self.next_number();
         self.last_issued = number;
-        self.sessions[slot] = Session::new(number, connection);
+        self.sessions[slot] = Session::new(number, connection, self.prefers);
         let here = &mut self.connections[usize::from(connection)];
         (here.role, here.slot) = (Role::HalfOpen, slot as u8);
         let version = VERSION.min((parameter >> 16) as u16);
         let reply = u32::from(version) << 16 | u32::from(number);
-        frames.send(connection, kind::INITIALIZE_RESPONSE, 0, reply);
+        let prefers = self.prefers as u8;
+        frames.send(connection, kind::INITIALIZE_RESPONSE, prefers, reply);
         Ok(number)
     }
 

@@ -2,7 +2,7 @@
 
 use reference::limits::{OUTPUT, PAYLOAD};
 use reference::wire::{error, fatal, kind, HEADER};
-use reference::{Refusal, Reply};
+use reference::{Mode, Refusal, Reply};
 
 use crate::frames::Frames;
 use crate::replies::{acted_on, closed, error_sent, held, ignored, more_needed, refused, skipped};
@@ -150,8 +150,10 @@ impl Server {
                     return message.error(error::UNIDENTIFIED, out);
                 }
                 session.in_clear = false;
+                session.mode = Mode::of_code(message.code);
+                let granted = session.mode as u8;
                 let mut frames = Frames::new(out);
-                frames.send(message.connection, kind::CLEAR_ACKNOWLEDGE, 0, 0);
+                frames.send(message.connection, kind::CLEAR_ACKNOWLEDGE, granted, 0);
                 acted_on(session.number, message.size(), frames.used())
             }
             kind::INITIALIZE => self.fatal(message.connection, fatal::BAD_INITIALIZATION, out),

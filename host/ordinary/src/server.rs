@@ -2,7 +2,7 @@
 
 use reference::limits::{CLOCK, CONNECTIONS, OUTPUT, PAYLOAD, SESSIONS};
 use reference::wire::kind;
-use reference::{Refusal, Reply};
+use reference::{Mode, Refusal, Reply};
 
 use crate::frames::Frames;
 use crate::locks::{Locks, Released};
@@ -56,8 +56,15 @@ pub struct Session {
     /// MessageID of the last Data, DataEND or Trigger that acted since opening or AsyncDeviceClear.
     pub last: Option<u32>,
     pub standing: Option<Standing>,
+    pub mode: Mode,
+    /// Overlap mode: the number of the next answer, and of the last one.
+    pub count: u32,
+    pub sent: Option<u32>,
     pub client_size: u64,
 }
+
+/// Where every count of messages starts.
+pub const FIRST: u32 = 0xffff_ff00;
 
 const NOBODY: Session = Session {
     number: 0,
@@ -68,15 +75,28 @@ const NOBODY: Session = Session {
     asked: None,
     last: None,
     standing: None,
+    mode: Mode::Synchronized,
+    count: FIRST,
+    sent: None,
     client_size: PAYLOAD as u64,
 };
 
 impl Session {
-    pub fn new(number: u16, synchronous: u8) -> Session {
+    pub fn new(number: u16, synchronous: u8, mode: Mode) -> Session {
         Session {
             number,
             synchronous,
+            mode,
             ..NOBODY
+        }
+    }
+
+    /// The number that an answer would carry, if one may be sent.
+    fn answer_number(&self) -> Option<u32> {
+        match self.mode {
+            Mode::Synchronized => self.asked,
+            Mode::Overlap if self.asynchronous.is_none() || self.in_clear => None,
+            Mode::Overlap => Some(self.count),
         }
     }
 }
@@ -92,6 +112,8 @@ pub struct RemoteLocal {
 #[derive(Clone, Hash)]
 pub struct Server {
     pub(crate) vendor: u16,
+    /// The mode that sessions start in.
+    pub(crate) prefers: Mode,
     pub(crate) last_issued: u16,
     pub(crate) status: u8,
     pub(crate) remote_local: RemoteLocal,
@@ -102,9 +124,10 @@ pub struct Server {
 }
 
 impl Server {
-    pub fn new(vendor: u16) -> Server {
+    pub fn new(vendor: u16, prefers: Mode) -> Server {
         Server {
             vendor,
+            prefers,
             last_issued: 0,
             status: 0,
             remote_local: RemoteLocal::default(),
@@ -168,21 +191,24 @@ impl Server {
         let Some(live) = live.find(|live| u32::from(live.number) == session) else {
             return refused(Refusal::NoSession);
         };
-        let Some(asked) = live.asked else {
+        let Some(number) = live.answer_number() else {
             return refused(Refusal::NothingAsked);
         };
         if payload.len() > PAYLOAD || payload.len() as u64 > live.client_size {
             return refused(Refusal::AnswerTooLong);
         }
-        live.message_available = true;
-        let kind = if end == 0 {
-            kind::DATA
+        let kind = if end == 0 { kind::DATA } else { kind::DATA_END };
+        if live.mode == Mode::Overlap {
+            live.sent = Some(number);
+            live.count = number.wrapping_add(2);
         } else {
-            live.asked = None;
-            kind::DATA_END
-        };
+            live.message_available = true;
+            if end != 0 {
+                live.asked = None;
+            }
+        }
         let mut frames = Frames::new(out);
-        frames.send_with(live.synchronous, kind, 0, asked, payload);
+        frames.send_with(live.synchronous, kind, 0, number, payload);
         done(frames.used())
     }
 

@@ -2,14 +2,14 @@
 
 use reference::lock_view::{LockView, SessionView, StandingView, WaitingView};
 use reference::subject::image_of;
-use reference::{Deadline, Refusal, Reply, Size, Subject};
+use reference::{Deadline, Fresh, Refusal, Reply, Size, Subject};
 
 use crate::locks::Request;
 use crate::server::Server;
 
 impl Subject for Server {
-    fn new(vendor: u16) -> Server {
-        Server::new(vendor)
+    fn new(fresh: Fresh) -> Server {
+        Server::new(fresh.vendor, fresh.prefers)
     }
 
     fn open(&mut self, connection: u32) -> Reply {

@@ -48,13 +48,13 @@ pub fn wait_at_most(stream: &TcpStream, longest: Duration) -> Result<()> {
         .map_err(Trouble::Connection)
 }
 
-/// Drops messages until one of type `kind` has come.
-pub fn drop_until(stream: &mut TcpStream, kind: u8, what: &'static str) -> Result<()> {
+/// Drops messages until one of type `kind` has come, which is returned.
+pub fn drop_until(stream: &mut TcpStream, kind: u8, what: &'static str) -> Result<Message> {
     loop {
         let message = Message::read(stream).map_err(|error| Trouble::of(error, what))?;
         match message.kind {
             FATAL_ERROR => return Err(Trouble::told(message, what)),
-            found if found == kind => return Ok(()),
+            found if found == kind => return Ok(message),
             _ => {}
         }
     }

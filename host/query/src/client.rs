@@ -13,6 +13,8 @@ pub const FIRST: u32 = 0xffff_ff00;
 const STEP: u32 = 2;
 /// The most recent number sent, if none was sent yet.
 pub const BEFORE_FIRST: u32 = FIRST.wrapping_sub(STEP);
+/// Bit 0 of the codes that tell a mode.
+const OVERLAP: u8 = 1;
 /// A Data message whose question the server could not name.
 const NO_NUMBER: u32 = 0xffff_ffff;
 /// Protocol version 1.0, client vendor "XX".
@@ -41,6 +43,10 @@ pub struct Client {
     rmt_delivered: bool,
     /// AsyncInterrupted came: answers are dropped until Interrupted comes.
     interrupted: bool,
+    /// Overlap mode: answers come in order with numbers of the server's own.
+    overlap: bool,
+    /// In overlap mode, the number of the most recent answer delivered.
+    delivered: u32,
 }
 
 impl Client {
@@ -74,6 +80,8 @@ impl Client {
             sent: BEFORE_FIRST,
             rmt_delivered: false,
             interrupted: false,
+            overlap: opened.code & OVERLAP != 0,
+            delivered: BEFORE_FIRST,
         };
         client.exchange_sizes()?;
         Ok(client)
@@ -121,8 +129,8 @@ impl Client {
         Ok(())
     }
 
-    /// A whole answer. Data and DataEND of another question are dropped with what came before them
-    /// (3.1.2, rules 1 and 2).
+    /// A whole answer. In synchronized mode Data and DataEND of another question are dropped with what
+    /// came before them (3.1.2, rules 1 and 2).
     pub fn read(&mut self) -> Result<Vec<u8>> {
         let mut answer = Vec::new();
         loop {
@@ -130,7 +138,10 @@ impl Client {
             let message = message.map_err(|error| Trouble::of(error, "answer"))?;
             let number = message.parameter;
             let named = number == self.sent || (message.kind == DATA && number == NO_NUMBER);
-            let ours = named && !self.interrupted;
+            let ours = self.overlap || (named && !self.interrupted);
+            if matches!(message.kind, DATA | DATA_END) {
+                self.delivered = number;
+            }
             match message.kind {
                 DATA if ours => answer.extend(message.payload),
                 DATA_END if ours => {
@@ -192,11 +203,16 @@ impl Client {
         }
     }
 
-    /// The status byte.
+    /// The status byte. In overlap mode the query names the last answer delivered (3.2.2).
     pub fn status(&mut self) -> Result<u8> {
         let kinds = (ASYNC_STATUS_QUERY, ASYNC_STATUS_RESPONSE);
         let rmt_delivered = self.take_rmt_delivered();
-        let answer = self.ask(kinds, rmt_delivered, self.sent, b"", "AsyncStatusResponse")?;
+        let number = if self.overlap {
+            self.delivered
+        } else {
+            self.sent
+        };
+        let answer = self.ask(kinds, rmt_delivered, number, b"", "AsyncStatusResponse")?;
         Ok(answer.code)
     }
 
@@ -250,18 +266,22 @@ impl Client {
         let _ = send(&mut self.asynchronous, &message);
     }
 
-    /// Device clear, steps 2 to 8: everything but the two acknowledgements is dropped meanwhile.
+    /// Device clear, steps 2 to 8: everything but the two acknowledgements is dropped meanwhile. The
+    /// mode that the server prefers is asked for.
     pub fn clear(&mut self) -> Result<()> {
         send(
             &mut self.asynchronous,
             &bytes(ASYNC_DEVICE_CLEAR, 0, 0, b""),
         )?;
         let what = "AsyncDeviceClearAcknowledge";
-        drop_until(&mut self.asynchronous, ASYNC_DEVICE_CLEAR_ACKNOWLEDGE, what)?;
-        send(&mut self.sync, &bytes(DEVICE_CLEAR_COMPLETE, 0, 0, b""))?;
+        let prefers = drop_until(&mut self.asynchronous, ASYNC_DEVICE_CLEAR_ACKNOWLEDGE, what)?;
+        let asked = prefers.code & OVERLAP;
+        send(&mut self.sync, &bytes(DEVICE_CLEAR_COMPLETE, asked, 0, b""))?;
         let what = "DeviceClearAcknowledge";
-        drop_until(&mut self.sync, DEVICE_CLEAR_ACKNOWLEDGE, what)?;
+        let granted = drop_until(&mut self.sync, DEVICE_CLEAR_ACKNOWLEDGE, what)?;
+        self.overlap = granted.code & OVERLAP != 0;
         (self.next, self.sent) = (FIRST, BEFORE_FIRST);
+        self.delivered = BEFORE_FIRST;
         (self.rmt_delivered, self.interrupted) = (false, false);
         Ok(())
     }

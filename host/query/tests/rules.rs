@@ -15,12 +15,21 @@ fn scripted(
     synchronous: Vec<Vec<u8>>,
     asynchronous: Vec<Vec<u8>>,
 ) -> (SocketAddr, JoinHandle<Vec<Message>>) {
+    scripted_in(0, synchronous, asynchronous)
+}
+
+/// The same in the mode that the code of InitializeResponse tells.
+fn scripted_in(
+    mode: u8,
+    synchronous: Vec<Vec<u8>>,
+    asynchronous: Vec<Vec<u8>>,
+) -> (SocketAddr, JoinHandle<Vec<Message>>) {
     let listener = TcpListener::bind("127.0.0.1:0").expect("a free port");
     let address = listener.local_addr().expect("bound");
     let serving = spawn(move || {
         let (mut sync, _) = listener.accept().expect("a program");
         Message::read(&mut sync).expect("Initialize");
-        sync.write_all(&message::bytes(1, 0, 0x0100_0007, b""))
+        sync.write_all(&message::bytes(1, mode, 0x0100_0007, b""))
             .expect("sent");
         let (mut second, _) = listener.accept().expect("a program");
         assert_eq!(
@@ -111,6 +120,30 @@ fn requests_name_the_last_message_sent() {
         (21, 1, 0xffff_ff00), // tells once that the answer's end was delivered
         (21, 0, 0xffff_ff00),
         (10, 1, 0xffff_ff00),
+    ];
+    assert_eq!(numbers(&heard), expected);
+}
+
+#[test]
+fn overlap_mode_is_followed() {
+    let status = || message::bytes(22, 0, 0, b"");
+    let asynchronous = vec![status(), status(), message::bytes(23, 1, 0, b""), status()];
+    // Two answers to the first question, none to the second: numbers are the server's own.
+    let both = [end(0xffff_ff00), end(0xffff_ff02)].concat();
+    let synchronous = vec![both, vec![], message::bytes(9, 0, 0, b""), end(0xffff_ff00)];
+    let (to, serving) = scripted_in(1, synchronous, asynchronous);
+    let steps = ["status", "A?", "B?", "status", "clear", "C?", "status"];
+    done(to, &steps);
+    let heard = serving.join().expect("no panic");
+    let expected = [
+        (7, 0, 0xffff_ff00),
+        (7, 1, 0xffff_ff02),
+        (8, 1, 0), // asks for what the server prefers, and is granted synchronized
+        (7, 0, 0xffff_ff00),
+        (21, 0, 0xffff_fefe), // nothing delivered yet
+        (21, 1, 0xffff_ff02),
+        (19, 0, 0),
+        (21, 1, 0xffff_ff00),
     ];
     assert_eq!(numbers(&heard), expected);
 }

@@ -3,12 +3,15 @@
 use crate::delivery::Message;
 use crate::limits::{PAYLOAD, SESSIONS};
 use crate::locks::{LockString, Released, Request};
+use crate::mode::Mode;
 use crate::server::{answer_lock, RemoteLocal, Role, Server, Session, Standing};
 use crate::wire::{fatal, kind, Frames};
 
 /// Highest protocol version spoken: 1.0.
 const VERSION: u16 = 0x0100;
 const MESSAGE_AVAILABLE: u8 = 16;
+/// Where every count of messages starts.
+const FIRST: u32 = 0xffff_ff00;
 /// What a release names if its program has sent no message yet.
 const BEFORE_FIRST: u32 = 0xffff_fefe;
 
@@ -45,11 +48,15 @@ impl Server {
             client_size: PAYLOAD as u64,
             last: None,
             standing: None,
+            mode: self.prefers,
+            count: FIRST,
+            sent: None,
         });
         self.connections[usize::from(connection)].role = Role::Synchronous(slot);
         let version = VERSION.min((parameter >> 16) as u16);
         let reply = u32::from(version) << 16 | u32::from(number);
-        frames.send(connection, kind::INITIALIZE_RESPONSE, 0, reply);
+        let prefers = self.prefers as u8;
+        frames.send(connection, kind::INITIALIZE_RESPONSE, prefers, reply);
         number
     }
 
@@ -105,8 +112,11 @@ impl Server {
     }
 
     pub(crate) fn clear_complete(&mut self, message: &Message, frames: &mut Frames) {
-        self.session_mut(message.slot).in_clear = false;
-        frames.send(message.connection, kind::CLEAR_ACKNOWLEDGE, 0, 0);
+        let asked = Mode::of_code(message.header.code);
+        let session = self.session_mut(message.slot);
+        session.in_clear = false;
+        session.mode = asked;
+        frames.send(message.connection, kind::CLEAR_ACKNOWLEDGE, asked as u8, 0);
     }
 
     pub(crate) fn act_asynchronous(&mut self, message: &Message, frames: &mut Frames) {
@@ -191,11 +201,19 @@ impl Server {
         session.asked = None;
         session.message_available = false;
         session.last = None;
+        session.count = FIRST;
+        session.sent = None;
         let standing = session.standing.take();
         if let Some(standing) = standing {
             self.release(message.slot, standing.lock, frames);
         }
-        frames.send(message.connection, kind::DEVICE_CLEAR_ACKNOWLEDGE, 0, 0);
+        let prefers = self.prefers as u8;
+        frames.send(
+            message.connection,
+            kind::DEVICE_CLEAR_ACKNOWLEDGE,
+            prefers,
+            0,
+        );
         if standing.is_some() {
             self.grant_pass(frames);
         }
@@ -207,7 +225,7 @@ impl Server {
         if message.header.code == 1 {
             session.message_available = false;
         }
-        let available = if session.message_available {
+        let available = if session.available(message.header.parameter) {
             MESSAGE_AVAILABLE
         } else {
             0

@@ -16,12 +16,14 @@ pub mod limits;
 pub mod lock_model;
 pub mod lock_view;
 pub mod locks;
+pub mod mode;
 pub mod reply;
 pub mod server;
 pub mod subject;
 pub mod wire;
 
 pub use event::{Deadline, Event, Reply, Size};
+pub use mode::{Fresh, Mode};
 pub use reply::{Delivery, Outcome, Refusal};
 pub use server::Server;
 pub use subject::Subject;

@@ -3,6 +3,7 @@
 use crate::limits::{CLOCK, CONNECTIONS, OUTPUT, PAYLOAD, SESSIONS};
 use crate::lock_view::{LockView, SessionView, StandingView, WaitingView};
 use crate::locks::{Locks, Released, Request};
+use crate::mode::Mode;
 use crate::reply::Refusal;
 use crate::wire::{kind, Frames};
 
@@ -50,6 +51,45 @@ pub(crate) struct Session {
     /// MessageID of the last Data, DataEND or Trigger that acted since opening or AsyncDeviceClear.
     pub last: Option<u32>,
     pub standing: Option<Standing>,
+    pub mode: Mode,
+    /// Overlap mode: the number of the next answer, and of the last one since the last reset.
+    pub count: u32,
+    pub sent: Option<u32>,
+}
+
+impl Session {
+    /// The number that an answer would carry; None if none may be sent (refusal 5).
+    fn answer_number(&self) -> Option<u32> {
+        match self.mode {
+            Mode::Synchronized => self.asked,
+            Mode::Overlap if self.asynchronous.is_none() || self.in_clear => None,
+            Mode::Overlap => Some(self.count),
+        }
+    }
+
+    /// An answer was sent, with END or without.
+    fn answered(&mut self, end: bool) {
+        match self.mode {
+            Mode::Synchronized => {
+                self.message_available = true;
+                if end {
+                    self.asked = None;
+                }
+            }
+            Mode::Overlap => {
+                self.sent = Some(self.count);
+                self.count = self.count.wrapping_add(2);
+            }
+        }
+    }
+
+    /// Message available, as a status query that carries this number sees it.
+    pub fn available(&self, number: u32) -> bool {
+        match self.mode {
+            Mode::Synchronized => self.message_available,
+            Mode::Overlap => self.sent.is_some_and(|sent| sent != number),
+        }
+    }
 }
 
 /// Shared by all sessions, and outlives them.
@@ -63,6 +103,8 @@ pub struct RemoteLocal {
 #[derive(Clone, Debug, PartialEq, Eq, Hash)]
 pub struct Server {
     pub(crate) vendor: u16,
+    /// The mode that sessions start in.
+    pub(crate) prefers: Mode,
     pub(crate) status: u8,
     pub(crate) clock: u64,
     pub(crate) last_issued: u16,
@@ -73,9 +115,15 @@ pub struct Server {
 }
 
 impl Server {
+    /// A fresh server that prefers synchronized mode.
     pub fn new(vendor: u16) -> Server {
+        Server::preferring(vendor, Mode::Synchronized)
+    }
+
+    pub fn preferring(vendor: u16, prefers: Mode) -> Server {
         Server {
             vendor,
+            prefers,
             status: 0,
             clock: 0,
             last_issued: 0,
@@ -146,17 +194,14 @@ impl Server {
             .flatten()
             .find(|live| u32::from(live.number) == session)
             .ok_or(Refusal::NoSession)?;
-        let asked = session.asked.ok_or(Refusal::NothingAsked)?;
+        let number = session.answer_number().ok_or(Refusal::NothingAsked)?;
         if payload.len() > PAYLOAD || payload.len() as u64 > session.client_size {
             return Err(Refusal::AnswerTooLong);
         }
-        session.message_available = true;
-        if end {
-            session.asked = None;
-        }
+        session.answered(end);
         let mut frames = Frames::new(out);
         let kind = if end { kind::DATA_END } else { kind::DATA };
-        frames.send_with(session.synchronous, kind, 0, asked, payload);
+        frames.send_with(session.synchronous, kind, 0, number, payload);
         Ok(frames.used())
     }
 

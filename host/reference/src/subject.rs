@@ -4,10 +4,11 @@ use std::hash::{Hash, Hasher};
 
 use crate::event::{Deadline, Event, Reply, Size};
 use crate::lock_view::LockView;
+use crate::mode::Fresh;
 use crate::server::Server;
 
 pub trait Subject {
-    fn new(vendor: u16) -> Self
+    fn new(fresh: Fresh) -> Self
     where
         Self: Sized;
     fn open(&mut self, connection: u32) -> Reply;
@@ -82,8 +83,8 @@ pub fn image_of(held: &impl Hash, image: &mut Vec<u8>) {
 macro_rules! subject_of {
     ($server:path) => {
         impl $crate::Subject for $server {
-            fn new(vendor: u16) -> Self {
-                <$server>::new(vendor)
+            fn new(fresh: $crate::Fresh) -> Self {
+                <$server>::preferring(fresh.vendor, fresh.prefers)
             }
 
             fn open(&mut self, connection: u32) -> $crate::Reply {

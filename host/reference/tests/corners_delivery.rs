@@ -544,7 +544,7 @@ fn item_34_the_clears_acknowledgements_and_their_channels() {
     let (mut bench, [a]) = Bench::with();
     clear(&mut bench, a);
     assert_eq!(
-        bench.send(a.sync, 8, 1, b""),
+        bench.send(a.sync, 8, 0, b""),
         acted(a, 16, &[sent(a.sync, 9, 0, 0)])
     );
     bench.ask(a, 6);

@@ -206,11 +206,11 @@ fn item_59_device_clear() {
 }
 
 #[test]
-fn item_60_feature_bits_are_not_granted() {
+fn item_60_of_the_feature_bits_bit_0_alone_is_granted() {
     let (mut bench, [a]) = Bench::with();
     let seen = bench.send(a.asynchronous, CLEAR, 1, b"");
     assert_eq!(seen.frames, [sent(a.asynchronous, 23, 0, 0)]);
-    let seen = bench.send(a.sync, CLEARED, 1, b"");
+    let seen = bench.send(a.sync, CLEARED, 0xfe, b"");
     assert_eq!(seen.frames, [sent(a.sync, 9, 0, 0)]);
 }
 

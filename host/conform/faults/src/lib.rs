@@ -1,7 +1,7 @@
 //! Servers that are wrong in one place each. A conformance run that passes one of them is worth
 //! nothing; `conform selftest` tries them all.
 
-use reference::Subject;
+use reference::{Fresh, Subject};
 
 /// One wrong server.
 pub struct Fault {
@@ -10,7 +10,7 @@ pub struct Fault {
     pub breaks: &'static str,
     /// Demand 3 and the one-sided checks must find it without a second server to compare with.
     pub alone: bool,
-    pub new: fn(u16) -> Box<dyn Subject>,
+    pub new: fn(Fresh) -> Box<dyn Subject>,
 }
 
 include!(concat!(env!("OUT_DIR"), "/faults.rs"));

@@ -25,6 +25,8 @@ pub struct Client {
     pub sent: u32,
     /// An answer's end was delivered, and no message has told the server so yet.
     rmt_delivered: bool,
+    /// The mode that the server told last.
+    pub overlap: bool,
 }
 
 pub fn bytes(kind: u8, code: u8, parameter: u32, payload: &[u8]) -> Vec<u8> {
@@ -95,7 +97,7 @@ impl Client {
         let hello = bytes(0, 0, 0x0100_5858, b"hislip0");
         sync.write_all(&hello).expect("sent");
         let opened = receive(&mut sync);
-        assert_eq!((opened.kind, opened.code), (1, 0), "{opened:?}");
+        assert!(opened.kind == 1 && opened.code <= 1, "{opened:?}");
         let session = opened.parameter as u16;
         let mut asynchronous = connect(to);
         let join = bytes(17, 0, session.into(), b"");
@@ -110,6 +112,7 @@ impl Client {
             next: FIRST,
             sent: BEFORE_FIRST,
             rmt_delivered: false,
+            overlap: opened.code == 1,
         }
     }
 
@@ -205,8 +208,13 @@ impl Client {
     }
 
     pub fn status(&mut self) -> u8 {
+        self.status_after(self.sent)
+    }
+
+    /// The status byte, asked with this number.
+    pub fn status_after(&mut self, number: u32) -> u8 {
         let rmt = u8::from(std::mem::take(&mut self.rmt_delivered));
-        let answer = self.ask(21, rmt, self.sent, b"");
+        let answer = self.ask(21, rmt, number, b"");
         assert_eq!(answer.kind, 22);
         answer.code
     }
@@ -227,9 +235,15 @@ impl Client {
             lock_answers.push(acknowledged.code);
             acknowledged = receive(&mut self.asynchronous);
         }
-        assert_eq!((acknowledged.kind, acknowledged.code), (23, 0));
+        assert_eq!(acknowledged.kind, 23);
         self.sync.write_all(&bytes(8, 0, 0, b"")).expect("sent");
-        while receive(&mut self.sync).kind != 9 {}
+        let granted = loop {
+            let message = receive(&mut self.sync);
+            if message.kind == 9 {
+                break message.code;
+            }
+        };
+        self.overlap = granted == 1;
         (self.next, self.sent) = (FIRST, BEFORE_FIRST);
         self.rmt_delivered = false;
         lock_answers

@@ -4,7 +4,7 @@
 
 pub use reference::compose::message;
 use reference::event::frames;
-use reference::{Outcome, Refusal, Server};
+use reference::{Mode, Outcome, Refusal, Server};
 
 pub const FATAL: u8 = 2;
 pub const ERROR: u8 = 3;
@@ -102,10 +102,14 @@ pub struct Bench {
 }
 
 impl Bench {
-    /// A fresh server of vendor "AA".
+    /// A fresh server of vendor "AA" that prefers synchronized mode.
     pub fn new() -> Bench {
+        Bench::preferring(Mode::Synchronized)
+    }
+
+    pub fn preferring(mode: Mode) -> Bench {
         Bench {
-            server: Server::new(u16::from_be_bytes(*b"AA")),
+            server: Server::preferring(u16::from_be_bytes(*b"AA"), mode),
             out: (0..2048).map(|i| (i * 7) as u8).collect(),
         }
     }
