@@ -142,7 +142,8 @@ pub fn withholds(w: &Words, i: usize, end: bool, shown: &[u8]) -> bool
     if !end {
         return false;
     }
-    if is_overlap(w, i) {
+    let overlap = is_overlap(w, i);
+    if overlap {
         return false;
     }
     let c = tables::entry(w, i, tables::SYNCHRONOUS) % 256;
