@@ -34,6 +34,12 @@
  * answered more needed or held, and the two questions (hislip_deadline, hislip_client_size) write nothing
  * at all.
  *
+ * MESSAGE NUMBERS. A client counts its Data, DataEND and Trigger from ffffff00 hex by two, wrapping, from
+ * its opening and again from each AsyncDeviceClear. A message that carries another number than the one
+ * expected is answered Error 0 and does not act; the expectation stays, so that a client that has lost count
+ * gets on by a device clear. A message that is refused for another cause (too large, its code, its payload)
+ * still counts, if it carries the number expected; one that is held is tested when it is taken.
+ *
  * RELEASES. A lock release (AsyncLock with code 0) names the last Data, DataEND or Trigger that its
  * client has sent, or fffffefe hex if it has sent none since it opened or since its last device clear.
  * It acts, and is answered, when that message has acted. A release that names any other number is
