@@ -91,9 +91,9 @@ extern "C" {
 /* The version of this interface. A change of the first number, or below 1.0 of the second, may ask
  * for changes in the host. */
 #define HISLIP_VERSION_MAJOR 0
-#define HISLIP_VERSION_MINOR 4
+#define HISLIP_VERSION_MINOR 5
 #define HISLIP_VERSION_PATCH 0
-#define HISLIP_VERSION "0.4.0"
+#define HISLIP_VERSION "0.5.0"
 
 /* Compilers that know these words warn; the others pass over them.
  * HISLIP_NOT_NULL: no pointer is null, see WHAT THE HOST OWES.
@@ -108,7 +108,7 @@ extern "C" {
 #endif
 
 /* Sizes. */
-#define HISLIP_WORDS 716          /* uint64_t to lend as `words`: what hislip_words() tells         */
+#define HISLIP_WORDS 748          /* uint64_t to lend as `words`: what hislip_words() tells         */
 #define HISLIP_STRING_BYTES 8448  /* bytes to lend as `strings`: what hislip_string_bytes() tells   */
 #define HISLIP_SESSIONS 32        /* live sessions, half-open ones included                         */
 #define HISLIP_CONNECTIONS 64     /* connections are numbered 0 to 63                               */
