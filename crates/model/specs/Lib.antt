@@ -55,4 +55,6 @@ pub mod Sending
 pub mod Outcomes
 pub mod Missing
 pub mod NextQuestion
+pub mod InStep
+pub mod AnsweredOnce
 pub mod Asking
