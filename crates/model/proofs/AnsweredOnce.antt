@@ -309,7 +309,7 @@ module _ (c : ℕ) (real : c ≡ noConnection → ⊥) (s t j : ℕ) (d : Server
   met (connected x) r l f v′ = plainly (connected x) r l f v′ (calm (connected x) r l f v′ refl refl refl (rows (connected x) r l f v′ refl refl refl))
   met (disconnected x q) r l f v′ = closing-met x q r l f v′
   met (skipped-over x q) r l f v′ = plainly (skipped-over x q) r l f v′ (calm (skipped-over x q) r l f v′ refl refl refl (rows (skipped-over x q) r l f v′ refl refl refl))
-  met (errored x g q) r l f v′ = let b = eqb j (slotIn E x) && eqb ((at E j) .synchronous) x in plainly (errored x g q) r l f v′ (calm (errored x g q) r l f v′ refl refl refl (rows (errored x g q) r l f v′ (same-both₀ b ((at E j) .number)) (same-both₀ b ((at E j) .synchronous)) (same-both₀ b ((at E j) .asynchronous))))
+  met (errored x g q) r l f v′ = plainly (errored x g q) r l f v′ (calm (errored x g q) r l f v′ refl refl refl (rows (errored x g q) r l f v′ refl refl refl))
   met (message-acted a) r l f v′ = message-met a r l f v′
   met (clock-read u) r l f v′ = reading-met u r l f v′
   met (status-set b) r l f v′ = plainly (status-set b) r l f v′ (calm (status-set b) r l f v′ refl refl refl (rows (status-set b) r l f v′ refl refl refl))

@@ -171,11 +171,7 @@ row-away c real es i (disconnected y k) x n e = go (eqb i (slotIn es y))
     go true = ne-eqb noConnection c (λ z. real (sym z))
     go false = e
 row-away c real es i (skipped-over y k) x n e = e
-row-away c real es i (errored y h k) x n e = go (eqb i (slotIn es y) && eqb ((at es i) .synchronous) y)
-  where
-    go : (b : Bool) → eqb (cond b x x) c ≡ false
-    go true = e
-    go false = e
+row-away c real es i (errored y h k) x n e = e
 row-away c real es i (message-acted a) x n e = go (eqb i (slotActed es a)) (eqb (kindOf a) 17) (eqb (kindOf a) 0) n
   where
     go : (b u v : Bool) → (u && eqb (a .connection) c) ≡ false → eqb (cond b (cond u (a .connection) (cond v noConnection x)) x) c ≡ false

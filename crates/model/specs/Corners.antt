@@ -405,17 +405,6 @@ pub told-waiting-holds : told-waiting ≡ (1 ∷ []) ∷ (1 ∷ []) ∷ [] ∷ (
 unfolding told-waiting log final step refusal causes answered plan finish received effect verdict placeOf acts synchronousExchange synchronousSaid asynchronousRest asynchronousSaid asynchronousEvent controlled mayAnswer answerNumber availableAt scan freshScan header field encode headerBytes frameBytes bytesOf classOf mayGrant access passOver grantPass change
 told-waiting-holds = refl
 
--- a client that counts: B, through a message in two pieces, one held, one with a wrong code and one too large; what the reader has of it
-abbrev counting : List Event
-counting =
-    three
-    ++ (send 2 (message 6 0 0xffffff00 cal) ∷ send 2 (take 9 (message 7 0 0xffffff02 [])) ∷ request 1 0 [] ∷ send 2 (message 7 0 0xffffff02 []) ∷ release 1
-    ∷ send 2 (message 7 0 0xffffff02 []) ∷ send 2 (message 6 9 0xffffff04 []) ∷ send 2 (message 6 0 0xffffff06 (replicate 1025 7)) ∷ send 2 (replicate 1025 7) ∷ [])
-
-pub counting-holds : (numbering benchMaking counting 2) .taken ≡ countUp 4
-unfolding numberingOf log final step refusal causes answered plan finish received effect verdict placeOf acts synchronousExchange synchronousSaid asynchronousRest asynchronousSaid asynchronousEvent controlled mayAnswer answerNumber availableAt scan freshScan header field encode headerBytes frameBytes bytesOf classOf mayGrant access passOver grantPass change
-counting-holds = refl
-
 -- clear, status, remote, sizes, answers
 pub exchanges : List Corner
 exchanges =

@@ -55,6 +55,5 @@ pub mod Sending
 pub mod Outcomes
 pub mod Missing
 pub mod NextQuestion
-pub mod InStep
 pub mod AnsweredOnce
 pub mod Asking
