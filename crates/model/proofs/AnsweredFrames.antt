@@ -1,5 +1,5 @@
--- The frames of a call that answer waiting requests, as a host reads them (specs/AnsweredOnce.antt), are just these, by the table of locality: 0 to
--- each that a reading or a device clear takes, then 1 to each that is granted.
+-- The frames of a call that answer waiting requests, whoever's they are, are just these, by the table of locality: 0 to each that a reading or a device
+-- clear takes, then 1 to each that is granted.
 use mathlib.Core.Path.{_≡_, refl, sym, ap, ap₂, _∙_}
 use mathlib.Core.Bool.{Bool, true, false, not, _&&_, _||_, cond, true≢false}
 use mathlib.Core.List.{List, [], _∷_, _++_, map}
@@ -17,10 +17,28 @@ use Rattle.model.specs.Happening.{Heard, Heard.silence, Heard.with-code,
 use Rattle.model.specs.LocalityRows.{kindOf, slotActed, isCode, codeWhere, endedWith, interruptedBy, requestsOf, reachedBy, looksAfter}
 use Rattle.model.specs.LocalityReplies.{preferred, numberSent, plainTo, ReplyTo, replyIn, replies, saidTo, fatalTo, pairTo, saidFirst, direct, answeredFirst, answerTo}
 use Rattle.model.specs.Locality.{Local}
-use Rattle.model.specs.AnsweredOnce.{lockOnly, ofClear, toWaiting}
+use Rattle.model.specs.AnsweredOnce.{lockOnly}
 use Rattle.model.proofs.Basics.{and-l, and-r}
 
-lock-append : (xs ys : List Frame) → lockOnly (xs ++ ys) ≡ lockOnly xs ++ lockOnly ys
+-- of an AsyncDeviceClear: code 0 before the acknowledgement, and all after it (a release that stood is answered 1 or 2 before it)
+abbrev pub ofClear : List Frame → List Frame
+ofClear [] = []
+ofClear (f ∷ fs) = cond (eqb (f .message .kind) 23) (lockOnly fs) (cond (eqb (f .message .kind) 5 && eqb (f .message .code) 0) (f ∷ ofClear fs) (ofClear fs))
+
+-- an AsyncLock's own answer comes first, and so does that of a release which a Data, DataEND or Trigger ends
+abbrev pub toWaiting : Happening → List Frame → List Frame
+toWaiting (message-acted a) fs = cond (one-of (4 ∷ 6 ∷ 7 ∷ 12 ∷ []) (kindOf a)) (drop 1 (lockOnly fs)) (cond (eqb (kindOf a) 19) (ofClear fs) (lockOnly fs))
+toWaiting unmoved fs = lockOnly fs
+toWaiting (connected c) fs = lockOnly fs
+toWaiting (disconnected c k) fs = lockOnly fs
+toWaiting (skipped-over c k) fs = lockOnly fs
+toWaiting (errored c h k) fs = lockOnly fs
+toWaiting (clock-read t) fs = lockOnly fs
+toWaiting (status-set b) fs = lockOnly fs
+toWaiting (answer-sent n p end) fs = lockOnly fs
+toWaiting (answer-withheld n m) fs = lockOnly fs
+
+pub lock-append : (xs ys : List Frame) → lockOnly (xs ++ ys) ≡ lockOnly xs ++ lockOnly ys
 lock-append [] ys = refl
 lock-append (f ∷ xs) ys = go (eqb (f .message .kind) 5) (lock-append xs ys)
   where
@@ -28,7 +46,7 @@ lock-append (f ∷ xs) ys = go (eqb (f .message .kind) 5) (lock-append xs ys)
     go true e = ap (λ zs. f ∷ zs) e
     go false e = e
 
-lock-to : (k : ℕ) (es : List Entry) (ws : List Waiting) → lockOnly (map (answerTo k es) ws) ≡ map (answerTo k es) ws
+pub lock-to : (k : ℕ) (es : List Entry) (ws : List Waiting) → lockOnly (map (answerTo k es) ws) ≡ map (answerTo k es) ws
 lock-to k es [] = refl
 lock-to k es (w ∷ ws) = ap (λ fs. answerTo k es w ∷ fs) (lock-to k es ws)
 
@@ -47,7 +65,7 @@ lock-in (r ∷ rs) t a = go (eqb t (r .type)) (eqb (r .reply .message .kind) 5) 
     go true false e h n = rw e
     go false x e h n = h
 
-lock-own : (q : Heard) (c : ℕ) → lockOnly (saidTo q 5 (c ∷ [])) ≡ saidTo q 5 (c ∷ [])
+pub lock-own : (q : Heard) (c : ℕ) → lockOnly (saidTo q 5 (c ∷ [])) ≡ saidTo q 5 (c ∷ [])
 lock-own silence c = refl
 lock-own (with-code k) c = refl
 
@@ -85,7 +103,7 @@ module _ (d : Server) where
   module _ (a : Action) (fs : List Frame) (due : List Entry) (gs : List Waiting) (told : a .told ≡ heard 5 fs)
       (frames : fs ≡ saidFirst d (message-acted a) ++ (answeredFirst d (message-acted a) ++ (direct d (message-acted a) ++ map (answerTo 1 due) gs)))
       (none : looksAfter es (message-acted a) ≡ false → gs ≡ []) where
-    abbrev G : List Frame
+    abbrev pub G : List Frame
     G = map (answerTo 1 due) gs
 
     abbrev t₀ : ℕ
@@ -94,10 +112,10 @@ module _ (d : Server) where
     abbrev e₀ : Entry
     e₀ = at es (slotActed es a)
 
-    abbrev zeros : List Frame
+    abbrev pub zeros : List Frame
     zeros = map (answerTo 0 es) (keep (requestsOf (slotActed es a)) ws)
 
-    abbrev ended : Heard
+    abbrev pub ended : Heard
     ended = endedWith a (e₀ .standing)
 
     locks-are : lockOnly fs ≡ lockOnly (answeredFirst d (message-acted a)) ++ G
@@ -108,10 +126,10 @@ module _ (d : Server) where
         ∙ ap (λ zs. lockOnly (answeredFirst d (message-acted a)) ++ zs) (lock-append (direct d (message-acted a)) G ∙ ap₂ _++_ (lock-direct a) (lock-to 1 due gs)))
 
     -- what comes before the grants, by the two tests
-    abbrev firstBy : Bool → Bool → List Frame
+    abbrev pub firstBy : Bool → Bool → List Frame
     firstBy x y = cond x (saidTo (a .told) 5 (a .connection ∷ [])) (cond y zeros [] ++ saidTo ended 5 (e₀ .asynchronous ∷ []))
 
-    first-is : (x y : Bool) → eqb t₀ 4 ≡ x → eqb t₀ 19 ≡ y → lockOnly fs ≡ lockOnly (firstBy x y) ++ G
+    pub first-is : (x y : Bool) → eqb t₀ 4 ≡ x → eqb t₀ 19 ≡ y → lockOnly fs ≡ lockOnly (firstBy x y) ++ G
     first-is x y ex ey = locks-are ∙ ap (λ zs. lockOnly zs ++ G) (ap₂ firstBy ex ey)
 
     -- the goal, by the three tests

@@ -4,25 +4,26 @@ use mathlib.Core.Bool.{Bool, true, false, not, _&&_, _||_, cond, true≢false}
 use mathlib.Core.List.{List, [], _∷_, _++_, map}
 use mathlib.Core.Logic.{_⊎_, inl, inr}
 use Prim.Native.Nat.{ℕ, _+_, _<_}
-use lib.Dec.{eqb, leb}
+use native.Mathlib.Omega.{arith}
+use lib.Dec.{eqb, leb, ltb}
 use lib.ListN.{length}
 use borrow.Author.Tests.{eqb-true, eqb-false, eq-eqb, ne-eqb}
 use Rattle.wire.specs.Message.{header, messageOf}
 use Rattle.wire.specs.Class.{one-of, classOf, synchronous}
-use Rattle.model.specs.Sizes.{noConnection}
+use Rattle.model.specs.Sizes.{noConnection, stringLimit}
 use Rattle.model.specs.MessageTypes.{AsyncLock}
 use Rattle.model.specs.Lists.{all, keep}
-use Rattle.model.specs.State.{Server, Entry, Waiting, at, live, blank, slotOfNumber, fresh, Making}
+use Rattle.model.specs.State.{Server, Locks, Entry, Waiting, Standing, Standing.no-release, Standing.release-of, Kind.exclusive-lock, Kind.shared-lock, at, live, blank, slotOfNumber, fresh, Making}
 use Rattle.model.specs.Interface.{Event, Event.delivery, Event.clock, Outcome.acted, Reply, Reply.took}
 use Rattle.model.specs.Place.{onConnection, slotIn, slotOf, entryOf, Role.r-asynchronous, roleOf}
-use Rattle.model.specs.Locks.{elsewhere}
-use Rattle.model.specs.Step.{Result, Line, step, final, log}
+use Rattle.model.specs.Locks.{Answer, LockEvent.request, elsewhere, noPlace, holds, mayGrant, stands, ruling, respond, change}
+use Rattle.model.specs.Step.{Result, finish, lockFrame, step, final, log}
 use Rattle.model.specs.Happening.{Heard, Action, Happening, Happening.unmoved, Happening.connected, Happening.disconnected, Happening.skipped-over, Happening.errored, Happening.message-acted, Happening.clock-read, Happening.status-set, Happening.answer-sent, Happening.answer-withheld, heard, happened}
-use Rattle.model.specs.LocalityRows.{kindOf, slotActed, inSlot, asynchronous-row, synchronous-row, number-row, isSilence, waits, requestsOf, reachedBy, requestsLeft, looksAfter}
+use Rattle.model.specs.LocalityRows.{kindOf, slotActed, inSlot, asynchronous-row, synchronous-row, number-row, isSilence, endedWith, waits, requestsOf, reachedBy, requestsLeft, looksAfter}
 use Rattle.model.specs.LocalityReplies.{answerTo}
 use Rattle.model.specs.Locality.{atCall, Local}
 use Rattle.model.specs.NextQuestion.{synchronousOf}
-use Rattle.model.specs.AnsweredOnce.{toWaiting, codesTo, Call, Call.closes, Call.expires, Call.clears, Call.other, callOf, begins, NoMore, Meets, Once, clockIn, AnsweredOnce}
+use Rattle.model.specs.AnsweredOnce.{codesTo, Release, Release.none-stands, answeredTo, releaseAfter, Call, Call.closes, Call.expires, Call.clears, Call.other, callOf, NoMore, Meets, Once, clockIn, AnsweredOnce}
 use Rattle.model.proofs.Basics.{and-l, and-r, both, or-of, or-r, or→, not-of, inside, all-keep}
 use Rattle.model.proofs.Invariant.{Inv, Good}
 use Rattle.model.proofs.Place.{place-sound, place-unique, async-live}
@@ -30,23 +31,26 @@ use Rattle.model.proofs.Numbers.{live-number, live-found}
 use Rattle.model.proofs.Fits.{real-delivery, inv-call, inv-run}
 use Rattle.model.proofs.Replies.{accepted}
 use Rattle.model.proofs.Deciding.{async-own}
+use Rattle.model.proofs.Fewer.{step-request, request-step}
 use Rattle.model.proofs.Sending.{role-of-async}
 use Rattle.model.proofs.NextQuestion.{first-is}
 use Rattle.model.proofs.Locality.{local-call, local-run, exchange-slots}
 use Rattle.model.proofs.WaitingOne.{One, None, all-imp, all-and, keep-one, keep-gone, look-all, look-one, snoc-one, new-one, good-none, one-none, away, codes-none, codes-one}
-use Rattle.model.proofs.AnsweredFrames.{taken}
-use Rattle.model.proofs.AnsweredQuiet.{ActedFacts, Facts, acted-facts, facts, joins, codes, away-due, away-after, quiet-after, is-lock, lefts, newest, comes, sized-call, quiet-list}
+use Rattle.model.proofs.AnsweredFrames.{toWaiting, taken}
+use Rattle.model.proofs.AnsweredQuiet.{ActedFacts, Facts, acted-facts, facts, joins, codes, away-due, away-after, quiet-after, is-lock, lefts, newest, comes, sized-call}
+use Rattle.model.proofs.AnsweredRead.{releaseOf, Known, codes-read, known-after, quiet-list}
 
--- the request of the session in slot j, with connections c and s, waits until t
-pub record Waits (c s t j : ℕ) (d : Server) : Type 0 where
+-- the request of the session in slot j, with connections c and s and standing release p, waits until t
+pub record Waits (c s t j : ℕ) (p : Release) (d : Server) : Type 0 where
   pub inv : Inv (d .locks)
   pub sized : length (d .rest .exchanges) ≡ length (d .locks .entries)
   pub alive : live (at (d .locks .entries) j) ≡ true
   pub second : (at (d .locks .entries) j) .asynchronous ≡ c
   pub first : (at (d .locks .entries) j) .synchronous ≡ s
   pub one : One j t (d .locks .waiting)
+  pub known : Known c s p (d .locks .entries)
 
-module _ (c : ℕ) (real : c ≡ noConnection → ⊥) (s t j : ℕ) (d : Server) (k : Waits c s t j d) where
+module _ (c : ℕ) (real : c ≡ noConnection → ⊥) (s t j : ℕ) (p : Release) (d : Server) (k : Waits c s t j p d) where
   abbrev E : List Entry
   E = d .locks .entries
 
@@ -316,35 +320,84 @@ module _ (c : ℕ) (real : c ≡ noConnection → ⊥) (s t j : ℕ) (d : Server
   met (answer-sent m p end) r l f v′ = let b = eqb j (slotOfNumber E m) in plainly (answer-sent m p end) r l f v′ (calm (answer-sent m p end) r l f v′ refl refl refl (rows (answer-sent m p end) r l f v′ (same-both₀ b ((at E j) .number)) (same-both₀ b ((at E j) .synchronous)) (same-both₀ b ((at E j) .asynchronous))))
   met (answer-withheld m q) r l f v′ = let b = eqb j (slotOfNumber E m) in plainly (answer-withheld m q) r l f v′ (calm (answer-withheld m q) r l f v′ refl refl refl (rows (answer-withheld m q) r l f v′ (same-both₀ b ((at E j) .number)) (same-both₀ b ((at E j) .synchronous)) (same-both₀ b ((at E j) .asynchronous))))
 
+  -- no other session takes the connection, and none has the other one
+  unjoined : (h : Happening) (r : Result) → Local d h r → Facts d h (r .frames) → Inv (r .server .locks) → joins c h ≡ false
+  unjoined (message-acted a) r l f v′ = no-join a r l f v′
+  unjoined unmoved r l f v′ = refl
+  unjoined (connected x) r l f v′ = refl
+  unjoined (disconnected x q) r l f v′ = refl
+  unjoined (skipped-over x q) r l f v′ = refl
+  unjoined (errored x g q) r l f v′ = refl
+  unjoined (clock-read u) r l f v′ = refl
+  unjoined (status-set b) r l f v′ = refl
+  unjoined (answer-sent m x end) r l f v′ = refl
+  unjoined (answer-withheld m q) r l f v′ = refl
+
+  alone : (i : ℕ) → (s ≡ noConnection → ⊥) → live (at E i) ≡ true → (at E i) .synchronous ≡ s → eqb ((at E i) .asynchronous) c ≡ false → ⊥
+  alone i n a e far =
+      let same : i ≡ j = k .inv .sound .firm .connections s n i j (both _ _ a (or-of _ _ (eq-eqb _ _ e))) (both _ _ (k .alive) (or-of _ _ (eq-eqb _ _ (k .first)))) in
+      eqb-false _ _ far (ap (λ (x : ℕ). (at E x) .asynchronous) same ∙ k .second)
+
 -- a list
-once-list : (c : ℕ) → (c ≡ noConnection → ⊥) → (s t j : ℕ) (es : List Event) (d : Server) → Waits c s t j d → Once c s t (log d es)
+once-list : (c : ℕ) → (c ≡ noConnection → ⊥) → (s t j : ℕ) (p : Release) (es : List Event) (d : Server) → Waits c s t j p d → Once c s t p (log d es)
 unfolding log
-once-list c real s t j [] d k = tt
-once-list c real s t j (e ∷ es) d k = go (callOf c s t (atCall d e)) (met c real s t j d k (atCall d e) (step d e) (local-call d e) (facts d (k .inv) (k .sized) e ((step d e) .reply) refl) v′) (λ x. once-list c real s t j es ((step d e) .server) x)
+once-list c real s t j p [] d k = tt
+once-list c real s t j p (e ∷ es) d k = go (callOf c s t h₀) (met c real s t j p d k h₀ (step d e) l₀ f₀ v′) (λ x. once-list c real s t j q es ((step d e) .server) x)
   where
+    h₀ : Happening
+    h₀ = atCall d e
+
+    l₀ : Local d h₀ (step d e)
+    l₀ = local-call d e
+
+    f₀ : Facts d h₀ ((step d e) .frames)
+    f₀ = facts d (k .inv) (k .sized) e ((step d e) .reply) refl
+
     v′ : Inv ((step d e) .server .locks)
     v′ = inv-call d e (k .inv)
 
     z′ : length ((step d e) .server .rest .exchanges) ≡ length ((step d e) .server .locks .entries)
     z′ = sized-call d e (k .sized)
 
-    line : Line
-    line = record { event = e; reply = (step d e) .reply; frames = (step d e) .frames }
+    q : Release
+    q = releaseAfter c s h₀ p
 
-    no-more : all (away c 0 ((step d e) .server .locks .entries)) ((step d e) .server .locks .waiting) ≡ true → NoMore c (log ((step d e) .server) es)
-    no-more a = quiet-list c real es ((step d e) .server) record { inv = v′; sized = z′; none = a }
+    known′ : Known c s q ((step d e) .server .locks .entries)
+    known′ = known-after c real s p d (k .inv) (k .known) h₀ (step d e) l₀ f₀ (unjoined c real s t j p d k h₀ (step d e) l₀ f₀ v′)
 
-    go : (x : Call) → Met c real s t j d k (atCall d e) (step d e) x → (Waits c s t j ((step d e) .server) → Once c s t (log ((step d e) .server) es)) → Meets x c line (Once c s t (log ((step d e) .server) es)) (NoMore c (log ((step d e) .server) es))
-    go closes m rest = (m .0, no-more (m .1))
-    go expires m rest = (m .0, no-more (m .1))
-    go clears m rest = (m .0, no-more (m .1))
+    A : List ℕ
+    A = answeredTo c s p h₀ ((step d e) .frames)
+
+    read : A ≡ codesTo c (toWaiting h₀ ((step d e) .frames))
+    read = codes-read c s p d h₀ (step d e) l₀ f₀ (k .known) (λ i n a x far. absurd (alone c real s t j p d k i n a x far))
+
+    no-more : all (away c 0 ((step d e) .server .locks .entries)) ((step d e) .server .locks .waiting) ≡ true → NoMore c s q (log ((step d e) .server) es)
+    no-more a = quiet-list c real s q es ((step d e) .server) record { inv = v′; sized = z′; none = a } known′
+
+    go : (x : Call) → Met c real s t j p d k h₀ (step d e) x → (Waits c s t j q ((step d e) .server) → Once c s t q (log ((step d e) .server) es)) → Meets x A (Once c s t q (log ((step d e) .server) es)) (NoMore c s q (log ((step d e) .server) es))
+    go closes m rest = (read ∙ m .0, no-more (m .1))
+    go expires m rest = (read ∙ m .0, no-more (m .1))
+    go clears m rest = (read ∙ m .0, no-more (m .1))
     go other m rest = by (m .0)
       where
-        by : ((codesTo c (toWaiting (atCall d e) ((step d e) .frames)) ≡ []) × One j t ((step d e) .server .locks .waiting)) ⊎ ((codesTo c (toWaiting (atCall d e) ((step d e) .frames)) ≡ 1 ∷ []) × (all (away c 0 ((step d e) .server .locks .entries)) ((step d e) .server .locks .waiting) ≡ true))
-            → ((codesTo c (toWaiting (atCall d e) ((step d e) .frames)) ≡ []) × Once c s t (log ((step d e) .server) es)) ⊎ ((codesTo c (toWaiting (atCall d e) ((step d e) .frames)) ≡ 1 ∷ []) × NoMore c (log ((step d e) .server) es))
+        by : ((codesTo c (toWaiting h₀ ((step d e) .frames)) ≡ []) × One j t ((step d e) .server .locks .waiting)) ⊎ ((codesTo c (toWaiting h₀ ((step d e) .frames)) ≡ 1 ∷ []) × (all (away c 0 ((step d e) .server .locks .entries)) ((step d e) .server .locks .waiting) ≡ true))
+            → ((A ≡ []) × Once c s t q (log ((step d e) .server) es)) ⊎ ((A ≡ 1 ∷ []) × NoMore c s q (log ((step d e) .server) es))
         by (inl x) =
-            inl (x .0, rest record { inv = v′; sized = z′; alive = ap (λ (i : ℕ). not (eqb i 0)) (m .1) ∙ k .alive; second = m .3 ∙ k .second; first = m .2 ∙ k .first; one = x .1 })
-        by (inr x) = inr (x .0, no-more (x .1))
+            inl (read ∙ x .0, rest record { inv = v′; sized = z′; alive = ap (λ (i : ℕ). not (eqb i 0)) (m .1) ∙ k .alive; second = m .3 ∙ k .second; first = m .2 ∙ k .first; one = x .1; known = known′ })
+        by (inr x) = inr (read ∙ x .0, no-more (x .1))
+
+-- a request that is not answered: no release of its session stands
+unstood : (l : Locks) (i t : ℕ) (k : List ℕ) → (change l (request i t k)) .answers ≡ [] → (at (l .entries) i) .standing ≡ no-release
+unfolding change
+unstood l i t k e =
+    go (holds k (at (l .entries) i)) (all (elsewhere i) (l .waiting)) (ltb stringLimit (length k)) ((at (l .entries) i) .standing) (mayGrant (l .entries) i k) (eqb t 0 || noPlace (l .waiting)) e
+  where
+    go : (h a w : Bool) (x : Standing) (m z : Bool) → (respond (ruling h a (w || stands x) m z) l i t k) .answers ≡ [] → x ≡ no-release
+    go true a w x m z e = absurd (let y : _≡_ {A = ℕ} 0 1 = cc in omega arith)
+    go false false w x m z e = absurd (let y : _≡_ {A = ℕ} 0 1 = cc in omega arith)
+    go false true true x m z e = absurd (let y : _≡_ {A = ℕ} 0 1 = cc in omega arith)
+    go false true false no-release m z e = refl
+    go false true false (release-of y n) m z e = absurd (let y : _≡_ {A = ℕ} 0 1 = cc in omega arith)
 
 -- it begins
 module _ (v : Making) (es : List Event) (c : ℕ) (bs : List ℕ) (room k n : ℕ) (e : (step (final (fresh v) es) (delivery c bs room)) .reply ≡ took acted k n) (q : (header bs) .kind ≡ AsyncLock) (o : (header bs) .code ≡ 1)
@@ -409,15 +462,29 @@ module _ (v : Making) (es : List Event) (c : ℕ) (bs : List ℕ) (room k n : �
   v₀ : Inv (R .server .locks)
   v₀ = inv-call D (delivery c bs room) inv₀
 
-  waits-now : Waits c (synchronousOf v es n) (clockIn (log (fresh v) es) + (header bs) .param) (slotOf D c) (R .server)
+  real₀ : c ≡ noConnection → ⊥
+  real₀ = real-delivery D c bs room (accepted D (delivery c bs room) acted k n e)
+
+  unstood₀ : (entryOf D c) .standing ≡ no-release
+  unfolding finish
+  unstood₀ =
+      let r = step-request D c bs room k n e q in
+      unstood (D .locks) (slotOf D c) ((r .head) .param) (r .string) (no-answers _ (sym (ap (λ (x : Result). x .frames) (request-step D c bs room r q o)) ∙ nothing))
+    where
+      no-answers : (xs : List Answer) → map lockFrame xs ++ [] ≡ [] → xs ≡ []
+      no-answers [] e = refl
+      no-answers (x ∷ xs) e = absurd (let z : _≡_ {A = ℕ} 0 1 = cc in omega arith)
+
+  waits-now : Waits c (synchronousOf v es n) (clockIn (log (fresh v) es) + (header bs) .param) (slotOf D c) none-stands (R .server)
   waits-now =
       record {
         inv = v₀;
         sized = sized-call D (delivery c bs room) sized₀;
-        alive = ap (λ (i : ℕ). not (eqb i 0)) (local₀ .number (slotOf D c) within₀ ∙ kept (eqb (slotOf D c) (slotActed (D .locks .entries) act)) (eqb ((header bs) .kind) 0) n ((entryOf D c) .number) kind₀) ∙ alive₀;
-        second = local₀ .asynchronous (slotOf D c) within₀ ∙ kept-second (eqb (slotOf D c) (slotActed (D .locks .entries) act)) ∙ async-own (D .locks .entries) c role₀;
-        first = local₀ .synchronous (slotOf D c) within₀ ∙ kept (eqb (slotOf D c) (slotActed (D .locks .entries) act)) (eqb ((header bs) .kind) 0) c ((entryOf D c) .synchronous) kind₀ ∙ first₀;
+        alive = alive-now;
+        second = second-now;
+        first = first-now;
         one = subst (One (slotOf D c) (clockIn (log (fresh v) es) + (header bs) .param)) (sym (comes D act R local₀ facts₀ waits₀)) (new-one (slotOf D c) (clockIn (log (fresh v) es) + (header bs) .param) (newest D act R local₀ facts₀ waits₀) slot₀ (ap (λ (i : ℕ). i + (header bs) .param) ((local-run (fresh v) es) .clock)) (D .locks .waiting) none-before);
+        known = known-now;
       }
     where
       kept : (b z : Bool) (x y : ℕ) → z ≡ false → cond b (cond z x y) y ≡ y
@@ -428,11 +495,45 @@ module _ (v : Making) (es : List Event) (c : ℕ) (bs : List ℕ) (room k n : �
       kept-second true = ap₂ (λ (u w : Bool). cond u c (cond w noConnection ((entryOf D c) .asynchronous))) kind₁ kind₀
       kept-second false = refl
 
+      now : Entry
+      now = at (R .server .locks .entries) (slotOf D c)
+
+      second-now : now .asynchronous ≡ c
+      second-now = local₀ .asynchronous (slotOf D c) within₀ ∙ kept-second (eqb (slotOf D c) (slotActed (D .locks .entries) act)) ∙ async-own (D .locks .entries) c role₀
+
+      first-now : now .synchronous ≡ synchronousOf v es n
+      first-now = local₀ .synchronous (slotOf D c) within₀ ∙ kept (eqb (slotOf D c) (slotActed (D .locks .entries) act)) (eqb ((header bs) .kind) 0) c ((entryOf D c) .synchronous) kind₀ ∙ first₀
+
+      alive-now : live now ≡ true
+      alive-now = ap (λ (i : ℕ). not (eqb i 0)) (local₀ .number (slotOf D c) within₀ ∙ kept (eqb (slotOf D c) (slotActed (D .locks .entries) act)) (eqb ((header bs) .kind) 0) n ((entryOf D c) .number) kind₀) ∙ alive₀
+
+      -- no release stands: the request would have been answered 3
+      standing-now : now .standing ≡ no-release
+      standing-now =
+          let x = entryOf D c in
+          local₀ .standing (slotOf D c) within₀
+          ∙ row-is (eqb (slotOf D c) (slotActed (D .locks .entries) act)) ((eqb ((header bs) .kind) 4 && eqb ((header bs) .code) 0) && isSilence (act .told)) (eqb ((header bs) .kind) 0 || not (isSilence (endedWith act (x .standing))))
+          (release-of (cond (x .exclusive) exclusive-lock shared-lock) ((header bs) .param)) (x .standing) no-release-asked unstood₀
+        where
+          no-release-asked : ((eqb ((header bs) .kind) 4 && eqb ((header bs) .code) 0) && isSilence (act .told)) ≡ false
+          no-release-asked = rw (q, o)
+
+          row-is : (b u w : Bool) (y x : Standing) → u ≡ false → x ≡ no-release → cond b (cond u y (cond w no-release x)) x ≡ no-release
+          row-is true true w y x e f = absurd (true≢false e)
+          row-is true false true y x e f = refl
+          row-is true false false y x e f = f
+          row-is false u w y x e f = f
+
+      known-now : Known c (synchronousOf v es n) none-stands (R .server .locks .entries)
+      known-now i a e =
+          let here : i ≡ slotOf D c = v₀ .sound .firm .connections c real₀ i (slotOf D c) (both _ _ a (or-r (eqb ((at (R .server .locks .entries) i) .synchronous) c) _ (eq-eqb _ _ e))) (both _ _ alive-now (or-r (eqb (now .synchronous) c) _ (eq-eqb _ _ second-now))) in
+          subst (λ (j : ℕ). ((at (R .server .locks .entries) j) .synchronous ≡ synchronousOf v es n) × (releaseOf ((at (R .server .locks .entries) j) .standing) ≡ none-stands)) (sym here) (first-now, ap releaseOf standing-now)
+
       none-before : None (slotOf D c) (D .locks .waiting)
       none-before = good-none (R .server .locks .entries) (slotOf D c) (newest D act R local₀ facts₀ waits₀) slot₀ (D .locks .waiting) (subst (Good (R .server .locks .entries)) (comes D act R local₀ facts₀ waits₀) (v₀ .sound .good))
 
-  once-after : (fs : List Event) → Once c (synchronousOf v es n) (clockIn (log (fresh v) es) + (header bs) .param) (log (R .server) fs)
-  once-after fs = once-list c (real-delivery D c bs room (accepted D (delivery c bs room) acted k n e)) (synchronousOf v es n) (clockIn (log (fresh v) es) + (header bs) .param) (slotOf D c) fs (R .server) waits-now
+  once-after : (fs : List Event) → Once c (synchronousOf v es n) (clockIn (log (fresh v) es) + (header bs) .param) none-stands (log (R .server) fs)
+  once-after fs = once-list c real₀ (synchronousOf v es n) (clockIn (log (fresh v) es) + (header bs) .param) (slotOf D c) none-stands fs (R .server) waits-now
 
 pub answered-once : (v : Making) (es : List Event) → AnsweredOnce v es
 answered-once v es = record { once = λ c bs room k n e q o z fs. once-after v es c bs room k n e q o z fs }

@@ -1,5 +1,5 @@
 -- A call on a server where no request waits of the session with a connection answers none, until one comes: what is known of a call beside the table
--- of locality, who may come to have the connection, and the calls that follow.
+-- of locality, and who may come to have the connection.
 use mathlib.Core.Path.{_≡_, refl, sym, ap, ap₂, subst, _∙_}
 use mathlib.Core.Bool.{Bool, true, false, not, _&&_, _||_, cond, false≢true, true≢false}
 use mathlib.Core.List.{List, [], _∷_, _++_, map}
@@ -9,32 +9,33 @@ use lib.Dec.{eqb, ltb}
 use lib.ListN.{length}
 use borrow.Author.Tests.{eqb-true, ne-eqb, ltb-true, ltb-false}
 use Rattle.wire.specs.Message.{header, messageOf}
-use Rattle.wire.specs.Class.{one-of, classOf, synchronous}
+use Rattle.wire.specs.Class.{one-of, classOf, synchronous, asynchronous}
 use Rattle.wire.specs.Frame.{Frame}
 use Rattle.model.specs.Sizes.{noConnection}
 use Rattle.model.specs.Lists.{all, keep}
 use Rattle.model.specs.State.{Server, Entry, Waiting, at, live, blank, slotOfNumber}
 use Rattle.model.specs.Interface.{Event, Event.opening, Event.delivery, Event.cut, Event.clock, Event.answer, Event.status, Outcome, Outcome.more-needed, Outcome.skipped, Outcome.held, Outcome.ignored, Outcome.error-sent, Outcome.closed, Outcome.acted, Reply, Reply.refused, Reply.done, Reply.withheld, Reply.took}
-use Rattle.model.specs.Place.{slotIn, slotOf, Role.r-asynchronous, roleOf}
+use Rattle.model.specs.Place.{slotIn, slotOf, Role.r-synchronous, Role.r-asynchronous, roleBy, roleOf}
 use Rattle.model.specs.Refusals.{refusal}
 use Rattle.model.specs.Step.{Result, answered, step, log}
 use Rattle.model.specs.Happening.{Heard, Heard.silence, Action, Happening, Happening.unmoved, Happening.connected, Happening.disconnected, Happening.skipped-over, Happening.errored, Happening.message-acted, Happening.clock-read, Happening.status-set, Happening.answer-sent, Happening.answer-withheld, heard, happened}
 use Rattle.model.specs.LocalityRows.{kindOf, slotActed, inSlot, asynchronous-row, isSilence, waits, requestsOf, reachedBy, requestsLeft, looksAfter}
 use Rattle.model.specs.LocalityReplies.{answerTo}
 use Rattle.model.specs.Locality.{atCall, Local}
-use Rattle.model.specs.AnsweredOnce.{toWaiting, codesTo, nothingSent, begins, NoMore, NoMore.ended, NoMore.anew, NoMore.silent}
+use Rattle.model.specs.AnsweredOnce.{codesTo, nothingSent, begins}
 use Rattle.model.proofs.Basics.{and-l, and-r, not-of, all-keep, all-snoc}
 use Rattle.model.proofs.Invariant.{Inv}
 use Rattle.model.proofs.Events.{Pairs}
 use Rattle.model.proofs.Fits.{real-delivery, real-cut, inv-call}
 use Rattle.model.proofs.Replies.{accepted}
+use Rattle.model.proofs.Place.{place-role, sync-live, async-live}
 use Rattle.model.proofs.Opening.{entering, pairing}
 use Rattle.model.proofs.Deciding.{async-own}
 use Rattle.model.proofs.ReadOff.{each-of}
-use Rattle.model.proofs.Sending.{OnlyOn, role-of-async}
+use Rattle.model.proofs.Sending.{OnlyOn, role-of-async, role-of-sync}
 use Rattle.model.proofs.Locality.{local-call, exchange-slots}
 use Rattle.model.proofs.WaitingOne.{all-imp, look-all, away, codes-none, codes-append}
-use Rattle.model.proofs.AnsweredFrames.{taken, unanswered, Told, frames-told}
+use Rattle.model.proofs.AnsweredFrames.{toWaiting, taken, unanswered, Told, frames-told}
 
 -- what is known of a call, beside the table
 pub record ActedFacts (d : Server) (a : Action) (fs : List Frame) : Type 0 where
@@ -42,6 +43,10 @@ pub record ActedFacts (d : Server) (a : Action) (fs : List Frame) : Type 0 where
   pub vacant : kindOf a ≡ 0 → live (at (d .locks .entries) (slotActed (d .locks .entries) a)) ≡ false
   pub pairs : kindOf a ≡ 17 → Pairs (d .locks .entries) (slotActed (d .locks .entries) a) (a .connection)
   pub second : one-of (4 ∷ 19 ∷ []) (kindOf a) ≡ true → (at (d .locks .entries) (slotActed (d .locks .entries) a)) .asynchronous ≡ a .connection
+  pub second-live : one-of (4 ∷ 19 ∷ []) (kindOf a) ≡ true → live (at (d .locks .entries) (slotActed (d .locks .entries) a)) ≡ true
+  pub first : one-of (6 ∷ 7 ∷ 12 ∷ []) (kindOf a) ≡ true → (at (d .locks .entries) (slotActed (d .locks .entries) a)) .synchronous ≡ a .connection
+  pub first-live : one-of (6 ∷ 7 ∷ 12 ∷ []) (kindOf a) ≡ true → live (at (d .locks .entries) (slotActed (d .locks .entries) a)) ≡ true
+  pub real : a .connection ≡ noConnection → ⊥
 
 abbrev pub Facts : Server → Happening → List Frame → Type 0
 Facts d unmoved fs = Unit {0}
@@ -55,6 +60,17 @@ Facts d (status-set b) fs = Unit {0}
 Facts d (answer-sent n p end) fs = Unit {0}
 Facts d (answer-withheld n m) fs = Unit {0}
 
+sync-own : (es : List Entry) (c : ℕ) → roleOf es c ≡ r-synchronous → (at es (slotIn es c)) .synchronous ≡ c
+sync-own es c e =
+    let x = at es (slotIn es c) in
+    eqb-true _ _ (go (live x) (eqb (x .asynchronous) noConnection) (eqb (x .synchronous) c) (sym (place-role es c) ∙ e))
+  where
+    go : (a b c : Bool) → roleBy a b c ≡ r-synchronous → c ≡ true
+    go true true c e = cc
+    go true false true e = refl
+    go true false false e = cc
+    go false b c e = cc
+
 done-accepted : (d : Server) (e : Event) → (step d e) .reply ≡ done → refusal d e ≡ 0
 unfolding step answered
 done-accepted d e q = go (refusal d e) q
@@ -67,22 +83,35 @@ module _ (d : Server) (i : Inv (d .locks)) (z : length (d .rest .exchanges) ≡ 
   abbrev t₁ : ℕ
   t₁ = (header bs) .kind
 
-  abbrev slot₁ : ℕ
-  slot₁ = cond (eqb t₁ 0) (slotOfNumber (d .locks .entries) 0) (cond (eqb t₁ 17) (slotOfNumber (d .locks .entries) ((header bs) .param)) (slotOf d c))
+  -- its slot, by its type
+  abbrev slotBy : ℕ → ℕ
+  slotBy t = cond (eqb t 0) (slotOfNumber (d .locks .entries) 0) (cond (eqb t 17) (slotOfNumber (d .locks .entries) ((header bs) .param)) (slotOf d c))
 
-  async-second : (t : ℕ) → t₁ ≡ t → one-of (4 ∷ 19 ∷ []) t ≡ true → (at (d .locks .entries) (cond (eqb t 0) (slotOfNumber (d .locks .entries) 0) (cond (eqb t 17) (slotOfNumber (d .locks .entries) ((header bs) .param)) (slotOf d c)))) .asynchronous ≡ c
+  abbrev Second : ℕ → Type 0
+  Second t = t₁ ≡ t → (live (at (d .locks .entries) (slotBy t)) ≡ true) × ((at (d .locks .entries) (slotBy t)) .asynchronous ≡ c)
+
+  async-second : (t : ℕ) → one-of (4 ∷ 19 ∷ []) t ≡ true → Second t
   unfolding classOf
-  async-second t q o =
-      each-of
-      (λ t. t₁ ≡ t → (at (d .locks .entries) (cond (eqb t 0) (slotOfNumber (d .locks .entries) 0) (cond (eqb t 17) (slotOfNumber (d .locks .entries) ((header bs) .param)) (slotOf d c)))) .asynchronous ≡ c)
-      (4 ∷ 19 ∷ [])
-      ((λ q. async-own (d .locks .entries) c (async-there 4 q (refl, refl))), ((λ q. async-own (d .locks .entries) c (async-there 19 q (refl, refl))), tt))
-      t
-      o
-      q
+  async-second t o = each-of Second (4 ∷ 19 ∷ []) ((λ q. both-of (there 4 q (refl, refl))), ((λ q. both-of (there 19 q (refl, refl))), tt)) t o
     where
-      async-there : (t : ℕ) → t₁ ≡ t → OnlyOn synchronous t → roleOf (d .locks .entries) c ≡ r-asynchronous
-      async-there t q o = role-of-async d c bs room t k n e q o
+      there : (t : ℕ) → t₁ ≡ t → OnlyOn synchronous t → roleOf (d .locks .entries) c ≡ r-asynchronous
+      there t q o = role-of-async d c bs room t k n e q o
+
+      both-of : roleOf (d .locks .entries) c ≡ r-asynchronous → (live (at (d .locks .entries) (slotOf d c)) ≡ true) × ((at (d .locks .entries) (slotOf d c)) .asynchronous ≡ c)
+      both-of r = (async-live (d .locks .entries) c r, async-own (d .locks .entries) c r)
+
+  abbrev First : ℕ → Type 0
+  First t = t₁ ≡ t → (live (at (d .locks .entries) (slotBy t)) ≡ true) × ((at (d .locks .entries) (slotBy t)) .synchronous ≡ c)
+
+  sync-first : (t : ℕ) → one-of (6 ∷ 7 ∷ 12 ∷ []) t ≡ true → First t
+  unfolding classOf
+  sync-first t o = each-of First (6 ∷ 7 ∷ 12 ∷ []) ((λ q. both-of (there 6 q (refl, refl))), ((λ q. both-of (there 7 q (refl, refl))), ((λ q. both-of (there 12 q (refl, refl))), tt))) t o
+    where
+      there : (t : ℕ) → t₁ ≡ t → OnlyOn asynchronous t → roleOf (d .locks .entries) c ≡ r-synchronous
+      there t q o = role-of-sync d c bs room t k n e q o
+
+      both-of : roleOf (d .locks .entries) c ≡ r-synchronous → (live (at (d .locks .entries) (slotOf d c)) ≡ true) × ((at (d .locks .entries) (slotOf d c)) .synchronous ≡ c)
+      both-of r = (sync-live (d .locks .entries) c r, sync-own (d .locks .entries) c r)
 
   pub acted-facts : ActedFacts d (record { connection = c; message = messageOf (header bs) bs; session = n; told = heard 5 ((step d (delivery c bs room)) .frames) }) ((step d (delivery c bs room)) .frames)
   acted-facts =
@@ -90,7 +119,11 @@ module _ (d : Server) (i : Inv (d .locks)) (z : length (d .rest .exchanges) ≡ 
         told = refl;
         vacant = λ q. subst (λ (t : ℕ). live (at (d .locks .entries) (cond (eqb t 0) (slotOfNumber (d .locks .entries) 0) (cond (eqb t 17) (slotOfNumber (d .locks .entries) ((header bs) .param)) (slotOf d c)))) ≡ false) (sym q) ((entering d i (d .rest .made) refl z c bs room k n e q) .vacant);
         pairs = λ q. subst (λ (t : ℕ). Pairs (d .locks .entries) (cond (eqb t 0) (slotOfNumber (d .locks .entries) 0) (cond (eqb t 17) (slotOfNumber (d .locks .entries) ((header bs) .param)) (slotOf d c))) c) (sym q) (pairing d i (d .rest .made) refl z c bs room k n e q);
-        second = λ o. async-second t₁ refl o;
+        second = λ o. (async-second t₁ o refl) .1;
+        second-live = λ o. (async-second t₁ o refl) .0;
+        first = λ o. (sync-first t₁ o refl) .1;
+        first-live = λ o. (sync-first t₁ o refl) .0;
+        real = real-delivery d c bs room (accepted d (delivery c bs room) acted k n e);
       }
 
 delivered : (d : Server) → Inv (d .locks) → length (d .rest .exchanges) ≡ length (d .locks .entries) → (c : ℕ) (bs : List ℕ) (room : ℕ) (o : Outcome) (k n : ℕ) → (step d (delivery c bs room)) .reply ≡ took o k n
@@ -144,7 +177,7 @@ told-own d (status-set b) fs f = record { own = λ a e. absurd (let z : _≡_ {A
 told-own d (answer-sent n p end) fs f = record { own = λ a e. absurd (let z : _≡_ {A = ℕ} 0 1 = cc in omega arith) }
 told-own d (answer-withheld n m) fs f = record { own = λ a e. absurd (let z : _≡_ {A = ℕ} 0 1 = cc in omega arith) }
 
-past : (es : List Entry) (i : ℕ) → length es ≤ i → at es i ≡ blank
+pub past : (es : List Entry) (i : ℕ) → length es ≤ i → at es i ≡ blank
 past [] i l = refl
 past (x ∷ es) zero l = absurd (omega arith)
 past (x ∷ es) (suc i) l = past es i (omega arith)
@@ -275,13 +308,13 @@ module _ (d : Server) (a : Action) (r : Result) (l : Local d (message-acted a) r
 -- no request waits on connection c: one call
 module _ (c : ℕ) (real : c ≡ noConnection → ⊥) (d : Server) (q : Quiet c d) where
   abbrev Stays : Happening → Result → Type 0
-  Stays h r = (codesTo c (toWaiting h (r .frames)) ≡ []) × (all (away c 0 (r .server .locks .entries)) (r .server .locks .waiting) ≡ true)
+  Stays h r = (codesTo c (toWaiting h (r .frames)) ≡ []) × (all (away c 0 (r .server .locks .entries)) (r .server .locks .waiting) ≡ true) × (joins c h ≡ false)
 
   module _ (h : Happening) (r : Result) (l : Local d h r) (f : Facts d h (r .frames)) (v′ : Inv (r .server .locks)) where
     stays : joins c h ≡ false → all (away c 0 (d .locks .entries)) (taken d h) ≡ true → all (away c 0 (d .locks .entries)) (requestsLeft (d .locks .entries) (d .locks .clock) h (d .locks .waiting)) ≡ true → Stays h r
     stays n a b =
         let x = quiet-after c real d h r l f (q .inv) v′ n b in
-        (codes c real d h r l f (q .inv) v′ ∙ ap₂ _++_ (codes-none c 0 (d .locks .entries) (taken d h) a) (x .0), x .1)
+        (codes c real d h r l f (q .inv) v′ ∙ ap₂ _++_ (codes-none c 0 (d .locks .entries) (taken d h) a) (x .0), x .1, n)
 
   kept : (p : Waiting → Bool) → all (away c 0 (d .locks .entries)) (keep p (d .locks .waiting)) ≡ true
   kept p = all-keep (away c 0 (d .locks .entries)) p (d .locks .waiting) (q .none)
@@ -312,7 +345,7 @@ module _ (c : ℕ) (real : c ≡ noConnection → ⊥) (d : Server) (q : Quiet c
       left-away false w true = kept (λ w. not (requestsOf (slotActed (d .locks .entries) a) w))
       left-away false w false = q .none
 
-  quiet-at : (h : Happening) (r : Result) → Local d h r → Facts d h (r .frames) → Inv (r .server .locks) → begins c h (r .frames) ≡ false → Stays h r
+  pub quiet-at : (h : Happening) (r : Result) → Local d h r → Facts d h (r .frames) → Inv (r .server .locks) → begins c h (r .frames) ≡ false → Stays h r
   quiet-at unmoved r l f v′ n = stays unmoved r l f v′ refl refl (q .none)
   quiet-at (connected x) r l f v′ n = stays (connected x) r l f v′ refl refl (q .none)
   quiet-at (disconnected x k) r l f v′ n = stays (disconnected x k) r l f v′ refl refl (kept (λ w. not (requestsOf (slotIn (d .locks .entries) x) w)))
@@ -327,14 +360,3 @@ module _ (c : ℕ) (real : c ≡ noConnection → ⊥) (d : Server) (q : Quiet c
 -- the two counts of slots stay
 pub sized-call : (d : Server) (e : Event) → length (d .rest .exchanges) ≡ length (d .locks .entries) → length ((step d e) .server .rest .exchanges) ≡ length ((step d e) .server .locks .entries)
 sized-call d e z = let l = local-call d e in l .exchange-slots ∙ z ∙ sym (l .slots)
-
-pub quiet-list : (c : ℕ) → (c ≡ noConnection → ⊥) → (es : List Event) (d : Server) → Quiet c d → NoMore c (log d es)
-unfolding log
-quiet-list c real [] d q = NoMore.ended
-quiet-list c real (e ∷ es) d q = go (begins c (atCall d e) ((step d e) .frames)) refl (λ z. quiet-list c real es ((step d e) .server) z)
-  where
-    go : (b : Bool) → begins c (atCall d e) ((step d e) .frames) ≡ b → (Quiet c ((step d e) .server) → NoMore c (log ((step d e) .server) es)) → NoMore c (record { event = e; reply = (step d e) .reply; frames = (step d e) .frames } ∷ log ((step d e) .server) es)
-    go true w rest = NoMore.anew _ _ w
-    go false w rest =
-        let x = quiet-at c real d q (atCall d e) (step d e) (local-call d e) (facts d (q .inv) (q .sized) e ((step d e) .reply) refl) (inv-call d e (q .inv)) w in
-        NoMore.silent _ _ (x .0) (rest record { inv = inv-call d e (q .inv); sized = sized-call d e (q .sized); none = x .1 })

@@ -68,5 +68,6 @@ pub mod NextQuestion
 pub mod WaitingOne
 pub mod AnsweredFrames
 pub mod AnsweredQuiet
+pub mod AnsweredRead
 pub mod AnsweredOnce
 pub mod Asking
