@@ -292,3 +292,28 @@ fn a_long_book_is_fed_in_pieces() {
     assert!(pieces.len() > 5);
     assert_eq!(in_pieces(pieces), accepted(20_001));
 }
+
+/// Random rows of the morning's events: what is kept of them is accepted, and one entry less is judged as the
+/// list says.
+#[test]
+fn random_lists_kept_and_judged() {
+    let pool = morning();
+    let mut seed = 7_u64;
+    let mut random = |below: usize| {
+        seed = seed.wrapping_mul(6_364_136_223_846_793_005).wrapping_add(1);
+        (seed >> 33) as usize % below
+    };
+    let mut entries = 0;
+    for _ in 0..100 {
+        let start = pool[..8].iter().cloned();
+        let drawn = (0..60).map(|_| pool[random(pool.len())].clone());
+        let events: Vec<Event> = start.chain(drawn).collect();
+        let book = kept(Fresh::BENCH, &events);
+        let mut list = bodies(&book);
+        entries += list.len();
+        assert_eq!(verdict(&book), accepted(list.len()));
+        list.remove(random(list.len()));
+        moved(&list, &book[book.len() - 12..]);
+    }
+    assert!(entries > 2_000, "{entries} were accepted");
+}

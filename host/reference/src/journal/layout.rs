@@ -151,6 +151,13 @@ impl Fields<'_> {
             tag::STATUS => Recorded::Status {
                 status: self.bytes().map(u8::from_be_bytes)?,
             },
+            _ => return self.setting(tag),
+        })
+    }
+
+    /// Watches and patterns.
+    fn setting(&mut self, tag: u8) -> Option<Recorded> {
+        Some(match tag {
             tag::WATCH_OFF => Recorded::WatchOff {
                 session: self.number()?,
             },
