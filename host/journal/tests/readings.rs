@@ -3,8 +3,10 @@
 mod common;
 
 use common::kept;
+use journal::print::print;
 use journal::readings::readings;
-use reference::compose::{answer, answer_beside, cut, deliver, message};
+use reference::compose::{answer, answer_beside, clock, cut, deliver, message};
+use reference::journal::Keeping;
 use reference::{Event, Fresh, Mode};
 
 const OVERLAP: Fresh = Fresh {
@@ -198,6 +200,96 @@ fn in_overlap_mode_no_command_is_named() {
     let told = page(OVERLAP, &together(1, clear));
     let named = "command: entry 6, 0 ms, DataEND ffffff00 \"C?\"";
     assert!(told.contains(named), "a clear changes the mode: {told}");
+}
+
+#[test]
+fn in_overlap_mode_an_answer_may_come_before_every_command() {
+    let events = [
+        answer(1, b"0", 0),
+        sync(2, 7, 0, "A"),
+        sync(1, 7, 0, "B"),
+        cut(0),
+    ];
+    let told = page(OVERLAP, &together(2, events));
+    assert!(
+        told.contains("not ended: the session closed\n  \"0\"\n"),
+        "{told}"
+    );
+    assert!(told.contains("acted: no command of the session yet\n"));
+}
+
+/// Events that may follow one another in any order.
+fn pool() -> Vec<Event> {
+    let next = message(7, 0, FIRST + 2, b"Y?");
+    let mut pool = vec![Event::Status { status: 4 }, clock(1), cut(4)];
+    for session in 1..=3 {
+        let numbers = [FIRST, FIRST + 2];
+        pool.extend([lock(session), asynchronous(session, 19, 0, 0)]);
+        pool.extend(numbers.map(|number| asynchronous(session, 4, 0, number)));
+        pool.extend([0, 1].map(|code| deliver(2 * session - 2, message(8, code, 0, b""))));
+        pool.extend([6, 7, 12].map(|kind| sync(session, kind, 0, "")));
+        pool.extend([6, 7].map(|kind| sync(session, kind, 1, "X")));
+        pool.extend([0, 1, 1].map(|end| answer(session, b"1", end)));
+        pool.push(answer_beside(session, b"2", 1, next.clone()));
+        pool.push(deliver(2 * session - 2, message(7, 1, FIRST + 2, b"Z")));
+    }
+    pool
+}
+
+/// In synchronized mode the command has the answer's number, and under the lock nobody else's command acted.
+fn agrees(reading: &str) {
+    let line = |begins: &str| {
+        let line = reading.lines().find(|line| line.starts_with(begins));
+        line.unwrap_or_default()
+    };
+    let command = line("  command: entry");
+    let number = reading.split(" ms, ").nth(1).and_then(|rest| rest.get(..8));
+    assert!(
+        command.is_empty() || command.contains(number.expect("a number")),
+        "{reading}"
+    );
+    if line("  exclusive lock").contains("all the while, since") {
+        assert!(
+            !line("  others in between").contains("command"),
+            "{reading}"
+        );
+    }
+}
+
+/// Every answer that ended is a reading, whatever the order.
+#[test]
+fn random_lists_have_a_reading_for_each_answer() {
+    let pool = pool();
+    let mut seed = 3_u64;
+    let mut random = |below: usize| {
+        seed = seed.wrapping_mul(6_364_136_223_846_793_005).wrapping_add(1);
+        (seed >> 33) as usize % below
+    };
+    let mut found = 0;
+    for round in 0..200 {
+        let fresh = [Fresh::BENCH, OVERLAP][round % 2];
+        let mut keeping = Keeping::new(fresh, 1 << 16);
+        let mut ended = 0;
+        let drawn = (0..80).map(|_| pool[random(pool.len())].clone());
+        for event in sessions(3).into_iter().chain(drawn.collect::<Vec<_>>()) {
+            let (reply, _) = keeping.event(&event);
+            let sent = reply.refusal == 0 && reply.withheld == 0;
+            ended += usize::from(sent && matches!(event, Event::Answer { end: 1, .. }));
+        }
+        let book = keeping.close();
+        let mut out = Vec::new();
+        readings(&book, fresh, &mut out).expect("written");
+        print(&book, fresh, &mut Vec::new()).expect("written");
+        let told = String::from_utf8(out).expect("text");
+        let lines = || told.lines().filter(|line| line.starts_with("reading "));
+        assert_eq!(
+            lines().filter(|line| !line.contains("not ended")).count(),
+            ended
+        );
+        found += lines().count();
+        told.split("\nreading ").for_each(agrees);
+    }
+    assert!(found > 500, "{found}");
 }
 
 #[test]

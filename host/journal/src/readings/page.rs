@@ -68,12 +68,10 @@ impl Reading<'_> {
         }
     }
 
-    /// From the session's first command to this answer.
+    /// From the session's first command to this answer; none if the command came later, as one may in overlap mode.
     fn since_first(&self) -> &[Act] {
-        match self.talk.first {
-            Some(first) => &self.acts[first..self.answer.acts],
-            None => &[],
-        }
+        let since = |first| self.acts.get(first..self.answer.acts);
+        self.talk.first.and_then(since).unwrap_or_default()
     }
 
     /// Those that a reading of this session has listed already are not listed again.
