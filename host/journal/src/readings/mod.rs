@@ -83,7 +83,7 @@ impl<'a, W: Write> Readings<'a, W> {
             }
             names::ASYNC_DEVICE_CLEAR => {
                 self.end(session, Ended::Cleared)?;
-                self.acts.push(Act::of(step, session, &message));
+                self.push(Act::of(step, session, &message));
                 if let Some(talk) = self.sessions.get_mut(&session) {
                     talk.clear();
                 }
@@ -92,11 +92,20 @@ impl<'a, W: Write> Readings<'a, W> {
                 if let Some(talk) = self.sessions.get_mut(&session) {
                     talk.command(step, self.acts.len(), &message);
                 }
-                self.acts.push(Act::of(step, session, &message));
+                self.push(Act::of(step, session, &message));
             }
             _ => {}
         }
         Ok(())
+    }
+
+    fn push(&mut self, act: Act) {
+        for (session, talk) in &mut self.sessions {
+            if *session != act.session {
+                talk.other_acted(&act);
+            }
+        }
+        self.acts.push(act);
     }
 
     /// A part of an answer was sent; the one with END ends it.

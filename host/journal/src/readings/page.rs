@@ -1,6 +1,5 @@
 //! A reading on the page.
 
-use std::collections::BTreeMap;
 use std::io::{self, Write};
 
 use reference::Mode;
@@ -108,17 +107,10 @@ impl Reading<'_> {
     }
 
     fn others(&self) -> String {
-        let mut others: BTreeMap<u16, (usize, usize)> = BTreeMap::new();
-        for act in self.since_first() {
-            if act.session != self.session {
-                let (commands, clears) = others.entry(act.session).or_default();
-                *(if act.clears { clears } else { commands }) += 1;
-            }
-        }
-        let told = others.iter().map(|(session, (commands, clears))| {
+        let told = self.answer.others.iter().map(|(session, did)| {
             let parts = [
-                counted(*commands, "command"),
-                counted(*clears, "device clear"),
+                counted(did.commands, "command"),
+                counted(did.clears, "device clear"),
             ];
             let parts: Vec<String> = parts.into_iter().flatten().collect();
             format!("session {session} ({})", parts.join(", "))

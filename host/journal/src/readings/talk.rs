@@ -1,5 +1,7 @@
 //! What one session said and was told.
 
+use std::collections::BTreeMap;
+
 use query::message::Message;
 use query::names;
 use reference::Mode;
@@ -66,6 +68,13 @@ pub enum Held {
     Not,
 }
 
+/// How much another session did.
+#[derive(Clone, Copy, Default)]
+pub struct Did {
+    pub commands: usize,
+    pub clears: usize,
+}
+
 /// What was sent of an answer, as things stood with its last part.
 pub struct Answer {
     pub entry: u64,
@@ -77,6 +86,8 @@ pub struct Answer {
     pub held: Held,
     /// How many acts there had been.
     pub acts: usize,
+    /// Who else had acted since the session's first command.
+    pub others: BTreeMap<u16, Did>,
 }
 
 /// What ended an answer.
@@ -99,6 +110,8 @@ pub struct Talk {
     command: Option<Command>,
     /// What was sent of an answer that has not ended.
     pub answer: Option<Answer>,
+    /// Who else has acted since the first command: counted as it happens, since an answer looks at no act twice.
+    others: BTreeMap<u16, Did>,
     /// The entry that granted the exclusive lock.
     pub exclusive_since: Option<u64>,
     /// The session's last reading, and how many acts there had been.
@@ -113,6 +126,7 @@ impl Talk {
             unended: Vec::new(),
             command: None,
             answer: None,
+            others: BTreeMap::new(),
             exclusive_since: None,
             listed: None,
         }
@@ -162,7 +176,20 @@ impl Talk {
             command: self.command.clone(),
             held: self.held(acts),
             acts: acts.len(),
+            others: self.others.clone(),
         });
+    }
+
+    /// Another session acted.
+    pub fn other_acted(&mut self, act: &Act) {
+        if self.first.is_none() {
+            return;
+        }
+        let did = self.others.entry(act.session).or_default();
+        match act.clears {
+            true => did.clears += 1,
+            false => did.commands += 1,
+        }
     }
 
     fn held(&self, acts: &[Act]) -> Held {
