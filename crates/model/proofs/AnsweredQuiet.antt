@@ -467,7 +467,7 @@ module _ (d : Server) (v : Inv (d .locks)) (s : all (away noConnection 0 (d .loc
   second-after unmoved = calm-second unmoved refl (λ i. refl)
   second-after (connected x) = calm-second (connected x) refl (λ i. refl)
   second-after (skipped-over x k) = calm-second (skipped-over x k) refl (λ i. refl)
-  second-after (errored x g k) = calm-second (errored x g k) refl (λ i. refl)
+  second-after (errored x g k) = calm-second (errored x g k) refl (λ i. same-both₂ (eqb i (slotIn E₂ x) && eqb ((at E₂ i) .synchronous) x) ((at E₂ i) .asynchronous))
   second-after (status-set b) = calm-second (status-set b) refl (λ i. refl)
   second-after (answer-sent k p end) = calm-second (answer-sent k p end) refl (λ i. same-both₂ (eqb i (slotOfNumber E₂ k)) ((at E₂ i) .asynchronous))
   second-after (answer-withheld j k) = calm-second (answer-withheld j k) refl (λ i. same-both₂ (eqb i (slotOfNumber E₂ j)) ((at E₂ i) .asynchronous))
