@@ -431,6 +431,21 @@ opened-by w x₁ x₂ x₃ x₄ s i n c k e₁ e₂ e₃ e₄ e long h some few 
     ∙ ap (λ (x : List ℕ). set x (homeAt c) (homeIn i 1)) (e₃ ∙ ap (λ (x : List ℕ). set x (ENTRIES + i * ENTRY + 2) noConnection) (e₂ ∙ ap (λ (x : List ℕ). set x (ENTRIES + i * ENTRY + 1) c) e₁)))
     ∙ session-opened w s i n c long h some few lone
 
+pub opened-in-order : (w x₁ x₂ x₃ x₄ s : List ℕ) (i n c k : ℕ) → x₁ ≡ set w (ENTRIES + i * ENTRY + 0) n → x₂ ≡ set x₁ (ENTRIES + i * ENTRY + 1) c → x₃ ≡ set x₂ (ENTRIES + i * ENTRY + 2) noConnection
+    → x₄ ≡ set x₃ (homeAt c) k → k ≡ homeIn i 1 → length w ≡ WORDS → i < sessionLimit → (n ≡ 0 → ⊥) → c < connectionLimit → Unshown w c
+    → rowWord w i 0 ≡ 0 → Tidy (memory w s) → Tidy (memory x₄ s)
+opened-in-order w x₁ x₂ x₃ x₄ s i n c k e₁ e₂ e₃ e₄ e long h some few lone free t =
+    subst (λ (x : List ℕ). Tidy (memory x s))
+    (sym
+    (e₄ ∙ ap (set x₃ (homeAt c)) e
+    ∙ ap (λ (x : List ℕ). set x (homeAt c) (homeIn i 1)) (e₃ ∙ ap (λ (x : List ℕ). set x (ENTRIES + i * ENTRY + 2) noConnection) (e₂ ∙ ap (λ (x : List ℕ). set x (ENTRIES + i * ENTRY + 1) c) e₁))))
+    (opened-tidy w s i n c long h some few lone free t)
+
+pub joined-in-order : (w x₁ x₂ s : List ℕ) (i c k : ℕ) → x₁ ≡ set w (ENTRIES + i * ENTRY + 2) c → x₂ ≡ set x₁ (homeAt c) k → k ≡ homeIn i 2 → length w ≡ WORDS → i < sessionLimit → (rowWord w i 0 ≡ 0 → ⊥) → c < connectionLimit → Unshown w c
+    → fieldOf w i 2 ≡ noConnection → Tidy (memory w s) → Tidy (memory x₂ s)
+joined-in-order w x₁ x₂ s i c k e₁ e₂ e long h lives few lone none t =
+    subst (λ (x : List ℕ). Tidy (memory x s)) (sym (e₂ ∙ ap (set x₁ (homeAt c)) e ∙ ap (λ (x : List ℕ). set x (homeAt c) (homeIn i 2)) e₁)) (joined-tidy w s i c long h lives few lone none t)
+
 pub joined-by : (w x₁ x₂ s : List ℕ) (i c k : ℕ) → x₁ ≡ set w (ENTRIES + i * ENTRY + 2) c → x₂ ≡ set x₁ (homeAt c) k → k ≡ homeIn i 2 → length w ≡ WORDS → i < sessionLimit → (rowWord w i 0 ≡ 0 → ⊥) → c < connectionLimit → Unshown w c
     → view (memory x₂ s) ≡ onEntry (view (memory w s)) i (joined c)
 joined-by w x₁ x₂ s i c k e₁ e₂ e long h lives few lone =

@@ -21,5 +21,6 @@ pub mod Tidy
 pub mod Keeping
 pub mod Leaving
 pub mod Unsharing
+pub mod Closing
 pub mod OneMemory
 pub mod FreshTidy

@@ -111,7 +111,7 @@ pub fn nobody_shares(w: &Words) -> bool
 // Slot i gets the exclusive lock, which nobody else holds.
 pub fn give_exclusive(w: &mut Words, i: usize)
     requires { ⌜ (i < sessionLimit) × NoOther (now w) i ⌝ }
-    ensures { λ _. ⌜ ((s : List ℕ) → view (memory (now (w .exit)) s) ≡ onEntry (view (memory (now (w .entry)) s)) i (give [])) ⌝ }
+    ensures { λ _. ⌜ ((s : List ℕ) → view (memory (now (w .exit)) s) ≡ onEntry (view (memory (now (w .entry)) s)) i (give [])) × ((s : List ℕ) → Tidy (memory (now (w .entry)) s) → Tidy (memory (now (w .exit)) s)) ⌝ }
 {
     store(w, HOLDER, i as u64 + 1);
 }
@@ -119,7 +119,7 @@ pub fn give_exclusive(w: &mut Words, i: usize)
 // Slot i holds the exclusive lock no more, if it did.
 pub fn drop_exclusive(w: &mut Words, i: usize)
     requires { ⌜ i < sessionLimit ⌝ }
-    ensures { λ _. ⌜ ((s : List ℕ) → view (memory (now (w .exit)) s) ≡ onEntry (view (memory (now (w .entry)) s)) i withoutExclusive) ⌝ }
+    ensures { λ _. ⌜ ((s : List ℕ) → view (memory (now (w .exit)) s) ≡ onEntry (view (memory (now (w .entry)) s)) i withoutExclusive) × ((s : List ℕ) → Tidy (memory (now (w .entry)) s) → Tidy (memory (now (w .exit)) s)) ⌝ }
 {
     sized(w);
     if w[HOLDER] == i as u64 + 1 {
