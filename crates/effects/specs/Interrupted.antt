@@ -21,6 +21,7 @@ use Rattle.model.specs.Exchange.{afterRmt, noteRmt, queried, interrupted, inter
 use Rattle.model.specs.Acts.{interruptions}
 use Rattle.model.specs.Step.{finish, lockFrame}
 use Rattle.state.specs.Change.{onRest, onExchange, exchangeWith, connectionWith, entryWith}
+use Rattle.state.specs.Tidy.{Tidy}
 use Rattle.state.specs.View.{Memory, restOf, view}
 use Rattle.locks.specs.Outcome.{Met}
 use Rattle.locks.specs.Settled.{settled}
@@ -225,13 +226,13 @@ expectation-kept d d₁ i code a v x e q d₂ p =
 -- a command: what is said first, what it notes, then the answers of the lock event behind that
 pub did-tested : (m m₂ m′ : Memory) (d₁ : Server) (out out₁ out′ : List ℕ) (i n len a r : ℕ) (f g : Exchange → Exchange) (fs : List Frame) (v : LockEvent) (told : Delivery) → told ≡ delivered n len r
     → entryWith 0 n (at (view m .locks .entries) i) ≡ at (view m .locks .entries) i → a ≤ length out → Noted (view m) i f fs d₁ out out₁ a
-    → view m₂ ≡ onRest d₁ (withSlot i g) → Met (settled (view m₂ .locks) v) m₂ m′ out₁ out′ a r
+    → view m₂ ≡ onRest d₁ (withSlot i g) → (Tidy m → Tidy m₂) → Met (settled (view m₂ .locks) v) m₂ m′ out₁ out′ a r
     → Did (finish (view m) (planFirst (view m) i len (withSlot i (λ (x : Exchange). g (f x)) (view m .rest)) fs v)) told m m′ out out′
 unfolding finish
-did-tested m m₂ m′ d₁ out out₁ out′ i n len a r f g fs v told t e fits p q x =
+did-tested m m₂ m′ d₁ out out₁ out′ i n len a r f g fs v told t e fits p q k x =
     let d : Server = view m in
     let u : view m₂ ≡ onRest d (withSlot i (λ (x : Exchange). g (f x))) = slot-twice d d₁ (view m₂) i f g (p .server ∙ sym (slot-changed d i f)) q in
-    let y : Met (settled (d .locks) v) m₂ m′ out₁ out′ a r = subst (λ (l : Locks). Met (settled l v) m₂ m′ out₁ out′ a r) (ap (λ (k : Server). k .locks) u) x in
+    let y : Met (settled (d .locks) v) m₂ m′ out₁ out′ a r = subst (λ (l : Locks). Met (settled l v) m₂ m′ out₁ out′ a r) (ap (λ (b : Server). b .locks) u) x in
     let xs : LockResult = change (d .locks) v in
     let ys : LockResult = settle (frees (d .locks) v) (xs .locks) in
     let gs : List Frame = map lockFrame (xs .answers ++ ys .answers) in
@@ -244,4 +245,5 @@ did-tested m m₂ m′ d₁ out out₁ out′ i n len a r f g fs v told t e fits
       buffer = behind fs gs a c out out₁ out′ fits (p .buffer) (y .buffer) ∙ ap (written out) (sym s);
       same-memory = λ y. absurd (true≢false (sym y));
       same-buffer = λ y. absurd (true≢false (sym y));
+      tidy = λ l. y .tidy (k l);
     }

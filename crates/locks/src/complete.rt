@@ -79,13 +79,7 @@ pub fn note_message(w: &mut Words, i: usize, n: u32)
 }
 
 // Whatever release of slot i stands takes effect, and no message has acted since.
-fn complete_any(
-    w: &mut Words,
-    strings: &mut Strings,
-    out: &mut [u8],
-    at: usize,
-    i: usize,
-) -> usize
+fn complete_any(w: &mut Words, strings: &mut Strings, out: &mut [u8], at: usize, i: usize) -> usize
     requires { ⌜ (i < sessionLimit) × (at + 17 ≤ length (now out)) ⌝ }
     ensures { λ r. ⌜ (r ≤ at + 17) × Met (completed (dueAny ((Rattle.model.specs.State.at (locksOf (now (w .entry)) (now (strings .entry)) .entries) i) .standing)) (locksOf (now (w .entry)) (now (strings .entry))) i beforeFirst) (memory (now (w .entry)) (now (strings .entry))) (memory (now (w .exit)) (now (strings .exit))) (now (out .entry)) (now (out .exit)) at r ⌝ }
 {
@@ -106,13 +100,7 @@ fn complete_any(
 }
 
 // A device clear: the request of slot i is answered 0, then a release that stands takes effect.
-pub fn at_clear(
-    w: &mut Words,
-    strings: &mut Strings,
-    out: &mut [u8],
-    at: usize,
-    i: usize,
-) -> usize
+pub fn at_clear(w: &mut Words, strings: &mut Strings, out: &mut [u8], at: usize, i: usize) -> usize
     requires { ⌜ (i < sessionLimit) × (at + 17 + answersRoom ≤ length (now out)) ⌝ }
     ensures { λ r. ⌜ (r ≤ at + 17 + answersRoom) × Met (change (locksOf (now (w .entry)) (now (strings .entry))) (clear i)) (memory (now (w .entry)) (now (strings .entry))) (memory (now (w .exit)) (now (strings .exit))) (now (out .entry)) (now (out .exit)) at r ⌝ }
 {

@@ -73,14 +73,7 @@ fn keep_staying(w: &mut Words, strings: &mut Strings, i: usize, t: u64)
 }
 
 // What does not stay is answered 0 and leaves the queue.
-fn sweep(
-    w: &mut Words,
-    strings: &mut Strings,
-    out: &mut [u8],
-    at: usize,
-    i: usize,
-    t: u64,
-) -> usize
+fn sweep(w: &mut Words, strings: &mut Strings, out: &mut [u8], at: usize, i: usize, t: u64) -> usize
     requires { ⌜ at + answersRoom ≤ length (now out) ⌝ }
     ensures { λ r. ⌜ Met (swept (locksOf (now (w .entry)) (now (strings .entry))) i t) (memory (now (w .entry)) (now (strings .entry))) (memory (now (w .exit)) (now (strings .exit))) (now (out .entry)) (now (out .exit)) at r ⌝ }
 {

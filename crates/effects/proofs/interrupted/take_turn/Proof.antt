@@ -1,4 +1,5 @@
 -- `interrupted::take_turn` meets its contract: by whether the message is in turn.
+use native.Mathlib.Omega.{arith}
 use mathlib.Core.Path.{ap, _∙_}
 use mathlib.Core.Bool.{not}
 use Rattle.effects.specs.Interrupted.{tested-in-turn, tested-out-of-turn}
@@ -11,7 +12,8 @@ returns : tie.Need-returns
 returns c = let a = c .before .before .before .before .before .before .args in
     let t = c .before .before .before .in-turn in (
       search needs,
-      λ s. tested-in-turn (view (memory (a .w .now) s)) (a .i) (a .id) (a .code) _ _ (t .ensures ∙ ap not (c .before .before .if1 .taken)) (c .set-exchange .ensures s),
+      λ s. tested-in-turn (view (memory (a .w .now) s)) (a .i) (a .id) (a .code) _ _ (t .ensures ∙ ap not (c .before .before .if1 .taken)) (c .set-exchange .ensures .0 s),
+      λ s. c .set-exchange .ensures .1 s (omega arith),
     )
 
 returns-2 : tie.Need-returns-2
@@ -20,6 +22,7 @@ returns-2 c = let a = c .before .before .before .before .before .before .before 
     let x = c .before .before .out-of-turn in (
       x .ensures .0,
       λ s. tested-out-of-turn (view (memory (a .w .now) s)) (a .i) (a .id) (a .code) _ _ _ _ (t .ensures ∙ ap not (c .before .before .before .before .before .if1 .left)) (x .ensures .1 s),
+      x .ensures .2,
     )
 
 pub take-turn-spec : {M : Type 1} → statement M

@@ -1,4 +1,5 @@
 -- `synchronous::act_plainly` meets its contract: a command in turn, with nothing due.
+use native.Mathlib.Omega.{arith}
 use mathlib.Core.Path.{ap, _∙_}
 use mathlib.Core.Bool.{Bool}
 use Rattle.wire.specs.declared.Header.{Header}
@@ -17,7 +18,7 @@ use Rattle.effects.proofs.synchronous.act_plainly.Tie as tie
 note-message-requires : tie.Need-note-message-requires
 note-message-requires c κs = let p = c .before .before .before .before .before .before .before in
     let f : Server → Bool = λ d. stands ((at (d .locks .entries) (p .args .i)) .standing) in
-    (search needs, λ s. ap f (c .before .note-command .ensures s) ∙ ap f (c .before .before .before .set-exchange .ensures s) ∙ p .pre .3 s)
+    (search needs, λ s. ap f (c .before .note-command .ensures .0 s) ∙ ap f (c .before .before .before .set-exchange .ensures .0 s) ∙ p .pre .3 s)
 
 returns : tie.Need-returns
 returns c = let p = c .before .before .before .before .before .before .before .before .before in
@@ -26,7 +27,8 @@ returns c = let p = c .before .before .before .before .before .before .before .b
     λ s q out k. let d : Server = view (memory (a .w .now) s) in
     did-plan d (acts r-synchronous d (a .i) k h q) _ _ _ _ _ _ (plan-command d (a .i) k h q (p .pre .2))
     (did-tested (memory (a .w .now) s) _ _ _ out _ _ (a .i) (c .before .before .before .before .before .before .before .entry .result) (a .len) 0 0 (tested (a .code)) (commandNotes (a .kind) (a .code) (a .param)) _ (command (a .i) (a .param)) _
-    (c .acted .ensures) (c .before .before .before .before .before .before .before .entry .ensures .0 s) (search needs) (tested-in-turn d (a .i) (a .param) (a .code) _ out (p .pre .4) (c .before .before .before .before .before .set-exchange .ensures s)) (c .before .before .before .note-command .ensures s) (c .before .note-message .ensures s out))
+    (c .acted .ensures) (c .before .before .before .before .before .before .before .entry .ensures .0 s) (search needs) (tested-in-turn d (a .i) (a .param) (a .code) _ out (p .pre .4) (c .before .before .before .before .before .set-exchange .ensures .0 s)) (c .before .before .before .note-command .ensures .0 s)
+    (λ t. c .before .before .before .note-command .ensures .1 s (c .before .before .before .before .before .set-exchange .ensures .1 s (omega arith) t)) (c .before .note-message .ensures s out))
 
 pub act-plainly-spec : {M : Type 1} → statement M
 act-plainly-spec =
