@@ -32,7 +32,7 @@ unfolding bytesOf
 returns-4 c =
     let a = c .before .before .before .before .before .before .args in
     let d = view (memory (a .w .now) (a .strings .now)) in
-    λ ro x e f. ignored-done d (a .c) (a .i) x ro _ _ _ _ _ (a .v) (c .before .if4 .taken) (a .taken) e (did-plainly d (took ignored (a .taken) 0) (restOf (a .w .now)) [] _ _ _ _ _ (ap numbersOf (c .quiet .ensures)) refl (nothing-said (a .out .now)) refl)
+    λ ro x e f. ignored-done d (a .c) (a .i) x ro _ _ _ _ _ (a .v) (c .before .if4 .taken) (a .taken) e (did-plainly d (took ignored (a .taken) 0) (restOf (a .w .now)) [] _ _ _ _ _ (ap numbersOf (c .quiet .ensures)) refl (nothing-said (a .out .now)) refl (λ t. t))
 
 returns-5 : tie.Need-returns-5
 returns-5 c =
