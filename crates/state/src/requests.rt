@@ -6,6 +6,7 @@ ghost use Rattle.state.specs.Bits.{with-bit};
 ghost use Rattle.state.specs.Change.{onEntry};
 ghost use Rattle.state.specs.Queue.{noRequest, onWaiting};
 ghost use Rattle.state.specs.Requests.{Idle, countOf, stringAt};
+ghost use Rattle.state.specs.Tidy.{Tidy};
 ghost use Rattle.state.specs.View.{keyOf, locksOf, memory, requestAt, view};
 ghost use Rattle.wire.specs.Splice.{splice};
 ghost use lib.ListN.{drop, getD, length, set, take};
@@ -28,9 +29,10 @@ use crate::sizes::Words;
 use crate::words::store;
 
 // the shared string has a first byte, and so many more at the most
-const KEY_REST: usize = STRING_LIMIT - 1;
+pub const KEY_REST: usize = STRING_LIMIT - 1;
 
-fn least(a: u64, b: usize) -> usize
+// The lesser of the two.
+pub fn least(a: u64, b: usize) -> usize
     requires { ⌜ b ≤ stringLimit ⌝ }
     ensures { λ r. ⌜ (r ≡ min a b) × (r ≤ b) ⌝ }
 {
@@ -80,6 +82,17 @@ pub fn move_waiting(w: &mut Words, j: usize, k: usize)
     store(w, QUEUE + k, x);
 }
 
+// The j-th request that waits and the k-th change places: the same slots go on waiting.
+pub fn swap_waiting(w: &mut Words, j: usize, k: usize)
+    requires { ⌜ (j < countOf (now w)) × (k < countOf (now w)) ⌝ }
+    ensures { λ _. ⌜ ((s : List ℕ) → view (memory (now (w .exit)) s) ≡ onWaiting (view (memory (now (w .entry)) s)) (λ x. set (set x k (getD x j noRequest)) j (getD x k noRequest))) × ((s : List ℕ) → Tidy (memory (now (w .entry)) s) → Tidy (memory (now (w .exit)) s)) ⌝ }
+{
+    let x = w[QUEUE + j] % SESSIONS;
+    let y = w[QUEUE + k] % SESSIONS;
+    store(w, QUEUE + k, x);
+    store(w, QUEUE + j, y);
+}
+
 // Only the first n go on waiting.
 pub fn keep_first(w: &mut Words, n: usize)
     requires { ⌜ n ≤ countOf (now w) ⌝ }
@@ -97,6 +110,26 @@ pub fn queue_request(w: &mut Words, i: usize, deadline: u64)
     store(w, REQUESTS + i * REQUEST + 0, deadline);
     store(w, QUEUE + n, i as u64);
     store(w, COUNT, n as u64 + 1);
+}
+
+fn put_request_in(w: &mut [u64], strings: &mut [u8], i: usize, deadline: u64, string: &[u8])
+    requires { ⌜ (i < sessionLimit) × (length (now string) ≤ stringLimit) × (length (now w) ≡ WORDS) × (length (now strings) ≡ STRINGS) × (countOf (now w) < sessionLimit) × Idle (now w) i ⌝ }
+    ensures { λ _. ⌜ (view (memory (now (w .exit)) (now (strings .exit))) ≡ onWaiting (view (memory (now (w .entry)) (now (strings .entry)))) (λ x. x ++ (record { slot = i; deadline = deadline; string = now (string .entry) } ∷ []))) × (Tidy (memory (now (w .entry)) (now (strings .entry))) → Tidy (memory (now (w .exit)) (now (strings .exit)))) ⌝ }
+{
+    let n = least(w[COUNT], SESSION_LIMIT);
+    wire::frame::put_payload(strings, STRING_LIMIT + i * STRING_LIMIT, string);
+    w[REQUESTS + i * REQUEST + 1] = string.len() as u64;
+    w[REQUESTS + i * REQUEST + 0] = deadline;
+    w[QUEUE + n] = i as u64;
+    w[COUNT] = n as u64 + 1;
+}
+
+// The request of slot i, which does not wait, goes to the end of the queue with a string and a deadline.
+pub fn put_request(w: &mut Words, strings: &mut Strings, i: usize, deadline: u64, string: &[u8])
+    requires { ⌜ (i < sessionLimit) × (length (now string) ≤ stringLimit) × (countOf (now w) < sessionLimit) × Idle (now w) i ⌝ }
+    ensures { λ _. ⌜ (view (memory (now (w .exit)) (now (strings .exit))) ≡ onWaiting (view (memory (now (w .entry)) (now (strings .entry)))) (λ x. x ++ (record { slot = i; deadline = deadline; string = now (string .entry) } ∷ []))) × (Tidy (memory (now (w .entry)) (now (strings .entry))) → Tidy (memory (now (w .exit)) (now (strings .exit)))) ⌝ }
+{
+    put_request_in(w, strings, i, deadline, string);
 }
 
 fn lay_request_in(w: &mut [u64], strings: &mut [u8], i: usize, string: &[u8])
