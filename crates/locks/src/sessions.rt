@@ -17,13 +17,15 @@ use state::sizes::BEFORE_FIRST;
 use state::sizes::Words;
 use state::tables;
 
-// A slot that opens or closes has no locks, no message acted in it, and no release stands.
+// A slot that opens or closes has no locks, no message acted in it, no release stands, and no lock was granted to it.
 fn drop_locks(w: &mut Words, i: usize)
     requires { ⌜ i < sessionLimit ⌝ }
     ensures { λ _. ⌜ ((s : List ℕ) → view (memory (now (w .exit)) s) ≡ onEntry (view (memory (now (w .entry)) s)) i withoutLocks) ⌝ }
 {
     tables::set_order(w, i, tables::LAST_NUMBER, BEFORE_FIRST);
     tables::set_order(w, i, tables::STANDING, 0);
+    tables::set_order(w, i, tables::GRANTED_AT, 0);
+    tables::set_order(w, i, tables::GRANTS, 0);
     holders::drop_exclusive(w, i);
     holders::drop_shared(w, i);
 }

@@ -66,3 +66,4 @@ pub mod Outcomes
 pub mod Missing
 pub mod NextQuestion
 pub mod Asking
+pub mod Holders

@@ -56,3 +56,4 @@ pub mod Outcomes
 pub mod Missing
 pub mod NextQuestion
 pub mod Asking
+pub mod Holders
