@@ -1,4 +1,5 @@
 -- `granting::grant_and_answer` meets its contract.
+use Rattle.state.specs.Requests.{stringAt}
 use Rattle.state.specs.View.{memory, view}
 use Rattle.locks.specs.Granting.{given-noted}
 use borrow.Author.Needs.{needs}
@@ -9,7 +10,7 @@ returns : tie.Need-returns
 returns c = let a = c .before .before .before .before .before .before .before .before .before .before .before .args in
     let p = c .before .before .before .before .before .before .before .put-answer .ensures in
     record {
-      server = given-noted (view (memory (a .w .now) (a .strings .now))) _ _ (a .i) _ (c .before .before .grant .ensures) (c .note-grant .ensures _);
+      server = given-noted (view (memory (a .w .now) (a .strings .now))) _ _ (a .i) (stringAt (a .w .now) (a .strings .now) (a .i)) (c .before .before .grant .ensures) (c .note-grant .ensures _);
       buffer = p .1 (a .strings .now);
       place = p .0;
     }
