@@ -87,7 +87,9 @@ module _ (w s : List ℕ) where
       sym (ap (λ (l : List Entry). map asRow (holdersOf l)) (drop-cons es i blank (omega (arith, slots-are w s))) ∙ rows-cons (at es i) (drop (suc i) es) ∙ ap (λ (j : ℕ). oneRow (at es i) (rowsFrom es j)) (sym f))
 
   pub rows-none : (l : List Row) → take 0 l ≡ rowsFrom (locksOf w s .entries) sessionLimit
-  rows-none l = sym (ap (λ (l : List Entry). map asRow (holdersOf l)) (drop-of-length-le (locksOf w s .entries) (omega (arith, slots-are w s))))
+  rows-none l =
+      let h : length (locksOf w s .entries) ≤ sessionLimit = omega (arith, slots-are w s) in
+      sym (ap (λ (l : List Entry). map asRow (holdersOf l)) (drop-of-length-le (locksOf w s .entries) h))
 
   pub rows-all : rowsFrom (locksOf w s .entries) 0 ≡ rowsIn (view (memory w s))
   unfolding rowsIn

@@ -9,7 +9,7 @@ use Rattle.server.proofs.holders.row_at.Tie as tie
 
 returns : tie.Need-returns
 returns c = let a = c .before .before .before .before .before .before .before .args in
-    λ s. row-read (at (locksOf (a .w .now) s .entries) (a .i)) _ _ _ _ _ _ _
+    λ s. row-read (at (locksOf (a .w .now) s .entries) (a .i)) _ _ _ _ _ (c .before .before .before .before .before .is-exclusive .result) (c .before .before .before .is-sharing .result)
     (ap (λ (e : Entry). e .number) (c .before .before .before .before .before .before .entry .ensures .0 s))
     (c .before .before .before .before .word-of .ensures)
     (c .before .before .before .before .before .is-exclusive .ensures s)
