@@ -116,10 +116,10 @@ module _ (c : ℕ) (real : c ≡ noConnection → ⊥) (s t j : ℕ) (p : Releas
     On = ((A ≡ []) × (One j t (r .server .locks .waiting))) ⊎ ((A ≡ 1 ∷ []) × Quieted)
 
     looked : joins c h ≡ false → all (away c 0 E) (taken d h) ≡ true → all apart-from left₀ ≡ true → One j t left₀ → Same → On
-    looked n a b o m = go (look-one j t (looksAfter E h) (l .due) left₀ (r .server .locks .entries) (r .server .locks .waiting) (l .granted) (l .waiting) o)
+    looked n a b o m = go (look-one (d .locks .clock) j t (looksAfter E h) (l .due) left₀ (r .server .locks .entries) (r .server .locks .waiting) (l .granted) (l .waiting) o)
       where
         q : (all apart-from (r .server .locks .waiting) ≡ true) × (all apart-from (l .granted) ≡ true)
-        q = look-all apart-from (looksAfter E h) (l .due) left₀ (r .server .locks .entries) (r .server .locks .waiting) (l .granted) (l .waiting) b
+        q = look-all (d .locks .clock) apart-from (looksAfter E h) (l .due) left₀ (r .server .locks .entries) (r .server .locks .waiting) (l .granted) (l .waiting) b
 
         none-taken : codesTo c (map (answerTo 0 E) (taken d h)) ≡ []
         none-taken = codes-none c 0 E (taken d h) a

@@ -73,3 +73,4 @@ pub mod AnsweredQuiet
 pub mod AnsweredRead
 pub mod AnsweredOnce
 pub mod Asking
+pub mod Holders
