@@ -36,7 +36,8 @@ use Rattle.model.proofs.Sending.{role-of-async}
 use Rattle.model.proofs.NextQuestion.{first-is}
 use Rattle.model.proofs.Locality.{local-call, local-run, exchange-slots}
 use Rattle.model.proofs.WaitingOne.{One, None, all-imp, all-and, keep-one, keep-gone, look-all, look-one, snoc-one, new-one, good-none, one-none, away, codes-none, codes-one}
-use Rattle.model.proofs.AnsweredFrames.{toWaiting, taken}
+use Rattle.model.specs.GrantsSeen.{toWaiting}
+use Rattle.model.proofs.AnsweredFrames.{taken}
 use Rattle.model.proofs.AnsweredQuiet.{ActedFacts, Facts, acted-facts, facts, codes, away-due, away-after, quiet-after, is-lock, lefts, newest, comes, sized-call, second-call, second-run}
 use Rattle.model.proofs.AnsweredRead.{releaseOf, Known, codes-read, known-after, quiet-list}
 

@@ -27,7 +27,8 @@ use Rattle.model.proofs.Place.{place-unique}
 use Rattle.model.proofs.Fits.{inv-call}
 use Rattle.model.proofs.Locality.{local-call}
 use Rattle.model.proofs.WaitingOne.{codes-append, away}
-use Rattle.model.proofs.AnsweredFrames.{toWaiting, taken, lock-append, lock-to, lock-own, first-is, unanswered, acted-frames}
+use Rattle.model.specs.GrantsSeen.{toWaiting}
+use Rattle.model.proofs.AnsweredFrames.{taken, lock-append, lock-to, lock-own, first-is, unanswered, acted-frames}
 use Rattle.model.proofs.AnsweredQuiet.{ActedFacts, Facts, facts, past, Quiet, quiet-at, sized-call, second-call}
 
 -- the release that stands of a session, by its number

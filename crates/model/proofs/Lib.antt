@@ -74,3 +74,4 @@ pub mod AnsweredRead
 pub mod AnsweredOnce
 pub mod Asking
 pub mod Holders
+pub mod GrantsSeen

@@ -59,3 +59,4 @@ pub mod InStep
 pub mod AnsweredOnce
 pub mod Asking
 pub mod Holders
+pub mod GrantsSeen

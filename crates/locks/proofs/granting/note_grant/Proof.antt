@@ -1,5 +1,6 @@
 -- `granting::note_grant` meets its contract: two stores.
 use mathlib.Core.Path.{ap}
+use lib.Dec.{lit<}
 use Rattle.model.specs.State.{Entry}
 use Rattle.state.specs.View.{memory, view}
 use Rattle.locks.specs.Granting.{noted, grants-fit}

@@ -1,5 +1,6 @@
 -- `sessions::drop_locks` meets its contract.
 use native.Mathlib.Omega.{arith}
+use lib.Dec.{lit<}
 use Rattle.locks.specs.Sessions.{unlocked}
 use borrow.Author.Needs.{needs}
 use Rattle.locks.proofs.sessions.drop_locks.Statement.{statement}
