@@ -1,7 +1,7 @@
 // Who holds which lock, in one look: the word of the exclusive holder and the set of those that share, a bit for each slot.
 ghost use Prim.Native.Nat.{ℕ, _*_, _+_, _/_, _<_, _≤_, _%_, _^_};
 ghost use Rattle.model.specs.Lists.{all, allBut};
-ghost use Rattle.model.specs.Locks.{give, noExclusive, noShared, withoutExclusive, withoutShared};
+ghost use Rattle.model.specs.Locks.{give, noExclusive, noShared, withoutExclusive};
 ghost use Rattle.model.specs.State.{at};
 ghost use Rattle.state.specs.Bits.{bit, with-bit, without};
 ghost use Rattle.state.specs.Change.{onEntry};
@@ -125,15 +125,6 @@ pub fn drop_exclusive(w: &mut Words, i: usize)
     if w[HOLDER] == i as u64 + 1 {
         store(w, HOLDER, 0);
     }
-}
-
-// Slot i holds the shared lock no more, if it did.
-pub fn drop_shared(w: &mut Words, i: usize)
-    requires { ⌜ i < sessionLimit ⌝ }
-    ensures { λ _. ⌜ ((s : List ℕ) → view (memory (now (w .exit)) s) ≡ onEntry (view (memory (now (w .entry)) s)) i withoutShared) ⌝ }
-{
-    let m = taken_out(w[SHARERS], i);
-    store(w, SHARERS, m);
 }
 
 // Slot i joins those that share, with their string.

@@ -1,9 +1,6 @@
 // Lock requests: a row and a place for a string for each slot, and the queue of those that wait, oldest first.
 ghost use Prim.Native.Nat.{ℕ, _*_, _+_, _<_, _≤_, min};
-ghost use Rattle.model.specs.Lists.{all, same};
-ghost use Rattle.model.specs.Locks.{fits, give};
-ghost use Rattle.state.specs.Bits.{with-bit};
-ghost use Rattle.state.specs.Change.{onEntry};
+ghost use Rattle.model.specs.Lists.{same};
 ghost use Rattle.state.specs.Queue.{noRequest, onWaiting};
 ghost use Rattle.state.specs.Requests.{Idle, countOf, stringAt};
 ghost use Rattle.state.specs.Tidy.{Tidy};
@@ -73,15 +70,6 @@ pub fn string_length(w: &Words, i: usize) -> usize
     least(w[REQUESTS + i * REQUEST + 1], STRING_LIMIT)
 }
 
-// The j-th request that waits is put at place k of the queue.
-pub fn move_waiting(w: &mut Words, j: usize, k: usize)
-    requires { ⌜ (j < countOf (now w)) × (k < countOf (now w)) ⌝ }
-    ensures { λ _. ⌜ ((s : List ℕ) → view (memory (now (w .exit)) s) ≡ onWaiting (view (memory (now (w .entry)) s)) (λ x. set x k (getD x j noRequest))) ⌝ }
-{
-    let x = w[QUEUE + j] % SESSIONS;
-    store(w, QUEUE + k, x);
-}
-
 // The j-th request that waits and the k-th change places: the same slots go on waiting.
 pub fn swap_waiting(w: &mut Words, j: usize, k: usize)
     requires { ⌜ (j < countOf (now w)) × (k < countOf (now w)) ⌝ }
@@ -91,25 +79,6 @@ pub fn swap_waiting(w: &mut Words, j: usize, k: usize)
     let y = w[QUEUE + k] % SESSIONS;
     store(w, QUEUE + k, x);
     store(w, QUEUE + j, y);
-}
-
-// Only the first n go on waiting.
-pub fn keep_first(w: &mut Words, n: usize)
-    requires { ⌜ n ≤ countOf (now w) ⌝ }
-    ensures { λ _. ⌜ ((s : List ℕ) → view (memory (now (w .exit)) s) ≡ onWaiting (view (memory (now (w .entry)) s)) (take n)) ⌝ }
-{
-    store(w, COUNT, n as u64);
-}
-
-// Slot i's request, its string laid already, goes to the end of the queue with a deadline.
-pub fn queue_request(w: &mut Words, i: usize, deadline: u64)
-    requires { ⌜ (i < sessionLimit) × (countOf (now w) < sessionLimit) × Idle (now w) i ⌝ }
-    ensures { λ _. ⌜ ((s : List ℕ) → view (memory (now (w .exit)) s) ≡ onWaiting (view (memory (now (w .entry)) s)) (λ x. x ++ (record { slot = i; deadline = deadline; string = stringAt (now (w .entry)) s i } ∷ []))) ⌝ }
-{
-    let n = waiting_count(w);
-    store(w, REQUESTS + i * REQUEST + 0, deadline);
-    store(w, QUEUE + n, i as u64);
-    store(w, COUNT, n as u64 + 1);
 }
 
 fn put_request_in(w: &mut [u64], strings: &mut [u8], i: usize, deadline: u64, string: &[u8])
@@ -130,22 +99,6 @@ pub fn put_request(w: &mut Words, strings: &mut Strings, i: usize, deadline: u64
     ensures { λ _. ⌜ (view (memory (now (w .exit)) (now (strings .exit))) ≡ onWaiting (view (memory (now (w .entry)) (now (strings .entry)))) (λ x. x ++ (record { slot = i; deadline = deadline; string = now (string .entry) } ∷ []))) × (Tidy (memory (now (w .entry)) (now (strings .entry))) → Tidy (memory (now (w .exit)) (now (strings .exit)))) ⌝ }
 {
     put_request_in(w, strings, i, deadline, string);
-}
-
-fn lay_request_in(w: &mut [u64], strings: &mut [u8], i: usize, string: &[u8])
-    requires { ⌜ (i < sessionLimit) × (length (now string) ≤ stringLimit) × (length (now w) ≡ WORDS) × (length (now strings) ≡ STRINGS) × Idle (now w) i ⌝ }
-    ensures { λ _. ⌜ (view (memory (now (w .exit)) (now (strings .exit))) ≡ view (memory (now (w .entry)) (now (strings .entry)))) × (stringAt (now (w .exit)) (now (strings .exit)) i ≡ now (string .entry)) ⌝ }
-{
-    wire::frame::put_payload(strings, STRING_LIMIT + i * STRING_LIMIT, string);
-    w[REQUESTS + i * REQUEST + 1] = string.len() as u64;
-}
-
-// The string of a request of slot i, which does not wait, is laid into its place. Nobody sees it yet.
-pub fn lay_request(w: &mut Words, strings: &mut Strings, i: usize, string: &[u8])
-    requires { ⌜ (i < sessionLimit) × (length (now string) ≤ stringLimit) × Idle (now w) i ⌝ }
-    ensures { λ _. ⌜ (view (memory (now (w .exit)) (now (strings .exit))) ≡ view (memory (now (w .entry)) (now (strings .entry)))) × (stringAt (now (w .exit)) (now (strings .exit)) i ≡ now (string .entry)) ⌝ }
-{
-    lay_request_in(w, strings, i, string);
 }
 
 fn same_parts(strings: &[u8], k: usize, a: usize, n: usize) -> bool
