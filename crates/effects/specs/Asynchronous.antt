@@ -29,6 +29,7 @@ planOf k d i c h p =
     record {
       reply = took acted (16 + h .len) ((at (d .locks .entries) i) .number);
       rest = asynchronousRest k (d .rest) i h p;
+      first = [];
       said = asynchronousSaid k d i c h;
       event = asynchronousEvent k i h p;
     }
@@ -53,7 +54,11 @@ delivered n len size = record { refusal = 0; outcome = 6; session = n; taken = 1
 
 -- a plan of this lane: all but the locks, what is said, the lock event
 abbrev pub planWith : Server → ℕ → ℕ → Rest → List Frame → LockEvent → Plan
-planWith d i len q fs v = record { reply = took acted (16 + len) ((at (d .locks .entries) i) .number); rest = q; said = fs; event = v }
+planWith d i len q fs v = record { reply = took acted (16 + len) ((at (d .locks .entries) i) .number); rest = q; first = []; said = fs; event = v }
+
+-- a plan that says nothing but what comes before the answers of its event
+abbrev pub planFirst : Server → ℕ → ℕ → Rest → List Frame → LockEvent → Plan
+planFirst d i len q fs v = record { reply = took acted (16 + len) ((at (d .locks .entries) i) .number); rest = q; first = fs; said = []; event = v }
 
 -- any plan: what is told, the session's number as it was read, the server and the frames
 pub did-with : (d : Server) (i n len size : ℕ) (q : Rest) (fs : List Frame) (v : LockEvent) (told : Delivery) (m m′ : Memory) (out out′ : List ℕ) (xs : List Frame)

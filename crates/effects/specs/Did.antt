@@ -33,7 +33,7 @@ Did x r m m′ out out′ = DidWith 0 x r m m′ out out′
 
 -- a plan that is no lock event
 abbrev pub plainly : Reply → Rest → List Frame → Plan
-plainly y q fs = record { reply = y; rest = q; said = fs; event = nothing }
+plainly y q fs = record { reply = y; rest = q; first = []; said = fs; event = nothing }
 
 pub did-plainly : (d : Server) (y : Reply) (q : Rest) (fs : List Frame) (r : Delivery) (m m′ : Memory) (out out′ : List ℕ)
     → numbersOf r ≡ deliveryAnswer y (length (bytesOf fs)) 0 → view m′ ≡ record { locks = d .locks; rest = q } → out′ ≡ written out fs → omits y ≡ false

@@ -1,23 +1,26 @@
 -- The events that are no deliveries, but for a cut and the clock: a connection opens, the status byte changes, the instrument answers. What
 -- the code's stores do is the model's plan. Assumes nothing.
 use mathlib.Core.Path.{_≡_, refl, sym, ap, _∙_}
-use mathlib.Core.Bool.{Bool, true, false}
-use mathlib.Core.List.{List, [], _∷_}
+use mathlib.Core.Bool.{Bool, true, false, cond}
+use mathlib.Core.List.{List, [], _∷_, _++_}
 use Prim.Native.Nat.{ℕ, _+_, _-_, _%_, _<_}
 use native.Mathlib.Nat.{mod-eq-of-lt}
 use lib.ListN.{length}
 use borrow.Author.Tests.{eq-eqb, ne-eqb}
 use Rattle.wire.specs.Frame.{Frame, frameOf, frameBytes, bytesOf, written, length-frame, bytes-one}
+use Rattle.wire.specs.Message.{header}
 use Rattle.wire.specs.Splice.{splice}
 use Rattle.model.specs.State.{Exchange, Rest, Server, at, slotOfNumber, exchangeAt, openConnection, withConnection, withExchange, withStatus}
-use Rattle.model.specs.Exchange.{numberAsked, answerNumber, answeredWith}
-use Rattle.model.specs.Interface.{Event.opening, Event.answer, Event.status, Reply.done}
+use Rattle.model.specs.Exchange.{numberAsked, answerNumber, answeredWith, interrupted}
+use Rattle.model.specs.Interface.{Event.opening, Event.answer, Event.status, Reply.done, Reply.withheld}
 use Rattle.model.specs.Locks.{change}
-use Rattle.model.specs.Step.{finish, plan, answerType}
+use Rattle.model.specs.Acts.{interruptions}
+use Rattle.model.specs.Step.{Result, finish, plan, answerType}
 use Rattle.state.specs.Change.{onRest, onExchange, exchangeWith, singleWith}
 use Rattle.state.specs.View.{askedOf}
 use Rattle.effects.specs.Synchronous.{withSlot, slot-twice, slot-then}
 use Rattle.effects.specs.Mode.{counted}
+use Rattle.effects.specs.Interrupted.{withheldAt}
 
 -- one store is the status byte
 pub status-stored : (d d₁ : Server) (b : ℕ) → b < 256 → d₁ ≡ onRest d (singleWith 2 b) → d₁ ≡ onRest d (λ (r : Rest). withStatus r b)
@@ -41,7 +44,8 @@ module _ (x : Exchange) where
     unfolding answerNumber
     asked-number h = rw o (ap numberAsked asked-read ∙ rw (ne-eqb v 0 h))
 
--- an answer without END: message available goes on, and it is counted; with END nothing is asked any more
+-- an answer without END: message available goes on, and it is counted; with END nothing is asked any more, and an RMT
+-- is expected
 module _ (d d₁ d₂ : Server) (i : ℕ) (e₁ : d₁ ≡ onExchange d i (exchangeWith 2 1)) (e₂ : d₂ ≡ onRest d₁ (withSlot i counted)) where
   answered : d₂ ≡ onRest d (withSlot i (answeredWith false))
   answered = slot-twice d d₁ d₂ i (exchangeWith 2 1) counted e₁ e₂
@@ -49,8 +53,10 @@ module _ (d d₁ d₂ : Server) (i : ℕ) (e₁ : d₁ ≡ onExchange d i (excha
   pub answered-part : (end : Bool) → end ≡ false → d₂ ≡ onRest d (λ (r : Rest). withExchange r i (answeredWith end (exchangeAt r i)))
   answered-part end q = rw q answered
 
-  pub answered-whole : (end : Bool) → end ≡ true → (d₃ : Server) → d₃ ≡ onExchange d₂ i (exchangeWith 1 0) → d₃ ≡ onRest d (λ (r : Rest). withExchange r i (answeredWith end (exchangeAt r i)))
-  answered-whole end q d₃ e₃ = rw q (slot-then d d₂ d₃ i (answeredWith false) (exchangeWith 1 0) answered e₃)
+  pub answered-whole : (end : Bool) → end ≡ true → (d₃ d₄ : Server) → d₃ ≡ onExchange d₂ i (exchangeWith 1 0) → d₄ ≡ onExchange d₃ i (exchangeWith 7 1)
+      → d₄ ≡ onRest d (λ (r : Rest). withExchange r i (answeredWith end (exchangeAt r i)))
+  answered-whole end q d₃ d₄ e₃ e₄ =
+      rw q (slot-then d d₃ d₄ i (λ (x : Exchange). exchangeWith 1 0 (answeredWith false x)) (exchangeWith 7 1) (slot-then d d₂ d₃ i (answeredWith false) (exchangeWith 1 0) answered e₃) e₄)
 
 -- the frame of an answer of slot i
 abbrev pub answerFrame : Server → ℕ → Bool → List ℕ → Frame
@@ -85,8 +91,16 @@ pub status-finishes : (d : Server) (b : ℕ) → finish d (plan d (status b)) �
 unfolding finish plan change
 status-finishes d b = refl
 
-pub answer-finishes : (d : Server) (n i : ℕ) (p : List ℕ) (end : Bool) (room : ℕ) → slotOfNumber (d .locks .entries) n ≡ i
-    → finish d (plan d (answer n p end room)) ≡ record { server = onRest d (λ (q : Rest). withExchange q i (answeredWith end (exchangeAt q i))); reply = done; frames = answerFrame d i end p ∷ [] }
-unfolding finish plan change
-answer-finishes d n i p end room e =
-    ap (λ (j : ℕ). record { server = onRest d (λ (q : Rest). withExchange q j (answeredWith end (exchangeAt q j))); reply = done; frames = answerFrame d j end p ∷ [] }) e
+-- an answer that is withheld, or sent
+abbrev pub answeredAs : Server → ℕ → List ℕ → Bool → List ℕ → Bool → Result
+answeredAs d i p end sh b =
+    record {
+      server = onRest d (λ (q : Rest). withExchange q i (cond b (interrupted (exchangeAt q i)) (answeredWith end (exchangeAt q i))));
+      reply = cond b withheld done;
+      frames = cond b (interruptions (at (d .locks .entries) i) ((header sh) .param)) (answerFrame d i end p ∷ []) ++ [];
+    }
+
+module _ (d : Server) (n i : ℕ) (p : List ℕ) (end : Bool) (sh : List ℕ) (room : ℕ) (found : slotOfNumber (d .locks .entries) n ≡ i) where
+  pub answer-finishes : (b : Bool) → withheldAt d i end sh ≡ b → finish d (plan d (answer n p end sh room)) ≡ answeredAs d i p end sh b
+  unfolding finish plan change
+  answer-finishes b e = ap (λ (j : ℕ). answeredAs d j p end sh (withheldAt d j end sh)) found ∙ ap (answeredAs d i p end sh) e

@@ -25,7 +25,7 @@ use Rattle.effects.specs.declared.Delivery.{Delivery}
 use Rattle.effects.specs.Did.{Did, numbersOf}
 
 abbrev pub planned : Reply → Rest → List Frame → LockEvent → Plan
-planned y q fs e = record { reply = y; rest = q; said = fs; event = e }
+planned y q fs e = record { reply = y; rest = q; first = []; said = fs; event = e }
 
 abbrev pub resulting : Reply → Locks → Rest → List Frame → Result
 resulting y l q fs = record { server = record { locks = l; rest = q }; reply = y; frames = fs }

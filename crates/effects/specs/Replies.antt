@@ -35,7 +35,7 @@ abbrev pub ignorePlan : Server → ℕ → Plan
 ignorePlan d k = plainly (took ignored k 0) (d .rest) []
 
 abbrev pub closePlan : Server → ℕ → ℕ → List Frame → Plan
-closePlan d c i fs = record { reply = took closed 0 ((at (d .locks .entries) i) .number); rest = closing d c; said = fs; event = close i }
+closePlan d c i fs = record { reply = took closed 0 ((at (d .locks .entries) i) .number); rest = closing d c; first = []; said = fs; event = close i }
 
 abbrev pub fatals : ℕ → List ℕ → List Frame
 fatals n xs = map (λ (x : ℕ). frameOf x FatalError n 0 []) xs

@@ -15,7 +15,7 @@ use Rattle.wire.specs.Splice.{splice}
 use Rattle.model.specs.State.{Exchange, Rest, Server, at, exchangeAt, freshExchange, withExchange}
 use Rattle.model.specs.Sizes.{sessionLimit}
 use Rattle.model.specs.MessageTypes.{AsyncStatusQuery}
-use Rattle.model.specs.Exchange.{noteRmt, availableIn, availableAt, statusByte}
+use Rattle.model.specs.Exchange.{queried, availableIn, availableAt, statusByte}
 use Rattle.model.specs.Acts.{AsynchronousKind.k-statusQuery, asynchronousRest, asynchronousSaid, asynchronousEvent}
 use Rattle.state.specs.Change.{onRest, exchangeWith, entryWith, singleWith}
 use Rattle.state.specs.View.{memory, view, restOf, locksOf}
@@ -66,16 +66,16 @@ module _ (x : Exchange) (n : ℕ) where
   now-synchronized m r h q e = rw h (e ∙ ap (λ (y : Exchange). cond (y .messageAvailable) 1 0) q)
 
 -- as the query that tells it leaves it
-available-behind : (h : Header) (x : Exchange) → availableAt h x ≡ availableNow (h .param) (noteRmt (h .code) x)
+available-behind : (h : Header) (x : Exchange) → availableAt h x ≡ availableNow (h .param) (queried (h .code) x)
 unfolding availableAt
 available-behind h x = by (x .overlap)
   where
-    by : (b : Bool) → availableIn b h x ≡ availableIn b (heading AsyncStatusQuery 0 (h .param) 0) (noteRmt (h .code) x)
+    by : (b : Bool) → availableIn b h x ≡ availableIn b (heading AsyncStatusQuery 0 (h .param) 0) (queried (h .code) x)
     by true = refl
     by false = refl
 
 module _ (w s w′ out out′ : List ℕ) (i c n : ℕ) (few : i < sessionLimit) (e : entryWith 0 n (at (locksOf w s .entries) i) ≡ at (locksOf w s .entries) i) (told : Delivery) where
-  pub status-told : (code param len b : ℕ) (p : List ℕ) → told ≡ delivered n len 17 → view (memory w′ s) ≡ onRest (view (memory w s)) (withSlot i (noteRmt code))
+  pub status-told : (code param len b : ℕ) (p : List ℕ) → told ≡ delivered n len 17 → view (memory w′ s) ≡ onRest (view (memory w s)) (withSlot i (queried code))
       → b ≡ statusByte (restOf w′ .status) (availableNow param (exchangeAt (restOf w′) i))
       → out′ ≡ splice out 0 (frameBytes (frameOf c 22 b 0 []))
       → DidKind k-statusQuery i c code param len p told (memory w s) (memory w′ s) out out′
@@ -87,7 +87,7 @@ module _ (w s w′ out out′ : List ℕ) (i c n : ℕ) (few : i < sessionLimit)
       let l : i < length (d .rest .exchanges) = rw (exchanges-held w) few in
       let g : b ≡ statusByte (d .rest .status) (availableAt h x) =
       q ∙ ap (λ (y : Server). statusByte (y .rest .status) (availableNow param (exchangeAt (y .rest) i))) v
-      ∙ ap (λ (y : Exchange). statusByte (d .rest .status) (availableNow param y)) (getD-set-same (d .rest .exchanges) i (noteRmt code x) freshExchange l)
+      ∙ ap (λ (y : Exchange). statusByte (d .rest .status) (availableNow param y)) (getD-set-same (d .rest .exchanges) i (queried code x) freshExchange l)
       ∙ ap (statusByte (d .rest .status)) (sym (available-behind h x)) in
-      did-one d i n len 0 (withExchange (d .rest) i (noteRmt code x)) (frameOf c 22 (statusByte (d .rest .status) (availableAt h x)) 0 []) (frameOf c 22 b 0 []) told
+      did-one d i n len 0 (withExchange (d .rest) i (queried code x)) (frameOf c 22 (statusByte (d .rest .status) (availableAt h x)) 0 []) (frameOf c 22 b 0 []) told
       (memory w s) (memory w′ s) out out′ r e (ap (λ (y : ℕ). frameOf c 22 y 0 []) (sym g)) refl v o

@@ -3,7 +3,7 @@
 use mathlib.Core.Path.{_≡_, refl, sym, ap, ap₂, subst, _∙_}
 use mathlib.Core.Bool.{Bool, true, false, not, _&&_, _||_, cond, true≢false}
 use mathlib.Core.Logic.{_⊎_, inl, inr, ⊎-elim}
-use Rattle.wire.specs.Frame
+use Rattle.wire.specs.Frame.{Frame}
 use mathlib.Core.List.{List, [], _∷_}
 use Prim.Native.Nat.{ℕ, _+_, _*_, _-_, _%_, _^_, _<_, _≤_}
 use native.Mathlib.Nat.{mod-eq-of-lt}
@@ -15,16 +15,16 @@ use Rattle.wire.specs.declared.Header.{Header}
 use Rattle.model.specs.MessageTypes.{Data, DataEND, Trigger, DeviceClearAcknowledge}
 use Rattle.model.specs.State.{Server, Rest, Exchange, Asked, Asked.none, Asked.some, at, freshExchange, exchangeAt, withExchange}
 use Rattle.model.specs.Interface.{Reply.took, Outcome.acted}
-use Rattle.model.specs.Exchange.{afterRmt, withAnswering, noteRmt, ask, bit0, leaveClear}
+use Rattle.model.specs.Exchange.{afterRmt, withAnswering, noteRmt, ask, bit0, leaveClear, outOfTurn, tested}
 use Rattle.model.specs.Place.{Role.r-synchronous}
 use Rattle.model.specs.Locks.{LockEvent.nothing, LockEvent.command}
-use Rattle.model.specs.Acts.{Plan, say, SynchronousKind, SynchronousKind.k-data, SynchronousKind.k-dataEnd, SynchronousKind.k-trigger, SynchronousKind.k-clearComplete, synchronousKind, synchronousExchange, synchronousSaid, synchronousEvent, acts}
+use Rattle.model.specs.Acts.{Plan, say, SynchronousKind, SynchronousKind.k-data, SynchronousKind.k-dataEnd, SynchronousKind.k-trigger, SynchronousKind.k-clearComplete, synchronousKind, synchronousExchange, interruptions, synchronousFirst, synchronousSaid, synchronousEvent, acts}
 use Rattle.state.specs.Grid.{upd, upd-upd, upd-set}
 use Rattle.state.specs.Change.{onRest, onExchange, exchangeWith}
 use Rattle.state.specs.View.{Memory, view, askedOf}
 use Rattle.model.specs.Step.{finish}
 use Rattle.effects.specs.declared.Delivery.{Delivery}
-use Rattle.effects.specs.Asynchronous.{planWith}
+use Rattle.effects.specs.Asynchronous.{planWith, planFirst}
 use Rattle.effects.specs.Did.{Did}
 
 -- the session's exchange changed by g
@@ -113,15 +113,26 @@ module _ (d : Server) (i c : ℕ) (h : Header) (p : List ℕ) where
   kinds x y z = cond x k-data (cond y k-dataEnd (cond z k-trigger k-clearComplete))
 
   abbrev planBy : SynchronousKind → Plan
-  planBy k = planWith d i (h .len) (withSlot i (synchronousExchange k h) (d .rest)) (synchronousSaid k c h) (synchronousEvent k i h)
+  planBy k =
+      record {
+        reply = took acted (16 + h .len) ((at (d .locks .entries) i) .number);
+        rest = withSlot i (synchronousExchange k h) (d .rest);
+        first = synchronousFirst k (at (d .locks .entries) i) (exchangeAt (d .rest) i) h;
+        said = synchronousSaid k c h;
+        event = synchronousEvent k i h;
+      }
+
+  -- 02, Q-5: what a command says first: the pair where it is out of turn
+  abbrev turnFrames : List Frame
+  turnFrames = cond (outOfTurn (h .code) (exchangeAt (d .rest) i)) (interruptions (at (d .locks .entries) i) (h .param)) []
 
   pub plan-command : isCommand (h .kind) ≡ true
-      → acts r-synchronous d i c h p ≡ planWith d i (h .len) (withSlot i (commandNotes (h .kind) (h .code) (h .param)) (d .rest)) [] (command i (h .param))
+      → acts r-synchronous d i c h p ≡ planFirst d i (h .len) (withSlot i (λ (e : Exchange). commandNotes (h .kind) (h .code) (h .param) (tested (h .code) e)) (d .rest)) turnFrames (command i (h .param))
   unfolding acts synchronousExchange synchronousSaid
   plan-command = by (eqb (h .kind) Data) (eqb (h .kind) DataEND) (eqb (h .kind) Trigger)
     where
       by : (x y z : Bool) → (x || (y || z)) ≡ true
-          → planBy (kinds x y z) ≡ planWith d i (h .len) (withSlot i (λ (e : Exchange). cond x (noteRmt (h .code) e) (ask (h .code) (h .param) e)) (d .rest)) [] (command i (h .param))
+          → planBy (kinds x y z) ≡ planFirst d i (h .len) (withSlot i (λ (e : Exchange). cond x (noteRmt (h .code) (tested (h .code) e)) (ask (h .code) (h .param) (tested (h .code) e))) (d .rest)) turnFrames (command i (h .param))
       by true y z q = refl
       by false true z q = refl
       by false false true q = refl

@@ -20,8 +20,8 @@ ghost use mathlib.Core.Path.{_≡_};
 ghost use Rattle.model.specs.Sizes.{connectionLimit, outputMinimum, payloadLimit, sessionLimit};
 use crate::Delivery;
 use crate::answer;
+use crate::interrupted::note_query;
 use crate::mode;
-use crate::synchronous::note_rmt;
 use crate::synchronous::same_number;
 use locks::complete;
 use locks::grant_pass;
@@ -91,7 +91,7 @@ pub fn query_status(
     ensures { λ r. ⌜ ((s p : List ℕ) → DidKind k-statusQuery i c code param len p r (memory (now (w .entry)) s) (memory (now (w .exit)) s) (now (out .entry)) (now (out .exit))) ⌝ }
 {
     let n = tables::entry(w, i, tables::NUMBER);
-    note_rmt(w, i, code);
+    note_query(w, i, code);
     let b = status_of(w, i, param);
     frame::put_frame(out, 0, c as u8, types::ASYNC_STATUS_RESPONSE, b, 0);
     answer::acted(n, len, 17)
@@ -177,6 +177,7 @@ fn enter_clear(w: &mut Words, i: usize)
     tables::set_exchange(w, i, tables::IN_CLEAR, 1);
     tables::set_exchange(w, i, tables::ASKED, 0);
     tables::set_exchange(w, i, tables::AVAILABLE, 0);
+    tables::set_exchange(w, i, tables::RMT_EXPECTED, 0);
     mode::reset_count(w, i);
 }
 

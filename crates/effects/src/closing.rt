@@ -46,6 +46,7 @@ pub fn renew_exchange(w: &mut Words, i: usize, mode: u64)
     tables::set_exchange(w, i, tables::AVAILABLE, 0);
     tables::set_exchange(w, i, tables::CLIENT_SIZE, PAYLOAD);
     tables::set_exchange(w, i, tables::OVERLAP, mode);
+    tables::set_exchange(w, i, tables::RMT_EXPECTED, 0);
     reset_count(w, i);
 }
 

@@ -49,7 +49,7 @@ fn answer_number(w: &Words, i: usize) -> MessageId
     MessageId::new(((v - 1) % NUMBERS) as u32)
 }
 
-// Slot i was sent an answer: message available goes on, it is counted, and with END nothing is asked any more.
+// Slot i was sent an answer: message available goes on, it is counted, and with END nothing is asked any more and an RMT is expected.
 fn note_answer(w: &mut Words, i: usize, end: bool)
     requires { ⌜ i < sessionLimit ⌝ }
     ensures { λ _. ⌜ ((s : List ℕ) → view (memory (now (w .exit)) s) ≡ onRest (view (memory (now (w .entry)) s)) (λ r. withExchange r i (answeredWith end (exchangeAt r i)))) ⌝ }
@@ -60,6 +60,7 @@ fn note_answer(w: &mut Words, i: usize, end: bool)
         return;
     }
     tables::set_exchange(w, i, tables::ASKED, 0);
+    tables::set_exchange(w, i, tables::RMT_EXPECTED, 1);
 }
 
 // Data, or DataEND with END.

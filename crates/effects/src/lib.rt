@@ -3,6 +3,7 @@ pub mod answer;
 pub mod asynchronous;
 pub mod closing;
 pub mod events;
+pub mod interrupted;
 pub mod mode;
 pub mod opening;
 pub mod outcome;

@@ -3,13 +3,13 @@ ghost use Prim.Native.Nat.{ℕ, _+_, _<_, _≤_};
 ghost use Rattle.effects.specs.Did.{Did};
 ghost use Rattle.effects.specs.Synchronous.{commandNotes, isCommand, withSlot};
 ghost use Rattle.model.specs.Acts.{acts};
-ghost use Rattle.model.specs.Exchange.{ask, leaveClear, noteRmt};
+ghost use Rattle.model.specs.Exchange.{ask, differs, leaveClear, noteRmt};
 ghost use Rattle.model.specs.Locks.{stands};
 ghost use Rattle.model.specs.Place.{Role.r-synchronous};
-ghost use Rattle.model.specs.State.{at};
+ghost use Rattle.model.specs.State.{at, exchangeAt};
 ghost use Rattle.model.specs.Step.{finish};
 ghost use Rattle.state.specs.Change.{onRest};
-ghost use Rattle.state.specs.View.{locksOf, memory, view};
+ghost use Rattle.state.specs.View.{locksOf, memory, restOf, view};
 ghost use lib.Dec.{eqb};
 ghost use lib.ListN.{length};
 ghost use mathlib.Core.Bool.{_&&_, cond, false, not, true};
@@ -18,6 +18,7 @@ ghost use mathlib.Core.Path.{_≡_};
 ghost use Rattle.model.specs.Sizes.{connectionLimit, outputMinimum, payloadLimit, sessionLimit};
 use crate::Delivery;
 use crate::answer;
+use crate::interrupted::take_turn;
 use locks::complete;
 use state::sizes::Strings;
 use state::sizes::Words;
@@ -36,14 +37,14 @@ pub fn same_number(a: u64, b: u64) -> u64
     0
 }
 
-fn wide(b: u8) -> u64
+pub fn wide(b: u8) -> u64
     ensures { λ r. ⌜ r ≡ b ⌝ }
 {
     b as u64
 }
 
-// The word of message available behind a message with this control code: a product, for no processor foresees the code.
-fn left_by(word: u64, code: u8) -> u64
+// The word of message available, or of the expectation, behind a message with this control code: a product, for no processor foresees the code.
+pub fn left_by(word: u64, code: u8) -> u64
     ensures { λ r. ⌜ eqb r 1 ≡ (not (eqb code 1) && eqb word 1) ⌝ }
 {
     let available = same_number(word, 1);
@@ -79,7 +80,7 @@ fn leave_clear(w: &mut Words, i: usize, code: u8)
 }
 
 // Is this a Data, DataEND or Trigger?
-fn is_command(kind: u8) -> bool
+pub fn is_command(kind: u8) -> bool
     ensures { λ r. ⌜ isCommand kind ≡ r ⌝ }
 {
     if kind == types::DATA {
@@ -103,7 +104,8 @@ fn note_command(w: &mut Words, i: usize, kind: u8, code: u8, param: u32)
     note_asked(w, i, code, MessageId::new(param));
 }
 
-// A message of a kind that passed all checks acts; a release that waits for it takes effect behind it.
+// A message of a kind that passed all checks acts: a command that is out of turn interrupts first, and a release that waits for it takes
+// effect behind it.
 pub fn act_synchronous(
     w: &mut Words,
     strings: &mut Strings,
@@ -120,8 +122,9 @@ pub fn act_synchronous(
 {
     let session = tables::entry(w, i, tables::NUMBER);
     if is_command(kind) {
+        let at = take_turn(w, out, i, code, param);
         note_command(w, i, kind, code, param);
-        let end = complete::at_message(w, strings, out, 0, i, param);
+        let end = complete::at_message(w, strings, out, at, i, param);
         return answer::acted(session, len, end as u64);
     }
     leave_clear(w, i, code);
@@ -136,12 +139,13 @@ pub fn act_synchronous(
     answer::acted(session, len, 17)
 }
 
-// A Data, DataEND or Trigger acts while no release of its session stands: there is nothing to send.
+// A Data, DataEND or Trigger in turn acts while no release of its session stands: there is nothing to send.
 pub fn act_plainly(w: &mut Words, i: usize, kind: u8, code: u8, param: u32, len: u64) -> Delivery
-    requires { ⌜ (i < sessionLimit) × (len ≤ payloadLimit) × (isCommand kind ≡ true) × ((s : List ℕ) → stands ((at (locksOf (now w) s .entries) i) .standing) ≡ false) ⌝ }
+    requires { ⌜ (i < sessionLimit) × (len ≤ payloadLimit) × (isCommand kind ≡ true) × ((s : List ℕ) → stands ((at (locksOf (now w) s .entries) i) .standing) ≡ false) × (differs (eqb code 1) ((exchangeAt (restOf (now w)) i) .rmtExpected) ≡ false) ⌝ }
     ensures { λ r. ⌜ ((s p out : List ℕ) (c : ℕ) → Did (finish (view (memory (now (w .entry)) s)) (acts r-synchronous (view (memory (now (w .entry)) s)) i c (record { kind = kind; code = code; param = param; len = len }) p)) r (memory (now (w .entry)) s) (memory (now (w .exit)) s) out out) ⌝ }
 {
     let session = tables::entry(w, i, tables::NUMBER);
+    tables::set_exchange(w, i, tables::RMT_EXPECTED, 0);
     note_command(w, i, kind, code, param);
     complete::note_message(w, i, param);
     answer::acted(session, len, 0)

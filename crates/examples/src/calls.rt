@@ -118,8 +118,10 @@ pub fn answer(words: &mut Words, strings: &mut Strings, session: u32, payload: &
     text::say(b" with END, bytes");
     text::bytes(payload);
     let mut out = [0; 2048];
-    let answer = server::hislip_answer(words, strings, session, payload, 1, &mut out);
-    done(answer, &out);
+    let answer = server::hislip_answer(words, strings, session, payload, 1, b"", &mut out);
+    text::say(b": ");
+    accepted(answer.refusal);
+    text::frames(&out, answer.output);
 }
 
 fn opened(name: &[u8], connection: u32, other: u32, session: u64) {

@@ -4,18 +4,20 @@ use mathlib.Core.Bool.{Bool, true, false, cond}
 use mathlib.Core.List.{List, [], _∷_, _++_, map}
 use Prim.Native.Nat.{ℕ, zero, suc}
 use Rattle.wire.specs.declared.Header.{Header}
+use Rattle.wire.specs.Message.{header}
 use Rattle.wire.specs.Frame.{Frame, frameOf}
 use Rattle.model.specs.MessageTypes.{FatalError}
 use Rattle.model.specs.Lists.{keep}
-use Rattle.model.specs.State.{Server, fresh, Making}
+use Rattle.model.specs.State.{Server, Entry, slotOfNumber, Exchange, at, exchangeAt, fresh, Making}
 use Rattle.model.specs.Interface.{Event, Event.opening, Event.delivery, Event.cut, Event.clock, Event.answer, Event.status}
 use Rattle.model.specs.Scan.{Scan, Scan.empty, Scan.few, Scan.wrong, Scan.skipping, Scan.long, Scan.part, Scan.whole}
 use Rattle.model.specs.Place.{Role, Role.r-none, Role.r-halfOpen, Role.r-synchronous, Role.r-asynchronous}
 use Rattle.model.specs.Locks.{Answer, change, grantPass}
 use Rattle.model.specs.Checks.{Verdict, Verdict.v-more, Verdict.v-skipped, Verdict.v-held, Verdict.v-ignored, Verdict.v-closed, Verdict.v-acts, Verdict.v-error, Verdict.v-fatal}
+use Rattle.model.specs.Exchange.{outOfTurn, answerNumber}
 use Rattle.model.specs.Acts
 use Rattle.model.specs.Refusals.{refusal}
-use Rattle.model.specs.Step.{effect, received, plan, answered, finish, step, final, log, lockFrame, channels}
+use Rattle.model.specs.Step.{answerType, withholds, effect, received, plan, answered, finish, step, final, log, lockFrame, channels}
 use Rattle.model.specs.LockModel.{Model, Told, modelStep, modelRun, freshModel}
 use Rattle.model.specs.Agreement.{feed, feeds, Agrees, toldFrame, isLock, lockSent, Agreement}
 use Rattle.model.proofs.Invariant.{Inv}
@@ -80,9 +82,63 @@ plan-no d (opening c) = refl
 plan-no d (delivery c bs room) = effect-no _ _ _ d _ c
 plan-no d (cut c room) = refl
 plan-no d (clock t room) = refl
-plan-no d (answer n p true room) = refl
-plan-no d (answer n p false room) = refl
+plan-no d (answer n p end sh room) =
+    let i = slotOfNumber (d .locks .entries) n in
+    go (withholds d n end sh) end (at (d .locks .entries) i) ((header sh) .param) (answerNumber (exchangeAt (d .rest) i))
+  where
+    go : (w end : Bool) (e : Entry) (x k : ℕ) → keep isLock (cond w (Acts.interruptions e x) (frameOf (e .synchronous) (answerType end) 0 k p ∷ [])) ≡ []
+    go true end e x k = refl
+    go false true e x k = refl
+    go false false e x k = refl
 plan-no d (status b) = refl
+
+-- nor is what it says first
+first-no : (w : Bool) (e : Entry) (n : ℕ) → keep isLock (cond w (Acts.interruptions e n) []) ≡ []
+first-no true e n = refl
+first-no false e n = refl
+
+sync-first-no : (k : Acts.SynchronousKind) (e : Entry) (x : Exchange) (h : Header) → keep isLock (Acts.synchronousFirst k e x h) ≡ []
+sync-first-no Acts.k-data e x h = first-no (outOfTurn (h .code) x) e (h .param)
+sync-first-no Acts.k-dataEnd e x h = first-no (outOfTurn (h .code) x) e (h .param)
+sync-first-no Acts.k-trigger e x h = first-no (outOfTurn (h .code) x) e (h .param)
+sync-first-no Acts.k-clearComplete e x h = refl
+
+opens-first-no : (b : Bool) (d : Server) (c : ℕ) (h : Header) → keep isLock ((Acts.opens b d c h) .first) ≡ []
+opens-first-no true d c h = refl
+opens-first-no false d c h = refl
+
+acts-first-no : (r : Role) (d : Server) (i c : ℕ) (h : Header) (p : List ℕ) → keep isLock ((Acts.acts r d i c h p) .first) ≡ []
+unfolding Acts.acts
+acts-first-no r-none d i c h p = opens-first-no (lib.Dec.eqb (h .kind) 0) d c h
+acts-first-no r-halfOpen d i c h p = refl
+acts-first-no r-synchronous d i c h p = sync-first-no (Acts.synchronousKind (h .kind)) (at (d .locks .entries) i) (exchangeAt (d .rest) i) h
+acts-first-no r-asynchronous d i c h p = refl
+
+effect-first-no : (v : Verdict) (s : Scan) (r : Role) (d : Server) (i c : ℕ) → keep isLock ((effect v s r d i c) .first) ≡ []
+unfolding effect
+effect-first-no v-more s r d i c = refl
+effect-first-no v-held s r d i c = refl
+effect-first-no v-skipped s r d i c = refl
+effect-first-no v-ignored s r d i c = refl
+effect-first-no (v-error n) s r d i c = refl
+effect-first-no (v-fatal n) s r d i c = refl
+effect-first-no v-closed s r d i c = refl
+effect-first-no v-acts empty r d i c = refl
+effect-first-no v-acts few r d i c = refl
+effect-first-no v-acts wrong r d i c = refl
+effect-first-no v-acts (skipping k) r d i c = refl
+effect-first-no v-acts (long h) r d i c = refl
+effect-first-no v-acts (part h) r d i c = refl
+effect-first-no v-acts (whole h p) r d i c = acts-first-no r d i c h p
+
+plan-first-no : (d : Server) (e : Event) → keep isLock ((plan d e) .first) ≡ []
+unfolding plan received
+plan-first-no d (opening c) = refl
+plan-first-no d (delivery c bs room) = effect-first-no _ _ _ d _ c
+plan-first-no d (cut c room) = refl
+plan-first-no d (clock t room) = refl
+plan-first-no d (answer n p end sh room) = refl
+plan-first-no d (status b) = refl
 
 pub keep-append : (xs ys : List Frame) → keep isLock (xs ++ ys) ≡ keep isLock xs ++ keep isLock ys
 keep-append [] ys = refl
@@ -97,10 +153,12 @@ pub keep-locks : (xs : List Answer) → keep isLock (map lockFrame xs) ≡ map l
 keep-locks [] = refl
 keep-locks (x ∷ xs) = ap (λ l. lockFrame x ∷ l) (keep-locks xs)
 
--- of all that a call sends, the lock answers are those of its event and of its pass
-pub frames-locks : (d : Server) (e : Event) (xs ys : List Answer) → keep isLock (map lockFrame xs ++ ((plan d e) .said ++ map lockFrame ys)) ≡ map lockFrame xs ++ map lockFrame ys
+-- of all that a call sends, the lock answers are those of its event and those of its pass
+pub frames-locks : (d : Server) (e : Event) (xs ys : List Answer)
+    → keep isLock ((plan d e) .first ++ (map lockFrame xs ++ ((plan d e) .said ++ map lockFrame ys))) ≡ map lockFrame xs ++ map lockFrame ys
 frames-locks d e xs ys =
-    keep-append (map lockFrame xs) _ ∙ ap₂ _++_ (keep-locks xs) (keep-append ((plan d e) .said) (map lockFrame ys) ∙ ap₂ _++_ (plan-no d e) (keep-locks ys))
+    keep-append ((plan d e) .first) _
+    ∙ ap₂ _++_ (plan-first-no d e) (keep-append (map lockFrame xs) _ ∙ ap₂ _++_ (keep-locks xs) (keep-append ((plan d e) .said) (map lockFrame ys) ∙ ap₂ _++_ (plan-no d e) (keep-locks ys)))
 
 told-locks : (xs : List Answer) → map toldFrame (map toldOf xs) ≡ map lockFrame xs
 told-locks [] = refl

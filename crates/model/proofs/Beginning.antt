@@ -263,7 +263,7 @@ later-holds d v j e aw real a = go (refusal d e) refl a
         let s = settle (frees (d .locks) ev) (c .locks) in
         let none : (all (spare y) (c .answers) && all (spare y) (s .answers)) ≡ false =
         sym (ap₂ _&&_ (all-answers y (c .answers)) (all-answers y (s .answers))) ∙ sym (all-append (free y) (map lockFrame (c .answers)) (map lockFrame (s .answers))) ∙ ap (all (free y)) (sym (frames-locks d e (c .answers) (s .answers)))
-        ∙ sym (all-locks y (map lockFrame (c .answers) ++ ((plan d e) .said ++ map lockFrame (s .answers)))) ∙ not-of _ a in
+        ∙ sym (all-locks y ((plan d e) .first ++ (map lockFrame (c .answers) ++ ((plan d e) .said ++ map lockFrame (s .answers))))) ∙ not-of _ a in
         let r = event-got (d .locks) v j aw real ev f (ap (λ (b : Bool). b && all (spare y) (s .answers)) (sym (change-spare (d .locks) v j aw real ev f)) ∙ none) in
         record { number = r .0; exclusive = r .1 }
 

@@ -9,20 +9,22 @@ use lib.ListN.{set, length, length-append}
 use borrow.Author.Tests.{ltb-false}
 use Rattle.wire.specs.Field.{length-field}
 use Rattle.wire.specs.declared.Header.{Header}
+use Rattle.wire.specs.Message.{header}
 use Rattle.wire.specs.Frame.{Frame, bytesOf, frameOf, length-frame}
 use Rattle.model.specs.Sizes.{beforeFirst, payloadLimit, sessionLimit, outputMinimum, noConnection}
 use Rattle.model.specs.MessageTypes.{FatalError}
 use Rattle.model.specs.Lists.{all, keep}
-use Rattle.model.specs.State.{Locks, Entry, Waiting, at, live, Server, fresh, Making, blank}
+use Rattle.model.specs.State.{Locks, Entry, Waiting, Exchange, slotOfNumber, exchangeAt, at, live, Server, fresh, Making, blank}
 use Rattle.model.specs.Interface.{Event, Event.opening, Event.delivery, Event.cut, Event.clock, Event.answer, Event.status}
 use Rattle.model.specs.Scan.{Scan, Scan.empty, Scan.few, Scan.wrong, Scan.skipping, Scan.long, Scan.part, Scan.whole}
 use Rattle.model.specs.Place.{entryOf, Role, Role.r-none, Role.r-halfOpen, Role.r-synchronous, Role.r-asynchronous}
 use Rattle.model.specs.Locks
 use Rattle.model.specs.Locks.{Answer, LockEvent, noShared, mayGrant, holds, elsewhere, refuse, unexpired, after, put, passOver, grantPass, change, settle, frees, noPlace}
 use Rattle.model.specs.Checks.{Verdict, Verdict.v-more, Verdict.v-skipped, Verdict.v-held, Verdict.v-ignored, Verdict.v-closed, Verdict.v-acts, Verdict.v-error, Verdict.v-fatal}
+use Rattle.model.specs.Exchange.{outOfTurn, answerNumber}
 use Rattle.model.specs.Acts
 use Rattle.model.specs.Refusals.{causes, refusal}
-use Rattle.model.specs.Step.{effect, received, plan, answered, finish, step, final, lockFrame}
+use Rattle.model.specs.Step.{answerType, withholds, effect, received, plan, answered, finish, step, final, lockFrame}
 use Rattle.model.specs.Bound.{outputBound, roomOf, Output, Bound, BoundRun, OutputFits, frameSize}
 use Rattle.model.proofs.Waiting.{few-wait}
 use Rattle.model.proofs.Fits.{uncaused, inv-run}
@@ -122,11 +124,19 @@ none-small : Small []
 unfolding bytesOf
 none-small = omega arith
 
+-- AsyncInterrupted and Interrupted
+interrupted-size : (e : Entry) (n : ℕ) → length (bytesOf (Acts.interruptions e n)) ≡ frameSize * 2
+unfolding bytesOf
+interrupted-size e n = simp (length-append, length-frame) (omega arith)
+
 fatal-small : (n : ℕ) (a b : Bool) (x y c : ℕ) → Small (map (λ x. frameOf x FatalError n 0 []) (cond a (x ∷ cond b [] (y ∷ [])) (c ∷ [])))
 unfolding bytesOf
 fatal-small n true true x y c = simp (length-append, length-frame) (omega arith)
 fatal-small n true false x y c = simp (length-append, length-frame) (omega arith)
 fatal-small n false b x y c = simp (length-append, length-frame) (omega arith)
+
+interrupted-small : (e : Entry) (n : ℕ) → Small (Acts.interruptions e n)
+interrupted-small e n = omega (arith, interrupted-size e n)
 
 opens-small : (b : Bool) (d : Server) (c : ℕ) (h : Header) → Small ((Acts.opens b d c h) .said)
 opens-small true d c h = one-small _ (omega arith)
@@ -182,26 +192,90 @@ plan-small d (opening c) z = none-small
 plan-small d (delivery c bs room) z = effect-small _ _ _ d _ c
 plan-small d (cut c room) z = none-small
 plan-small d (clock t room) z = none-small
-plan-small d (answer n p end room) z = one-small _ (ltb-false payloadLimit (length p) (neither _ _ ((uncaused (causes d (answer n p end room)) refl z) .1 .1 .1 .0)))
+plan-small d (answer n p end sh room) z =
+    let i = slotOfNumber (d .locks .entries) n in
+    go (withholds d n end sh) (at (d .locks .entries) i) ((header sh) .param) (answerNumber (exchangeAt (d .rest) i)) (answerType end)
+    (ltb-false payloadLimit (length p) (neither _ _ ((uncaused (causes d (answer n p end sh room)) refl z) .1 .1 .1 .0)))
+  where
+    go : (w : Bool) (e : Entry) (x k t : ℕ) → length p ≤ payloadLimit → Small (cond w (Acts.interruptions e x) (frameOf (e .synchronous) t 0 k p ∷ []))
+    go true e x k t l = interrupted-small e x
+    go false e x k t l = one-small _ l
 plan-small d (status b) z = none-small
+
+-- what a call says first
+abbrev Brief : List Frame → Type 0
+Brief fs = length (bytesOf fs) ≤ frameSize * 2
+
+none-brief : Brief []
+unfolding bytesOf
+none-brief = omega arith
+
+cond-brief : (w : Bool) (e : Entry) (n : ℕ) → Brief (cond w (Acts.interruptions e n) [])
+cond-brief true e n = omega (arith, interrupted-size e n)
+cond-brief false e n = none-brief
+
+sync-brief : (k : Acts.SynchronousKind) (e : Entry) (x : Exchange) (h : Header) → Brief (Acts.synchronousFirst k e x h)
+sync-brief Acts.k-data e x h = cond-brief (outOfTurn (h .code) x) e (h .param)
+sync-brief Acts.k-dataEnd e x h = cond-brief (outOfTurn (h .code) x) e (h .param)
+sync-brief Acts.k-trigger e x h = cond-brief (outOfTurn (h .code) x) e (h .param)
+sync-brief Acts.k-clearComplete e x h = none-brief
+
+opens-brief : (b : Bool) (d : Server) (c : ℕ) (h : Header) → Brief ((Acts.opens b d c h) .first)
+opens-brief true d c h = none-brief
+opens-brief false d c h = none-brief
+
+acts-brief : (r : Role) (d : Server) (i c : ℕ) (h : Header) (p : List ℕ) → Brief ((Acts.acts r d i c h p) .first)
+unfolding Acts.acts
+acts-brief r-none d i c h p = opens-brief (eqb (h .kind) 0) d c h
+acts-brief r-halfOpen d i c h p = none-brief
+acts-brief r-synchronous d i c h p = sync-brief (Acts.synchronousKind (h .kind)) (at (d .locks .entries) i) (exchangeAt (d .rest) i) h
+acts-brief r-asynchronous d i c h p = none-brief
+
+effect-brief : (v : Verdict) (s : Scan) (r : Role) (d : Server) (i c : ℕ) → Brief ((effect v s r d i c) .first)
+unfolding effect
+effect-brief v-more s r d i c = none-brief
+effect-brief v-held s r d i c = none-brief
+effect-brief v-skipped s r d i c = none-brief
+effect-brief v-ignored s r d i c = none-brief
+effect-brief (v-error n) s r d i c = none-brief
+effect-brief (v-fatal n) s r d i c = none-brief
+effect-brief v-closed s r d i c = none-brief
+effect-brief v-acts empty r d i c = none-brief
+effect-brief v-acts few r d i c = none-brief
+effect-brief v-acts wrong r d i c = none-brief
+effect-brief v-acts (skipping k) r d i c = none-brief
+effect-brief v-acts (long h) r d i c = none-brief
+effect-brief v-acts (part h) r d i c = none-brief
+effect-brief v-acts (whole h p) r d i c = acts-brief r d i c h p
+
+plan-brief : (d : Server) (e : Event) → Brief ((plan d e) .first)
+unfolding plan received
+plan-brief d (opening c) = none-brief
+plan-brief d (delivery c bs room) = effect-brief _ _ _ d _ c
+plan-brief d (cut c room) = none-brief
+plan-brief d (clock t room) = none-brief
+plan-brief d (answer n p end sh room) = none-brief
+plan-brief d (status b) = none-brief
 
 pub output : (d : Server) (e : Event) → Output d e
 unfolding step answered finish bytesOf
 output d e = record { total = go (refusal d e) refl }
   where
-    go : (n : ℕ) → refusal d e ≡ n → length (bytesOf ((answered n d e) .frames)) ≤ frameSize + payloadLimit + frameSize * (length (d .locks .waiting) + 1)
+    go : (n : ℕ) → refusal d e ≡ n → length (bytesOf ((answered n d e) .frames)) ≤ frameSize + payloadLimit + frameSize * (length (d .locks .waiting) + 3)
     go (suc n) z = omega arith
     go zero z =
         let x = change (d .locks) ((plan d e) .event) in
         let y = settle (frees (d .locks) ((plan d e) .event)) (x .locks) in
         omega (
           arith,
+          bytes-append ((plan d e) .first) (map lockFrame (x .answers) ++ ((plan d e) .said ++ map lockFrame (y .answers))),
           bytes-append (map lockFrame (x .answers)) ((plan d e) .said ++ map lockFrame (y .answers)),
           bytes-append ((plan d e) .said) (map lockFrame (y .answers)),
           lock-bytes (x .answers),
           lock-bytes (y .answers),
           answers-bound (d .locks) ((plan d e) .event),
           plan-small d e z,
+          plan-brief d e,
         )
 
 -- a call that is not refused
@@ -228,7 +302,7 @@ bound d l = record { within = within; has-room = has-room }
     has-room (delivery c bs room) z = roomy room _ ((uncaused (causes d (delivery c bs room)) refl z) .0) (within (delivery c bs room))
     has-room (cut c room) z = roomy room _ ((uncaused (causes d (cut c room)) refl z) .0) (within (cut c room))
     has-room (clock t room) z = roomy room _ ((uncaused (causes d (clock t room)) refl z) .0) (within (clock t room))
-    has-room (answer n p end room) z = roomy room _ ((uncaused (causes d (answer n p end room)) refl z) .0) (within (answer n p end room))
+    has-room (answer n p end sh room) z = roomy room _ ((uncaused (causes d (answer n p end sh room)) refl z) .0) (within (answer n p end sh room))
     has-room (status b) z = rw z (statuses-silent d b)
 
 pub bound-run : (v : Making) (es : List Event) → BoundRun v es

@@ -192,7 +192,7 @@ module _ (d : Server) (m : Model) (a : Agrees (d .locks) m) (v : Inv (d .locks))
 
   -- a release
   abbrev freeing : ℕ → Header → Acts.Plan
-  freeing i h = record { reply = took acted (16 + h .len) ((at (d .locks .entries) i) .number); rest = d .rest; said = []; event = Locks.release i (h .param) }
+  freeing i h = record { reply = took acted (16 + h .len) ((at (d .locks .entries) i) .number); rest = d .rest; first = []; said = []; event = Locks.release i (h .param) }
 
   release-step : (r : Request d c bs room) → (header bs) .kind ≡ AsyncLock → (header bs) .code ≡ 0 → R ≡ finish d (freeing (slotOf d c) (r .head))
   unfolding step answered plan received verdict effect Acts.acts Acts.asynchronousRest Acts.asynchronousSaid Acts.asynchronousEvent
@@ -275,7 +275,7 @@ each-decides (e ∷ es) d m a v = (one e, each-decides es ((step d e) .server) (
     one (delivery c bs room) = decides d m a v c bs room
     one (cut c room) = tt
     one (clock t room) = tt
-    one (answer n p end room) = tt
+    one (answer n p end sh room) = tt
     one (status b) = tt
 
 pub run-decides : (v : Making) (es : List Event) → EachDecides (fresh v) freshModel es

@@ -138,7 +138,7 @@ pub record Request (d : Server) (c : ℕ) (bs : List ℕ) (room : ℕ) : Type 0 
 
 -- what it does
 abbrev pub asking : Server → ℕ → Header → List ℕ → Acts.Plan
-asking d i h p = record { reply = took acted (16 + h .len) ((at (d .locks .entries) i) .number); rest = d .rest; said = []; event = Locks.request i (h .param) p }
+asking d i h p = record { reply = took acted (16 + h .len) ((at (d .locks .entries) i) .number); rest = d .rest; first = []; said = []; event = Locks.request i (h .param) p }
 
 module _ (d : Server) (c : ℕ) (bs : List ℕ) (room : ℕ) where
   pub request-step : (r : Request d c bs room) → (header bs) .kind ≡ AsyncLock → (header bs) .code ≡ 1 → step d (delivery c bs room) ≡ finish d (asking d (slotOf d c) (r .head) (r .string))

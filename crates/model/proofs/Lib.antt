@@ -64,4 +64,5 @@ pub mod Sending
 pub mod LocalityTable
 pub mod Outcomes
 pub mod Missing
+pub mod NextQuestion
 pub mod Asking

@@ -13,19 +13,19 @@ use Rattle.wire.specs.Message.{Message, header, messageOf}
 use Rattle.wire.specs.Frame.{Frame, frameOf}
 use Rattle.wire.specs.Class.{one-of, synchronous, asynchronous}
 use Rattle.model.specs.Sizes.{noConnection}
-use Rattle.model.specs.State.{Making, Server, Entry, at, live, halfOpen, blank, slotOfNumber, connectionAt, exchangeAt, Asked, Asked.none, Asked.some, Exchange}
-use Rattle.model.specs.Interface.{Event, Event.opening, Event.delivery, Event.cut, Event.clock, Event.answer, Event.status, Outcome.acted, Outcome.closed, Reply, Reply.done, Reply.took}
+use Rattle.model.specs.State.{Making, Server, Entry, at, live, halfOpen, blank, slotOfNumber, connectionAt, exchangeAt, Asked, Asked.none, Asked.some, Exchange, withExchange}
+use Rattle.model.specs.Interface.{Event, Event.opening, Event.delivery, Event.cut, Event.clock, Event.answer, Event.status, Outcome.acted, Outcome.closed, Reply, Reply.done, Reply.withheld, Reply.took}
 use Rattle.model.specs.Scan.{Scan, Scan.empty, Scan.few, Scan.wrong, Scan.skipping, Scan.long, Scan.part, Scan.whole, scan, size, leftover}
 use Rattle.model.specs.Place.{slotIn, slotOf, roleOf, roleBy, onConnection, entryOf, Role, Role.r-none, Role.r-halfOpen, Role.r-synchronous, Role.r-asynchronous}
 use Rattle.model.specs.Locks
 use Rattle.model.specs.Locks.{LockEvent, change, grantPass, passOver}
-use Rattle.model.specs.Exchange.{answerNumberIn, answerNumber, numberAsked}
+use Rattle.model.specs.Exchange.{answerNumberIn, answerNumber, numberAsked, answeredWith, interrupted}
 use Rattle.model.specs.Checks
 use Rattle.model.specs.Checks.{Verdict, Verdict.v-more, Verdict.v-skipped, Verdict.v-held, Verdict.v-ignored, Verdict.v-closed, Verdict.v-acts, Verdict.v-error, Verdict.v-fatal, verdict, judged, either}
 use Rattle.model.specs.Acts
 use Rattle.model.specs.Acts.{Plan}
 use Rattle.model.specs.Refusals.{causes, refusal}
-use Rattle.model.specs.Step.{effect, received, plan, answered, finish, step, final, log, channels, closing, answerType}
+use Rattle.model.specs.Step.{effect, received, plan, answered, finish, step, final, log, channels, closing, answerType, withholds}
 use Rattle.model.specs.Happening.{Heard, Heard.silence, Heard.with-code, Happening, Happening.unmoved, Happening.disconnected, Happening.message-acted, heard, happened}
 use Rattle.model.specs.LocalityReplies.{saidTo, askedNumber, numberSent}
 use Rattle.model.specs.LocalityRows.{isSilence, Single, singly, clock-row, status-row, made-row, issued-row, enable-row, lockout-row, remote-row}
@@ -38,8 +38,8 @@ use Rattle.model.proofs.Numbers.{live-found}
 use Rattle.model.proofs.Fits.{Passes, uncaused, opening-passed, sync-passed, async-passed, real-delivery, real-cut}
 use Rattle.model.proofs.Closing.{pass-looks}
 use Rattle.model.proofs.LocalityParts.{assemble}
-use Rattle.model.proofs.LocalityRest.{rest-unmoved, rest-clock, rest-status, rest-answer, rest-opening, rest-skipped, rest-error, scan-error, rest-closing}
-use Rattle.model.proofs.LocalityLocks.{locks-unmoved, locks-opening, locks-skipped, locks-error, locks-status, locks-answer, locks-clock, locks-closing, freed, stay, pass-frames, refused-frames}
+use Rattle.model.proofs.LocalityRest.{rest-unmoved, rest-clock, rest-status, rest-answer, rest-withheld, rest-opening, rest-skipped, rest-error, scan-error, rest-closing}
+use Rattle.model.proofs.LocalityLocks.{locks-unmoved, locks-opening, locks-skipped, locks-error, locks-status, locks-answer, locks-withheld, locks-clock, locks-closing, freed, stay, pass-frames, refused-frames}
 use Rattle.model.proofs.LocalitySilence.{fatal-heard, none-heard, closes-silently}
 use Rattle.model.proofs.LocalityMessages.{num, synchronously, asynchronously, local-synchronous, local-asynchronous, issuedNow, local-0, local-17}
 
@@ -70,7 +70,7 @@ local-unmoved d r s = assemble d unmoved record { server = d; reply = r; frames 
 
 -- a closing, with what it said
 pub local-closing : (d : Server) (c : ℕ) → (c ≡ noConnection → ⊥) → (k : Heard) (reply : Reply) → ((o : _) (j n : ℕ) → reply ≡ took o j n → n ≡ (entryOf d c) .number)
-    → Local d (disconnected c k) (finish d record { reply = reply; rest = closing d c; said = saidTo k 2 (channels d c); event = LockEvent.close (slotOf d c) })
+    → Local d (disconnected c k) (finish d record { reply = reply; rest = closing d c; first = []; said = saidTo k 2 (channels d c); event = LockEvent.close (slotOf d c) })
 unfolding finish change grantPass
 local-closing d c real k reply s =
     assemble
@@ -187,6 +187,13 @@ type-same : (b : Bool) → answerType b ≡ cond b 7 6
 type-same true = refl
 type-same false = refl
 
+-- an answer names no session in its reply
+done-none : (o : _) (k n : ℕ) → done ≡ took o k n → n ≡ 0
+done-none o k n e = absurd (let y : _≡_ {A = ℕ} 0 1 = cc in omega arith)
+
+withheld-none : (o : _) (k n : ℕ) → withheld ≡ took o k n → n ≡ 0
+withheld-none o k n e = absurd (let y : _≡_ {A = ℕ} 0 1 = cc in omega arith)
+
 plan-local : (d : Server) (e : Event) → refusal d e ≡ 0 → Local d (happened e ((plan d e) .reply) ((finish d (plan d e)) .frames)) (finish d (plan d e))
 unfolding plan received finish change grantPass answerNumber refusal causes
 plan-local d (opening c) q = assemble d _ _ (d .locks .entries) [] (rest-opening d c) (locks-opening d c) refl (λ o k n e. absurd (let y : _≡_ {A = ℕ} 0 1 = cc in omega arith))
@@ -195,10 +202,27 @@ plan-local d (delivery c bs room) q =
 plan-local d (cut c room) q = local-closing d c (real-cut d c room q) silence done (λ o k n e. absurd (let y : _≡_ {A = ℕ} 0 1 = cc in omega arith))
 plan-local d (clock t room) q =
     assemble d _ _ (d .locks .entries) [] (rest-clock d t) (locks-clock d t) (ap (λ (fs : List Frame). fs ++ []) (refused-frames (d .locks .entries) (λ w. lib.Dec.leb (w .deadline) t) (d .locks .waiting))) (λ o k n e. absurd (let y : _≡_ {A = ℕ} 0 1 = cc in omega arith))
-plan-local d (answer n p end room) q =
-    assemble d _ _ (d .locks .entries) [] (rest-answer d n p end) (locks-answer d n p end)
-    (ap₂ (λ (t x : ℕ). frameOf ((at (d .locks .entries) (slotOfNumber (d .locks .entries) n)) .synchronous) t 0 x p ∷ []) (type-same end) (number-same (exchangeAt (d .rest) (slotOfNumber (d .locks .entries) n))))
-    (λ o k n e. absurd (let y : _≡_ {A = ℕ} 0 1 = cc in omega arith))
+plan-local d (answer n p end sh room) q = go (withholds d n end sh)
+  where
+    i : ℕ
+    i = slotOfNumber (d .locks .entries) n
+
+    by : Bool → Plan
+    by w =
+        record {
+          reply = cond w withheld done;
+          rest = withExchange (d .rest) i (cond w (interrupted (exchangeAt (d .rest) i)) (answeredWith end (exchangeAt (d .rest) i)));
+          first = [];
+          said = cond w (Acts.interruptions (at (d .locks .entries) i) ((header sh) .param)) (frameOf ((at (d .locks .entries) i) .synchronous) (answerType end) 0 (answerNumber (exchangeAt (d .rest) i)) p ∷ []);
+          event = LockEvent.nothing;
+        }
+
+    go : (w : Bool) → Local d (happened (answer n p end sh room) ((by w) .reply) ((finish d (by w)) .frames)) (finish d (by w))
+    go true = assemble d _ _ (d .locks .entries) [] (rest-withheld d n ((header sh) .param)) (locks-withheld d n ((header sh) .param)) refl withheld-none
+    go false =
+        assemble d _ _ (d .locks .entries) [] (rest-answer d n p end) (locks-answer d n p end)
+        (ap₂ (λ (t x : ℕ). frameOf ((at (d .locks .entries) i) .synchronous) t 0 x p ∷ []) (type-same end) (number-same (exchangeAt (d .rest) i)))
+        done-none
 plan-local d (status b) q = assemble d _ _ (d .locks .entries) [] (rest-status d b) (locks-status d b) refl (λ o k n e. absurd (let y : _≡_ {A = ℕ} 0 1 = cc in omega arith))
 
 -- any call
@@ -247,6 +271,7 @@ same-made (e ∷ es) d = same-made es ((step d e) .server) ∙ (local-call d e) 
     never (Happening.clock-read t) x = refl
     never (Happening.status-set b) x = refl
     never (Happening.answer-sent n p end) x = refl
+    never (Happening.answer-withheld n m) x = refl
 
 pub local-run : (d : Server) (es : List Event) → LocalRun d es
 local-run d es =

@@ -8,12 +8,12 @@ use lib.Dec.{eqb}
 use lib.ListN.{getD, set, length, length-set}
 use lib.Seq.{getD-set-same, getD-set-other}
 use borrow.Author.Tests.{eqb-true, eq-eqb, ne-eqb}
-use Rattle.model.specs.State.{Entry, Waiting, Exchange, at, blank, slotOfNumber}
+use Rattle.model.specs.State.{Entry, Waiting, Exchange, Asked.none, at, blank, slotOfNumber}
 use Rattle.model.specs.Place.{slotIn}
 use Rattle.model.specs.Locks.{withLocks, give}
 use Rattle.model.specs.Closing.{OldestFirst, OldestFirst.pass-end, OldestFirst.pass-grant, OldestFirst.pass-wait}
-use Rattle.model.specs.Happening.{Action, Happening, Happening.unmoved, Happening.connected, Happening.disconnected, Happening.skipped-over, Happening.errored, Happening.message-acted, Happening.clock-read, Happening.status-set, Happening.answer-sent}
-use Rattle.model.specs.LocalityRows.{Row, inSlot, slotActed, clear-row, asked-row, available-row, size-row, mode-row, count-row, sent-row, number-row, synchronous-row, asynchronous-row, exclusive-row, shared-row, last-row, standing-row}
+use Rattle.model.specs.Happening.{Action, Happening, Happening.unmoved, Happening.connected, Happening.disconnected, Happening.skipped-over, Happening.errored, Happening.message-acted, Happening.clock-read, Happening.status-set, Happening.answer-sent, Happening.answer-withheld}
+use Rattle.model.specs.LocalityRows.{Row, inSlot, slotActed, clear-row, asked-row, available-row, size-row, mode-row, count-row, sent-row, expected-row, number-row, synchronous-row, asynchronous-row, exclusive-row, shared-row, last-row, standing-row}
 use Rattle.model.specs.Locality.{entryDue, givenExclusive, givenShared, Look}
 use Rattle.model.proofs.Basics.{same?}
 
@@ -54,37 +54,43 @@ module _ {A : Type 0} (z : A) (r : Row A) (es : List Entry) (xs : List A) where
   row-kept a f = record { size = refl; each = λ i l. sym (same-both (eqb i (slotActed es a)) (getD xs i z) (r .by-message a (getD xs i z)) (f (getD xs i z))) }
 
 -- a field of a row
-pub project : {X A : Type 0} (g : X → A) (r : Row X) (s : Row A) → ((a : Action) (x : X) → g (r .by-message a x) ≡ s .by-message a (g x)) → ((b : Bool) (x : X) → g (r .by-answer b x) ≡ s .by-answer b (g x))
-    → g (r .once-closed) ≡ s .once-closed → (es : List Entry) (i : ℕ) (h : Happening) (x : X) → g (inSlot r es i h x) ≡ inSlot s es i h (g x)
-project g r s m n q es i unmoved x = refl
-project g r s m n q es i (connected c) x = refl
-project g r s m n q es i (disconnected c k) x = push (eqb i _)
+pub project : {X A : Type 0} (g : X → A) (r : Row X) (s : X → Row A) → ((a : Action) (x : X) → g (r .by-message a x) ≡ (s x) .by-message a (g x)) → ((b : Bool) (x : X) → g (r .by-answer b x) ≡ (s x) .by-answer b (g x))
+    → ((x : X) → g (r .when-withheld x) ≡ (s x) .when-withheld (g x)) → ((x : X) → g (r .once-closed) ≡ (s x) .once-closed) → (es : List Entry) (i : ℕ) (h : Happening) (x : X) → g (inSlot r es i h x) ≡ inSlot (s x) es i h (g x)
+project g r s m n w q es i unmoved x = refl
+project g r s m n w q es i (connected c) x = refl
+project g r s m n w q es i (disconnected c k) x = push (eqb i _)
   where
-    push : (b : Bool) → g (cond b (r .once-closed) x) ≡ cond b (s .once-closed) (g x)
-    push true = q
+    push : (b : Bool) → g (cond b (r .once-closed) x) ≡ cond b ((s x) .once-closed) (g x)
+    push true = q x
     push false = refl
-project g r s m n q es i (skipped-over c k) x = refl
-project g r s m n q es i (errored c l k) x = refl
-project g r s m n q es i (message-acted a) x = push (eqb i (slotActed es a))
+project g r s m n w q es i (skipped-over c k) x = refl
+project g r s m n w q es i (errored c l k) x = refl
+project g r s m n w q es i (message-acted a) x = push (eqb i (slotActed es a))
   where
-    push : (b : Bool) → g (cond b (r .by-message a x) x) ≡ cond b (s .by-message a (g x)) (g x)
+    push : (b : Bool) → g (cond b (r .by-message a x) x) ≡ cond b ((s x) .by-message a (g x)) (g x)
     push true = m a x
     push false = refl
-project g r s m n q es i (clock-read t) x = refl
-project g r s m n q es i (status-set b) x = refl
-project g r s m n q es i (answer-sent k p end) x = push (eqb i _)
+project g r s m n w q es i (clock-read t) x = refl
+project g r s m n w q es i (status-set b) x = refl
+project g r s m n w q es i (answer-sent k p end) x = push (eqb i _)
   where
-    push : (b : Bool) → g (cond b (r .by-answer end x) x) ≡ cond b (s .by-answer end (g x)) (g x)
+    push : (b : Bool) → g (cond b (r .by-answer end x) x) ≡ cond b ((s x) .by-answer end (g x)) (g x)
     push true = n end x
+    push false = refl
+project g r s m n w q es i (answer-withheld k p) x = push (eqb i _)
+  where
+    push : (b : Bool) → g (cond b (r .when-withheld x) x) ≡ cond b ((s x) .when-withheld (g x)) (g x)
+    push true = w x
     push false = refl
 
 -- the rows of an exchange and of an entry
 abbrev pub exchangeRow : Bool → Row Exchange
 exchangeRow preferred =
     record {
-      by-message = λ a x. record { inClear = clear-row .by-message a (x .inClear); asked = asked-row .by-message a (x .asked); messageAvailable = available-row .by-message a (x .messageAvailable); clientSize = size-row .by-message a (x .clientSize); overlap = (mode-row preferred) .by-message a (x .overlap); count = count-row .by-message a (x .count); anySent = sent-row .by-message a (x .anySent) };
-      by-answer = λ b x. record { inClear = clear-row .by-answer b (x .inClear); asked = asked-row .by-answer b (x .asked); messageAvailable = available-row .by-answer b (x .messageAvailable); clientSize = size-row .by-answer b (x .clientSize); overlap = (mode-row preferred) .by-answer b (x .overlap); count = count-row .by-answer b (x .count); anySent = sent-row .by-answer b (x .anySent) };
-      once-closed = record { inClear = clear-row .once-closed; asked = asked-row .once-closed; messageAvailable = available-row .once-closed; clientSize = size-row .once-closed; overlap = (mode-row preferred) .once-closed; count = count-row .once-closed; anySent = sent-row .once-closed };
+      by-message = λ a x. record { inClear = clear-row .by-message a (x .inClear); asked = (asked-row x) .by-message a (x .asked); messageAvailable = (available-row x) .by-message a (x .messageAvailable); clientSize = size-row .by-message a (x .clientSize); overlap = (mode-row preferred) .by-message a (x .overlap); count = count-row .by-message a (x .count); anySent = sent-row .by-message a (x .anySent); rmtExpected = expected-row .by-message a (x .rmtExpected) };
+      by-answer = λ b x. record { inClear = clear-row .by-answer b (x .inClear); asked = (asked-row x) .by-answer b (x .asked); messageAvailable = (available-row x) .by-answer b (x .messageAvailable); clientSize = size-row .by-answer b (x .clientSize); overlap = (mode-row preferred) .by-answer b (x .overlap); count = count-row .by-answer b (x .count); anySent = sent-row .by-answer b (x .anySent); rmtExpected = expected-row .by-answer b (x .rmtExpected) };
+      when-withheld = λ x. record { inClear = clear-row .when-withheld (x .inClear); asked = (asked-row x) .when-withheld (x .asked); messageAvailable = (available-row x) .when-withheld (x .messageAvailable); clientSize = size-row .when-withheld (x .clientSize); overlap = (mode-row preferred) .when-withheld (x .overlap); count = count-row .when-withheld (x .count); anySent = sent-row .when-withheld (x .anySent); rmtExpected = expected-row .when-withheld (x .rmtExpected) };
+      once-closed = record { inClear = clear-row .once-closed; asked = none; messageAvailable = false; clientSize = size-row .once-closed; overlap = (mode-row preferred) .once-closed; count = count-row .once-closed; anySent = sent-row .once-closed; rmtExpected = expected-row .once-closed };
     }
 
 abbrev pub entryRow : Row Entry
@@ -100,6 +106,7 @@ entryRow =
         standing = (standing-row x) .by-message a (x .standing);
       };
       by-answer = λ b x. x;
+      when-withheld = λ x. x;
       once-closed = blank;
     }
 
@@ -127,6 +134,7 @@ due-entry es i (message-acted a) x = split-entry (eqb i (slotActed es a)) (entry
 due-entry es i (clock-read t) x = refl
 due-entry es i (status-set b) x = refl
 due-entry es i (answer-sent k p end) x = split-entry (eqb i (slotOfNumber es k)) x x
+due-entry es i (answer-withheld k p) x = split-entry (eqb i (slotOfNumber es k)) x x
 
 -- what a look leaves of an entry
 abbrev pub lookedAt : List Waiting → ℕ → Entry → Entry

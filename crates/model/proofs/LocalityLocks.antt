@@ -12,7 +12,7 @@ use Rattle.model.specs.Place.{slotOf}
 use Rattle.model.specs.Locks
 use Rattle.model.specs.Locks.{withLocks, withOrder, tell, refuse, unexpired, elsewhere, isDue, passOver, grantPass, settle}
 use Rattle.model.specs.Step.{lockFrame}
-use Rattle.model.specs.Happening.{Heard, Action, Happening.unmoved, Happening.connected, Happening.disconnected, Happening.skipped-over, Happening.errored, Happening.message-acted, Happening.clock-read, Happening.status-set, Happening.answer-sent}
+use Rattle.model.specs.Happening.{Heard, Action, Happening.unmoved, Happening.connected, Happening.disconnected, Happening.skipped-over, Happening.errored, Happening.message-acted, Happening.clock-read, Happening.status-set, Happening.answer-sent, Happening.answer-withheld}
 use Rattle.model.specs.LocalityRows.{kindOf, slotActed, isCode, isSilence, codeWhere, requestsLeft, looksAfter}
 use Rattle.model.specs.LocalityReplies.{saidTo, answerTo}
 use Rattle.model.specs.Locality.{Look}
@@ -40,6 +40,14 @@ module _ (d : Server) where
 
   pub locks-answer : (n : ℕ) (p : List ℕ) (end : Bool) → LocksPart d (answer-sent n p end) (d .locks) (d .locks .entries) []
   locks-answer n p end =
+      record {
+        clock = refl;
+        rows = record { size = refl; each = λ i l. sym (same-both (eqb i (slotOfNumber (d .locks .entries) n)) (at (d .locks .entries) i) (at (d .locks .entries) i) refl) };
+        look = (refl, refl, refl);
+      }
+
+  pub locks-withheld : (n m : ℕ) → LocksPart d (answer-withheld n m) (d .locks) (d .locks .entries) []
+  locks-withheld n m =
       record {
         clock = refl;
         rows = record { size = refl; each = λ i l. sym (same-both (eqb i (slotOfNumber (d .locks .entries) n)) (at (d .locks .entries) i) (at (d .locks .entries) i) refl) };

@@ -12,7 +12,7 @@ use Rattle.wire.specs.Frame.{Frame, frameOf}
 use Rattle.wire.specs.Class.{one-of}
 use Rattle.model.specs.Sizes.{sessionLimit, beforeFirst}
 use Rattle.model.specs.Lists.{isNil, all, keep, tally}
-use Rattle.model.specs.State.{Server, Rest, Entry, Waiting, Exchange, Kind, Kind.exclusive-lock, Kind.shared-lock, Standing.release-of, Asked, Asked.some, at, blank, exchangeAt, slotOfNumber, withExchange}
+use Rattle.model.specs.State.{Server, Rest, Entry, Waiting, Exchange, Kind, Kind.exclusive-lock, Kind.shared-lock, Standing.release-of, Asked, Asked.none, Asked.some, at, blank, exchangeAt, slotOfNumber, withExchange}
 use Rattle.model.specs.Interface.{Outcome.acted, Reply.took}
 use Rattle.model.specs.Place.{slotOf}
 use Rattle.model.specs.Locks
@@ -23,7 +23,7 @@ use Rattle.model.specs.Acts
 use Rattle.model.specs.Acts.{Plan, holder}
 use Rattle.model.specs.Step.{Result, finish, lockFrame}
 use Rattle.model.specs.Happening.{Heard, Heard.silence, Heard.with-code, Action, Happening.message-acted, heard}
-use Rattle.model.specs.LocalityReplies.{with16, holdsAny, saidTo, direct, answeredFirst, sessionSaid}
+use Rattle.model.specs.LocalityReplies.{with16, holdsAny, saidTo, saidFirst, direct, answeredFirst, sessionSaid}
 use Rattle.model.specs.LocalityRows.{slotActed, isCode, codeWhere, releasedWith, requestsLeft, looksAfter}
 use Rattle.model.specs.Locality.{Local}
 use Rattle.model.proofs.ReadOff.{each-of}
@@ -62,6 +62,18 @@ give-row : (p : List ℕ) (x : Entry) → give p x ≡ Locks.withLocks (cond (is
 give-row [] x = refl
 give-row (y ∷ p) x = refl
 
+-- a command after its test, with what it makes of what is asked: interrupted or not, with RMT-delivered or without
+abbrev afterTest : Bool → Exchange → Exchange
+afterTest b x = Exchange.withExpectation false (cond b (Exchange.interrupted x) x)
+
+test-row : (b k : Bool) (x : Exchange) (f : Asked → Asked)
+    → _≡_ {A = Exchange} (Exchange.withAnswering (f ((afterTest b x) .asked)) (not k && (afterTest b x) .messageAvailable) (afterTest b x))
+    record { inClear = x .inClear; asked = f (cond b none (x .asked)); messageAvailable = cond (b || k) false (x .messageAvailable); clientSize = x .clientSize; overlap = x .overlap; count = x .count; anySent = x .anySent; rmtExpected = false }
+test-row true true x f = refl
+test-row true false x f = refl
+test-row false true x f = refl
+test-row false false x f = refl
+
 module _ (d : Server) (c : ℕ) (h : Header) (p : List ℕ) where
   abbrev pub action : ℕ → ℕ → Heard → Action
   action t n q = record { connection = c; message = record { kind = t; code = h .code; param = h .param; payload = p }; session = n; told = q }
@@ -72,10 +84,10 @@ module _ (d : Server) (c : ℕ) (h : Header) (p : List ℕ) where
   abbrev pub ours : Exchange
   ours = exchangeAt (d .rest) (slotOf d c)
 
-  -- RMT-delivered, whatever is asked then
-  rmt-row : (a : Asked)
-      → _≡_ {A = Exchange} record { inClear = ours .inClear; asked = a; messageAvailable = Exchange.afterRmt (h .code) (ours .messageAvailable); clientSize = ours .clientSize; overlap = ours .overlap; count = ours .count; anySent = ours .anySent } record { inClear = ours .inClear; asked = a; messageAvailable = cond (eqb (h .code) 1) false (ours .messageAvailable); clientSize = ours .clientSize; overlap = ours .overlap; count = ours .count; anySent = ours .anySent }
-  rmt-row a = λ j. record { inClear = ours .inClear; asked = a; messageAvailable = rmt (eqb (h .code) 1) (ours .messageAvailable) j; clientSize = ours .clientSize; overlap = ours .overlap; count = ours .count; anySent = ours .anySent }
+  -- RMT-delivered at a status query
+  rmt-row : _≡_ {A = Exchange} (Exchange.queried (h .code) ours)
+      record { inClear = ours .inClear; asked = ours .asked; messageAvailable = cond (eqb (h .code) 1) false (ours .messageAvailable); clientSize = ours .clientSize; overlap = ours .overlap; count = ours .count; anySent = ours .anySent; rmtExpected = cond (eqb (h .code) 1) false (ours .rmtExpected) }
+  rmt-row = λ j. record { inClear = ours .inClear; asked = ours .asked; messageAvailable = rmt (eqb (h .code) 1) (ours .messageAvailable) j; clientSize = ours .clientSize; overlap = ours .overlap; count = ours .count; anySent = ours .anySent; rmtExpected = rmt (eqb (h .code) 1) (ours .rmtExpected) j }
 
   -- message available at a status query, by the mode
   seen-row : (b : Bool) → Exchange.availableIn b h ours
@@ -92,33 +104,35 @@ module _ (d : Server) (c : ℕ) (h : Header) (p : List ℕ) where
       record {
         reply = took acted (16 + h .len) num;
         rest = withExchange (d .rest) (slotOf d c) (Acts.synchronousExchange (Acts.synchronousKind t) h ours);
+        first = Acts.synchronousFirst (Acts.synchronousKind t) (at (d .locks .entries) (slotOf d c)) ours h;
         said = Acts.synchronousSaid (Acts.synchronousKind t) c h;
         event = Acts.synchronousEvent (Acts.synchronousKind t) (slotOf d c) h;
       }
 
   -- Data, DataEND, Trigger and a device clear: the last number becomes n, and a standing release whose number passes test t ends. Requests
-  -- ws are left, and zs answered first
-  abbrev endingBy : Locks.Due → List Waiting → ℕ → List Answer → Rest → List Frame → Result
-  endingBy u ws n zs rest said =
+  -- ws are left; gs is said first, then zs answered
+  abbrev endingBy : List Frame → Locks.Due → List Waiting → ℕ → List Answer → Rest → List Frame → Result
+  endingBy gs u ws n zs rest said =
       let x = Locks.completed u (Locks.withWaiting (d .locks) ws) (slotOf d c) n in
       let y = settle (isDue u) (x .locks) in
       record {
         server = record { locks = y .locks; rest = rest };
         reply = took acted (16 + h .len) num;
-        frames = map lockFrame (zs ++ x .answers) ++ (said ++ map lockFrame (y .answers));
+        frames = gs ++ (map lockFrame (zs ++ x .answers) ++ (said ++ map lockFrame (y .answers)));
       }
 
-  ending-local : (k : ℕ) (q : Heard) (t : ℕ → Bool) (ws : List Waiting) (n : ℕ) (zs : List Answer) (rest : Rest) (said : List Frame)
+  ending-local : (gs : List Frame) (k : ℕ) (q : Heard) (t : ℕ → Bool) (ws : List Waiting) (n : ℕ) (zs : List Answer) (rest : Rest) (said : List Frame)
       → RestPart d (message-acted (action k num q)) rest
       → ((x : Entry) → entryRow .by-message (action k num q) x ≡ ended t n x)
       → slotOf d c ≡ slotActed (d .locks .entries) (action k num q)
       → releasedWith (at (d .locks .entries) (slotActed (d .locks .entries) (action k num q))) (action k num q) ≡ codeWhere t ((at (d .locks .entries) (slotOf d c)) .standing)
       → requestsLeft (d .locks .entries) (d .locks .clock) (message-acted (action k num q)) (d .locks .waiting) ≡ ws
+      → saidFirst d (message-acted (action k num q)) ≡ gs
       → answeredFirst d (message-acted (action k num q)) ≡ map lockFrame zs ++ saidTo (codeWhere t ((at (d .locks .entries) (slotOf d c)) .standing)) 5 ((at (d .locks .entries) (slotOf d c)) .asynchronous ∷ [])
       → direct d (message-acted (action k num q)) ≡ said
       → ((o : _) (j m : ℕ) → took acted (16 + h .len) num ≡ took o j m → m ≡ sessionSaid d (message-acted (action k num q)) m)
-      → Local d (message-acted (action k num q)) (endingBy (dueBy t ((at (d .locks .entries) (slotOf d c)) .standing)) ws n zs rest said)
-  ending-local k q t ws n zs rest said r row ei er ew ef es ss =
+      → Local d (message-acted (action k num q)) (endingBy gs (dueBy t ((at (d .locks .entries) (slotOf d c)) .standing)) ws n zs rest said)
+  ending-local gs k q t ws n zs rest said r row ei er ew eg ef es ss =
       let l = Locks.withWaiting (d .locks) ws in
       let i = slotOf d c in
       let s = (at (d .locks .entries) i) .standing in
@@ -127,23 +141,27 @@ module _ (d : Server) (c : ℕ) (h : Header) (p : List ℕ) where
       let b = isCode 1 (codeWhere t s) || isCode 2 (codeWhere t s) in
       let eb : looksAfter (d .locks .entries) (message-acted (action k num q)) ≡ b = ap (λ (x : Heard). isCode 1 x || isCode 2 x) er in
       let left : settle (isDue (dueBy t s)) ((Locks.completed (dueBy t s) l i n) .locks) ≡ settle b (Locks.withEntries l y) = ap₂ settle (z .2) (z .0) in
-      assemble d _ (endingBy (dueBy t s) ws n zs rest said) y (grantsBy b ws y) r
+      assemble d _ (endingBy gs (dueBy t s) ws n zs rest said) y (grantsBy b ws y) r
       (rw left (locks-ended d (action k num q) t n ws b row eb ew i ei y refl))
-      (ap₂ _++_ (frames-append zs ((Locks.completed (dueBy t s) l i n) .answers) ∙ ap (λ (fs : List Frame). map lockFrame zs ++ fs) (z .1) ∙ sym ef)
-      (ap₂ _++_ (sym es) (ap (λ (x : Locks.LockResult). map lockFrame (x .answers)) left ∙ settle-frames b (Locks.withEntries l y))))
+      (ap₂ _++_ (sym eg) (ap₂ _++_ (frames-append zs ((Locks.completed (dueBy t s) l i n) .answers) ∙ ap (λ (fs : List Frame). map lockFrame zs ++ fs) (z .1) ∙ sym ef)
+      (ap₂ _++_ (sym es) (ap (λ (x : Locks.LockResult). map lockFrame (x .answers)) left ∙ settle-frames b (Locks.withEntries l y)))))
       ss
 
+  -- what a command that interrupts says first
+  abbrev saysFirst : List Frame
+  saysFirst = cond (Exchange.outOfTurn (h .code) ours) (Acts.interruptions (at (d .locks .entries) (slotOf d c)) (h .param)) []
+
   commands-local : (k : ℕ) (q : Heard) (rest : Rest) → RestPart d (message-acted (action k num q)) rest → one-of (6 ∷ 7 ∷ 12 ∷ []) k ≡ true
-      → Local d (message-acted (action k num q)) (endingBy (Locks.dueAt (h .param) ((at (d .locks .entries) (slotOf d c)) .standing)) (d .locks .waiting) (h .param) [] rest [])
+      → Local d (message-acted (action k num q)) (endingBy saysFirst (Locks.dueAt (h .param) ((at (d .locks .entries) (slotOf d c)) .standing)) (d .locks .waiting) (h .param) [] rest [])
   commands-local k q rest r e =
       rw (due-at (h .param) ((at (d .locks .entries) (slotOf d c)) .standing))
       (each-of
-      (λ k. RestPart d (message-acted (action k num q)) rest → Local d (message-acted (action k num q)) (endingBy (dueBy (λ m. eqb m (h .param)) ((at (d .locks .entries) (slotOf d c)) .standing)) (d .locks .waiting) (h .param) [] rest []))
+      (λ k. RestPart d (message-acted (action k num q)) rest → Local d (message-acted (action k num q)) (endingBy saysFirst (dueBy (λ m. eqb m (h .param)) ((at (d .locks .entries) (slotOf d c)) .standing)) (d .locks .waiting) (h .param) [] rest []))
       (6 ∷ 7 ∷ 12 ∷ []) (
-        (λ r. ending-local 6 q (λ m. eqb m (h .param)) (d .locks .waiting) (h .param) [] rest [] r (λ x. refl) refl refl refl refl refl (λ o j m e. cc)),
+        (λ r. ending-local saysFirst 6 q (λ m. eqb m (h .param)) (d .locks .waiting) (h .param) [] rest [] r (λ x. refl) refl refl refl refl refl refl (λ o j m e. cc)),
         (
-          (λ r. ending-local 7 q (λ m. eqb m (h .param)) (d .locks .waiting) (h .param) [] rest [] r (λ x. refl) refl refl refl refl refl (λ o j m e. cc)),
-          ((λ r. ending-local 12 q (λ m. eqb m (h .param)) (d .locks .waiting) (h .param) [] rest [] r (λ x. refl) refl refl refl refl refl (λ o j m e. cc)), tt),
+          (λ r. ending-local saysFirst 7 q (λ m. eqb m (h .param)) (d .locks .waiting) (h .param) [] rest [] r (λ x. refl) refl refl refl refl refl refl (λ o j m e. cc)),
+          ((λ r. ending-local saysFirst 12 q (λ m. eqb m (h .param)) (d .locks .waiting) (h .param) [] rest [] r (λ x. refl) refl refl refl refl refl refl (λ o j m e. cc)), tt),
         ),
       )
       k
@@ -152,15 +170,15 @@ module _ (d : Server) (c : ℕ) (h : Header) (p : List ℕ) where
 
   local-6 : LocalBy 6 num (synchronously 6)
   unfolding finish change Acts.synchronousExchange Acts.synchronousSaid
-  local-6 = commands-local 6 _ _ (rest-touched d (action 6 num _) refl refl refl (Acts.synchronousExchange (Acts.synchronousKind 6) h ours) (rmt-row (ours .asked))) refl
+  local-6 = commands-local 6 _ _ (rest-touched d (action 6 num _) refl refl refl (Acts.synchronousExchange (Acts.synchronousKind 6) h ours) (test-row (Exchange.outOfTurn (h .code) ours) (eqb (h .code) 1) ours (λ a. a))) refl
 
   local-7 : LocalBy 7 num (synchronously 7)
   unfolding finish change Acts.synchronousExchange Acts.synchronousSaid
-  local-7 = commands-local 7 _ _ (rest-touched d (action 7 num _) refl refl refl (Acts.synchronousExchange (Acts.synchronousKind 7) h ours) (rmt-row (some (h .param)))) refl
+  local-7 = commands-local 7 _ _ (rest-touched d (action 7 num _) refl refl refl (Acts.synchronousExchange (Acts.synchronousKind 7) h ours) (test-row (Exchange.outOfTurn (h .code) ours) (eqb (h .code) 1) ours (λ a. some (h .param)))) refl
 
   local-12 : LocalBy 12 num (synchronously 12)
   unfolding finish change Acts.synchronousExchange Acts.synchronousSaid
-  local-12 = commands-local 12 _ _ (rest-touched d (action 12 num _) refl refl refl (Acts.synchronousExchange (Acts.synchronousKind 12) h ours) (rmt-row (some (h .param)))) refl
+  local-12 = commands-local 12 _ _ (rest-touched d (action 12 num _) refl refl refl (Acts.synchronousExchange (Acts.synchronousKind 12) h ours) (test-row (Exchange.outOfTurn (h .code) ours) (eqb (h .code) 1) ours (λ a. some (h .param)))) refl
 
   local-8 : LocalBy 8 num (synchronously 8)
   unfolding finish change Acts.synchronousExchange Acts.synchronousSaid
@@ -180,6 +198,7 @@ module _ (d : Server) (c : ℕ) (h : Header) (p : List ℕ) where
       record {
         reply = took acted (16 + h .len) num;
         rest = Acts.asynchronousRest (Acts.asynchronousKind t) (d .rest) (slotOf d c) h p;
+        first = [];
         said = Acts.asynchronousSaid (Acts.asynchronousKind t) d (slotOf d c) c h;
         event = Acts.asynchronousEvent (Acts.asynchronousKind t) (slotOf d c) h p;
       }
@@ -207,9 +226,10 @@ module _ (d : Server) (c : ℕ) (h : Header) (p : List ℕ) where
   local-19 =
       let i = slotOf d c in
       rw (due-any ((at (d .locks .entries) (slotOf d c)) .standing))
-      (ending-local 19 _ (λ m. true) (keep (Locks.elsewhere i) (d .locks .waiting)) beforeFirst (Locks.refuse (d .locks .entries) (Locks.elsewhere i) (d .locks .waiting)) _ (frameOf c 23 (Acts.preference d) 0 [] ∷ [])
+      (ending-local [] 19 _ (λ m. true) (keep (Locks.elsewhere i) (d .locks .waiting)) beforeFirst (Locks.refuse (d .locks .entries) (Locks.elsewhere i) (d .locks .waiting)) _ (frameOf c 23 (Acts.preference d) 0 [] ∷ [])
       (rest-touched d (action 19 num _) refl refl refl (Exchange.enterClear ours) refl)
       (λ x. refl)
+      refl
       refl
       refl
       refl
@@ -221,7 +241,7 @@ module _ (d : Server) (c : ℕ) (h : Header) (p : List ℕ) where
   unfolding finish change Acts.asynchronousRest Acts.asynchronousSaid Acts.asynchronousEvent availableAt
   local-21 =
       assemble d _ (finish d (asynchronously 21)) (d .locks .entries) []
-      (rest-touched d (action 21 num _) refl refl refl (Exchange.noteRmt (h .code) ours) (rmt-row (ours .asked)))
+      (rest-touched d (action 21 num _) refl refl refl (Exchange.queried (h .code) ours) rmt-row)
       (locks-kept d (action 21 num _) refl refl refl refl refl refl refl)
       (ap (λ b. frameOf c 22 b 0 [] ∷ []) (ap (statusByte (d .rest .status)) (seen-row (ours .overlap)) ∙ status-same (d .rest .status) (cond (ours .overlap) (ours .anySent && not (eqb ((h .param + 2) % 2 ^ 32) (ours .count))) (cond (eqb (h .code) 1) false (ours .messageAvailable)))))
       (λ o k n e. cc)
@@ -356,7 +376,7 @@ module _ (d : Server) (c : ℕ) (h : Header) (p : List ℕ) where
     local-4 = go (eqb (h .code) 0) refl
       where
         by : Bool → Plan
-        by b = record { reply = took acted (16 + h .len) num; rest = d .rest; said = []; event = Acts.lockEvent b (slotOf d c) h p }
+        by b = record { reply = took acted (16 + h .len) num; rest = d .rest; first = []; said = []; event = Acts.lockEvent b (slotOf d c) h p }
 
         go : (b : Bool) → eqb (h .code) 0 ≡ b → LocalBy 4 num (by b)
         go true q = released-by q (Locks.stands ((at es (slotOf d c)) .standing)) ((at es (slotOf d c)) .exclusive) (noShared (at es (slotOf d c))) (eqb ((at es (slotOf d c)) .last) (h .param)) refl

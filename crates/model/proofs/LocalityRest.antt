@@ -17,7 +17,7 @@ use Rattle.model.specs.Scan.{Scan, Scan.skipping, Scan.part, sorted, fre
 use Rattle.model.specs.Exchange
 use Rattle.model.specs.Exchange.{controlled}
 use Rattle.model.specs.Step.{channels, shutAll, closing}
-use Rattle.model.specs.Happening.{Heard, Action, Happening, Happening.unmoved, Happening.connected, Happening.disconnected, Happening.skipped-over, Happening.errored, Happening.message-acted, Happening.clock-read, Happening.status-set, Happening.answer-sent}
+use Rattle.model.specs.Happening.{Heard, Action, Happening, Happening.unmoved, Happening.connected, Happening.disconnected, Happening.skipped-over, Happening.errored, Happening.message-acted, Happening.clock-read, Happening.status-set, Happening.answer-sent, Happening.answer-withheld}
 use Rattle.model.specs.LocalityRows.{kindOf, concerns, connectionsOf, Single, singly, status-row, made-row, issued-row, enable-row, lockout-row, remote-row}
 use Rattle.model.proofs.Basics.{or→, or-of, or-r}
 use Rattle.model.proofs.Place.{place-sound}
@@ -35,6 +35,7 @@ Still (message-acted a) = ⊥
 Still (clock-read t) = ⊥
 Still (status-set b) = ⊥
 Still (answer-sent n p end) = Unit {0}
+Still (answer-withheld n m) = Unit {0}
 
 as-it-was : {A : Type 0} (r : Single A) (h : Happening) (x : A) → Still h → x ≡ singly r h x
 as-it-was r unmoved x s = refl
@@ -46,6 +47,7 @@ as-it-was r (message-acted a) x s = absurd s
 as-it-was r (clock-read t) x s = absurd s
 as-it-was r (status-set b) x s = absurd s
 as-it-was r (answer-sent n p end) x s = refl
+as-it-was r (answer-withheld n m) x s = refl
 
 singles-still : (d : Server) (h : Happening) → Still h → Singles d h (d .rest .status) (d .rest .made) (d .rest .lastIssued) (d .rest .remoteLocal)
 singles-still d h s =
@@ -97,6 +99,16 @@ rest-answer d n p end =
             size = length-set (d .rest .exchanges) i _;
             each = λ j l. touch (d .rest .exchanges) i ((exchangeRow (d .rest .made .prefersOverlap)) .by-answer end) _ freshExchange j l (answered-row (d .rest .made .prefersOverlap) end (exchangeAt (d .rest) i));
           };
+      connections = record { size = refl; each = λ x l. refl };
+    }
+
+-- 02, Q-5: one that is withheld
+pub rest-withheld : (d : Server) (n m : ℕ) → RestPart d (answer-withheld n m) (withExchange (d .rest) (slotOfNumber (d .locks .entries) n) (Exchange.interrupted (exchangeAt (d .rest) (slotOfNumber (d .locks .entries) n))))
+rest-withheld d n m =
+    let i = slotOfNumber (d .locks .entries) n in
+    record {
+      singles = singles-still d (answer-withheld n m) tt;
+      exchanges = record { size = length-set (d .rest .exchanges) i _; each = λ j l. touch (d .rest .exchanges) i ((exchangeRow (d .rest .made .prefersOverlap)) .when-withheld) _ freshExchange j l refl };
       connections = record { size = refl; each = λ x l. refl };
     }
 

@@ -14,7 +14,7 @@ use Rattle.wire.specs.declared.Header.{Header}
 use Rattle.wire.specs.Message.{header, prologue}
 use Rattle.model.specs.Sizes.{payloadLimit}
 use Rattle.model.specs.State.{Server, connectionAt}
-use Rattle.model.specs.Interface.{Event.delivery, Outcome.more-needed, Outcome.skipped, Outcome.held, Outcome.ignored, Outcome.error-sent, Outcome.closed, Outcome.acted, Reply, Reply.refused, Reply.done, Reply.took}
+use Rattle.model.specs.Interface.{Event.delivery, Outcome.more-needed, Outcome.skipped, Outcome.held, Outcome.ignored, Outcome.error-sent, Outcome.closed, Outcome.acted, Reply, Reply.refused, Reply.done, Reply.withheld, Reply.took}
 use Rattle.model.specs.Scan.{Scan, Scan.empty, Scan.few, Scan.wrong, Scan.skipping, Scan.long, Scan.part, Scan.whole, sorted, freshScan, scan}
 use Rattle.model.specs.Place.{slotOf, roleOf, Role, Role.r-none, Role.r-halfOpen, Role.r-synchronous, Role.r-asynchronous}
 use Rattle.model.specs.Checks.{Verdict, Verdict.v-more, Verdict.v-skipped, Verdict.v-held, Verdict.v-ignored, Verdict.v-closed, Verdict.v-acts, Verdict.v-error, Verdict.v-fatal, verdict, judged, either}
@@ -128,6 +128,7 @@ header-more bs xs l = sym (header-take (length bs) (bs ++ xs) l) ∙ ap header (
 not-more : (y : Reply) (k : ℕ) → ((x n : ℕ) → y ≡ took more-needed x n → ⊥) → ifMore y k ≡ 0
 not-more (refused n) k f = refl
 not-more done k f = refl
+not-more withheld k f = refl
 not-more (took more-needed x n) k f = absurd (f x n refl)
 not-more (took skipped x n) k f = refl
 not-more (took held x n) k f = refl

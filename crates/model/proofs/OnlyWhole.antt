@@ -246,7 +246,7 @@ called d owed e t p o = let r = go (refusal d e) e refl p o in record { shows = 
     go zero (delivery c bs room) z p o = let r = call-delivered d owed c bs room t p z o in (r .shows, r .tracks)
     go zero (cut c room) z p o = (tt, tracks-closing d c owed owed t (λ j. refl))
     go zero (clock k room) z p o = (tt, t)
-    go zero (answer n x end room) z p o = (tt, t)
+    go zero (answer n x end sh room) z p o = (tt, t)
     go zero (status k) z p o = (tt, t)
 
 -- the whole list

@@ -1,24 +1,25 @@
 -- A call is refused for its cause only, and a refusal changes nothing. A delivery that is not refused is answered with an outcome.
 use mathlib.Core.Path.{_≡_, refl, sym, ap, subst, _∙_}
-use mathlib.Core.Bool.{Bool, true, false}
+use mathlib.Core.Bool.{Bool, true, false, cond}
 use mathlib.Core.Logic.{_↔_}
 use mathlib.Core.List.{List, []}
 use Prim.Native.Nat.{ℕ, zero, suc}
 use lib.Dec.{eqb}
 use Rattle.wire.specs.declared.Header.{Header}
 use Rattle.model.specs.State.{Server, connectionAt}
-use Rattle.model.specs.Interface.{Event, Event.opening, Event.delivery, Event.cut, Event.clock, Event.answer, Event.status, Reply, Reply.refused, Reply.done, Reply.took}
+use Rattle.model.specs.Interface.{Event, Event.opening, Event.delivery, Event.cut, Event.clock, Event.answer, Event.status, Reply, Reply.refused, Reply.done, Reply.withheld, Reply.took}
 use Rattle.model.specs.Scan.{Scan, Scan.empty, Scan.few, Scan.wrong, Scan.skipping, Scan.long, Scan.part, Scan.whole, scan}
 use Rattle.model.specs.Place.{Role, Role.r-none, Role.r-halfOpen, Role.r-synchronous, Role.r-asynchronous, roleOf, slotOf}
 use Rattle.model.specs.Checks.{Verdict, Verdict.v-more, Verdict.v-skipped, Verdict.v-held, Verdict.v-ignored, Verdict.v-closed, Verdict.v-acts, Verdict.v-error, Verdict.v-fatal, verdict}
 use Rattle.model.specs.Acts.{acts, opens}
 use Rattle.model.specs.Refusals.{refusal}
-use Rattle.model.specs.Step.{Result, answered, effect, finish, plan, received, step}
+use Rattle.model.specs.Step.{Result, withholds, answered, effect, finish, plan, received, step}
 
 -- a delivery that is not refused is answered with an outcome
 abbrev pub Took : Reply → Type 0
 Took (refused n) = ⊥
 Took done = ⊥
+Took withheld = ⊥
 Took (took o k n) = Unit {0}
 
 opens-took : (b : Bool) (d : Server) (c : ℕ) (h : Header) → Took ((opens b d c h) .reply)
@@ -53,11 +54,13 @@ effect-took v-acts (whole h p) r d i c = acts-took r d i c h p
 abbrev NotRefused : Reply → Type 0
 NotRefused (refused n) = ⊥
 NotRefused done = Unit {0}
+NotRefused withheld = Unit {0}
 NotRefused (took o k n) = Unit {0}
 
 took-not : (y : Reply) → Took y → NotRefused y
 took-not (refused n) t = t
 took-not done t = tt
+took-not withheld t = tt
 took-not (took o k n) t = tt
 
 plan-not : (d : Server) (e : Event) → NotRefused ((plan d e) .reply)
@@ -70,12 +73,17 @@ plan-not d (delivery c bs room) =
     took-not ((effect (verdict r d i s) s r d i c) .reply) (effect-took (verdict r d i s) s r d i c)
 plan-not d (cut c room) = tt
 plan-not d (clock t room) = tt
-plan-not d (answer n p end room) = tt
+plan-not d (answer n p end sh room) = go (withholds d n end sh)
+  where
+    go : (w : Bool) → NotRefused (cond w withheld done)
+    go true = tt
+    go false = tt
 plan-not d (status b) = tt
 
 abbrev numberIn : Reply → ℕ
 numberIn (refused n) = n
 numberIn done = 0
+numberIn withheld = 0
 numberIn (took o k n) = 0
 
 module _ (d : Server) (e : Event) where

@@ -2,7 +2,7 @@
 use Rattle.wire.specs.MessageId.{next}
 use mathlib.Core.Path.{_≡_, refl, sym, ap, ap₂, _∙_}
 use mathlib.Core.Bool.{Bool, true, false, not, _&&_, _||_, cond, true≢false}
-use mathlib.Core.List.{List, [], _∷_, _++_, map, append-assoc}
+use mathlib.Core.List.{List, [], _∷_, _++_, map, append-assoc, append-nil}
 use mathlib.Core.Logic.{_⊎_, inl, inr}
 use Prim.Native.Nat.{ℕ, _+_}
 use native.Mathlib.Omega.{arith}
@@ -29,7 +29,7 @@ use Rattle.model.specs.LockModel
 use Rattle.model.specs.LockModel.{Model, ModelResult, endsExclusive, endsShared, secondConnection}
 use Rattle.model.specs.Agreement.{Agrees, asPending, toldFrame}
 use Rattle.model.specs.Deciding.{lockAnswer, modelAfter, endedCodes, grantsAfter}
-use Rattle.model.specs.Sending.{availableTold, Sends, Sending}
+use Rattle.model.specs.Sending.{availableTold, interruptedTold, Sends, Sending}
 use Rattle.model.proofs.Basics.{and-l, and-r, not-off, not-not}
 use Rattle.model.proofs.Invariant.{Inv, Good}
 use Rattle.model.proofs.Events.{Fit, change-sound, always-settled}
@@ -150,15 +150,19 @@ module _ (d : Server) (m : Model) (a : Agrees (d .locks) m) (v : Inv (d .locks))
       let ev = Locks.command (slotOf d c) ((header bs) .param) in
       map lockFrame ((change (d .locks) ev) .answers) ++ map lockFrame ((settle (frees (d .locks) ev) ((change (d .locks) ev) .locks)) .answers)
 
-  commanded-is : (k n : ℕ) → R .reply ≡ took acted k n → one-of commands ((header bs) .kind) ≡ true → (R .frames ≡ commanded) × (roleOf (d .locks .entries) c ≡ r-synchronous)
+  -- what an interruption says first
+  abbrev paired : List Frame
+  paired = interruptedTold (header bs) (entryOf d c) (exchangeAt (d .rest) (slotOf d c))
+
+  commanded-is : (k n : ℕ) → R .reply ≡ took acted k n → one-of commands ((header bs) .kind) ≡ true → (R .frames ≡ paired ++ commanded) × (roleOf (d .locks .entries) c ≡ r-synchronous)
   unfolding finish Acts.acts Acts.synchronousSaid classOf
   commanded-is k n e o =
-      each-of (λ t. (header bs) .kind ≡ t → (R .frames ≡ commanded) × (roleOf (d .locks .entries) c ≡ r-synchronous)) commands
+      each-of (λ t. (header bs) .kind ≡ t → (R .frames ≡ paired ++ commanded) × (roleOf (d .locks .entries) c ≡ r-synchronous)) commands
       ((λ q. (on-sync 6 k n e q (refl, refl), sync-role 6 k n e q (refl, refl))) also (λ q. (on-sync 7 k n e q (refl, refl), sync-role 7 k n e q (refl, refl))) also (λ q. (on-sync 12 k n e q (refl, refl), sync-role 12 k n e q (refl, refl))) also tt)
       ((header bs) .kind) o refl
 
   command : (k n : ℕ) → R .reply ≡ took acted k n → one-of commands ((header bs) .kind) ≡ true
-      → R .frames ≡ map (lockAnswer (secondConnection n (m .sessions))) (endedCodes m n (λ p. eqb p ((header bs) .param))) ++ map toldFrame (grantsAfter (LockModel.message m n ((header bs) .param)))
+      → R .frames ≡ paired ++ (map (lockAnswer (secondConnection n (m .sessions))) (endedCodes m n (λ p. eqb p ((header bs) .param))) ++ map toldFrame (grantsAfter (LockModel.message m n ((header bs) .param))))
   unfolding change
   command k n e o =
       let i = slotOf d c in
@@ -169,11 +173,12 @@ module _ (d : Server) (m : Model) (a : Agrees (d .locks) m) (v : Inv (d .locks))
       let n-is : (entryOf d c) .number ≡ n = by-session r-synchronous k n e (w .1) (inl refl) in
       let second = channel-seen (m .sessions) es (a .sessions) (v .sound .firm) i u in
       w .0
-      ∙ ap₂ _++_
+      ∙ ap (λ (fs : List Frame). paired ++ fs)
+      (ap₂ _++_
       (ap (λ x. map lockFrame ((Locks.completed x (d .locks) i p) .answers)) (due-at p ((at es i) .standing)) ∙ ended-frames i u (λ q. eqb q p) p (d .locks .waiting)
       ∙ ap (λ y. map (lockAnswer y) (endedCodes m ((at es i) .number) (λ q. eqb q p))) (sym second))
       (granted-frames i u (Locks.command i p) (LockModel.message m ((at es i) .number) p) u (sim-command (d .locks) m a (v .sound .good) (v .sound .firm) i u p))
-      ∙ ap (λ x. map (lockAnswer (secondConnection x (m .sessions))) (endedCodes m x (λ q. eqb q p)) ++ map toldFrame (grantsAfter (LockModel.message m x p))) n-is
+      ∙ ap (λ x. map (lockAnswer (secondConnection x (m .sessions))) (endedCodes m x (λ q. eqb q p)) ++ map toldFrame (grantsAfter (LockModel.message m x p))) n-is)
 
   some : List Frame → Bool
   some [] = false
@@ -185,7 +190,7 @@ module _ (d : Server) (m : Model) (a : Agrees (d .locks) m) (v : Inv (d .locks))
   quiet Locks.not-due i p q = refl
   quiet (Locks.due-now x) i p q = absurd (true≢false (ap some q))
 
-  alone : (k n : ℕ) → R .reply ≡ took acted k n → one-of commands ((header bs) .kind) ≡ true → endedCodes m n (λ p. eqb p ((header bs) .param)) ≡ [] → R .frames ≡ []
+  alone : (k n : ℕ) → R .reply ≡ took acted k n → one-of commands ((header bs) .kind) ≡ true → endedCodes m n (λ p. eqb p ((header bs) .param)) ≡ [] → R .frames ≡ paired
   unfolding change
   alone k n e o z =
       let i = slotOf d c in
@@ -194,9 +199,11 @@ module _ (d : Server) (m : Model) (a : Agrees (d .locks) m) (v : Inv (d .locks))
       let w = commanded-is k n e o in
       let n-is : (entryOf d c) .number ≡ n = by-session r-synchronous k n e (w .1) (inl refl) in
       w .0
-      ∙ quiet (Locks.dueAt p ((at es i) .standing)) i p
+      ∙ ap (λ (fs : List Frame). paired ++ fs)
+      (quiet (Locks.dueAt p ((at es i) .standing)) i p
       (ap (λ x. map lockFrame ((Locks.completed x (d .locks) i p) .answers)) (due-at p ((at es i) .standing)) ∙ ended-frames i (sync-live es c (w .1)) (λ q. eqb q p) p (d .locks .waiting)
-      ∙ ap (map (lockAnswer ((at es i) .asynchronous))) (ap (λ x. endedCodes m x (λ q. eqb q p)) n-is ∙ z))
+      ∙ ap (map (lockAnswer ((at es i) .asynchronous))) (ap (λ x. endedCodes m x (λ q. eqb q p)) n-is ∙ z)))
+      ∙ append-nil paired
 
   -- a device clear
   cleared : (k n : ℕ) → R .reply ≡ took acted k n → (header bs) .kind ≡ AsyncDeviceClear

@@ -1,19 +1,19 @@
 -- Every frame that is sent fits: connections, what is asked, the vendor number and the status byte stay in range from call to call.
 use mathlib.Core.Path.{_≡_, refl, ap}
-use mathlib.Core.Bool.{Bool, true, false, _&&_, _||_, cond}
+use mathlib.Core.Bool.{Bool, true, false, not, _&&_, _||_, cond}
 use mathlib.Core.List.{List, [], _∷_, _++_, map}
 use Prim.Native.Nat.{ℕ, zero, suc, _+_, _*_, _/_, _^_, _≤_, _<_, min}
 use native.Mathlib.Omega.{arith}
 use lib.Dec.{eqb, leb, ltb, lit<}
-use lib.ListN.{getD, length, take, length-take}
-use borrow.Author.Tests.{ltb-true, ltb-false, lt-ltb, leb-false}
+use lib.ListN.{getD, length, take, drop, length-take, length-drop}
+use borrow.Author.Tests.{ltb-true, ltb-false, lt-ltb, leb-true, leb-false}
 use Rattle.wire.specs.declared.Header.{Header}
-use Rattle.wire.specs.Field.{Bytes, length-field}
-use Rattle.wire.specs.Message.{Fits}
+use Rattle.wire.specs.Field.{Bytes, length-field, number-bound}
+use Rattle.wire.specs.Message.{Fits, header}
 use Rattle.wire.specs.RoundTrip.{decoded-fits}
 use Rattle.wire.specs.Frame.{Frame, frameOf}
 use Rattle.wire.specs.ReadFrames.{FrameFits, AllFit}
-use Rattle.wire.proofs.Bytes.{take-bytes, bytes-field}
+use Rattle.wire.proofs.Bytes.{take-bytes, drop-bytes, bytes-field}
 use Rattle.model.specs.Sizes.{connectionLimit, payloadLimit, sessionLimit, lastSessionId, protocolVersion, noConnection}
 use Rattle.model.specs.MessageTypes.{FatalError}
 use Rattle.model.specs.Lists.{all, tally}
@@ -29,7 +29,7 @@ use Rattle.model.specs.Exchange.{answeredWith, answerNumber, answerNumbe
 use Rattle.model.specs.Checks.{Verdict, Verdict.v-more, Verdict.v-skipped, Verdict.v-held, Verdict.v-ignored, Verdict.v-closed, Verdict.v-acts, Verdict.v-error, Verdict.v-fatal, verdict}
 use Rattle.model.specs.Acts
 use Rattle.model.specs.Refusals.{causes, refusal}
-use Rattle.model.specs.Step.{effect, received, plan, answered, finish, step, log, lockFrame, closing, answerType}
+use Rattle.model.specs.Step.{effect, received, plan, answered, finish, step, log, lockFrame, closing, answerType, withholds}
 use Rattle.model.specs.Reader.{messageWith}
 use Rattle.model.specs.Possible.{Possible, AllPossible}
 use Rattle.model.specs.SentFits.{LinesFit, SentFits}
@@ -135,11 +135,34 @@ asked-number : (a : Asked) → askedFits a ≡ true → numberAsked a < 2 ^ 32
 asked-number none e = lit< tt
 asked-number (some n) e = ltb-true n (2 ^ 32) e
 
--- a call's plan: what it says fits, the rest stays in range, its lock event brings a byte
+-- a call's plan: what it says first and then fits, the rest stays in range, its lock event brings a byte
 record PlanFits (p : Acts.Plan) : Type 0 where
+  first : AllFit (p .first)
   said : AllFit (p .said)
   rest : RestFits (p .rest)
   brings : Brings (p .event)
+
+-- AsyncInterrupted and Interrupted
+pair-fits : (e : Entry) (n : ℕ) → reachable e ≡ true → n < 2 ^ 32 → AllFit (Acts.interruptions e n)
+pair-fits e n h l = (
+  plain (e .asynchronous) 14 0 n (ltb-true _ _ (and-r (ltb (e .synchronous) 256) _ h)) (lit< tt) (lit< tt) l,
+  (plain (e .synchronous) 13 0 n (ltb-true _ _ (and-l (ltb (e .synchronous) 256) _ h)) (lit< tt) (lit< tt) l, tt),
+)
+
+turn-fits : (w : Bool) (e : Entry) (n : ℕ) → reachable e ≡ true → n < 2 ^ 32 → AllFit (cond w (Acts.interruptions e n) [])
+turn-fits true e n h l = pair-fits e n h l
+turn-fits false e n h l = tt
+
+sync-first : (k : Acts.SynchronousKind) (e : Entry) (x : Exchange) (h : Header) → reachable e ≡ true → h .param < 2 ^ 32 → AllFit (Acts.synchronousFirst k e x h)
+sync-first Acts.k-data e x h q l = turn-fits (Exchange.outOfTurn (h .code) x) e (h .param) q l
+sync-first Acts.k-dataEnd e x h q l = turn-fits (Exchange.outOfTurn (h .code) x) e (h .param) q l
+sync-first Acts.k-trigger e x h q l = turn-fits (Exchange.outOfTurn (h .code) x) e (h .param) q l
+sync-first Acts.k-clearComplete e x h q l = tt
+
+-- a command after its test
+tested-fits : (w : Bool) (x : Exchange) → exchangeFits x ≡ true → exchangeFits (Exchange.withExpectation false (cond w (Exchange.interrupted x) x)) ≡ true
+tested-fits true x e = both _ _ (and-l (ltb (x .count) (2 ^ 32)) _ e) refl
+tested-fits false x e = e
 
 preference-fits : (d : Server) → Acts.preference d < 256
 preference-fits d = go (d .rest .made .prefersOverlap)
@@ -162,11 +185,12 @@ module _ (d : Server) (g : InRange d) (c : ℕ) (small : c < 256) where
   opens-fit true h =
       let n = issued-small sessionLimit 0 (d .locks .entries) (d .rest .lastIssued) in
       record {
+        first = tt;
         said = one 1 (Acts.preference d) (min (h .param / 65536) protocolVersion * 65536 + issued sessionLimit 0 (d .locks .entries) (d .rest .lastIssued)) (lit< tt) (preference-fits d) (omega arith);
         rest = record { asked = all-set exchangeFits (d .rest .exchanges) _ (openExchange (d .rest .made .prefersOverlap)) refl (g .rest .asked); vendor = g .rest .vendor; status = g .rest .status };
         brings = small;
       }
-  opens-fit false h = record { said = one 18 0 (d .rest .made .vendor) (lit< tt) (lit< tt) (let v = g .rest .vendor in omega arith); rest = g .rest; brings = small }
+  opens-fit false h = record { first = tt; said = one 18 0 (d .rest .made .vendor) (lit< tt) (lit< tt) (let v = g .rest .vendor in omega arith); rest = g .rest; brings = small }
 
   sync-said : (k : Acts.SynchronousKind) (h : Header) → AllFit (Acts.synchronousSaid k c h)
   unfolding Acts.synchronousSaid
@@ -177,9 +201,9 @@ module _ (d : Server) (g : InRange d) (c : ℕ) (small : c < 256) where
 
   sync-exchange : (k : Acts.SynchronousKind) (h : Header) (x : Exchange) → h .param < 2 ^ 32 → exchangeFits x ≡ true → exchangeFits (Acts.synchronousExchange k h x) ≡ true
   unfolding Acts.synchronousExchange
-  sync-exchange Acts.k-data h x l e = e
-  sync-exchange Acts.k-dataEnd h x l e = both _ _ (and-l (ltb (x .count) (2 ^ 32)) _ e) (lt-ltb (h .param) (2 ^ 32) l)
-  sync-exchange Acts.k-trigger h x l e = both _ _ (and-l (ltb (x .count) (2 ^ 32)) _ e) (lt-ltb (h .param) (2 ^ 32) l)
+  sync-exchange Acts.k-data h x l e = tested-fits (Exchange.outOfTurn (h .code) x) x e
+  sync-exchange Acts.k-dataEnd h x l e = both _ _ (and-l (ltb ((Exchange.tested (h .code) x) .count) (2 ^ 32)) _ (tested-fits (Exchange.outOfTurn (h .code) x) x e)) (lt-ltb (h .param) (2 ^ 32) l)
+  sync-exchange Acts.k-trigger h x l e = both _ _ (and-l (ltb ((Exchange.tested (h .code) x) .count) (2 ^ 32)) _ (tested-fits (Exchange.outOfTurn (h .code) x) x e)) (lt-ltb (h .param) (2 ^ 32) l)
   sync-exchange Acts.k-clearComplete h x l e = e
 
   async-said : (k : Acts.AsynchronousKind) (i : ℕ) (h : Header) → AllFit (Acts.asynchronousSaid k d i c h)
@@ -226,13 +250,13 @@ module _ (d : Server) (g : InRange d) (c : ℕ) (small : c < 256) where
   acts-fit : (r : Role) (i : ℕ) (h : Header) (p : List ℕ) → h .param < 2 ^ 32 → PlanFits (Acts.acts r d i c h p)
   unfolding Acts.acts
   acts-fit r-none i h p l = opens-fit (eqb (h .kind) 0) h
-  acts-fit r-halfOpen i h p l = record { said = tt; rest = g .rest; brings = tt }
+  acts-fit r-halfOpen i h p l = record { first = tt; said = tt; rest = g .rest; brings = tt }
   acts-fit r-synchronous i h p l =
       let k = Acts.synchronousKind (h .kind) in
-      record { said = sync-said k h; rest = with-exchange i _ (sync-exchange k h (exchangeAt (d .rest) i) l (own-exchange i)); brings = sync-brings k i h }
+      record { first = sync-first k (at (d .locks .entries) i) (exchangeAt (d .rest) i) h (all-at reachable (d .locks .entries) i refl (g .entries)) l; said = sync-said k h; rest = with-exchange i _ (sync-exchange k h (exchangeAt (d .rest) i) l (own-exchange i)); brings = sync-brings k i h }
   acts-fit r-asynchronous i h p l =
       let k = Acts.asynchronousKind (h .kind) in
-      record { said = async-said k i h; rest = async-rest k i h p; brings = async-brings k i h p }
+      record { first = tt; said = async-said k i h; rest = async-rest k i h p; brings = async-brings k i h p }
 
   -- a FatalError goes to the connections of the session
   fatal-fits : (n : ℕ) (a b : Bool) (e : Entry) → n < 256 → reachable e ≡ true
@@ -249,22 +273,22 @@ module _ (d : Server) (g : InRange d) (c : ℕ) (small : c < 256) where
 
   effect-fits : (v : Verdict) (s : Scan) (r : Role) (i : ℕ) → coded v ≡ true → Parameter s → PlanFits (effect v s r d i c)
   unfolding effect
-  effect-fits v-more s r i e q = record { said = tt; rest = g .rest; brings = tt }
-  effect-fits v-held s r i e q = record { said = tt; rest = g .rest; brings = tt }
-  effect-fits v-skipped s r i e q = record { said = tt; rest = record { asked = g .rest .asked; vendor = g .rest .vendor; status = g .rest .status }; brings = tt }
-  effect-fits v-ignored s r i e q = record { said = tt; rest = g .rest; brings = tt }
+  effect-fits v-more s r i e q = record { first = tt; said = tt; rest = g .rest; brings = tt }
+  effect-fits v-held s r i e q = record { first = tt; said = tt; rest = g .rest; brings = tt }
+  effect-fits v-skipped s r i e q = record { first = tt; said = tt; rest = record { asked = g .rest .asked; vendor = g .rest .vendor; status = g .rest .status }; brings = tt }
+  effect-fits v-ignored s r i e q = record { first = tt; said = tt; rest = g .rest; brings = tt }
   effect-fits (v-error n) s r i e q =
-      record { said = one 3 n 0 (lit< tt) (let l = ltb-true n 5 e in omega arith) (lit< tt); rest = record { asked = g .rest .asked; vendor = g .rest .vendor; status = g .rest .status }; brings = tt }
+      record { first = tt; said = one 3 n 0 (lit< tt) (let l = ltb-true n 5 e in omega arith) (lit< tt); rest = record { asked = g .rest .asked; vendor = g .rest .vendor; status = g .rest .status }; brings = tt }
   effect-fits (v-fatal n) s r i e q =
       let x = entryOf d c in
-      record { said = fatal-fits n (live x) (eqb (x .asynchronous) noConnection) x (let l = ltb-true n 5 e in omega arith) (all-at reachable (d .locks .entries) (slotOf d c) refl (g .entries)); rest = closing-fits; brings = tt }
-  effect-fits v-closed s r i e q = record { said = tt; rest = closing-fits; brings = tt }
-  effect-fits v-acts empty r i e q = record { said = tt; rest = g .rest; brings = tt }
-  effect-fits v-acts few r i e q = record { said = tt; rest = g .rest; brings = tt }
-  effect-fits v-acts wrong r i e q = record { said = tt; rest = g .rest; brings = tt }
-  effect-fits v-acts (skipping k) r i e q = record { said = tt; rest = g .rest; brings = tt }
-  effect-fits v-acts (long h) r i e q = record { said = tt; rest = g .rest; brings = tt }
-  effect-fits v-acts (part h) r i e q = record { said = tt; rest = g .rest; brings = tt }
+      record { first = tt; said = fatal-fits n (live x) (eqb (x .asynchronous) noConnection) x (let l = ltb-true n 5 e in omega arith) (all-at reachable (d .locks .entries) (slotOf d c) refl (g .entries)); rest = closing-fits; brings = tt }
+  effect-fits v-closed s r i e q = record { first = tt; said = tt; rest = closing-fits; brings = tt }
+  effect-fits v-acts empty r i e q = record { first = tt; said = tt; rest = g .rest; brings = tt }
+  effect-fits v-acts few r i e q = record { first = tt; said = tt; rest = g .rest; brings = tt }
+  effect-fits v-acts wrong r i e q = record { first = tt; said = tt; rest = g .rest; brings = tt }
+  effect-fits v-acts (skipping k) r i e q = record { first = tt; said = tt; rest = g .rest; brings = tt }
+  effect-fits v-acts (long h) r i e q = record { first = tt; said = tt; rest = g .rest; brings = tt }
+  effect-fits v-acts (part h) r i e q = record { first = tt; said = tt; rest = g .rest; brings = tt }
   effect-fits v-acts (whole h p) r i e q = acts-fit r i h p q
 
 below-32 : (c : ℕ) → leb connectionLimit c ≡ false → c < 256
@@ -290,34 +314,60 @@ neither : (a b : Bool) → (a || b) ≡ false → a ≡ false
 neither true b e = e
 neither false b e = refl
 
+-- bytes that interrupt begin with a whole header, whose parameter is a 32-bit number
+whole-header : (end o r : Bool) (bs : List ℕ) (y : Bool) → (end && (not o && (r && (leb 16 (length bs) && y)))) ≡ true → 16 ≤ length bs
+whole-header end o r bs y e =
+    leb-true 16 (length bs) (and-l (leb 16 (length bs)) y (and-r r _ (and-r (not o) _ (and-r end _ e))))
+
+shown-parameter : (bs : List ℕ) → Bytes bs → 16 ≤ length bs → (header bs) .param < 2 ^ 32
+unfolding header
+shown-parameter bs b l =
+    let x : List ℕ = take 4 (drop 4 bs) in
+    let e : length x ≡ 4 = simp (length-take, length-drop) (omega arith) in
+    rw e at (number-bound x (take-bytes 4 (drop 4 bs) (drop-bytes 4 bs b)))
+
 plan-fits : (d : Server) (e : Event) → InRange d → Possible e → refusal d e ≡ 0 → PlanFits (plan d e)
 unfolding plan received refusal causes answerNumber
-plan-fits d (opening c) g q z = record { said = tt; rest = record { asked = g .rest .asked; vendor = g .rest .vendor; status = g .rest .status }; brings = tt }
+plan-fits d (opening c) g q z = record { first = tt; said = tt; rest = record { asked = g .rest .asked; vendor = g .rest .vendor; status = g .rest .status }; brings = tt }
 plan-fits d (delivery c bs room) g q z =
     let r = roleOf (d .locks .entries) c in
     let i = slotOf d c in
     let k = (connectionAt (d .rest) c) .remainder in
     effect-fits d g c (below-32 c ((uncaused (causes d (delivery c bs room)) refl z) .1 .0)) (verdict r d i (scan k bs)) (scan k bs) r i (verdict-coded r d i (scan k bs)) (parameter k bs q (scan k bs) refl)
-plan-fits d (cut c room) g q z = record { said = tt; rest = closing-fits d g c (below-32 c ((uncaused (causes d (cut c room)) refl z) .1 .0)); brings = tt }
-plan-fits d (clock t room) g q z = record { said = tt; rest = g .rest; brings = tt }
-plan-fits d (answer n p end room) g q z =
-    let es = d .locks .entries in
-    let i = slotOfNumber es n in
-    let x = exchangeAt (d .rest) i in
-    let f = exchange-at (d .rest .exchanges) i (g .rest .asked) in
-    let l = ltb-false payloadLimit (length p) (neither _ _ ((uncaused (causes d (answer n p end room)) refl z) .1 .1 .1 .0)) in
-    record {
-      said = (
-        record {
-          connection = ltb-true _ _ (and-l (ltb ((at es i) .synchronous) 256) _ (all-at reachable es i refl (g .entries)));
-          fields = record { kind = answer-kind end; code = lit< tt; param = answer-number x f; length = omega arith; payload = q };
-        },
-        tt,
-      );
-      rest = record { asked = all-set exchangeFits (d .rest .exchanges) i _ (answered-asked end x f) (g .rest .asked); vendor = g .rest .vendor; status = g .rest .status };
-      brings = tt;
-    }
-plan-fits d (status b) g q z = record { said = tt; rest = record { asked = g .rest .asked; vendor = g .rest .vendor; status = q }; brings = tt }
+plan-fits d (cut c room) g q z = record { first = tt; said = tt; rest = closing-fits d g c (below-32 c ((uncaused (causes d (cut c room)) refl z) .1 .0)); brings = tt }
+plan-fits d (clock t room) g q z = record { first = tt; said = tt; rest = g .rest; brings = tt }
+plan-fits d (answer n p end sh room) g q z = record { first = tt; said = says (withholds d n end sh) refl; rest = leaves (withholds d n end sh); brings = tt }
+  where
+    es : List Entry
+    es = d .locks .entries
+
+    i : ℕ
+    i = slotOfNumber es n
+
+    x : Exchange
+    x = exchangeAt (d .rest) i
+
+    f : exchangeFits x ≡ true
+    f = exchange-at (d .rest .exchanges) i (g .rest .asked)
+
+    here : reachable (at es i) ≡ true
+    here = all-at reachable es i refl (g .entries)
+
+    says : (w : Bool) → withholds d n end sh ≡ w → AllFit (cond w (Acts.interruptions (at es i) ((header sh) .param)) (frameOf ((at es i) .synchronous) (answerType end) 0 (answerNumber x) p ∷ []))
+    says true e = pair-fits (at es i) ((header sh) .param) here (shown-parameter sh (q .1) (whole-header end ((exchangeAt (d .rest) i) .overlap) (eqb ((connectionAt (d .rest) ((at es i) .synchronous)) .remainder) 0) sh _ e))
+    says false e =
+        let l = ltb-false payloadLimit (length p) (neither _ _ ((uncaused (causes d (answer n p end sh room)) refl z) .1 .1 .1 .0)) in (
+          record {
+            connection = ltb-true _ _ (and-l (ltb ((at es i) .synchronous) 256) _ here);
+            fields = record { kind = answer-kind end; code = lit< tt; param = answer-number x f; length = omega arith; payload = q .0 };
+          },
+          tt,
+        )
+
+    leaves : (w : Bool) → RestFits (withExchange (d .rest) i (cond w (Exchange.interrupted x) (answeredWith end x)))
+    leaves true = record { asked = all-set exchangeFits (d .rest .exchanges) i _ (both _ _ (and-l (ltb (x .count) (2 ^ 32)) _ f) refl) (g .rest .asked); vendor = g .rest .vendor; status = g .rest .status }
+    leaves false = record { asked = all-set exchangeFits (d .rest .exchanges) i _ (answered-asked end x f) (g .rest .asked); vendor = g .rest .vendor; status = g .rest .status }
+plan-fits d (status b) g q z = record { first = tt; said = tt; rest = record { asked = g .rest .asked; vendor = g .rest .vendor; status = q }; brings = tt }
 
 -- one call
 record StepFits (d : Server) (e : Event) : Type 0 where
@@ -337,7 +387,8 @@ step-fits d e g q = let r = go (refusal d e) refl (inv-call d e (g .inv)) in rec
         let y = settle-kept (frees (d .locks) ev) ((change (d .locks) ev) .locks) (x .entries) in
         let xs = (change (d .locks) ev) .answers in
         let ys = (settle (frees (d .locks) ev) ((change (d .locks) ev) .locks)) .answers in (
-          fit-append (map lockFrame xs) ((plan d e) .said ++ map lockFrame ys) (lock-fit xs (x .answers)) (fit-append ((plan d e) .said) (map lockFrame ys) (f .said) (lock-fit ys (y .answers))),
+          fit-append ((plan d e) .first) (map lockFrame xs ++ ((plan d e) .said ++ map lockFrame ys)) (f .first)
+              (fit-append (map lockFrame xs) ((plan d e) .said ++ map lockFrame ys) (lock-fit xs (x .answers)) (fit-append ((plan d e) .said) (map lockFrame ys) (f .said) (lock-fit ys (y .answers)))),
           record { inv = v; entries = y .entries; rest = f .rest },
         )
 

@@ -261,7 +261,7 @@ until d v n j k m e s = go (refusal d e) refl
 
 -- an AsyncLock of the session that acts, a request or a release
 module _ (d : Server) (c : ℕ) (bs : List ℕ) (room : ℕ) (r : Request d c bs room) (t : (header bs) .kind ≡ AsyncLock) where
-  lock-step : step d (delivery c bs room) ≡ finish d (record { reply = took acted (16 + r .head .len) ((at (d .locks .entries) (slotOf d c)) .number); rest = d .rest; said = []; event = Acts.lockEvent (eqb (r .head .code) 0) (slotOf d c) (r .head) (r .string) })
+  lock-step : step d (delivery c bs room) ≡ finish d (record { reply = took acted (16 + r .head .len) ((at (d .locks .entries) (slotOf d c)) .number); rest = d .rest; first = []; said = []; event = Acts.lockEvent (eqb (r .head .code) 0) (slotOf d c) (r .head) (r .string) })
   unfolding step answered plan received verdict effect Acts.acts Acts.asynchronousRest Acts.asynchronousSaid Acts.asynchronousEvent
   lock-step =
       let h = r .head in
@@ -286,7 +286,7 @@ module _ (d : Server) (v : Inv (d .locks)) (j m : ℕ) (k : Kind) (h : (at (d .l
   gets-3 : (c : ℕ) (bs : List ℕ) (room a b : ℕ) → slotOf d c ≡ j → (step d (delivery c bs room)) .reply ≡ took acted a b → (header bs) .kind ≡ AsyncLock → Answers d j 3 (delivery c bs room)
   gets-3 c bs room a b q e t =
       let r = step-request d c bs room a b e t in
-      acted-sends {d = d} {c = c} {bs = bs} {room = room} (record { rest = _; said = _; taken = _; number = _; does = lock-step d c bs room r t }) 3 ((at (d .locks .entries) j) .asynchronous) [] (Locks.tell (d .locks .entries) (slotOf d c) 3 (not (eqb (r .head .code) 0)))
+      acted-sends {d = d} {c = c} {bs = bs} {room = room} (record { rest = _; first = _; said = _; taken = _; number = _; does = lock-step d c bs room r t }) 3 ((at (d .locks .entries) j) .asynchronous) [] (Locks.tell (d .locks .entries) (slotOf d c) 3 (not (eqb (r .head .code) 0)))
       (answered-3 (eqb (r .head .code) 0) (slotOf d c) (sym q) (r .head) (r .string)) (ap (λ z. (at (d .locks .entries) z) .asynchronous) q) refl
 
 -- a release that sends nothing stands

@@ -24,6 +24,7 @@ use Rattle.model.proofs.Counting.{counted}
 use Rattle.model.proofs.Demand3.{demand3}
 use Rattle.model.proofs.ReadBack.{reads-back}
 use Rattle.model.proofs.Tied.{tie}
+use Rattle.model.proofs.NextQuestion.{next-question}
 use Rattle.model.proofs.Isolation.{isolated}
 use Rattle.model.proofs.IsolationRun.{isolation-run}
 use Rattle.model.proofs.Locality.{local-run}
@@ -67,6 +68,7 @@ statements =
       };
       beyond = record {
         tie = tie;
+        next-question = next-question;
         isolated = isolated;
         isolation = isolation-run;
         locality = local-run;

@@ -1,13 +1,14 @@
 -- F, proved, from call to call and over any list from the fresh server.
 use mathlib.Core.Path.{subst, _≡_, refl, sym, ap, _∙_}
 use mathlib.Core.Bool.{Bool, true, false, _&&_, cond, false≢true}
-use mathlib.Core.List.{List, [], _∷_}
+use mathlib.Core.List.{List, [], _∷_, _++_}
 use Prim.Native.Nat.{ℕ, zero, suc, _<_}
 use native.Mathlib.Omega.{arith}
 use lib.Dec.{eqb}
 use lib.ListN.{length, length-set}
 use Rattle.wire.specs.declared.Header.{Header}
 use Rattle.wire.specs.Message.{header}
+use Rattle.wire.specs.Frame.{Frame, frameOf}
 use Rattle.wire.specs.Class.{synchronous, asynchronous}
 use Rattle.model.specs.Sizes.{noConnection, sessionLimit}
 use Rattle.model.specs.State.{openExchange, Entry, at, live, slotOfNumber, Server, Rest, Exchange, Asked, Asked.none, exchangeAt, freshExchange, connectionAt, withExchange, withSession, fresh, Making}
@@ -15,14 +16,14 @@ use Rattle.model.specs.Interface.{Event, Event.opening, Event.delivery, 
 use Rattle.model.specs.Scan.{Scan, Scan.empty, Scan.few, Scan.wrong, Scan.skipping, Scan.long, Scan.part, Scan.whole, scan}
 use Rattle.model.specs.Place.{slotOf, Role, Role.r-none, Role.r-halfOpen, Role.r-synchronous, Role.r-asynchronous, roleOf}
 use Rattle.model.specs.Locks.{LockEvent, change}
-use Rattle.model.specs.Exchange.{answeredWith, mayAnswer, answerNumber}
+use Rattle.model.specs.Exchange.{interrupted, answeredWith, mayAnswer, answerNumber}
 use Rattle.model.specs.Checks
 use Rattle.model.specs.Checks.{Verdict, Verdict.v-more, Verdict.v-skipped, Verdict.v-held, Verdict.v-ignored, Verdict.v-closed, Verdict.v-acts, Verdict.v-error, Verdict.v-fatal, verdict, judged, either}
 use Rattle.model.specs.Acts
 use Rattle.model.specs.Acts.{Plan}
 use Rattle.model.specs.Refusals.{causes, refusal}
-use Rattle.model.specs.Step.{effect, received, plan, answered, finish, step, final, log, closing}
-use Rattle.model.specs.Tie.{Track, nothingYet, follows, track, answeredTrack, trackOfLog, said, Tie}
+use Rattle.model.specs.Step.{answerType, withholds, effect, received, plan, answered, finish, step, final, log, closing}
+use Rattle.model.specs.Tie.{Track, nothingYet, follows, track, answeredTrack, withheldTrack, trackOfLog, said, Tie}
 use Rattle.model.proofs.Basics.{not-off, inside}
 use Rattle.model.proofs.Scanning.{whole-scan}
 use Rattle.model.proofs.Place.{sync-live, async-live}
@@ -60,7 +61,7 @@ pub record After (d : Server) (p : Plan) (f : ℕ → Track) : Type 0 where
 
 module _ (d : Server) (f : ℕ → Track) (i : Inv (d .locks)) (z : length (d .rest .exchanges) ≡ sessionLimit) (t : Tied (d .locks .entries) (d .rest) f) where
   -- a call that touches no extras and enters or removes no session
-  still : (r : Rest) (reply : Reply) (e : LockEvent) (f′ : ℕ → Track) → Calm e → r .exchanges ≡ d .rest .exchanges → ((n : ℕ) → f′ n ≡ f n) → (said : List _) → After d record { reply = reply; rest = r; said = said; event = e } f′
+  still : (r : Rest) (reply : Reply) (e : LockEvent) (f′ : ℕ → Track) → Calm e → r .exchanges ≡ d .rest .exchanges → ((n : ℕ) → f′ n ≡ f n) → (said : List _) {fs : List _} → After d record { reply = reply; rest = r; first = fs; said = said; event = e } f′
   still r reply e f′ c x g said =
       record {
         tied = rest-same (d .locks .entries) (ends (d .locks) e) (d .rest) r f f′ (calm-num (d .locks) e c) (λ j. ap (λ (l : List Exchange). trackOf (lib.ListN.getD l j freshExchange)) x) g t;
@@ -123,7 +124,7 @@ module _ (d : Server) (f : ℕ → Track) (i : Inv (d .locks)) (z : length (d .r
         let s = Acts.asynchronousKind (h .kind) in
         record {
           tied =
-              touch (d .locks .entries) (ends (d .locks) (Acts.asynchronousEvent s k h p)) (d .rest) (Acts.asynchronousRest s (d .rest) k h p) f _ k (asyncPending s) (i .sound .firm) v (calm-num (d .locks) (Acts.asynchronousEvent s k h p) (async-calm s k h p))
+              touch (d .locks .entries) (ends (d .locks) (Acts.asynchronousEvent s k h p)) (d .rest) (Acts.asynchronousRest s (d .rest) k h p) f _ k (asyncPending s (h .code)) (i .sound .firm) v (calm-num (d .locks) (Acts.asynchronousEvent s k h p) (async-calm s k h p))
               (async-here s (d .rest) k h p (within k v))
               (λ j n. ap trackOf (async-there s (d .rest) k h p j n))
               (λ n. heads ((at (d .locks .entries) k) .number) n ∙ ap (λ (y : Track). cond (eqb ((at (d .locks .entries) k) .number) n) y (f n)) (async-follows (d .rest .made .prefersOverlap) (h .code) (h .param) (f n) (h .kind) (acted-class asynchronous (h .kind) (g .1 .1 .0) (g .1 .1 .1 .0)) (g .1 .1 .1 .1 .0)))
@@ -131,7 +132,7 @@ module _ (d : Server) (f : ℕ → Track) (i : Inv (d .locks)) (z : length (d .r
           sized = async-size s (d .rest) k h p ∙ z;
         }
 
-  closes : (c : ℕ) (reply : Reply) (said : List _) (f′ : ℕ → Track) → ((n : ℕ) → f′ n ≡ f n) → After d record { reply = reply; rest = closing d c; said = said; event = LockEvent.close (slotOf d c) } f′
+  closes : (c : ℕ) (reply : Reply) (said : List _) {fs : List _} (f′ : ℕ → Track) → ((n : ℕ) → f′ n ≡ f n) → After d record { reply = reply; rest = closing d c; first = fs; said = said; event = LockEvent.close (slotOf d c) } f′
   closes c reply said f′ g =
       record {
         tied = drop-tied (d .locks) (slotOf d c) (d .rest) (closing d c) f f′ (λ j n. extra-there (d .rest) (slotOf d c) freshExchange j n) g t;
@@ -157,9 +158,9 @@ module _ (d : Server) (f : ℕ → Track) (i : Inv (d .locks)) (z : length (d .r
   effect-tied c bs room k n v-acts (whole h p) r es er ev = acts-tied c n bs room h p ((whole-scan k bs h p es) .0) r er ev
 
   -- an answer to session n that is not refused
-  answering : (n : ℕ) (x : List ℕ) (end : Bool) (room : ℕ) → refusal d (answer n x end room) ≡ 0 → live (at (d .locks .entries) (slotOfNumber (d .locks .entries) n)) ≡ true
+  answering : (n : ℕ) (x : List ℕ) (end : Bool) (sh : List ℕ) (room : ℕ) → refusal d (answer n x end sh room) ≡ 0 → live (at (d .locks .entries) (slotOfNumber (d .locks .entries) n)) ≡ true
   unfolding refusal causes
-  answering n x end room q = not-off _ ((uncaused (causes d (answer n x end room)) refl q) .1 .0)
+  answering n x end sh room q = not-off _ ((uncaused (causes d (answer n x end sh room)) refl q) .1 .0)
 
   plan-tied : (e : Event) → refusal d e ≡ 0 → After d (plan d e) (λ n. track (d .rest .made .prefersOverlap) e ((plan d e) .reply) n (f n))
   unfolding plan received
@@ -168,19 +169,26 @@ module _ (d : Server) (f : ℕ → Track) (i : Inv (d .locks)) (z : length (d .r
   plan-tied (cut c room) q = closes c _ _ _ (λ m. refl)
   plan-tied (clock y room) q = still (d .rest) _ _ _ tt refl (λ m. refl) []
   plan-tied (status b) q = still _ _ _ _ tt refl (λ m. refl) []
-  plan-tied (answer n x end room) q =
-      let k = slotOfNumber (d .locks .entries) n in
-      let v = answering n x end room q in
-      let y = answeredWith end (exchangeAt (d .rest) k) in
-      record {
-        tied =
-            touch (d .locks .entries) (ends (d .locks) LockEvent.nothing) (d .rest) (withExchange (d .rest) k y) f _ k (answeredTrack end) (i .sound .firm) v (calm-num (d .locks) LockEvent.nothing tt)
-            (ap trackOf (extra-here (d .rest) k y (within k v)))
-            (λ j g. ap trackOf (extra-there (d .rest) k y j g))
-            (λ m. ap (λ (w : ℕ). cond (eqb w m) (answeredTrack end (f m)) (f m)) (sym (live-found (d .locks .entries) n v)))
-            t;
-        sized = length-set (d .rest .exchanges) k y ∙ z;
-      }
+  plan-tied (answer n x end sh room) q = go (withholds d n end sh) _
+    where
+      k : ℕ
+      k = slotOfNumber (d .locks .entries) n
+
+      v : live (at (d .locks .entries) k) ≡ true
+      v = answering n x end sh room q
+
+      answers-tied : (y : Exchange) (g : Track → Track) → trackOf y ≡ g (trackOf (exchangeAt (d .rest) k)) → Tied (ends (d .locks) LockEvent.nothing) (withExchange (d .rest) k y) (λ m. cond (eqb n m) (g (f m)) (f m))
+      answers-tied y g e =
+          touch (d .locks .entries) (ends (d .locks) LockEvent.nothing) (d .rest) (withExchange (d .rest) k y) f _ k g (i .sound .firm) v (calm-num (d .locks) LockEvent.nothing tt)
+          (ap trackOf (extra-here (d .rest) k y (within k v)) ∙ e)
+          (λ j h. ap trackOf (extra-there (d .rest) k y j h))
+          (λ m. ap (λ (w : ℕ). cond (eqb w m) (g (f m)) (f m)) (sym (live-found (d .locks .entries) n v)))
+          t
+
+      go : (w : Bool) (fs : List Frame) → After d record { reply = cond w Reply.withheld Reply.done; rest = withExchange (d .rest) k (cond w (interrupted (exchangeAt (d .rest) k)) (answeredWith end (exchangeAt (d .rest) k))); first = []; said = fs; event = LockEvent.nothing }
+          (λ m. track (d .rest .made .prefersOverlap) (answer n x end sh room) (cond w Reply.withheld Reply.done) m (f m))
+      go true fs = record { tied = answers-tied (interrupted (exchangeAt (d .rest) k)) withheldTrack refl; sized = length-set (d .rest .exchanges) k _ ∙ z }
+      go false fs = record { tied = answers-tied (answeredWith end (exchangeAt (d .rest) k)) (answeredTrack end) refl; sized = length-set (d .rest .exchanges) k _ ∙ z }
 
 -- how the server was made stays
 opens-made : (b : Bool) (d : Server) (c : ℕ) (h : Header) → (Acts.opens b d c h) .rest .made ≡ d .rest .made
@@ -226,7 +234,7 @@ plan-made d (opening c) = refl
 plan-made d (delivery c bs room) = effect-made _ _ _ d _ c
 plan-made d (cut c room) = refl
 plan-made d (clock t room) = refl
-plan-made d (answer n p end room) = refl
+plan-made d (answer n p end sh room) = refl
 plan-made d (status b) = refl
 
 -- a call, a list, from a server that prefers mode b
@@ -262,15 +270,24 @@ list-ties b (e ∷ es) d f t = list-ties b es ((step d e) .server) (λ n. track 
 fresh-ties : (v : Making) → Ties (v .prefersOverlap) (fresh v) (λ n. nothingYet (v .prefersOverlap))
 fresh-ties v = record { inv = inv-fresh; sized = refl; prefers = refl; tied = λ j u. absurd (false≢true (rw (blank-at sessionLimit j) at u)) }
 
--- every answer that is not refused
-pub tie : (v : Making) (es : List Event) (n : ℕ) (x : List ℕ) (end : Bool) (room : ℕ) → refusal (final (fresh v) es) (answer n x end room) ≡ 0 → Tie v es n x end room
+-- of a live session, after any list, the log tells the track
+pub track-run : (v : Making) (es : List Event) (n : ℕ) → live (at ((final (fresh v) es) .locks .entries) (slotOfNumber ((final (fresh v) es) .locks .entries) n)) ≡ true
+    → trackOf (exchangeAt ((final (fresh v) es) .rest) (slotOfNumber ((final (fresh v) es) .locks .entries) n)) ≡ said v es n
+track-run v es n alive =
+    let d = final (fresh v) es in
+    (list-ties (v .prefersOverlap) es (fresh v) (λ n. nothingYet (v .prefersOverlap)) (fresh-ties v)) .tied (slotOfNumber (d .locks .entries) n) alive ∙ ap (λ m. said v es m) (live-found (d .locks .entries) n alive)
+
+-- every answer that is sent
+pub tie : (v : Making) (es : List Event) (n : ℕ) (x : List ℕ) (end : Bool) (sh : List ℕ) (room : ℕ) → (step (final (fresh v) es) (answer n x end sh room)) .reply ≡ Reply.done → Tie v es n x end sh room
 unfolding step answered plan finish change refusal causes
-tie v es n x end room q =
+tie v es n x end sh room r =
     record {
       number = answerNumber y;
       asked = λ o. ap (λ (t : Track). t .asked) (sym track-is) ∙ may-answer e y asks (ap (λ (t : Track). t .overlap) track-is ∙ o);
       counted = λ o. ap (λ (t : Track). t .count) (sym track-is) ∙ sym (answer-counts y (ap (λ (t : Track). t .overlap) track-is ∙ o));
-      sent = ap (λ k. (answered k d (answer n x end room)) .frames) q;
+      sent =
+          ap (λ k. (answered k d (answer n x end sh room)) .frames) q
+          ∙ ap (λ (w : Bool). cond w (Acts.interruptions e ((header sh) .param)) (frameOf (e .synchronous) (answerType end) 0 (answerNumber y) x ∷ []) ++ []) (passed (withholds d n end sh) (ap (λ k. (answered k d (answer n x end sh room)) .reply) (sym q) ∙ r));
     }
   where
     d : Server
@@ -285,14 +302,25 @@ tie v es n x end room q =
     y : Exchange
     y = exchangeAt (d .rest) k
 
-    causeless : Rattle.model.proofs.Fits.NoCause (causes d (answer n x end room))
-    causeless = uncaused (causes d (answer n x end room)) refl q
+    accepted : (k : ℕ) → (answered k d (answer n x end sh room)) .reply ≡ Reply.done → k ≡ 0
+    accepted zero h = refl
+    accepted (suc k) h = absurd (let z : _≡_ {A = ℕ} 0 1 = cc in omega arith)
+
+    q : refusal d (answer n x end sh room) ≡ 0
+    q = accepted (refusal d (answer n x end sh room)) r
+
+    passed : (w : Bool) → cond w Reply.withheld Reply.done ≡ Reply.done → w ≡ false
+    passed true h = absurd (let z : _≡_ {A = ℕ} 0 1 = cc in omega arith)
+    passed false h = refl
+
+    causeless : Rattle.model.proofs.Fits.NoCause (causes d (answer n x end sh room))
+    causeless = uncaused (causes d (answer n x end sh room)) refl q
 
     alive : live (at (d .locks .entries) k) ≡ true
     alive = not-off _ (causeless .1 .0)
 
     track-is : trackOf y ≡ said v es n
-    track-is = (list-ties (v .prefersOverlap) es (fresh v) (λ n. nothingYet (v .prefersOverlap)) (fresh-ties v)) .tied k alive ∙ ap (λ m. said v es m) (live-found (d .locks .entries) n alive)
+    track-is = track-run v es n alive
 
     asks : mayAnswer e y ≡ true
     asks = not-off _ (causeless .1 .1 .0)

@@ -1,6 +1,6 @@
 -- F, proved: what a slot has pending is what the log says that its session has asked.
 use mathlib.Core.Path.{_≡_, refl, sym, ap, _∙_}
-use mathlib.Core.Bool.{Bool, true, false, not, _||_, cond, true≢false}
+use mathlib.Core.Bool.{Bool, true, false, not, _&&_, _||_, cond, true≢false}
 use mathlib.Core.List.{List, [], _∷_}
 use mathlib.Core.Logic.{_⊎_, inl, inr}
 use Prim.Native.Nat.{ℕ, zero, suc, _%_, _<_}
@@ -18,7 +18,7 @@ use Rattle.model.specs.Locks
 use Rattle.model.specs.Locks.{LockEvent, give, mayGrant, grantPass, change, settle, frees}
 use Rattle.model.specs.Exchange
 use Rattle.model.specs.Acts
-use Rattle.model.specs.Tie.{Track, nothingYet, follows}
+use Rattle.model.specs.Tie.{Track, nothingYet, testedTrack, follows}
 use Rattle.model.proofs.Classes.{synchronousTypes, asynchronousTypes}
 use Rattle.model.proofs.Basics.{both, same?}
 use Rattle.model.proofs.Invariant.{Firm}
@@ -39,7 +39,7 @@ settle-num false l j = refl
 
 -- what the log tracks, of an exchange
 abbrev pub trackOf : Exchange → Track
-trackOf x = record { overlap = x .overlap; asked = x .asked; count = x .count }
+trackOf x = record { overlap = x .overlap; asked = x .asked; count = x .count; rmtExpected = x .rmtExpected }
 
 -- of each live slot, it is what f says of its number
 abbrev pub Tied : List Entry → Rest → (ℕ → Track) → Type 0
@@ -166,16 +166,28 @@ enter-tied l i n c r r′ f f′ z x here there tracks t j u = go (same? j i)
 
 -- kinds: what each does to it, and that the type on the wire says so
 pub syncPending : Acts.SynchronousKind → ℕ → ℕ → Track → Track
-syncPending Acts.k-data k x p = p
-syncPending Acts.k-dataEnd k x p = record { overlap = p .overlap; asked = some x; count = p .count }
-syncPending Acts.k-trigger k x p = record { overlap = p .overlap; asked = some x; count = p .count }
-syncPending Acts.k-clearComplete k x p = record { overlap = eqb (k % 2) 1; asked = p .asked; count = p .count }
+syncPending Acts.k-data k x p = testedTrack k p
+syncPending Acts.k-dataEnd k x p = record { overlap = p .overlap; asked = some x; count = p .count; rmtExpected = false }
+syncPending Acts.k-trigger k x p = record { overlap = p .overlap; asked = some x; count = p .count; rmtExpected = false }
+syncPending Acts.k-clearComplete k x p = record { overlap = eqb (k % 2) 1; asked = p .asked; count = p .count; rmtExpected = p .rmtExpected }
 
 pub sync-extra : (k : Acts.SynchronousKind) (h : Header) (x : Exchange) → trackOf (Acts.synchronousExchange k h x) ≡ syncPending k (h .code) (h .param) (trackOf x)
 unfolding Acts.synchronousExchange syncPending
-sync-extra Acts.k-data h x = refl
-sync-extra Acts.k-dataEnd h x = refl
-sync-extra Acts.k-trigger h x = refl
+sync-extra Acts.k-data h x = go (Exchange.outOfTurn (h .code) x)
+  where
+    go : (b : Bool) → trackOf (Exchange.noteRmt (h .code) (Exchange.withExpectation false (cond b (Exchange.interrupted x) x))) ≡ record { overlap = x .overlap; asked = cond b none (x .asked); count = x .count; rmtExpected = false }
+    go true = refl
+    go false = refl
+sync-extra Acts.k-dataEnd h x = go (Exchange.outOfTurn (h .code) x)
+  where
+    go : (b : Bool) → trackOf (Exchange.ask (h .code) (h .param) (Exchange.withExpectation false (cond b (Exchange.interrupted x) x))) ≡ record { overlap = x .overlap; asked = some (h .param); count = x .count; rmtExpected = false }
+    go true = refl
+    go false = refl
+sync-extra Acts.k-trigger h x = go (Exchange.outOfTurn (h .code) x)
+  where
+    go : (b : Bool) → trackOf (Exchange.ask (h .code) (h .param) (Exchange.withExpectation false (cond b (Exchange.interrupted x) x))) ≡ record { overlap = x .overlap; asked = some (h .param); count = x .count; rmtExpected = false }
+    go true = refl
+    go false = refl
 sync-extra Acts.k-clearComplete h x = refl
 
 pub sync-follows : (b : Bool) (k x : ℕ) (p : Track) (t : ℕ) → one-of synchronousTypes t ≡ true → eqb t 2 ≡ false → eqb t 3 ≡ false → eqb t 0 ≡ false → follows b t k x p ≡ syncPending (Acts.synchronousKind t) k x p
@@ -183,26 +195,26 @@ unfolding syncPending
 sync-follows b k x p t e =
     each-of (λ t. eqb t 2 ≡ false → eqb t 3 ≡ false → eqb t 0 ≡ false → follows b t k x p ≡ syncPending (Acts.synchronousKind t) k x p) synchronousTypes ((λ u v z. absurd (true≢false z)), ((λ u v z. absurd (true≢false u)), ((λ u v z. absurd (true≢false v)), ((λ u v z. refl), ((λ u v z. refl), ((λ u v z. refl), ((λ u v z. refl), tt))))))) t e
 
-pub asyncPending : Acts.AsynchronousKind → Track → Track
-asyncPending Acts.k-lock p = p
-asyncPending Acts.k-remoteLocal p = p
-asyncPending Acts.k-maximumSize p = p
-asyncPending Acts.k-deviceClear p = nothingYet (p .overlap)
-asyncPending Acts.k-statusQuery p = p
-asyncPending Acts.k-lockInfo p = p
+pub asyncPending : Acts.AsynchronousKind → ℕ → Track → Track
+asyncPending Acts.k-lock k p = p
+asyncPending Acts.k-remoteLocal k p = p
+asyncPending Acts.k-maximumSize k p = p
+asyncPending Acts.k-deviceClear k p = nothingYet (p .overlap)
+asyncPending Acts.k-statusQuery k p = record { overlap = p .overlap; asked = p .asked; count = p .count; rmtExpected = not (eqb k 1) && p .rmtExpected }
+asyncPending Acts.k-lockInfo k p = p
 
-pub async-follows : (b : Bool) (k x : ℕ) (p : Track) (t : ℕ) → one-of asynchronousTypes t ≡ true → eqb t 17 ≡ false → follows b t k x p ≡ asyncPending (Acts.asynchronousKind t) p
+pub async-follows : (b : Bool) (k x : ℕ) (p : Track) (t : ℕ) → one-of asynchronousTypes t ≡ true → eqb t 17 ≡ false → follows b t k x p ≡ asyncPending (Acts.asynchronousKind t) k p
 unfolding asyncPending
 async-follows b k x p t e =
-    each-of (λ t. eqb t 17 ≡ false → follows b t k x p ≡ asyncPending (Acts.asynchronousKind t) p) asynchronousTypes ((λ z. refl), ((λ z. refl), ((λ z. refl), ((λ z. refl), ((λ z. refl), ((λ z. absurd (true≢false z)), ((λ z. refl), ((λ z. refl), ((λ z. refl), tt))))))))) t e
+    each-of (λ t. eqb t 17 ≡ false → follows b t k x p ≡ asyncPending (Acts.asynchronousKind t) k p) asynchronousTypes ((λ z. refl), ((λ z. refl), ((λ z. refl), ((λ z. refl), ((λ z. refl), ((λ z. absurd (true≢false z)), ((λ z. refl), ((λ z. refl), ((λ z. refl), tt))))))))) t e
 
-pub async-here : (k : Acts.AsynchronousKind) (r : Rest) (i : ℕ) (h : Header) (p : List ℕ) → i < length (r .exchanges) → trackOf (exchangeAt (Acts.asynchronousRest k r i h p) i) ≡ asyncPending k (trackOf (exchangeAt r i))
+pub async-here : (k : Acts.AsynchronousKind) (r : Rest) (i : ℕ) (h : Header) (p : List ℕ) → i < length (r .exchanges) → trackOf (exchangeAt (Acts.asynchronousRest k r i h p) i) ≡ asyncPending k (h .code) (trackOf (exchangeAt r i))
 unfolding Acts.asynchronousRest asyncPending
 async-here Acts.k-lock r i h p l = refl
 async-here Acts.k-remoteLocal r i h p l = refl
 async-here Acts.k-maximumSize r i h p l = ap trackOf (extra-here r i (Exchange.withClientSize (number p) (exchangeAt r i)) l)
 async-here Acts.k-deviceClear r i h p l = ap trackOf (extra-here r i (Exchange.enterClear (exchangeAt r i)) l)
-async-here Acts.k-statusQuery r i h p l = ap trackOf (extra-here r i (Exchange.noteRmt (h .code) (exchangeAt r i)) l)
+async-here Acts.k-statusQuery r i h p l = ap trackOf (extra-here r i (Exchange.queried (h .code) (exchangeAt r i)) l)
 async-here Acts.k-lockInfo r i h p l = refl
 
 pub async-there : (k : Acts.AsynchronousKind) (r : Rest) (i : ℕ) (h : Header) (p : List ℕ) (j : ℕ) → (j ≡ i → ⊥) → exchangeAt (Acts.asynchronousRest k r i h p) j ≡ exchangeAt r j
@@ -211,7 +223,7 @@ async-there Acts.k-lock r i h p j n = refl
 async-there Acts.k-remoteLocal r i h p j n = refl
 async-there Acts.k-maximumSize r i h p j n = extra-there r i (Exchange.withClientSize (number p) (exchangeAt r i)) j n
 async-there Acts.k-deviceClear r i h p j n = extra-there r i (Exchange.enterClear (exchangeAt r i)) j n
-async-there Acts.k-statusQuery r i h p j n = extra-there r i (Exchange.noteRmt (h .code) (exchangeAt r i)) j n
+async-there Acts.k-statusQuery r i h p j n = extra-there r i (Exchange.queried (h .code) (exchangeAt r i)) j n
 async-there Acts.k-lockInfo r i h p j n = refl
 
 pub async-size : (k : Acts.AsynchronousKind) (r : Rest) (i : ℕ) (h : Header) (p : List ℕ) → length ((Acts.asynchronousRest k r i h p) .exchanges) ≡ length (r .exchanges)

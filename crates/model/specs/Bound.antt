@@ -28,12 +28,12 @@ roomOf (opening c) = 0
 roomOf (delivery c bs room) = room
 roomOf (cut c room) = room
 roomOf (clock t room) = room
-roomOf (answer n p end room) = room
+roomOf (answer n p end sh room) = room
 roomOf (status b) = 0
 
--- on any server: one frame with the largest payload, an answer to each waiting request, and one more
+-- on any server: one frame with the largest payload, an answer to each waiting request, and three more
 pub record Output (d : Server) (e : Event) : Type 0 where
-  pub total : length (bytesOf ((step d e) .frames)) ≤ frameSize + payloadLimit + frameSize * (length (d .locks .waiting) + 1)
+  pub total : length (bytesOf ((step d e) .frames)) ≤ frameSize + payloadLimit + frameSize * (length (d .locks .waiting) + 3)
 
 -- on any server on which no more requests wait than there are sessions
 pub record Bound (d : Server) : Type 0 where

@@ -13,7 +13,7 @@ use Rattle.wire.specs.Class.{classOf}
 use Rattle.model.specs.Sizes.{stringLimit, outputMinimum, lastSessionId}
 use Rattle.model.specs.Lists.{isNil, same, all, any, keep}
 use Rattle.model.specs.State.{Server, Entry, at, fresh}
-use Rattle.model.specs.Interface.{Event, Event.opening, Event.delivery, Event.cut, Event.clock, Event.answer, Event.status, Outcome.more-needed, Outcome.skipped, Outcome.held, Outcome.ignored, Outcome.error-sent, Outcome.closed, Outcome.acted, Reply, Reply.refused, Reply.done, Reply.took}
+use Rattle.model.specs.Interface.{Event, Event.opening, Event.delivery, Event.cut, Event.clock, Event.answer, Event.status, Outcome.more-needed, Outcome.skipped, Outcome.held, Outcome.ignored, Outcome.error-sent, Outcome.closed, Outcome.acted, Reply, Reply.refused, Reply.done, Reply.withheld, Reply.took}
 use Rattle.model.specs.Scan.{freshScan, scan}
 use Rattle.model.specs.Place.{placeOf}
 use Rattle.model.specs.Locks.{mayGrant, access, elsewhere, opened, joined, withLocks, passOver, grantPass, change}
@@ -45,6 +45,7 @@ after b e t = record { server = final (fresh benchMaking) b; call = e; test = t 
 isHeld : Reply → Bool
 isHeld (refused n) = false
 isHeld done = false
+isHeld withheld = false
 isHeld (took more-needed k n) = false
 isHeld (took skipped k n) = false
 isHeld (took held k n) = eqb k 0 && eqb n 0
@@ -57,6 +58,7 @@ isHeld (took acted k n) = false
 isActed : ℕ → Reply → Bool
 isActed m (refused n) = false
 isActed m done = false
+isActed m withheld = false
 isActed m (took more-needed k n) = false
 isActed m (took skipped k n) = false
 isActed m (took held k n) = false
@@ -123,7 +125,7 @@ string-cases =
 -- K. An answer of 1,400 bytes for a client whose size allows it; a session that asks a hundred times, then the clock
 pub output-cases : List Case
 output-cases =
-    after (three ++ (send 1 (message 15 0 0 (field 8 5000)) ∷ send 0 (message 7 0 0 []) ∷ [])) (answer 1 (replicate 1400 7) true outputMinimum) fitsBuffer
+    after (three ++ (send 1 (message 15 0 0 (field 8 5000)) ∷ send 0 (message 7 0 0 []) ∷ [])) (answer 1 (replicate 1400 7) true [] outputMinimum) fitsBuffer
     ∷ after (three ++ (request 1 0 [] ∷ replicate 100 (request 3 5 []))) (clock 5 outputMinimum) (λ r. fitsBuffer r && eqb (length (r .frames)) 1)
     ∷ []
 
@@ -209,7 +211,7 @@ shapes (opening c ∷ es) = 1 ∷ c ∷ shapes es
 shapes (delivery c bs room ∷ es) = 2 ∷ c ∷ length bs ∷ shapes es
 shapes (cut c room ∷ es) = 3 ∷ c ∷ shapes es
 shapes (clock t room ∷ es) = 4 ∷ t ∷ shapes es
-shapes (answer n p end room ∷ es) = 5 ∷ n ∷ shapes es
+shapes (answer n p end sh room ∷ es) = 5 ∷ n ∷ shapes es
 shapes (status b ∷ es) = 6 ∷ b ∷ shapes es
 
 pub fixed-case : Bool

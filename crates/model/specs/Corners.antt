@@ -11,7 +11,7 @@ use Rattle.wire.specs.Frame.{frameBytes, bytesOf}
 use Rattle.wire.specs.Class.{classOf}
 use Rattle.model.specs.Sizes.{sessionLimit}
 use Rattle.model.specs.State.{Making, Server, RemoteLocal, fresh, withSession}
-use Rattle.model.specs.Interface.{Event, Event.opening, Event.delivery, Event.cut, Event.clock, Event.answer, Event.status, Outcome.more-needed, Outcome.skipped, Outcome.held, Outcome.ignored, Outcome.error-sent, Outcome.closed, Outcome.acted, Reply.refused, Reply.done, Reply.took, outcomeNumber, deliveryAnswer, doneAnswer}
+use Rattle.model.specs.Interface.{Event, Event.opening, Event.delivery, Event.cut, Event.clock, Event.answer, Event.status, Outcome.more-needed, Outcome.skipped, Outcome.held, Outcome.ignored, Outcome.error-sent, Outcome.closed, Outcome.acted, Reply.refused, Reply.done, Reply.withheld, Reply.took, outcomeNumber, deliveryAnswer, doneAnswer, answeredAnswer}
 use Rattle.model.specs.Scan.{freshScan, scan}
 use Rattle.model.specs.Place.{placeOf}
 use Rattle.model.specs.Locks.{issued, mayGrant, access, passOver, grantPass, change}
@@ -41,7 +41,7 @@ shared = three ++ (request 1 0 cal ∷ request 3 0 cal ∷ [])
 
 -- A's command with MessageID 2, and an answer without END; status byte 41 hex
 abbrev asked : List Event
-asked = three ++ (status 0x41 ∷ send 0 (message 7 0 2 []) ∷ answer 1 [] false 2048 ∷ [])
+asked = three ++ (status 0x41 ∷ send 0 (message 7 0 2 []) ∷ answer 1 [] false [] 2048 ∷ [])
 
 -- "hislip" and one byte
 abbrev hislip : ℕ → List ℕ
@@ -272,20 +272,20 @@ overlapping =
     ∷ corner (three ++ (send 1 (message 19 0 0 []) ∷ [])) (send 0 (message 8 0xff 0 [])) (took acted 16 1) (plain 0 9 1)
     ∷ corner (three ++ cleared 0) (send 1 (message 19 0 0 [])) (took acted 16 1) (plain 1 23 1)
     -- answers are counted, asked or not, Data and DataEND alike; a clear resets the count; 5 half-open and in a clear alone
-    ∷ corner three (answer 1 [] true 2048) done (reply 7 0)
-    ∷ corner (three ++ (send 0 (message 7 0 5 []) ∷ answer 1 [] true 2048 ∷ [])) (answer 1 [] false 2048) done (reply 6 2)
-    ∷ corner (three ++ (answer 1 [] true 2048 ∷ answer 1 [] true 2048 ∷ cleared 1)) (answer 1 [] true 2048) done (reply 7 0)
-    ∷ corner (opening 0 ∷ send 0 initialize ∷ []) (answer 1 [] true 2048) (refused 5) []
-    ∷ corner (three ++ (send 1 (message 19 0 0 []) ∷ [])) (answer 1 [] true 2048) (refused 5) []
+    ∷ corner three (answer 1 [] true [] 2048) done (reply 7 0)
+    ∷ corner (three ++ (send 0 (message 7 0 5 []) ∷ answer 1 [] true [] 2048 ∷ [])) (answer 1 [] false [] 2048) done (reply 6 2)
+    ∷ corner (three ++ (answer 1 [] true [] 2048 ∷ answer 1 [] true [] 2048 ∷ cleared 1)) (answer 1 [] true [] 2048) done (reply 7 0)
+    ∷ corner (opening 0 ∷ send 0 initialize ∷ []) (answer 1 [] true [] 2048) (refused 5) []
+    ∷ corner (three ++ (send 1 (message 19 0 0 []) ∷ [])) (answer 1 [] true [] 2048) (refused 5) []
     -- cleared into synchronized mode: refusal 5 till something is asked, whose number is sent
-    ∷ corner (three ++ cleared 0) (answer 1 [] true 2048) (refused 5) []
-    ∷ corner (three ++ (answer 1 [] true 2048 ∷ cleared 0 ++ (send 0 (message 7 0 0xffffff44 []) ∷ []))) (answer 1 [] true 2048) done (reply 7 0x44)
+    ∷ corner (three ++ cleared 0) (answer 1 [] true [] 2048) (refused 5) []
+    ∷ corner (three ++ (answer 1 [] true [] 2048 ∷ cleared 0 ++ (send 0 (message 7 0 0xffffff44 []) ∷ []))) (answer 1 [] true [] 2048) done (reply 7 0x44)
     -- message available: none sent; another number than the last one sent; the last one; RMT-delivered has no effect; after a clear
     ∷ corner three (send 1 (message 21 0 7 [])) (took acted 16 1) (plain 1 22 0)
-    ∷ corner (three ++ (answer 1 [] true 2048 ∷ [])) (send 1 (message 21 0 0xfffffefe [])) (took acted 16 1) (plain 1 22 16)
-    ∷ corner (three ++ (answer 1 [] true 2048 ∷ [])) (send 1 (message 21 1 0xffffff02 [])) (took acted 16 1) (plain 1 22 16)
-    ∷ corner (three ++ (answer 1 [] true 2048 ∷ [])) (send 1 (message 21 0 0xffffff00 [])) (took acted 16 1) (plain 1 22 0)
-    ∷ corner (three ++ (answer 1 [] true 2048 ∷ cleared 1)) (send 1 (message 21 0 7 [])) (took acted 16 1) (plain 1 22 0)
+    ∷ corner (three ++ (answer 1 [] true [] 2048 ∷ [])) (send 1 (message 21 0 0xfffffefe [])) (took acted 16 1) (plain 1 22 16)
+    ∷ corner (three ++ (answer 1 [] true [] 2048 ∷ [])) (send 1 (message 21 1 0xffffff02 [])) (took acted 16 1) (plain 1 22 16)
+    ∷ corner (three ++ (answer 1 [] true [] 2048 ∷ [])) (send 1 (message 21 0 0xffffff00 [])) (took acted 16 1) (plain 1 22 0)
+    ∷ corner (three ++ (answer 1 [] true [] 2048 ∷ cleared 1)) (send 1 (message 21 0 7 [])) (took acted 16 1) (plain 1 22 0)
     -- the lock rules are the same
     ∷ corner exclusive (send 2 (message 6 0 0 cal)) (took held 0 0) []
     ∷ corner stood (send 0 (message 7 0 0xffffff02 [])) (took acted 16 1) (plain 1 5 1)
@@ -298,23 +298,85 @@ overlapping-hold = refl
 -- the same server, preferring synchronized mode, cleared into overlap mode
 pub switched : List Corner
 switched =
-    corner (three ++ cleared 1) (answer 1 [] true 2048) done (reply 7 0)
-    ∷ corner (three ++ (send 0 (message 7 0 5 []) ∷ answer 1 [] true 2048 ∷ cleared 1)) (answer 1 [] true 2048) done (reply 7 0)
-    ∷ corner (three ++ (send 0 (message 7 0 5 []) ∷ answer 1 [] true 2048 ∷ cleared 1)) (send 1 (message 21 0 7 [])) (took acted 16 1) (plain 1 22 0)
+    corner (three ++ cleared 1) (answer 1 [] true [] 2048) done (reply 7 0)
+    ∷ corner (three ++ (send 0 (message 7 0 5 []) ∷ answer 1 [] true [] 2048 ∷ cleared 1)) (answer 1 [] true [] 2048) done (reply 7 0)
+    ∷ corner (three ++ (send 0 (message 7 0 5 []) ∷ answer 1 [] true [] 2048 ∷ cleared 1)) (send 1 (message 21 0 7 [])) (took acted 16 1) (plain 1 22 0)
     ∷ corner three (send 1 (message 19 0 0 [])) (took acted 16 1) (plain 1 23 0)
-    ∷ corner (three ++ cleared 1) (answer 2 [] true 2048) (refused 5) []
+    ∷ corner (three ++ cleared 1) (answer 2 [] true [] 2048) (refused 5) []
     ∷ []
 
 pub switched-hold : map found switched ≡ map sought switched
 unfolding switched log final step refusal causes answered plan finish received effect verdict placeOf acts synchronousExchange synchronousSaid asynchronousRest asynchronousSaid asynchronousEvent controlled mayAnswer answerNumber availableAt scan freshScan header field encode headerBytes frameBytes bytesOf classOf mayGrant access passOver grantPass change
 switched-hold = refl
 
+-- 02, Q-5: interrupted queries. A message with a number ending in n, to a connection
+abbrev numbered : ℕ → ℕ → ℕ → List ℕ
+numbered c t n = c ∷ 0x48 ∷ 0x53 ∷ t ∷ 0 ∷ 0xff ∷ 0xff ∷ 0xff ∷ n ∷ eightZeros
+
+-- A asked with ffffff00, and was answered with END
+abbrev query : List Event
+query = three ++ (send 0 (message 7 0 0xffffff00 []) ∷ [])
+
+abbrev ended : List Event
+ended = query ++ (answer 1 [] true [] 2048 ∷ [])
+
+pub interruptions-of : List Corner
+interruptions-of =
+    -- an END answer with a command unread is withheld, also one of any length, and one that would be held; nothing is asked then
+    corner query (answer 1 [] true (message 7 0 0xffffff02 []) 2048) withheld (numbered 1 14 2 ++ numbered 0 13 2)
+    ∷ corner (query ++ (answer 1 [] true (message 7 0 0xffffff02 []) 2048 ∷ [])) (answer 1 [] true [] 2048) (refused 5) []
+    ∷ corner query (answer 1 [] true (take 16 (message 6 9 0xffffff02 cal)) 2048) withheld (numbered 1 14 2 ++ numbered 0 13 2)
+    ∷ corner (query ++ (request 3 0 [] ∷ [])) (answer 1 [] true (message 12 0 0xffffff02 []) 2048) withheld (numbered 1 14 2 ++ numbered 0 13 2)
+    -- the message that interrupts stays unread, and acts when it is delivered, without a second interruption
+    ∷ corner (query ++ (answer 1 [] true (message 7 0 0xffffff02 []) 2048 ∷ [])) (send 0 (message 7 0 0xffffff02 [])) (took acted 16 1) []
+    -- sent: without END; fifteen bytes; another type first; wrong prologue; a remainder to skip
+    ∷ corner query (answer 1 [] false (message 7 0 0xffffff02 []) 2048) done (numbered 0 6 0)
+    ∷ corner query (answer 1 [] true (take 15 (message 7 0 0xffffff02 [])) 2048) done (numbered 0 7 0)
+    ∷ corner query (answer 1 [] true (message 8 0 0 []) 2048) done (numbered 0 7 0)
+    ∷ corner query (answer 1 [] true (0 ∷ message 7 0 0xffffff02 []) 2048) done (numbered 0 7 0)
+    ∷ corner (query ++ (send 0 (message 6 0 0 (replicate 1025 7)) ∷ [])) (answer 1 [] true (message 7 0 0xffffff02 []) 2048) done (numbered 0 7 0)
+    -- refusals come first
+    ∷ corner three (answer 1 [] true (message 7 0 0xffffff02 []) 2048) (refused 5) []
+    -- the test of RMT-delivered: expected after END, and there: nothing; not there: interrupted, then it acts; there and not expected: the same
+    ∷ corner ended (send 0 (message 7 1 0xffffff02 [])) (took acted 16 1) []
+    ∷ corner ended (send 0 (message 7 0 0xffffff02 [])) (took acted 16 1) (numbered 1 14 2 ++ numbered 0 13 2)
+    ∷ corner (ended ++ (send 0 (message 7 0 0xffffff02 []) ∷ [])) (answer 1 [] true [] 2048) done (numbered 0 7 2)
+    ∷ corner (ended ++ (send 0 (message 7 0 0xffffff02 []) ∷ [])) (send 0 (message 6 0 0xffffff04 [])) (took acted 16 1) []
+    ∷ corner three (send 0 (message 6 1 0xffffff00 [])) (took acted 16 1) (numbered 1 14 0 ++ numbered 0 13 0)
+    ∷ corner (ended ++ (send 0 (message 6 0 0xffffff02 []) ∷ [])) (send 1 (message 21 0 0 [])) (took acted 16 1) (plain 1 22 0)
+    -- a message that is held or answered Error is not tested
+    ∷ corner (ended ++ (request 3 0 [] ∷ [])) (send 0 (message 7 0 0xffffff02 [])) (took held 0 0) []
+    ∷ corner (ended ++ (send 0 (message 7 2 0xffffff02 []) ∷ [])) (send 0 (message 7 0 0xffffff02 [])) (took acted 16 1) (numbered 1 14 2 ++ numbered 0 13 2)
+    -- an answer without END expects nothing; a status query with RMT-delivered and a device clear clear the expectation
+    ∷ corner (query ++ (answer 1 [] false [] 2048 ∷ [])) (send 0 (message 6 0 0xffffff02 [])) (took acted 16 1) []
+    ∷ corner (ended ++ (send 1 (message 21 1 0 []) ∷ [])) (send 0 (message 6 0 0xffffff02 [])) (took acted 16 1) []
+    ∷ corner (ended ++ (send 1 (message 19 0 0 []) ∷ send 0 (message 8 0 0 []) ∷ [])) (send 0 (message 6 0 0xffffff00 [])) (took acted 16 1) []
+    -- the order: AsyncInterrupted, Interrupted, the release's answer, the grants
+    ∷ corner (ended ++ (request 1 0 [] ∷ request 3 9 [] ∷ releaseOf 1 0xffffff02 ∷ [])) (send 0 (message 7 0 0xffffff02 [])) (took acted 16 1) (numbered 1 14 2 ++ (numbered 0 13 2 ++ (plain 1 5 1 ++ plain 3 5 1)))
+    ∷ []
+
+pub interruptions-hold : map found interruptions-of ≡ map sought interruptions-of
+unfolding interruptions-of log final step refusal causes answered plan finish received effect verdict placeOf acts synchronousExchange synchronousSaid asynchronousRest asynchronousSaid asynchronousEvent controlled mayAnswer answerNumber availableAt scan freshScan header field encode headerBytes frameBytes bytesOf classOf mayGrant access passOver grantPass change
+interruptions-hold = refl
+
+-- overlap mode: neither tested nor withheld
+pub uninterrupted : List Corner
+uninterrupted =
+    corner three (answer 1 [] true (message 7 0 0xffffff02 []) 2048) done (numbered 0 7 0)
+    ∷ corner (three ++ (answer 1 [] true [] 2048 ∷ [])) (send 0 (message 7 0 0xffffff02 [])) (took acted 16 1) []
+    ∷ corner three (send 0 (message 7 1 0xffffff02 [])) (took acted 16 1) []
+    ∷ []
+
+pub uninterrupted-hold : map (foundOn overlapMaking) uninterrupted ≡ map sought uninterrupted
+unfolding uninterrupted log final step refusal causes answered plan finish received effect verdict placeOf acts synchronousExchange synchronousSaid asynchronousRest asynchronousSaid asynchronousEvent controlled mayAnswer answerNumber availableAt scan freshScan header field encode headerBytes frameBytes bytesOf classOf mayGrant access passOver grantPass change
+uninterrupted-hold = refl
+
 -- clear, status, remote, sizes, answers
 pub exchanges : List Corner
 exchanges =
     -- AsyncDeviceClear: a waiting request is answered 0 first; nothing is asked any more; message available goes off; once again
     corner (exclusive ++ (request 3 9 [] ∷ [])) (send 3 (message 19 0 0 [])) (took acted 16 2) (plain 3 5 0 ++ plain 3 23 0)
-    ∷ corner (asked ++ (send 1 (message 19 0 0 []) ∷ [])) (answer 1 [] true 2048) (refused 5) []
+    ∷ corner (asked ++ (send 1 (message 19 0 0 []) ∷ [])) (answer 1 [] true [] 2048) (refused 5) []
     ∷ corner (asked ++ (send 1 (message 19 0 0 []) ∷ [])) (send 1 (message 21 0 0 [])) (took acted 16 1) (plain 1 22 0x41)
     ∷ corner inClear (send 1 (message 19 0 0 [])) (took acted 16 1) (plain 1 23 0)
     ∷ corner (exclusive ++ (send 3 (message 19 0 0 []) ∷ request 3 9 [] ∷ [])) (send 3 (message 19 0 0 [])) (took acted 16 2) (plain 3 5 0 ++ plain 3 23 0)
@@ -332,17 +394,17 @@ exchanges =
     ∷ corner (asked ++ (send 0 (message 7 0 4 []) ∷ [])) (send 1 (message 21 0 0 [])) (took acted 16 1) (plain 1 22 0x51)
     ∷ corner (status 0xff ∷ three) (send 1 (message 21 0 0 [])) (took acted 16 1) (plain 1 22 0xef)
     -- what is asked: not by Data; by the last DataEND or Trigger; an answer without END keeps it, one with END clears it; each session's own
-    ∷ corner (three ++ (send 0 (message 6 0 2 []) ∷ [])) (answer 1 [] true 2048) (refused 5) []
-    ∷ corner (asked ++ (send 0 (message 12 0 6 []) ∷ [])) (answer 1 [] true 2048) done (0 ∷ 0x48 ∷ 0x53 ∷ 7 ∷ 0 ∷ 0 ∷ 0 ∷ 0 ∷ 6 ∷ eightZeros)
-    ∷ corner (asked ++ (send 0 (message 6 0 6 []) ∷ [])) (answer 1 (9 ∷ []) false 2048) done (0 ∷ 0x48 ∷ 0x53 ∷ 6 ∷ 0 ∷ 0 ∷ 0 ∷ 0 ∷ 2 ∷ 0 ∷ 0 ∷ 0 ∷ 0 ∷ 0 ∷ 0 ∷ 0 ∷ 1 ∷ 9 ∷ [])
-    ∷ corner (asked ++ (answer 1 [] true 2048 ∷ [])) (answer 1 [] true 2048) (refused 5) []
-    ∷ corner (asked ++ (send 2 (message 7 0 8 []) ∷ [])) (answer 2 [] true 2048) done (2 ∷ 0x48 ∷ 0x53 ∷ 7 ∷ 0 ∷ 0 ∷ 0 ∷ 0 ∷ 8 ∷ eightZeros)
+    ∷ corner (three ++ (send 0 (message 6 0 2 []) ∷ [])) (answer 1 [] true [] 2048) (refused 5) []
+    ∷ corner (asked ++ (send 0 (message 12 0 6 []) ∷ [])) (answer 1 [] true [] 2048) done (0 ∷ 0x48 ∷ 0x53 ∷ 7 ∷ 0 ∷ 0 ∷ 0 ∷ 0 ∷ 6 ∷ eightZeros)
+    ∷ corner (asked ++ (send 0 (message 6 0 6 []) ∷ [])) (answer 1 (9 ∷ []) false [] 2048) done (0 ∷ 0x48 ∷ 0x53 ∷ 6 ∷ 0 ∷ 0 ∷ 0 ∷ 0 ∷ 2 ∷ 0 ∷ 0 ∷ 0 ∷ 0 ∷ 0 ∷ 0 ∷ 0 ∷ 1 ∷ 9 ∷ [])
+    ∷ corner (asked ++ (answer 1 [] true [] 2048 ∷ [])) (answer 1 [] true [] 2048) (refused 5) []
+    ∷ corner (asked ++ (send 2 (message 7 0 8 []) ∷ [])) (answer 2 [] true [] 2048) done (2 ∷ 0x48 ∷ 0x53 ∷ 7 ∷ 0 ∷ 0 ∷ 0 ∷ 0 ∷ 8 ∷ eightZeros)
     -- an answer flows though another holds the lock; the client's size; the reply says 1,024
-    ∷ corner (asked ++ (request 3 0 [] ∷ [])) (answer 1 [] true 2048) done (0 ∷ 0x48 ∷ 0x53 ∷ 7 ∷ 0 ∷ 0 ∷ 0 ∷ 0 ∷ 2 ∷ eightZeros)
+    ∷ corner (asked ++ (request 3 0 [] ∷ [])) (answer 1 [] true [] 2048) done (0 ∷ 0x48 ∷ 0x53 ∷ 7 ∷ 0 ∷ 0 ∷ 0 ∷ 0 ∷ 2 ∷ eightZeros)
     ∷ corner three (send 1 (message 15 0 0 (0 ∷ 0 ∷ 0 ∷ 0 ∷ 0 ∷ 0 ∷ 2 ∷ 0 ∷ []))) (took acted 24 1) (1 ∷ 0x48 ∷ 0x53 ∷ 16 ∷ 0 ∷ 0 ∷ 0 ∷ 0 ∷ 0 ∷ 0 ∷ 0 ∷ 0 ∷ 0 ∷ 0 ∷ 0 ∷ 0 ∷ 8 ∷ 0 ∷ 0 ∷ 0 ∷ 0 ∷ 0 ∷ 0 ∷ 4 ∷ 0 ∷ [])
-    ∷ corner (asked ++ (send 1 (message 15 0 0 (0 ∷ 0 ∷ 0 ∷ 0 ∷ 0 ∷ 0 ∷ 0 ∷ 3 ∷ [])) ∷ [])) (answer 1 (1 ∷ 2 ∷ 3 ∷ 4 ∷ []) true 2048) (refused 6) []
-    ∷ corner (asked ++ (send 1 (message 15 0 0 (0 ∷ 0 ∷ 0 ∷ 0 ∷ 0 ∷ 0 ∷ 0 ∷ 0 ∷ [])) ∷ [])) (answer 1 [] true 2048) done (0 ∷ 0x48 ∷ 0x53 ∷ 7 ∷ 0 ∷ 0 ∷ 0 ∷ 0 ∷ 2 ∷ eightZeros)
-    ∷ corner (asked ++ (send 1 (message 15 0 0 (0 ∷ 0 ∷ 0 ∷ 0 ∷ 0 ∷ 0 ∷ 0 ∷ 3 ∷ [])) ∷ [])) (answer 1 (1 ∷ 2 ∷ 3 ∷ []) true 2048) done (0 ∷ 0x48 ∷ 0x53 ∷ 7 ∷ 0 ∷ 0 ∷ 0 ∷ 0 ∷ 2 ∷ 0 ∷ 0 ∷ 0 ∷ 0 ∷ 0 ∷ 0 ∷ 0 ∷ 3 ∷ 1 ∷ 2 ∷ 3 ∷ [])
+    ∷ corner (asked ++ (send 1 (message 15 0 0 (0 ∷ 0 ∷ 0 ∷ 0 ∷ 0 ∷ 0 ∷ 0 ∷ 3 ∷ [])) ∷ [])) (answer 1 (1 ∷ 2 ∷ 3 ∷ 4 ∷ []) true [] 2048) (refused 6) []
+    ∷ corner (asked ++ (send 1 (message 15 0 0 (0 ∷ 0 ∷ 0 ∷ 0 ∷ 0 ∷ 0 ∷ 0 ∷ 0 ∷ [])) ∷ [])) (answer 1 [] true [] 2048) done (0 ∷ 0x48 ∷ 0x53 ∷ 7 ∷ 0 ∷ 0 ∷ 0 ∷ 0 ∷ 2 ∷ eightZeros)
+    ∷ corner (asked ++ (send 1 (message 15 0 0 (0 ∷ 0 ∷ 0 ∷ 0 ∷ 0 ∷ 0 ∷ 0 ∷ 3 ∷ [])) ∷ [])) (answer 1 (1 ∷ 2 ∷ 3 ∷ []) true [] 2048) done (0 ∷ 0x48 ∷ 0x53 ∷ 7 ∷ 0 ∷ 0 ∷ 0 ∷ 0 ∷ 2 ∷ 0 ∷ 0 ∷ 0 ∷ 0 ∷ 0 ∷ 0 ∷ 0 ∷ 3 ∷ 1 ∷ 2 ∷ 3 ∷ [])
     ∷ []
 
 pub exchanges-hold : map found exchanges ≡ map sought exchanges
@@ -366,17 +428,17 @@ refusals =
     ∷ corner (clock 5 2048 ∷ clock 4 2048 ∷ []) (clock 5 2048) done []
     ∷ corner [] (clock 4611686018427387905 2048) (refused 4) []
     ∷ corner [] (clock 4611686018427387904 2048) done []
-    ∷ corner three (answer 1 [] true 2048) (refused 5) []
-    ∷ corner half (answer 1 [] true 2048) (refused 5) []
-    ∷ corner three (answer 1 (replicate 1025 0) true 2048) (refused 5) []
-    ∷ corner asked (answer 1 (replicate 1025 0) true 2048) (refused 6) []
+    ∷ corner three (answer 1 [] true [] 2048) (refused 5) []
+    ∷ corner half (answer 1 [] true [] 2048) (refused 5) []
+    ∷ corner three (answer 1 (replicate 1025 0) true [] 2048) (refused 5) []
+    ∷ corner asked (answer 1 (replicate 1025 0) true [] 2048) (refused 6) []
     ∷ corner three (delivery 64 [] 2047) (refused 7) []
     ∷ corner three (cut 64 2047) (refused 7) []
     ∷ corner [] (clock 4611686018427387905 2047) (refused 7) []
-    ∷ corner three (answer 4 [] true 2047) (refused 7) []
-    ∷ corner three (answer 4 [] true 2048) (refused 8) []
-    ∷ corner three (answer 0 (replicate 1025 0) true 2048) (refused 8) []
-    ∷ corner (half ++ (cut 0 2048 ∷ [])) (answer 1 [] true 2048) (refused 8) []
+    ∷ corner three (answer 4 [] true [] 2047) (refused 7) []
+    ∷ corner three (answer 4 [] true [] 2048) (refused 8) []
+    ∷ corner three (answer 0 (replicate 1025 0) true [] 2048) (refused 8) []
+    ∷ corner (half ++ (cut 0 2048 ∷ [])) (answer 1 [] true [] 2048) (refused 8) []
     ∷ []
 
 pub refusals-hold : map found refusals ≡ map sought refusals
@@ -450,3 +512,7 @@ answers-hold = refl
 
 pub done-hold : doneAnswer (refused 3) 0 ∷ doneAnswer done 34 ∷ [] ≡ record { refusal = 3; output = 0 } ∷ record { refusal = 0; output = 34 } ∷ []
 done-hold = refl
+
+pub answered-hold : answeredAnswer (refused 5) 0 ∷ answeredAnswer done 17 ∷ answeredAnswer withheld 34 ∷ []
+    ≡ record { refusal = 5; withheld = 0; output = 0 } ∷ record { refusal = 0; withheld = 0; output = 17 } ∷ record { refusal = 0; withheld = 1; output = 34 } ∷ []
+answered-hold = refl

@@ -100,7 +100,7 @@ Decided d m (opening c) = Unit {0}
 Decided d m (delivery c bs room) = Decides d m c bs room
 Decided d m (cut c room) = Unit {0}
 Decided d m (clock t room) = Unit {0}
-Decided d m (answer n p end room) = Unit {0}
+Decided d m (answer n p end sh room) = Unit {0}
 Decided d m (status b) = Unit {0}
 
 abbrev pub EachDecides : Server → Model → List Event → Type 0

@@ -1,11 +1,16 @@
 -- 01, "Clear, status, remote, sizes": what a session has asked and been sent. Three definitions are shut, and proofs go by the laws in
 -- proofs/Exchange.antt: whether an answer may be given, the number that it carries, message available at a status query.
 -- Assumes nothing.
-use mathlib.Core.Bool.{Bool, true, false, not, _&&_, cond}
+use mathlib.Core.Bool.{Bool, true, false, not, _&&_, _||_, cond}
+use mathlib.Core.List.{List}
 use Prim.Native.Nat.{ℕ, _+_, _*_, _-_, _/_, _%_}
-use lib.Dec.{eqb}
+use lib.Dec.{eqb, leb}
+use lib.ListN.{length}
 use Rattle.wire.specs.declared.Header.{Header}
+use Rattle.wire.specs.Message.{header, prologue}
+use Rattle.wire.specs.Class.{one-of}
 use Rattle.wire.specs.MessageId.{start, next}
+use Rattle.model.specs.MessageTypes.{commands}
 use Rattle.model.specs.State.{Entry, Exchange, Asked, Asked.none, Asked.some, RemoteLocal, halfOpen}
 
 -- RMT-delivered is control code 1: message available goes off when a message that acts carries it
@@ -14,19 +19,37 @@ afterRmt code available = not (eqb code 1) && available
 
 -- a change of one part: what is asked and message available; the device clear; the client's size; the mode; the count of answers
 abbrev pub withAnswering : Asked → Bool → Exchange → Exchange
-withAnswering a m x = record { inClear = x .inClear; asked = a; messageAvailable = m; clientSize = x .clientSize; overlap = x .overlap; count = x .count; anySent = x .anySent }
+withAnswering a m x = record { inClear = x .inClear; asked = a; messageAvailable = m; clientSize = x .clientSize; overlap = x .overlap; count = x .count; anySent = x .anySent; rmtExpected = x .rmtExpected }
 
 abbrev pub withClear : Bool → Exchange → Exchange
-withClear b x = record { inClear = b; asked = x .asked; messageAvailable = x .messageAvailable; clientSize = x .clientSize; overlap = x .overlap; count = x .count; anySent = x .anySent }
+withClear b x = record { inClear = b; asked = x .asked; messageAvailable = x .messageAvailable; clientSize = x .clientSize; overlap = x .overlap; count = x .count; anySent = x .anySent; rmtExpected = x .rmtExpected }
 
 abbrev pub withClientSize : ℕ → Exchange → Exchange
-withClientSize n x = record { inClear = x .inClear; asked = x .asked; messageAvailable = x .messageAvailable; clientSize = n; overlap = x .overlap; count = x .count; anySent = x .anySent }
+withClientSize n x = record { inClear = x .inClear; asked = x .asked; messageAvailable = x .messageAvailable; clientSize = n; overlap = x .overlap; count = x .count; anySent = x .anySent; rmtExpected = x .rmtExpected }
 
 abbrev pub withMode : Bool → Exchange → Exchange
-withMode b x = record { inClear = x .inClear; asked = x .asked; messageAvailable = x .messageAvailable; clientSize = x .clientSize; overlap = b; count = x .count; anySent = x .anySent }
+withMode b x = record { inClear = x .inClear; asked = x .asked; messageAvailable = x .messageAvailable; clientSize = x .clientSize; overlap = b; count = x .count; anySent = x .anySent; rmtExpected = x .rmtExpected }
 
 abbrev pub withCount : ℕ → Bool → Exchange → Exchange
-withCount n b x = record { inClear = x .inClear; asked = x .asked; messageAvailable = x .messageAvailable; clientSize = x .clientSize; overlap = x .overlap; count = n; anySent = b }
+withCount n b x = record { inClear = x .inClear; asked = x .asked; messageAvailable = x .messageAvailable; clientSize = x .clientSize; overlap = x .overlap; count = n; anySent = b; rmtExpected = x .rmtExpected }
+
+abbrev pub withExpectation : Bool → Exchange → Exchange
+withExpectation b x = record { inClear = x .inClear; asked = x .asked; messageAvailable = x .messageAvailable; clientSize = x .clientSize; overlap = x .overlap; count = x .count; anySent = x .anySent; rmtExpected = b }
+
+-- 02, Q-5: an interrupted session: what is asked is cleared, message available goes off
+abbrev pub interrupted : Exchange → Exchange
+interrupted x = withAnswering none false x
+
+-- 02, Q-5: in synchronized mode each Data, DataEND and Trigger is tested just before it acts: RMT-delivered differs from the expectation
+abbrev pub differs : Bool → Bool → Bool
+differs a b = cond a (not b) b
+
+abbrev pub outOfTurn : ℕ → Exchange → Bool
+outOfTurn code x = not (x .overlap) && differs (eqb code 1) (x .rmtExpected)
+
+-- the test clears the expectation
+abbrev pub tested : ℕ → Exchange → Exchange
+tested code x = withExpectation false (cond (outOfTurn code x) (interrupted x) x)
 
 -- Data, and a status query
 abbrev pub noteRmt : ℕ → Exchange → Exchange
@@ -36,9 +59,9 @@ noteRmt code x = withAnswering (x .asked) (afterRmt code (x .messageAvailable)) 
 abbrev pub ask : ℕ → ℕ → Exchange → Exchange
 ask code id x = withAnswering (some id) (afterRmt code (x .messageAvailable)) x
 
--- AsyncDeviceClear: nothing is asked any more and message available goes off; 02, Q-1: the count is reset
+-- AsyncDeviceClear: nothing is asked any more and message available goes off; 02, Q-1: the count is reset; Q-5: no RMT is expected
 abbrev pub enterClear : Exchange → Exchange
-enterClear x = withCount start false (withClear true (withAnswering none false x))
+enterClear x = withExpectation false (withCount start false (withClear true (withAnswering none false x)))
 
 -- DeviceClearComplete ends it; 02, Q-1: its bit 0 is granted as asked
 abbrev pub bit0 : ℕ → ℕ
@@ -48,9 +71,13 @@ abbrev pub leaveClear : ℕ → Exchange → Exchange
 leaveClear code x = withMode (eqb (bit0 code) 1) (withClear false x)
 
 -- an answer: DataEND then clears what is asked; message available goes on when an answer is sent; 02, Q-1: answers are counted by two,
--- wrapping
+-- wrapping; 02, Q-5: an END sent sets the expectation
 abbrev pub answeredWith : Bool → Exchange → Exchange
-answeredWith end x = withCount (next (x .count)) true (withAnswering (cond end none (x .asked)) true x)
+answeredWith end x = withExpectation (end || x .rmtExpected) (withCount (next (x .count)) true (withAnswering (cond end none (x .asked)) true x))
+
+-- a status query with RMT-delivered clears the expectation
+abbrev pub queried : ℕ → Exchange → Exchange
+queried code x = withExpectation (afterRmt code (x .rmtExpected)) (noteRmt code x)
 
 -- refusal 5: the session has asked nothing
 abbrev pub isAsked : Asked → Bool
@@ -85,6 +112,10 @@ availableIn false h x = afterRmt (h .code) (x .messageAvailable)
 
 unfoldable pub availableAt : Header → Exchange → Bool
 availableAt h x = availableIn (x .overlap) h x
+
+-- 02, Q-5: the bytes shown with an answer interrupt it: with no remainder to skip, they begin with a whole header, "HS" and type 6, 7 or 12
+abbrev pub interrupts : ℕ → List ℕ → Bool
+interrupts r bs = eqb r 0 && (leb 16 (length bs) && (prologue bs && one-of commands ((header bs) .kind)))
 
 -- the status response is the meter's byte with value 16 replaced by message available
 abbrev pub statusByte : ℕ → Bool → ℕ

@@ -22,6 +22,10 @@ use Rattle.model.specs.Table.{Corner, corner, found, sought, message, se
 abbrev plain : ℕ → ℕ → ℕ → List ℕ
 plain c t n = c ∷ 0x48 ∷ 0x53 ∷ t ∷ n ∷ 0 ∷ 0 ∷ 0 ∷ 0 ∷ eightZeros
 
+-- A is interrupted (02, Q-5)
+abbrev pair : List ℕ
+pair = plain 1 14 0 ++ plain 0 13 0
+
 -- A in device clear; a half-open session, and a connection without a role
 abbrev inClear : List Event
 inClear = three ++ (send 1 (message 19 0 0 []) ∷ [])
@@ -31,11 +35,11 @@ half = opening 0 ∷ send 0 initialize ∷ opening 1 ∷ []
 
 pub forms : List Corner
 forms =
-    -- 0 or 1: the highest code that acts, the lowest that does not
-    corner three (send 0 (message 6 1 0 cal)) (took acted 19 1) []
-    ∷ corner three (send 0 (message 7 1 0 cal)) (took acted 19 1) []
+    -- 0 or 1: the highest code that acts, the lowest that does not. No RMT is expected here
+    corner three (send 0 (message 6 1 0 cal)) (took acted 19 1) pair
+    ∷ corner three (send 0 (message 7 1 0 cal)) (took acted 19 1) pair
     ∷ corner three (send 0 (message 7 2 0 cal)) (took error-sent 19 0) (plain 0 3 2)
-    ∷ corner three (send 0 (message 12 1 0 [])) (took acted 16 1) []
+    ∷ corner three (send 0 (message 12 1 0 [])) (took acted 16 1) pair
     ∷ corner three (send 0 (message 12 2 0 [])) (took error-sent 16 0) (plain 0 3 2)
     ∷ corner three (send 1 (message 21 1 0 [])) (took acted 16 1) (plain 1 22 0)
     ∷ corner three (send 1 (message 4 1 0 cal)) (took acted 19 1) (plain 1 5 1)

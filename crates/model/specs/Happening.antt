@@ -5,7 +5,7 @@ use Prim.Native.Nat.{ℕ}
 use lib.Dec.{eqb}
 use Rattle.wire.specs.Message.{Message, header, messageOf}
 use Rattle.wire.specs.Frame.{Frame}
-use Rattle.model.specs.Interface.{Event, Event.opening, Event.delivery, Event.cut, Event.clock, Event.answer, Event.status, Outcome, Outcome.more-needed, Outcome.skipped, Outcome.held, Outcome.ignored, Outcome.error-sent, Outcome.closed, Outcome.acted, Reply, Reply.refused, Reply.done, Reply.took}
+use Rattle.model.specs.Interface.{Event, Event.opening, Event.delivery, Event.cut, Event.clock, Event.answer, Event.status, Outcome, Outcome.more-needed, Outcome.skipped, Outcome.held, Outcome.ignored, Outcome.error-sent, Outcome.closed, Outcome.acted, Reply, Reply.refused, Reply.done, Reply.withheld, Reply.took}
 
 -- the control code of the first frame of a call, if that frame has a given type
 pub data Heard : Type 0 where
@@ -39,6 +39,8 @@ pub data Happening : Type 0 where
   clock-read status-set : ℕ → Happening
   -- an answer was sent to a session: its payload, with END
   answer-sent : ℕ → List ℕ → Bool → Happening
+  -- 02, Q-5: an answer to a session was withheld, interrupted by a message with this MessageID
+  answer-withheld : ℕ → ℕ → Happening
 
 -- a delivery on connection c that showed bytes bs
 abbrev pub seenDelivery : Outcome → ℕ → List ℕ → ℕ → ℕ → List Frame → Happening
@@ -56,15 +58,25 @@ seenCall (opening c) = connected c
 seenCall (delivery c bs room) = unmoved
 seenCall (cut c room) = disconnected c silence
 seenCall (clock t room) = clock-read t
-seenCall (answer n p end room) = answer-sent n p end
+seenCall (answer n p end sh room) = answer-sent n p end
 seenCall (status b) = status-set b
+
+-- 02, Q-5: an answer that was withheld, by the bytes that were shown with it
+abbrev pub seenWithheld : Event → Happening
+seenWithheld (opening c) = unmoved
+seenWithheld (delivery c bs room) = unmoved
+seenWithheld (cut c room) = unmoved
+seenWithheld (clock t room) = unmoved
+seenWithheld (answer n p end sh room) = answer-withheld n ((header sh) .param)
+seenWithheld (status b) = unmoved
 
 abbrev pub happened : Event → Reply → List Frame → Happening
 happened e (refused n) fs = unmoved
 happened e done fs = seenCall e
+happened e withheld fs = seenWithheld e
 happened (delivery c bs room) (took o k n) fs = seenDelivery o c bs k n fs
 happened (opening c) (took o k n) fs = unmoved
 happened (cut c room) (took o k n) fs = unmoved
 happened (clock t room) (took o k n) fs = unmoved
-happened (answer s p end room) (took o k n) fs = unmoved
+happened (answer s p end sh room) (took o k n) fs = unmoved
 happened (status b) (took o k n) fs = unmoved

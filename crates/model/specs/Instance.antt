@@ -13,7 +13,7 @@ use Rattle.wire.specs.Class.{classOf, one-of}
 use Rattle.model.specs.Lists.{same, all, any, tally}
 use Rattle.model.specs.MessageTypes.{commands}
 use Rattle.model.specs.State.{Server, Rest, Locks, Entry, Waiting, Kind.exclusive-lock, Kind.shared-lock, Standing, Standing.no-release, Standing.release-of, Exchange, Asked, Asked.none, Asked.some, Connection, at, live, slotOfNumber, fresh}
-use Rattle.model.specs.Interface.{Event, Event.opening, Event.delivery, Event.cut, Event.clock, Event.answer, Event.status, Outcome.more-needed, Outcome.skipped, Outcome.held, Outcome.ignored, Outcome.error-sent, Outcome.closed, Outcome.acted, Reply, Reply.refused, Reply.done, Reply.took, outcomeNumber}
+use Rattle.model.specs.Interface.{Event, Event.opening, Event.delivery, Event.cut, Event.clock, Event.answer, Event.status, Outcome.more-needed, Outcome.skipped, Outcome.held, Outcome.ignored, Outcome.error-sent, Outcome.closed, Outcome.acted, Reply, Reply.refused, Reply.done, Reply.withheld, Reply.took, outcomeNumber}
 use Rattle.model.specs.Scan.{freshScan, scan}
 use Rattle.model.specs.Place.{placeOf}
 use Rattle.model.specs.Locks.{mayGrant, access, passOver, grantPass, change, noExclusive}
@@ -42,22 +42,24 @@ rich =
     -- shared, exclusive, waiting; a request in pieces
     ∷ send 1 (take 17 (message 4 1 0 cal)) ∷ send 1 (message 4 1 0 cal ++ (1 ∷ 2 ∷ [])) ∷ request 3 0 Cal ∷ request 1 0 Cal ∷ request 1 0 []
     ∷ request 3 50 [] ∷ request 5 90 cal ∷ request 7 20 Cal ∷ request 7 20 [] ∷ send 2 (message 6 0 0 cal) ∷ send 0 (message 7 0 0xffffff00 cal)
-    ∷ answer 1 (1 ∷ 2 ∷ []) false 2048 ∷ answer 1 (3 ∷ []) true 2048 ∷ answer 1 [] true 2048 ∷ answer 2 [] true 2048 ∷ answer 9 [] true 2048
+    ∷ answer 1 (1 ∷ 2 ∷ []) false [] 2048 ∷ answer 1 (3 ∷ []) true [] 2048 ∷ answer 1 [] true [] 2048 ∷ answer 2 [] true [] 2048 ∷ answer 9 [] true [] 2048
     ∷ clock 10 2048 ∷ clock 20 2048 ∷ clock 4 2048 ∷ clock 30 2000
     -- A releases exclusive, by the number of its last message: C is granted past B; a release of shared that stands, with another and a
     -- request behind it; B is answered 0
     ∷ releaseOf 1 0xffffff00 ∷ send 0 (message 12 1 0xffffff02 []) ∷ send 2 (message 7 0 8 cal) ∷ releaseOf 1 0xffffff04 ∷ releaseOf 1 0xffffff02 ∷ request 1 0 [] ∷ clock 55 2048 ∷ clock 60 2048
     -- too large, skipped in two pieces, then whole again
     ∷ send 0 (message 6 0 0 (replicate 1025 7)) ∷ send 0 (replicate 25 7) ∷ send 0 (replicate 1000 7) ∷ send 0 (message 12 0 0xffffff06 []) ∷ send 0 (message 12 0 0xffffff04 [])
-    ∷ release 3 ∷ release 5 ∷ send 0 (message 12 0 0xffffff06 []) ∷ send 0 (message 6 0 0xffffff08 cal) ∷ answer 1 (4 ∷ []) true 2048
+    ∷ release 3 ∷ release 5 ∷ send 0 (message 12 0 0xffffff06 []) ∷ send 0 (message 6 0 0xffffff08 cal) ∷ answer 1 (4 ∷ []) true [] 2048
     -- exclusive, two waiting, a device clear of one, its end
     ∷ request 1 0 [] ∷ request 3 70 [] ∷ request 7 70 [] ∷ send 2 (message 7 0 10 cal) ∷ send 3 (message 19 0 0 []) ∷ send 2 (message 6 0 0 [])
-    ∷ send 2 (message 8 0 0 []) ∷ send 0 (message 7 0 0xffffff0a []) ∷ releaseOf 1 0xffffff0c ∷ send 7 (message 24 0 0 []) ∷ send 1 (message 19 0 0 []) ∷ answer 1 [] true 2048 ∷ send 1 (message 21 0 0 [])
+    ∷ send 2 (message 8 0 0 []) ∷ send 0 (message 7 0 0xffffff0a []) ∷ releaseOf 1 0xffffff0c ∷ send 7 (message 24 0 0 []) ∷ send 1 (message 19 0 0 []) ∷ answer 1 [] true [] 2048 ∷ send 1 (message 21 0 0 [])
     ∷ release 7 ∷ request 1 0 [] ∷ request 7 70 [] ∷ request 1 0 cal ∷ request 3 99 cal ∷ status 0x41
     -- a cut that leaves a grant, a FatalError from a client; connections used again; a half-open session that goes on; a wrong prologue
     ∷ cut 0 2048 ∷ send 1 [] ∷ send 3 (message 2 0 0 []) ∷ opening 0 ∷ opening 1 ∷ send 0 initialize ∷ send 0 (message 6 0 0 []) ∷ opening 0
     ∷ send 0 initialize ∷ send 1 (asyncInitialize 6) ∷ send 4 (message 7 0 12 []) ∷ send 5 (replicate 16 0) ∷ send 7 (message 24 0 0 []) ∷ release 7
-    ∷ request 1 5 [] ∷ send 0 (message 7 0 14 []) ∷ answer 6 (5 ∷ []) true 2048 ∷ clock 200 2048
+    ∷ request 1 5 [] ∷ send 0 (message 7 0 14 []) ∷ answer 6 (5 ∷ []) true [] 2048 ∷ clock 200 2048
+    -- 02, Q-5: interrupted by a message that acts, and by one that is unread
+    ∷ send 0 (message 7 0 16 []) ∷ answer 6 [] true (message 7 0 18 []) 2048
     ∷ [])
 
 abbrev d₀ : Server
@@ -70,6 +72,7 @@ flag b = cond b 1 0
 abbrev replyNumbers : Reply → List ℕ
 replyNumbers (refused n) = 0 ∷ n ∷ []
 replyNumbers done = 1 ∷ []
+replyNumbers withheld = 3 ∷ []
 replyNumbers (took o k n) = 2 ∷ outcomeNumber o ∷ k ∷ n ∷ []
 
 abbrev lineNumbers : List Line → List ℕ
@@ -95,7 +98,7 @@ askedNumbers (some n) = 1 ∷ n ∷ []
 
 abbrev exchangeNumbers : List Exchange → List ℕ
 exchangeNumbers [] = 999 ∷ []
-exchangeNumbers (x ∷ xs) = flag (x .inClear) ∷ flag (x .messageAvailable) ∷ x .clientSize ∷ flag (x .overlap) ∷ x .count ∷ flag (x .anySent) ∷ askedNumbers (x .asked) ++ exchangeNumbers xs
+exchangeNumbers (x ∷ xs) = flag (x .inClear) ∷ flag (x .messageAvailable) ∷ x .clientSize ∷ flag (x .overlap) ∷ x .count ∷ flag (x .anySent) ∷ flag (x .rmtExpected) ∷ askedNumbers (x .asked) ++ exchangeNumbers xs
 
 abbrev connectionNumbers : List Connection → List ℕ
 connectionNumbers [] = 999 ∷ []
@@ -113,6 +116,7 @@ serverNumbers d = d .locks .clock ∷ entryNumbers (d .locks .entries) ++ (waiti
 abbrev replyCode : Reply → ℕ
 replyCode (refused n) = 100 + n
 replyCode done = 50
+replyCode withheld = 60
 replyCode (took o k n) = outcomeNumber o
 
 abbrev codeOf : Line → ℕ
@@ -131,11 +135,11 @@ codes =
     ∷ 1004 ∷ 1 ∷ 1 ∷ 6 ∷ 1006
     ∷ 1006 ∷ 1006 ∷ 6 ∷ 6 ∷ 1050
     ∷ 1006 ∷ 6 ∷ 6 ∷ 2 ∷ 2006 ∷ 3
-    ∷ 1006 ∷ 6 ∷ 6 ∷ 1006 ∷ 3006 ∷ 105 ∷ 1006
+    ∷ 1006 ∷ 2006 ∷ 6 ∷ 1006 ∷ 3006 ∷ 105 ∷ 1006
     ∷ 1006 ∷ 1006 ∷ 6 ∷ 1006 ∷ 6 ∷ 50
     ∷ 1050 ∷ 101 ∷ 5 ∷ 50 ∷ 50 ∷ 1006 ∷ 1005 ∷ 50
     ∷ 1006 ∷ 1006 ∷ 2 ∷ 2005 ∷ 1006 ∷ 1006
-    ∷ 1006 ∷ 6 ∷ 1050 ∷ 50
+    ∷ 1006 ∷ 6 ∷ 1050 ∷ 50 ∷ 2006 ∷ 2060
     ∷ []
 
 pub codes-at : map codeOf (log d₀ rich) ≡ codes
@@ -254,12 +258,13 @@ ties t fs end p d n =
 abbrev tiedAnswer : List Line → Server → Event → Reply → List Frame → Bool
 tiedAnswer ls d e (refused k) fs = true
 tiedAnswer ls d e (took o k m) fs = true
+tiedAnswer ls d e withheld fs = true
 tiedAnswer ls d (opening c) done fs = true
 tiedAnswer ls d (delivery c bs room) done fs = true
 tiedAnswer ls d (cut c room) done fs = true
 tiedAnswer ls d (clock t room) done fs = true
 tiedAnswer ls d (status b) done fs = true
-tiedAnswer ls d (answer n p end room) done fs = ties (trackOfLog false ls n (nothingYet false)) fs end p d n
+tiedAnswer ls d (answer n p end sh room) done fs = ties (trackOfLog false ls n (nothingYet false)) fs end p d n
 
 abbrev tied : List Line → Server → List Event → Bool
 tied ls d [] = true
@@ -275,6 +280,7 @@ tie-at = refl
 abbrev ownCommand : List Entry → Event → Reply → Bool
 ownCommand es e (refused k) = true
 ownCommand es e done = true
+ownCommand es e withheld = true
 ownCommand es (delivery c bs room) (took acted k n) = not (one-of commands ((header bs) .kind)) || all (λ x. noExclusive x || eqb (x .number) n) es
 ownCommand es (delivery c bs room) (took more-needed k n) = true
 ownCommand es (delivery c bs room) (took skipped k n) = true
@@ -286,7 +292,7 @@ ownCommand es (opening c) (took o k n) = true
 ownCommand es (cut c room) (took o k n) = true
 ownCommand es (clock t room) (took o k n) = true
 ownCommand es (status b) (took o k n) = true
-ownCommand es (answer m p end room) (took o k n) = true
+ownCommand es (answer m p end sh room) (took o k n) = true
 
 abbrev isolated : Server → List Event → Bool
 isolated d [] = true

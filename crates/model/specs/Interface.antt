@@ -14,8 +14,8 @@ pub data Event : Type 0 where
   cut : ℕ → ℕ → Event
   -- milliseconds, room
   clock : ℕ → ℕ → Event
-  -- the instrument answers (01: meter answer): session number, payload, with END, room
-  answer : ℕ → List ℕ → Bool → ℕ → Event
+  -- the instrument answers (01: meter answer): session number, payload, with END, the session's unread synchronous bytes (02, Q-5), room
+  answer : ℕ → List ℕ → Bool → List ℕ → ℕ → Event
   -- the instrument's status byte changes
   status : ℕ → Event
 
@@ -23,10 +23,11 @@ pub data Event : Type 0 where
 pub data Outcome : Type 0 where
   more-needed skipped held ignored error-sent closed acted : Outcome
 
--- refused with a number; done; a delivery's outcome, bytes taken, and session number (0 if none)
+-- refused with a number; done; 02, Q-5: an answer withheld; a delivery's outcome, bytes taken, and session number (0 if none)
 pub data Reply : Type 0 where
   refused : ℕ → Reply
   done : Reply
+  withheld : Reply
   took : Outcome → ℕ → ℕ → Reply
 
 -- the number of each outcome at the C interface
@@ -85,9 +86,10 @@ pub record DeliveryAnswer : Type 0 where
 abbrev pub deliveryAnswer : Reply → ℕ → ℕ → DeliveryAnswer
 deliveryAnswer (refused n) output missing = record { refusal = n; outcome = 0; session = 0; taken = 0; output = 0; missing = 0 }
 deliveryAnswer done output missing = record { refusal = 0; outcome = 0; session = 0; taken = 0; output = output; missing = 0 }
+deliveryAnswer withheld output missing = record { refusal = 0; outcome = 0; session = 0; taken = 0; output = output; missing = 0 }
 deliveryAnswer (took o k n) output missing = record { refusal = 0; outcome = outcomeNumber o; session = n; taken = k; output = output; missing = missing }
 
--- what the other calls return
+-- what an opening, a cut and a clock reading return
 pub record DoneAnswer : Type 0 where
   pub refusal : ℕ
   pub output : ℕ
@@ -95,4 +97,17 @@ pub record DoneAnswer : Type 0 where
 abbrev pub doneAnswer : Reply → ℕ → DoneAnswer
 doneAnswer (refused n) output = record { refusal = n; output = 0 }
 doneAnswer done output = record { refusal = 0; output = output }
+doneAnswer withheld output = record { refusal = 0; output = output }
 doneAnswer (took o k n) output = record { refusal = 0; output = output }
+
+-- what hislip_answer returns; 02, Q-5: "A withheld answer is reported to the host by name": 1 if it was withheld
+pub record AnsweredAnswer : Type 0 where
+  pub refusal : ℕ
+  pub withheld : ℕ
+  pub output : ℕ
+
+abbrev pub answeredAnswer : Reply → ℕ → AnsweredAnswer
+answeredAnswer (refused n) output = record { refusal = n; withheld = 0; output = 0 }
+answeredAnswer done output = record { refusal = 0; withheld = 0; output = output }
+answeredAnswer withheld output = record { refusal = 0; withheld = 1; output = output }
+answeredAnswer (took o k n) output = record { refusal = 0; withheld = 0; output = output }

@@ -13,6 +13,7 @@ pub mod Refusals
 pub mod Step
 pub mod Table
 pub mod Bench
+pub mod Figures
 pub mod Corners
 pub mod Canonical
 pub mod Post
@@ -53,4 +54,5 @@ pub mod Statements
 pub mod Sending
 pub mod Outcomes
 pub mod Missing
+pub mod NextQuestion
 pub mod Asking

@@ -15,8 +15,8 @@ use Rattle.model.specs.Interface.{Event, Event.delivery, Outcome, Outcom
 use Rattle.model.specs.Step.{Line, Result, step, final, log}
 use Rattle.model.specs.Closing.{OldestFirst}
 use Rattle.model.specs.Happening.{Happening, heard, happened}
-use Rattle.model.specs.LocalityRows.{Row, inSlot, clear-row, asked-row, available-row, size-row, mode-row, count-row, sent-row, number-row, synchronous-row, asynchronous-row, exclusive-row, shared-row, last-row, standing-row, requestsLeft, looksAfter, open-row, remainder-row, isSilence, Single, singly, clock-row, status-row, made-row, issued-row, enable-row, lockout-row, remote-row}
-use Rattle.model.specs.LocalityReplies.{direct, answeredFirst, answerTo, sessionSaid}
+use Rattle.model.specs.LocalityRows.{Row, inSlot, clear-row, asked-row, available-row, size-row, mode-row, count-row, sent-row, expected-row, number-row, synchronous-row, asynchronous-row, exclusive-row, shared-row, last-row, standing-row, requestsLeft, looksAfter, open-row, remainder-row, isSilence, Single, singly, clock-row, status-row, made-row, issued-row, enable-row, lockout-row, remote-row}
+use Rattle.model.specs.LocalityReplies.{saidFirst, direct, answeredFirst, answerTo, sessionSaid}
 
 -- what happened at a call, as the host sees it
 abbrev pub atCall : Server → Event → Happening
@@ -52,9 +52,11 @@ Look false es ws es′ ws′ gs = (es′ ≡ es) × (ws′ ≡ ws) × (gs ≡ []
 abbrev pub Once : {A : Type 0} → Server → Happening → Result → (Server → A) → Single A → Type 0
 Once d h r field row = field (r .server) ≡ singly row h (field d)
 
-abbrev pub EachExchange : {A : Type 0} → Server → Happening → Result → (Exchange → A) → Row A → Type 0
+-- the row may go by the exchange's other fields
+abbrev pub EachExchange : {A : Type 0} → Server → Happening → Result → (Exchange → A) → (Exchange → Row A) → Type 0
 EachExchange d h r field row =
-    (i : ℕ) → i < length (d .rest .exchanges) → field (exchangeAt (r .server .rest) i) ≡ inSlot row (d .locks .entries) i h (field (exchangeAt (d .rest) i))
+    (i : ℕ) → i < length (d .rest .exchanges)
+    → field (exchangeAt (r .server .rest) i) ≡ inSlot (row (exchangeAt (d .rest) i)) (d .locks .entries) i h (field (exchangeAt (d .rest) i))
 
 abbrev pub EachConnection : {A : Type 0} → Server → Happening → Result → (Connection → A) → (List Entry → ℕ → Happening → A → A) → Type 0
 EachConnection d h r field row =
@@ -77,13 +79,14 @@ pub record Local (d : Server) (h : Happening) (r : Result) : Type 0 where
   pub remote : Once d h r (λ s. s .rest .remoteLocal .remote) remote-row
   -- exchanges
   pub exchange-slots : length (r .server .rest .exchanges) ≡ length (d .rest .exchanges)
-  pub in-clear : EachExchange d h r (λ x. x .inClear) clear-row
+  pub in-clear : EachExchange d h r (λ x. x .inClear) (λ x. clear-row)
   pub asked : EachExchange d h r (λ x. x .asked) asked-row
   pub message-available : EachExchange d h r (λ x. x .messageAvailable) available-row
-  pub client-size : EachExchange d h r (λ x. x .clientSize) size-row
-  pub mode : EachExchange d h r (λ x. x .overlap) (mode-row (d .rest .made .prefersOverlap))
-  pub count : EachExchange d h r (λ x. x .count) count-row
-  pub any-sent : EachExchange d h r (λ x. x .anySent) sent-row
+  pub client-size : EachExchange d h r (λ x. x .clientSize) (λ x. size-row)
+  pub mode : EachExchange d h r (λ x. x .overlap) (λ x. mode-row (d .rest .made .prefersOverlap))
+  pub count : EachExchange d h r (λ x. x .count) (λ x. count-row)
+  pub any-sent : EachExchange d h r (λ x. x .anySent) (λ x. sent-row)
+  pub rmt-expected : EachExchange d h r (λ x. x .rmtExpected) (λ x. expected-row)
   -- connections
   pub connection-places : length (r .server .rest .connections) ≡ length (d .rest .connections)
   pub is-open : EachConnection d h r (λ y. y .isOpen) open-row
@@ -103,8 +106,8 @@ pub record Local (d : Server) (h : Happening) (r : Result) : Type 0 where
   pub due-slots : length due ≡ length (d .locks .entries)
   pub due-is : (i : ℕ) → i < length (d .locks .entries) → at due i ≡ entryDue (d .locks .entries) h i (at (d .locks .entries) i)
   pub waiting : Look (looksAfter (d .locks .entries) h) due (requestsLeft (d .locks .entries) (d .locks .clock) h (d .locks .waiting)) (r .server .locks .entries) (r .server .locks .waiting) granted
-  -- every frame: the lock answers that come first, direct replies, answers 1 to those granted
-  pub frames : r .frames ≡ answeredFirst d h ++ (direct d h ++ map (answerTo 1 due) granted)
+  -- every frame: an interruption (02, Q-5), the lock answers that come first, direct replies, answers 1 to those granted
+  pub frames : r .frames ≡ saidFirst d h ++ (answeredFirst d h ++ (direct d h ++ map (answerTo 1 due) granted))
   -- the session's number in the reply
   pub session : (o : Outcome) (k n : ℕ) → r .reply ≡ took o k n → n ≡ sessionSaid d h n
 

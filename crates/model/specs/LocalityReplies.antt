@@ -8,8 +8,8 @@ use Rattle.wire.specs.Frame.{Frame, frameOf}
 use Rattle.model.specs.Lists.{isNil, any, keep, tally}
 use Rattle.model.specs.State.{Server, Entry, Exchange, Waiting, Asked, Asked.none, Asked.some, at, live, slotOfNumber, exchangeAt}
 use Rattle.model.specs.Place.{slotIn}
-use Rattle.model.specs.Happening.{Heard, Heard.silence, Heard.with-code, Action, Happening, Happening.unmoved, Happening.connected, Happening.disconnected, Happening.skipped-over, Happening.errored, Happening.message-acted, Happening.clock-read, Happening.status-set, Happening.answer-sent}
-use Rattle.model.specs.LocalityRows.{kindOf, slotActed, available-row, endedWith, requestsOf, reachedBy, connectionsOf}
+use Rattle.model.specs.Happening.{Heard, Heard.silence, Heard.with-code, Action, Happening, Happening.unmoved, Happening.connected, Happening.disconnected, Happening.skipped-over, Happening.errored, Happening.message-acted, Happening.clock-read, Happening.status-set, Happening.answer-sent, Happening.answer-withheld}
+use Rattle.model.specs.LocalityRows.{kindOf, slotActed, available-row, interruptedBy, endedWith, requestsOf, reachedBy, connectionsOf}
 
 -- a message to a connection with a type, code and parameter and no payload
 abbrev pub plainTo : ℕ → ℕ → ℕ → ℕ → Frame
@@ -40,7 +40,7 @@ preferred d = cond (d .rest .made .prefersOverlap) 1 0
 -- message available as a status query leaves it; 02, Q-1: in overlap mode, some answer was sent since the last reset and the query's number
 -- differs from the last one sent
 abbrev pub availableSeen : Action → Exchange → Bool
-availableSeen a x = cond (x .overlap) (x .anySent && not (eqb ((a .message .param + 2) % 2 ^ 32) (x .count))) (available-row .by-message a (x .messageAvailable))
+availableSeen a x = cond (x .overlap) (x .anySent && not (eqb ((a .message .param + 2) % 2 ^ 32) (x .count))) ((available-row x) .by-message a (x .messageAvailable))
 
 -- the direct reply to a message that acted, on its own connection
 abbrev pub replies : Server → Action → List ReplyTo
@@ -78,7 +78,24 @@ askedNumber (some n) = n
 abbrev pub numberSent : Exchange → ℕ
 numberSent x = cond (x .overlap) (x .count) (askedNumber (x .asked))
 
--- every frame but the lock answers
+-- 02, Q-5: AsyncInterrupted (14), then Interrupted (13), with the number of the interrupting message
+abbrev pub pairTo : Entry → ℕ → List Frame
+pairTo e n = plainTo (e .asynchronous) 14 0 n ∷ plainTo (e .synchronous) 13 0 n ∷ []
+
+-- what stands before the lock answers: the pair of a message that interrupts
+abbrev pub saidFirst : Server → Happening → List Frame
+saidFirst d unmoved = []
+saidFirst d (connected c) = []
+saidFirst d (disconnected c k) = []
+saidFirst d (skipped-over c k) = []
+saidFirst d (errored c n k) = []
+saidFirst d (message-acted a) = let i = slotActed (d .locks .entries) a in cond (interruptedBy (exchangeAt (d .rest) i) a) (pairTo (at (d .locks .entries) i) (a .message .param)) []
+saidFirst d (clock-read t) = []
+saidFirst d (status-set b) = []
+saidFirst d (answer-sent n p end) = []
+saidFirst d (answer-withheld n m) = []
+
+-- every other frame but the lock answers
 abbrev pub direct : Server → Happening → List Frame
 direct d unmoved = []
 direct d (connected c) = []
@@ -93,6 +110,8 @@ direct d (status-set b) = []
 direct d (answer-sent n p end) =
     let i = slotOfNumber (d .locks .entries) n in
     frameOf ((at (d .locks .entries) i) .synchronous) (cond end 7 6) 0 (numberSent (exchangeAt (d .rest) i)) p ∷ []
+-- 02, Q-5: the pair in place of the answer
+direct d (answer-withheld n m) = pairTo (at (d .locks .entries) (slotOfNumber (d .locks .entries) n)) m
 
 -- an answer to a waiting request goes to its session's asynchronous connection
 abbrev pub answerTo : ℕ → List Entry → Waiting → Frame
@@ -114,6 +133,7 @@ answeredFirst d (message-acted a) =
 answeredFirst d (clock-read t) = map (answerTo 0 (d .locks .entries)) (keep (reachedBy t) (d .locks .waiting))
 answeredFirst d (status-set b) = []
 answeredFirst d (answer-sent n p end) = []
+answeredFirst d (answer-withheld n m) = []
 
 -- the session's number in a reply: of a message that acted and of a delivery that closed
 abbrev pub sessionSaid : Server → Happening → ℕ → ℕ
@@ -126,3 +146,4 @@ sessionSaid d (errored c l k) n = 0
 sessionSaid d (clock-read t) n = 0
 sessionSaid d (status-set b) n = 0
 sessionSaid d (answer-sent s p end) n = 0
+sessionSaid d (answer-withheld s m) n = 0

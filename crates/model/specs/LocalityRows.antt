@@ -8,9 +8,9 @@ use Rattle.wire.specs.Field.{number}
 use Rattle.wire.specs.Class.{one-of}
 use Rattle.model.specs.Sizes.{noConnection}
 use Rattle.model.specs.Lists.{isNil, keep}
-use Rattle.model.specs.State.{Making, Entry, Waiting, Kind.exclusive-lock, Kind.shared-lock, Standing, Standing.no-release, Standing.release-of, Asked, Asked.none, Asked.some, at, live, slotOfNumber}
+use Rattle.model.specs.State.{Making, Entry, Waiting, Kind.exclusive-lock, Kind.shared-lock, Standing, Standing.no-release, Standing.release-of, Asked, Asked.none, Asked.some, Exchange, at, live, slotOfNumber}
 use Rattle.model.specs.Place.{slotIn}
-use Rattle.model.specs.Happening.{Heard, Heard.silence, Heard.with-code, Action, Happening, Happening.unmoved, Happening.connected, Happening.disconnected, Happening.skipped-over, Happening.errored, Happening.message-acted, Happening.clock-read, Happening.status-set, Happening.answer-sent}
+use Rattle.model.specs.Happening.{Heard, Heard.silence, Heard.with-code, Action, Happening, Happening.unmoved, Happening.connected, Happening.disconnected, Happening.skipped-over, Happening.errored, Happening.message-acted, Happening.clock-read, Happening.status-set, Happening.answer-sent, Happening.answer-withheld}
 
 abbrev pub kindOf : Action → ℕ
 kindOf a = a .message .kind
@@ -20,11 +20,12 @@ kindOf a = a .message .kind
 abbrev pub slotActed : List Entry → Action → ℕ
 slotActed es a = cond (eqb (kindOf a) 0) (slotOfNumber es 0) (cond (eqb (kindOf a) 17) (slotOfNumber es (a .message .param)) (slotIn es (a .connection)))
 
--- a field that each session has: what a message of the session makes of it, what an answer to it makes of it, with or without END, and
--- what it is once the session is closed
+-- a field that each session has: what a message of the session makes of it, what an answer to it makes of it, with or without END, what one
+-- that is withheld makes of it (02, Q-5), and what it is once the session is closed
 pub record Row (A : Type 0) : Type 0 where
   pub by-message : Action → A → A
   pub by-answer : Bool → A → A
+  pub when-withheld : A → A
   pub once-closed : A
 
 -- of the session in slot i; nothing else changes it
@@ -38,6 +39,7 @@ inSlot r es i (message-acted a) x = cond (eqb i (slotActed es a)) (r .by-message
 inSlot r es i (clock-read t) x = x
 inSlot r es i (status-set b) x = x
 inSlot r es i (answer-sent n p end) x = cond (eqb i (slotOfNumber es n)) (r .by-answer end x) x
+inSlot r es i (answer-withheld n m) x = cond (eqb i (slotOfNumber es n)) (r .when-withheld x) x
 
 -- EXCHANGES. 01: AsyncDeviceClear (19); DeviceClearComplete (8) ends it. A session begins (0) outside a clear
 abbrev pub clear-row : Row Bool
@@ -45,26 +47,34 @@ clear-row =
     record {
       by-message = λ a b. cond (eqb (kindOf a) 19) true (cond (one-of (0 ∷ 8 ∷ []) (kindOf a)) false b);
       by-answer = λ end b. b;
+      when-withheld = λ b. b;
       once-closed = false;
     }
 
+-- 02, Q-5: in synchronized mode a Data, DataEND or Trigger (6, 7, 12) interrupts if its RMT-delivered (code 1) differs from whether one is
+-- expected
+abbrev pub interruptedBy : Exchange → Action → Bool
+interruptedBy x a = one-of (6 ∷ 7 ∷ 12 ∷ []) (kindOf a) && (not (x .overlap) && cond (eqb (a .message .code) 1) (not (x .rmtExpected)) (x .rmtExpected))
+
 -- 01: DataEND (7) and Trigger (12) acted on set what is asked to their MessageID; at a clear (19) nothing is asked any more; an answer by
--- DataEND then clears it
-abbrev pub asked-row : Row Asked
-asked-row =
+-- DataEND then clears it. 02, Q-5: so do an interruption, before the message acts, and an answer that is withheld
+abbrev pub asked-row : Exchange → Row Asked
+asked-row x =
     record {
-      by-message = λ a x. cond (one-of (7 ∷ 12 ∷ []) (kindOf a)) (some (a .message .param)) (cond (one-of (0 ∷ 19 ∷ []) (kindOf a)) none x);
-      by-answer = λ end x. cond end none x;
+      by-message = λ a q. cond (one-of (7 ∷ 12 ∷ []) (kindOf a)) (some (a .message .param)) (cond (one-of (0 ∷ 19 ∷ []) (kindOf a) || interruptedBy x a) none q);
+      by-answer = λ end q. cond end none q;
+      when-withheld = λ q. none;
       once-closed = none;
     }
 
 -- 01: message available goes on when an answer is sent, off when a message that acts carries RMT-delivered 1 (6, 7, 12, 21), and at a
--- clear (19)
-abbrev pub available-row : Row Bool
-available-row =
+-- clear (19). 02, Q-5: off at an interruption, and where an answer is withheld
+abbrev pub available-row : Exchange → Row Bool
+available-row x =
     record {
-      by-message = λ a b. cond (one-of (0 ∷ 19 ∷ []) (kindOf a) || (one-of (6 ∷ 7 ∷ 12 ∷ 21 ∷ []) (kindOf a) && eqb (a .message .code) 1)) false b;
+      by-message = λ a b. cond (one-of (0 ∷ 19 ∷ []) (kindOf a) || (interruptedBy x a || (one-of (6 ∷ 7 ∷ 12 ∷ 21 ∷ []) (kindOf a) && eqb (a .message .code) 1))) false b;
       by-answer = λ end b. true;
+      when-withheld = λ b. false;
       once-closed = false;
     }
 
@@ -74,6 +84,7 @@ size-row =
     record {
       by-message = λ a n. cond (eqb (kindOf a) 15) (number (a .message .payload)) (cond (eqb (kindOf a) 0) 1024 n);
       by-answer = λ end n. n;
+      when-withheld = λ n. n;
       once-closed = 1024;
     }
 
@@ -83,6 +94,7 @@ mode-row preferred =
     record {
       by-message = λ a b. cond (eqb (kindOf a) 0) preferred (cond (eqb (kindOf a) 8) (eqb (a .message .code % 2) 1) b);
       by-answer = λ end b. b;
+      when-withheld = λ b. b;
       once-closed = false;
     }
 
@@ -92,25 +104,38 @@ count-row =
     record {
       by-message = λ a n. cond (one-of (0 ∷ 19 ∷ []) (kindOf a)) 0xffffff00 n;
       by-answer = λ end n. (n + 2) % 2 ^ 32;
+      when-withheld = λ n. n;
       once-closed = 0xffffff00;
     }
 
 -- some answer was sent since the last reset
 abbrev pub sent-row : Row Bool
-sent-row = record { by-message = λ a b. cond (one-of (0 ∷ 19 ∷ []) (kindOf a)) false b; by-answer = λ end b. true; once-closed = false }
+sent-row = record { by-message = λ a b. cond (one-of (0 ∷ 19 ∷ []) (kindOf a)) false b; by-answer = λ end b. true; when-withheld = λ b. b; once-closed = false }
+
+-- 02, Q-5: an RMT is expected after an answer with END was sent, until the next Data, DataEND or Trigger (6, 7, 12), a clear (19), or a status
+-- query (21) with RMT-delivered
+abbrev pub expected-row : Row Bool
+expected-row =
+    record {
+      by-message = λ a b. cond (one-of (0 ∷ 6 ∷ 7 ∷ 12 ∷ 19 ∷ []) (kindOf a) || (eqb (kindOf a) 21 && eqb (a .message .code) 1)) false b;
+      by-answer = λ end b. cond end true b;
+      when-withheld = λ b. b;
+      once-closed = false;
+    }
 
 -- SESSIONS. 01: Initialize (0) issues the number in its reply and is the synchronous connection, AsyncInitialize (17) the other one
 abbrev pub number-row : Row ℕ
-number-row = record { by-message = λ a n. cond (eqb (kindOf a) 0) (a .session) n; by-answer = λ end n. n; once-closed = 0 }
+number-row = record { by-message = λ a n. cond (eqb (kindOf a) 0) (a .session) n; by-answer = λ end n. n; when-withheld = λ n. n; once-closed = 0 }
 
 abbrev pub synchronous-row : Row ℕ
-synchronous-row = record { by-message = λ a c. cond (eqb (kindOf a) 0) (a .connection) c; by-answer = λ end c. c; once-closed = noConnection }
+synchronous-row = record { by-message = λ a c. cond (eqb (kindOf a) 0) (a .connection) c; by-answer = λ end c. c; when-withheld = λ c. c; once-closed = noConnection }
 
 abbrev pub asynchronous-row : Row ℕ
 asynchronous-row =
     record {
       by-message = λ a c. cond (eqb (kindOf a) 17) (a .connection) (cond (eqb (kindOf a) 0) noConnection c);
       by-answer = λ end c. c;
+      when-withheld = λ c. c;
       once-closed = noConnection;
     }
 
@@ -154,6 +179,7 @@ exclusive-row e =
     record {
       by-message = λ a b. cond (eqb (kindOf a) 0 || isCode 1 (releasedWith e a)) false (cond (obtains a && isNil (a .message .payload)) true b);
       by-answer = λ end b. b;
+      when-withheld = λ b. b;
       once-closed = false;
     }
 
@@ -162,6 +188,7 @@ shared-row e =
     record {
       by-message = λ a s. cond (eqb (kindOf a) 0 || isCode 2 (releasedWith e a)) [] (cond (obtains a && not (isNil (a .message .payload))) (a .message .payload) s);
       by-answer = λ end s. s;
+      when-withheld = λ s. s;
       once-closed = [];
     }
 
@@ -172,6 +199,7 @@ last-row =
     record {
       by-message = λ a n. cond (one-of (6 ∷ 7 ∷ 12 ∷ []) (kindOf a)) (a .message .param) (cond (one-of (0 ∷ 19 ∷ []) (kindOf a)) 0xfffffefe n);
       by-answer = λ end n. n;
+      when-withheld = λ n. n;
       once-closed = 0xfffffefe;
     }
 
@@ -184,6 +212,7 @@ standing-row e =
           cond (isRelease a && isSilence (a .told)) (release-of (cond (e .exclusive) exclusive-lock shared-lock) (a .message .param))
           (cond (eqb (kindOf a) 0 || not (isSilence (endedWith a s))) no-release s);
       by-answer = λ end s. s;
+      when-withheld = λ s. s;
       once-closed = no-release;
     }
 
@@ -207,6 +236,7 @@ requestsLeft es now (message-acted a) ws =
 requestsLeft es now (clock-read t) ws = keep (λ w. not (reachedBy t w)) ws
 requestsLeft es now (status-set b) ws = ws
 requestsLeft es now (answer-sent n p end) ws = ws
+requestsLeft es now (answer-withheld n m) ws = ws
 
 -- they are looked at where a release was answered 1 or 2, so a lock was freed, and after a closing (that a look would grant nobody after
 -- any other call is `always-settled`)
@@ -220,6 +250,7 @@ looksAfter es (message-acted a) = let r = releasedWith (at es (slotActed es a)) 
 looksAfter es (clock-read t) = false
 looksAfter es (status-set b) = false
 looksAfter es (answer-sent n p end) = false
+looksAfter es (answer-withheld n m) = false
 
 -- CONNECTIONS. A closing of connection c concerns c and each connection of its session
 abbrev pub connectionsOf : Entry → List ℕ
@@ -239,6 +270,7 @@ open-row es x (message-acted a) b = b
 open-row es x (clock-read t) b = b
 open-row es x (status-set s) b = b
 open-row es x (answer-sent n p end) b = b
+open-row es x (answer-withheld n m) b = b
 
 -- its remainder to skip. Check 4: length above 1,024, the payload is skipped as it comes
 abbrev pub remainder-row : List Entry → ℕ → Happening → ℕ → ℕ
@@ -251,6 +283,7 @@ remainder-row es x (message-acted a) r = r
 remainder-row es x (clock-read t) r = r
 remainder-row es x (status-set b) r = r
 remainder-row es x (answer-sent n p end) r = r
+remainder-row es x (answer-withheld n m) r = r
 
 -- SINGLE FIELDS: what a message makes of it, a clock reading, a status change; nothing else changes it
 pub record Single (A : Type 0) : Type 0 where
@@ -268,6 +301,7 @@ singly r (message-acted a) x = r .on-message a x
 singly r (clock-read t) x = r .on-clock t x
 singly r (status-set b) x = r .on-status b x
 singly r (answer-sent n p end) x = x
+singly r (answer-withheld n m) x = x
 
 abbrev pub clock-row : Single ℕ
 clock-row = record { on-message = λ a x. x; on-clock = λ t x. t; on-status = λ b x. x }

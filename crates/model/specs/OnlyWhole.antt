@@ -14,7 +14,7 @@ use Rattle.wire.specs.Frame.{Frame, frameOf}
 use Rattle.model.specs.Sizes.{payloadLimit}
 use Rattle.model.specs.MessageTypes.{FatalError, Error}
 use Rattle.model.specs.State.{fresh, Making}
-use Rattle.model.specs.Interface.{Event, Event.opening, Event.delivery, Event.cut, Event.clock, Event.answer, Event.status, Outcome, Outcome.more-needed, Outcome.skipped, Outcome.held, Outcome.ignored, Outcome.error-sent, Outcome.closed, Outcome.acted, Reply, Reply.refused, Reply.done, Reply.took}
+use Rattle.model.specs.Interface.{Event, Event.opening, Event.delivery, Event.cut, Event.clock, Event.answer, Event.status, Outcome, Outcome.more-needed, Outcome.skipped, Outcome.held, Outcome.ignored, Outcome.error-sent, Outcome.closed, Outcome.acted, Reply, Reply.refused, Reply.done, Reply.withheld, Reply.took}
 use Rattle.model.specs.Step.{Line, log}
 use Rattle.model.specs.Canonical.{kept}
 use Rattle.model.specs.Possible.{AllPossible}
@@ -78,6 +78,7 @@ ShowsBy acted r c bs k n fs = (r ≡ 0) × ShowsMessage bs k
 abbrev pub ShowsReply : Reply → ℕ → ℕ → List ℕ → List Frame → Type 0
 ShowsReply (refused n) r c bs fs = ⊥
 ShowsReply done r c bs fs = ⊥
+ShowsReply withheld r c bs fs = ⊥
 ShowsReply (took o k n) r c bs fs = ShowsBy o r c bs k n fs
 
 -- of what each connection owes
@@ -86,7 +87,7 @@ Shows owed (opening c) r fs = Unit {0}
 Shows owed (delivery c bs room) r fs = ShowsReply r (owed c) c bs fs
 Shows owed (cut c room) r fs = Unit {0}
 Shows owed (clock t room) r fs = Unit {0}
-Shows owed (answer n p end room) r fs = Unit {0}
+Shows owed (answer n p end sh room) r fs = Unit {0}
 Shows owed (status b) r fs = Unit {0}
 
 -- what a connection owes, read off the calls alone: a header that is too long leaves its length, what is skipped is taken off
@@ -102,6 +103,7 @@ owesBy acted k bs r = r
 abbrev pub owesAfter : Reply → List ℕ → ℕ → ℕ
 owesAfter (refused n) bs r = r
 owesAfter done bs r = r
+owesAfter withheld bs r = r
 owesAfter (took o k n) bs r = owesBy o k bs r
 
 -- and a connection that opens owes nothing
@@ -110,7 +112,7 @@ owesNext (opening c) r owed x = cond (eqb c x) 0 (owed x)
 owesNext (delivery c bs room) r owed x = cond (eqb c x) (owesAfter r bs (owed x)) (owed x)
 owesNext (cut c room) r owed x = owed x
 owesNext (clock t room) r owed x = owed x
-owesNext (answer n p end room) r owed x = owed x
+owesNext (answer n p end sh room) r owed x = owed x
 owesNext (status b) r owed x = owed x
 
 abbrev pub OnlyWhole : (ℕ → ℕ) → List Line → Type 0

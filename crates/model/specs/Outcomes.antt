@@ -10,7 +10,7 @@ use lib.ListN.{length}
 use Rattle.wire.specs.Message.{Message, Decoded, decode}
 use Rattle.model.specs.Sizes.{payloadLimit}
 use Rattle.model.specs.State.{fresh, Making}
-use Rattle.model.specs.Interface.{Event, Event.delivery, Outcome, Outcome.more-needed, Outcome.skipped, Outcome.held, Outcome.ignored, Outcome.error-sent, Outcome.closed, Outcome.acted, Reply, Reply.refused, Reply.done, Reply.took}
+use Rattle.model.specs.Interface.{Event, Event.delivery, Outcome, Outcome.more-needed, Outcome.skipped, Outcome.held, Outcome.ignored, Outcome.error-sent, Outcome.closed, Outcome.acted, Reply, Reply.refused, Reply.done, Reply.withheld, Reply.took}
 use Rattle.model.specs.Place.{Role, Role.r-none, Role.r-halfOpen, Role.r-synchronous, Role.r-asynchronous, roleOf}
 use Rattle.model.specs.Step.{Line, step, final, log}
 use Rattle.model.specs.Canonical.{kept}
@@ -47,6 +47,7 @@ TellsBy acted e r bs k = Unit {0}
 abbrev pub Tells : Reply → Bool → ℕ → List ℕ → Type 0
 Tells (refused n) e r bs = Unit {0}
 Tells done e r bs = ⊥
+Tells withheld e r bs = ⊥
 Tells (took o k n) e r bs = TellsBy o e r bs k
 
 -- any delivery after any list of possible calls

@@ -9,7 +9,7 @@ Possible (opening c) = Unit {0}
 Possible (delivery c bs room) = Bytes bs
 Possible (cut c room) = Unit {0}
 Possible (clock t room) = Unit {0}
-Possible (answer n p end room) = Bytes p
+Possible (answer n p end sh room) = Bytes p × Bytes sh
 Possible (status b) = b < 256
 
 abbrev pub AllPossible : List Event → Type 0

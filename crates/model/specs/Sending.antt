@@ -9,12 +9,12 @@ use Rattle.wire.specs.declared.Header.{Header}
 use Rattle.wire.specs.Message.{header}
 use Rattle.wire.specs.MessageId.{next}
 use Rattle.wire.specs.Class.{one-of}
-use Rattle.wire.specs.Frame.{frameOf}
-use Rattle.model.specs.MessageTypes.{DeviceClearComplete, DeviceClearAcknowledge, AsyncRemoteLocalControl, AsyncRemoteLocalResponse, AsyncMaximumMessageSize, AsyncMaximumMessageSizeResponse, AsyncDeviceClear, AsyncStatusQuery, AsyncStatusResponse, AsyncDeviceClearAcknowledge, commands}
+use Rattle.wire.specs.Frame.{Frame, frameOf}
+use Rattle.model.specs.MessageTypes.{Interrupted, AsyncInterrupted, DeviceClearComplete, DeviceClearAcknowledge, AsyncRemoteLocalControl, AsyncRemoteLocalResponse, AsyncMaximumMessageSize, AsyncMaximumMessageSizeResponse, AsyncDeviceClear, AsyncStatusQuery, AsyncStatusResponse, AsyncDeviceClearAcknowledge, commands}
 use Rattle.model.specs.Lists.{any}
-use Rattle.model.specs.State.{Server, Exchange, exchangeAt, fresh, Making}
+use Rattle.model.specs.State.{Server, Entry, at, Exchange, exchangeAt, fresh, Making}
 use Rattle.model.specs.Interface.{Event, Event.delivery, Outcome.acted, Reply.took}
-use Rattle.model.specs.Place.{slotOf}
+use Rattle.model.specs.Place.{slotOf, entryOf}
 use Rattle.model.specs.Exchange.{statusByte}
 use Rattle.model.specs.Step.{step, final}
 use Rattle.model.specs.LockModel
@@ -27,15 +27,23 @@ use Rattle.model.specs.Deciding.{modelAfter, lockAnswer, endedCodes, gra
 abbrev pub availableTold : Header → Exchange → Bool
 availableTold h x = cond (x .overlap) (x .anySent && not (eqb (next (h .param)) (x .count))) (not (eqb (h .code) 1) && x .messageAvailable)
 
+-- 02, Q-5: in synchronized mode, where RMT-delivered differs from whether one is expected: AsyncInterrupted, then Interrupted, with the
+-- message's number
+abbrev pub interruptedTold : Header → Entry → Exchange → List Frame
+interruptedTold h e x =
+    cond (not (x .overlap) && cond (eqb (h .code) 1) (not (x .rmtExpected)) (x .rmtExpected))
+    (frameOf (e .asynchronous) AsyncInterrupted 0 (h .param) [] ∷ frameOf (e .synchronous) Interrupted 0 (h .param) [] ∷ []) []
+
 -- a delivery that acted as a message of session n, with lock model m before it
 pub record Sends (d : Server) (m : Model) (c : ℕ) (bs : List ℕ) (room : ℕ) : Type 0 where
-  -- Data, DataEND, Trigger: the answer of a release that its number ends (02, Q-3), then those to whoever is granted
+  -- Data, DataEND, Trigger: an interruption (02, Q-5), the answer of a release that its number ends (02, Q-3), then those to whoever is granted
   pub command : (k n : ℕ) → (step d (delivery c bs room)) .reply ≡ took acted k n → one-of commands ((header bs) .kind) ≡ true
       → (step d (delivery c bs room)) .frames
-      ≡ map (lockAnswer (secondConnection n (m .sessions))) (endedCodes m n (λ p. eqb p ((header bs) .param))) ++ map toldFrame (grantsAfter (LockModel.message m n ((header bs) .param)))
-  -- with no such release, nothing
+      ≡ interruptedTold (header bs) (entryOf d c) (exchangeAt (d .rest) (slotOf d c))
+      ++ (map (lockAnswer (secondConnection n (m .sessions))) (endedCodes m n (λ p. eqb p ((header bs) .param))) ++ map toldFrame (grantsAfter (LockModel.message m n ((header bs) .param))))
+  -- with no such release, the interruption alone, if there is one
   pub command-alone : (k n : ℕ) → (step d (delivery c bs room)) .reply ≡ took acted k n → one-of commands ((header bs) .kind) ≡ true → endedCodes m n (λ p. eqb p ((header bs) .param)) ≡ []
-      → (step d (delivery c bs room)) .frames ≡ []
+      → (step d (delivery c bs room)) .frames ≡ interruptedTold (header bs) (entryOf d c) (exchangeAt (d .rest) (slotOf d c))
   -- 01: "DeviceClearComplete ends it with type 9, code 0"; 02, Q-1: its bit 0 is granted as asked, and type 9 carries it
   pub clear-complete : (k n : ℕ) → (step d (delivery c bs room)) .reply ≡ took acted k n → (header bs) .kind ≡ DeviceClearComplete
       → (step d (delivery c bs room)) .frames ≡ frameOf c DeviceClearAcknowledge ((header bs) .code % 2) 0 [] ∷ []

@@ -8,7 +8,7 @@ use Prim.Native.Nat.{ℕ, suc}
 use Rattle.model.specs.Sizes.{noConnection}
 use Rattle.model.specs.Lists.{all}
 use Rattle.model.specs.State.{Server, Entry, Kind, at, fresh, Making}
-use Rattle.model.specs.Interface.{Event, Event.answer, Reply.refused}
+use Rattle.model.specs.Interface.{Event, Event.answer, Reply.refused, Reply.done}
 use Rattle.model.specs.Refusals.{refusal}
 use Rattle.model.specs.Place.{onConnection, slotOf}
 use Rattle.model.specs.Locks.{mayGrant}
@@ -37,6 +37,7 @@ use Rattle.model.specs.Count.{Count}
 use Rattle.model.specs.ReadBack.{ReadsBack}
 use Rattle.model.specs.Demand3.{Seen, Calls, Demand3}
 use Rattle.model.specs.Tie.{Tie}
+use Rattle.model.specs.NextQuestion.{NextQuestion}
 use Rattle.model.specs.Isolation.{Isolated}
 use Rattle.model.specs.IsolationRun.{IsolationRun}
 use Rattle.model.specs.Fewer.{FewerNeverHurts}
@@ -104,8 +105,10 @@ pub record Demand3Parts : Type 1 where
 
 -- Beyond the demands
 pub record Beyond : Type 0 where
-  -- the tie of an answer to its command
-  pub tie : (v : Making) (es : List Event) (n : ℕ) (x : List ℕ) (end : Bool) (room : ℕ) → refusal (final (fresh v) es) (answer n x end room) ≡ 0 → Tie v es n x end room
+  -- the tie of an answer to its command: of each one that is sent (02, Q-5: one that is withheld is not)
+  pub tie : (v : Making) (es : List Event) (n : ℕ) (x : List ℕ) (end : Bool) (sh : List ℕ) (room : ℕ) → (step (final (fresh v) es) (answer n x end sh room)) .reply ≡ done → Tie v es n x end sh room
+  -- 02, Q-5: no client gets the end of an answer after its next question has arrived
+  pub next-question : (v : Making) (es : List Event) → NextQuestion v es
   -- isolation of whoever holds exclusive, at a call and over time
   pub isolated : (v : Making) (es : List Event) → Isolated (final (fresh v) es)
   pub isolation : (v : Making) (es : List Event) (j : ℕ) → IsolationRun v es j

@@ -1,21 +1,22 @@
 -- One call and a list of calls: what each verdict does, the plan of each event, the grant pass after it, the reply and the frames.
 -- Assumes nothing.
-use mathlib.Core.Bool.{Bool, true, false, cond}
+use mathlib.Core.Bool.{Bool, true, false, not, _&&_, cond}
 use mathlib.Core.List.{List, [], _∷_, _++_, map}
 use Prim.Native.Nat.{ℕ, zero, suc, _-_}
 use lib.Dec.{eqb}
 use lib.ListN.{set}
+use Rattle.wire.specs.Message.{header}
 use Rattle.wire.specs.Frame.{Frame, frameOf}
 use Rattle.model.specs.Sizes.{noConnection}
 use Rattle.model.specs.MessageTypes.{FatalError, Error, AsyncLockResponse, Data, DataEND}
 use Rattle.model.specs.State.{Server, Rest, Connection, at, live, slotOfNumber, exchangeAt, connectionAt, openConnection, closedConnection, freshExchange, withConnections, withConnection, withExchange, withStatus}
-use Rattle.model.specs.Interface.{Event, Event.opening, Event.delivery, Event.cut, Event.clock, Event.answer, Event.status, Outcome.more-needed, Outcome.skipped, Outcome.held, Outcome.ignored, Outcome.error-sent, Outcome.closed, Reply, Reply.refused, Reply.done, Reply.took}
+use Rattle.model.specs.Interface.{Event, Event.opening, Event.delivery, Event.cut, Event.clock, Event.answer, Event.status, Outcome.more-needed, Outcome.skipped, Outcome.held, Outcome.ignored, Outcome.error-sent, Outcome.closed, Reply, Reply.refused, Reply.done, Reply.withheld, Reply.took}
 use Rattle.model.specs.Scan.{Scan, Scan.empty, Scan.few, Scan.wrong, Scan.skipping, Scan.long, Scan.part, Scan.whole, scan, size, leftover}
 use Rattle.model.specs.Place.{Role, slotOf, roleOf, entryOf}
 use Rattle.model.specs.Locks.{Answer, LockEvent.nothing, LockEvent.close, LockEvent.reading, change, frees, settle}
-use Rattle.model.specs.Exchange.{answeredWith, answerNumber}
+use Rattle.model.specs.Exchange.{answeredWith, answerNumber, interrupted, interrupts}
 use Rattle.model.specs.Checks.{Verdict, Verdict.v-more, Verdict.v-skipped, Verdict.v-held, Verdict.v-ignored, Verdict.v-closed, Verdict.v-acts, Verdict.v-error, Verdict.v-fatal, verdict}
-use Rattle.model.specs.Acts.{Plan, say, acts}
+use Rattle.model.specs.Acts.{Plan, say, interruptions, acts}
 use Rattle.model.specs.Refusals.{refusal}
 
 -- each connection of the session of a connection, synchronous first; without a session, that connection alone
@@ -35,7 +36,7 @@ closing d c = withExchange (withConnections (d .rest) (shutAll (d .rest .connect
 
 -- changes nothing, says nothing
 abbrev pub idle : Server → Reply → Plan
-idle d r = record { reply = r; rest = d .rest; said = []; event = nothing }
+idle d r = record { reply = r; rest = d .rest; first = []; said = []; event = nothing }
 
 -- only a whole message acts; the other clauses are never met
 abbrev pub acting : Scan → Role → Server → ℕ → ℕ → Plan
@@ -55,15 +56,17 @@ effect v-skipped s r d i c =
     record {
       reply = took skipped (size s) 0;
       rest = withConnection (d .rest) c (openConnection ((connectionAt (d .rest) c) .remainder - size s));
+      first = [];
       said = [];
       event = nothing;
     }
-effect v-ignored s r d i c = record { reply = took ignored (size s) 0; rest = d .rest; said = []; event = nothing }
+effect v-ignored s r d i c = record { reply = took ignored (size s) 0; rest = d .rest; first = []; said = []; event = nothing }
 -- 01: errors go back on the same lane, with code as control code, parameter 0, no payload; but for check 4 the message is taken whole
 effect (v-error n) s r d i c =
     record {
       reply = took error-sent (size s) 0;
       rest = withConnection (d .rest) c (openConnection (leftover s));
+      first = [];
       said = say c Error n 0;
       event = nothing;
     }
@@ -73,10 +76,11 @@ effect (v-fatal n) s r d i c =
     record {
       reply = took closed 0 ((at (d .locks .entries) i) .number);
       rest = closing d c;
+      first = [];
       said = map (λ x. frameOf x FatalError n 0 []) (channels d c);
       event = close i;
     }
-effect v-closed s r d i c = record { reply = took closed 0 ((at (d .locks .entries) i) .number); rest = closing d c; said = []; event = close i }
+effect v-closed s r d i c = record { reply = took closed 0 ((at (d .locks .entries) i) .number); rest = closing d c; first = []; said = []; event = close i }
 effect v-acts s r d i c = acting s r d i c
 
 unfoldable pub received : Server → ℕ → Scan → Plan
@@ -87,21 +91,30 @@ abbrev pub answerType : Bool → ℕ
 answerType true = DataEND
 answerType false = Data
 
-unfoldable pub plan : Server → Event → Plan
-plan d (opening c) = record { reply = done; rest = withConnection (d .rest) c (openConnection 0); said = []; event = nothing }
-plan d (delivery c bs room) = received d c (scan ((connectionAt (d .rest) c) .remainder) bs)
-plan d (cut c room) = record { reply = done; rest = closing d c; said = []; event = close (slotOf d c) }
-plan d (clock t room) = record { reply = done; rest = d .rest; said = []; event = reading t }
-plan d (answer n p end room) =
+-- 02, Q-5: in synchronized mode an answer with END is withheld if the bytes shown with it interrupt it
+abbrev pub withholds : Server → ℕ → Bool → List ℕ → Bool
+withholds d n end sh =
     let i = slotOfNumber (d .locks .entries) n in
+    end && (not ((exchangeAt (d .rest) i) .overlap) && interrupts ((connectionAt (d .rest) ((at (d .locks .entries) i) .synchronous)) .remainder) sh)
+
+unfoldable pub plan : Server → Event → Plan
+plan d (opening c) = record { reply = done; rest = withConnection (d .rest) c (openConnection 0); first = []; said = []; event = nothing }
+plan d (delivery c bs room) = received d c (scan ((connectionAt (d .rest) c) .remainder) bs)
+plan d (cut c room) = record { reply = done; rest = closing d c; first = []; said = []; event = close (slotOf d c) }
+plan d (clock t room) = record { reply = done; rest = d .rest; first = []; said = []; event = reading t }
+plan d (answer n p end sh room) =
+    let i = slotOfNumber (d .locks .entries) n in
+    let e = at (d .locks .entries) i in
     let x = exchangeAt (d .rest) i in
+    let w = withholds d n end sh in
     record {
-      reply = done;
-      rest = withExchange (d .rest) i (answeredWith end x);
-      said = frameOf ((at (d .locks .entries) i) .synchronous) (answerType end) 0 (answerNumber x) p ∷ [];
+      reply = cond w withheld done;
+      rest = withExchange (d .rest) i (cond w (interrupted x) (answeredWith end x));
+      first = [];
+      said = cond w (interruptions e ((header sh) .param)) (frameOf (e .synchronous) (answerType end) 0 (answerNumber x) p ∷ []);
       event = nothing;
     }
-plan d (status b) = record { reply = done; rest = withStatus (d .rest) b; said = []; event = nothing }
+plan d (status b) = record { reply = done; rest = withStatus (d .rest) b; first = []; said = []; event = nothing }
 
 pub record Result : Type 0 where
   pub server : Server
@@ -111,7 +124,7 @@ pub record Result : Type 0 where
 abbrev pub lockFrame : Answer → Frame
 lockFrame a = frameOf (a .to) AsyncLockResponse (a .code) 0 []
 
--- the answers of the event, what the call says, the answers of the grant pass; the pass only where the event freed a lock
+-- what the call says first, the answers of the event, what the call says then, the answers of the grant pass; the pass only where the event freed a lock
 unfoldable pub finish : Server → Plan → Result
 finish d p =
     let x = change (d .locks) (p .event) in
@@ -119,7 +132,7 @@ finish d p =
     record {
       server = record { locks = y .locks; rest = p .rest };
       reply = p .reply;
-      frames = map lockFrame (x .answers) ++ (p .said ++ map lockFrame (y .answers));
+      frames = p .first ++ (map lockFrame (x .answers) ++ (p .said ++ map lockFrame (y .answers)));
     }
 
 -- 01: each refusal leaves the desk alone

@@ -13,7 +13,7 @@ use Rattle.model.specs.State.{Making}
 use Rattle.model.specs.Demand3.{Seen}
 use Rattle.state.specs.View.{Memory, memory}
 use Rattle.server.specs.Events.{Fresh}
-use Rattle.server.specs.Program.{deliveryReply, doneReply, Run, Run.stop, Run.hislip-open as ran-open, Run.hislip-deliver as ran-deliver, Run.hislip-cut as ran-cut, Run.hislip-clock as ran-clock, Run.hislip-answer as ran-answer, Run.hislip-status as ran-status, Program}
+use Rattle.server.specs.Program.{deliveryReply, doneReply, answeredReply, Run, Run.stop, Run.hislip-open as ran-open, Run.hislip-deliver as ran-deliver, Run.hislip-cut as ran-cut, Run.hislip-clock as ran-clock, Run.hislip-answer as ran-answer, Run.hislip-status as ran-status, Program}
 use Rattle.server.proofs.Program.{program}
 use Rattle.server.proofs.hislip_new.Reads as new-says
 use Rattle.server.proofs.hislip_new.Kinds as new-kinds
@@ -51,10 +51,10 @@ pub data Executed : Memory → List Seen → Memory → Type 0 where
   hislip-clock : {m″ : Memory} {ss : List Seen} (κs : Lfts 3) (a : Dens κs clock-kinds.ps) (r : resT clock-kinds.r κs .Denot) (s : AtExit (endedOf 3 clock-kinds.ps clock-kinds.r) κs)
       → clock-says.Post κs a r s → Executed (memory (s .0 .now) (s .1 .0 .now)) ss m″
       → Executed (memory (a .0 .now) (a .1 .0 .now)) (record { event = clock (a .1 .1 .0) (length (a .1 .1 .1 .0 .now)); reply = doneReply r; output = take (r .output) (s .1 .1 .1 .0 .now) } ∷ ss) m″
-  hislip-answer : {m″ : Memory} {ss : List Seen} (κs : Lfts 4) (a : Dens κs answer-kinds.ps) (r : resT answer-kinds.r κs .Denot) (s : AtExit (endedOf 4 answer-kinds.ps answer-kinds.r) κs)
+  hislip-answer : {m″ : Memory} {ss : List Seen} (κs : Lfts 5) (a : Dens κs answer-kinds.ps) (r : resT answer-kinds.r κs .Denot) (s : AtExit (endedOf 5 answer-kinds.ps answer-kinds.r) κs)
       → answer-says.Post κs a r s → Executed (memory (s .0 .now) (s .1 .0 .now)) ss m″
       → Executed (memory (a .0 .now) (a .1 .0 .now))
-      (record { event = answer (a .1 .1 .0) (a .1 .1 .1 .0 .now) (not (eqb (a .1 .1 .1 .1 .0) 0)) (length (a .1 .1 .1 .1 .1 .0 .now)); reply = doneReply r; output = take (r .output) (s .1 .1 .1 .1 .1 .0 .now) } ∷ ss) m″
+      (record { event = answer (a .1 .1 .0) (a .1 .1 .1 .0 .now) (not (eqb (a .1 .1 .1 .1 .0) 0)) (a .1 .1 .1 .1 .1 .0 .now) (length (a .1 .1 .1 .1 .1 .1 .0 .now)); reply = answeredReply r; output = take (r .output) (s .1 .1 .1 .1 .1 .1 .0 .now) } ∷ ss) m″
   hislip-status : {m″ : Memory} {ss : List Seen} (κs : Lfts 2) (a : Dens κs status-kinds.ps) (r : resT status-kinds.r κs .Denot) (s : AtExit (endedOf 2 status-kinds.ps status-kinds.r) κs)
       → status-says.Post κs a r s → Executed (memory (s .0 .now) (s .1 .0 .now)) ss m″
       → Executed (memory (a .0 .now) (a .1 .0 .now)) (record { event = status (a .1 .1 .0); reply = done; output = [] } ∷ ss) m″
@@ -69,7 +69,7 @@ runs (hislip-open κs a r s p g) = ran-open (a .1 .1 .0) r p (runs g)
 runs (hislip-deliver κs a r s p g) = ran-deliver (a .1 .1 .0) (a .1 .1 .1 .0 .now) (a .1 .1 .1 .1 .0 .now) (s .1 .1 .1 .1 .0 .now) r p (runs g)
 runs (hislip-cut κs a r s p g) = ran-cut (a .1 .1 .0) (a .1 .1 .1 .0 .now) (s .1 .1 .1 .0 .now) r p (runs g)
 runs (hislip-clock κs a r s p g) = ran-clock (a .1 .1 .0) (a .1 .1 .1 .0 .now) (s .1 .1 .1 .0 .now) r p (runs g)
-runs (hislip-answer κs a r s p g) = ran-answer (a .1 .1 .0) (a .1 .1 .1 .0 .now) (a .1 .1 .1 .1 .0) (a .1 .1 .1 .1 .1 .0 .now) (s .1 .1 .1 .1 .1 .0 .now) r p (runs g)
+runs (hislip-answer κs a r s p g) = ran-answer (a .1 .1 .0) (a .1 .1 .1 .0 .now) (a .1 .1 .1 .1 .0) (a .1 .1 .1 .1 .1 .0 .now) (a .1 .1 .1 .1 .1 .1 .0 .now) (s .1 .1 .1 .1 .1 .1 .0 .now) r p (runs g)
 runs (hislip-status κs a r s p g) = ran-status (a .1 .1 .0) p (runs g)
 
 pub about-the-code : Program Written Executed
@@ -85,6 +85,8 @@ about-the-code =
       opens = λ v m m′ ss f g. program .opens v m m′ ss (fresh f) (runs g);
       locality = λ m m′ ss g. program .locality m m′ ss (runs g);
       tie = λ v m m′ m″ ss s f g g′. program .tie v m m′ m″ ss s (fresh f) (runs g) (runs g′);
+      in-time = λ v m m′ m″ ss s f g g′. program .in-time v m m′ m″ ss s (fresh f) (runs g) (runs g′);
+      withheld-answer = λ v m m′ m″ ss s f g g′. program .withheld-answer v m m′ m″ ss s (fresh f) (runs g) (runs g′);
       standing = λ v m m′ ss f g. program .standing v m m′ ss (fresh f) (runs g);
       isolation = λ v m m′ m″ ss rs f g j h g′. program .isolation v m m′ m″ ss rs (fresh f) (runs g) j h (runs g′);
     }

@@ -1,22 +1,23 @@
 -- Demand 3 about the program, proved: the returned structs tell the model's replies, so a run of the C interface is a list of calls
 -- that each meet `Post`. The statement is specs/Program.antt.
 use mathlib.Core.Path.{_≡_, refl, sym, ap, ap₂, subst, _∙_}
-use mathlib.Core.Bool.{Bool, true, false, not}
+use mathlib.Core.Bool.{Bool, true, false, not, cond}
 use mathlib.Core.List.{List, [], _∷_, map}
 use Prim.Native.Nat.{ℕ, zero, suc}
 use lib.Dec.{eqb}
 use lib.ListN.{length, take}
 use lib.Seq.{take-nil}
 use Rattle.wire.specs.declared.Header.{Header}
+use Rattle.wire.specs.Message.{header}
 use Rattle.wire.specs.Frame.{bytesOf, bytes-one, frameBytes, frameOf}
 use Rattle.model.specs.State.{Making, Server, at, fresh, slotOfNumber}
-use Rattle.model.specs.Interface.{Event, Event.opening, Event.delivery, Event.cut, Event.clock, Event.answer, Event.status, Outcome, Outcome.more-needed, Outcome.skipped, Outcome.held, Outcome.ignored, Outcome.error-sent, Outcome.closed, Outcome.acted, Reply, Reply.refused, Reply.done, Reply.took, outcomeNumber, DeliveryAnswer, deliveryAnswer, DoneAnswer, doneAnswer}
+use Rattle.model.specs.Interface.{Event, Event.opening, Event.delivery, Event.cut, Event.clock, Event.answer, Event.status, Outcome, Outcome.more-needed, Outcome.skipped, Outcome.held, Outcome.ignored, Outcome.error-sent, Outcome.closed, Outcome.acted, Reply, Reply.refused, Reply.done, Reply.withheld, Reply.took, outcomeNumber, DeliveryAnswer, deliveryAnswer, DoneAnswer, doneAnswer, AnsweredAnswer, answeredAnswer}
 use Rattle.model.specs.Scan.{Scan, Scan.empty, Scan.few, Scan.wrong, Scan.skipping, Scan.long, Scan.part, Scan.whole}
 use Rattle.model.specs.Place.{Role, Role.r-none, Role.r-halfOpen, Role.r-synchronous, Role.r-asynchronous}
 use Rattle.model.specs.Checks.{Verdict, Verdict.v-more, Verdict.v-skipped, Verdict.v-held, Verdict.v-ignored, Verdict.v-closed, Verdict.v-acts, Verdict.v-error, Verdict.v-fatal}
 use Rattle.model.specs.Acts.{acts, opens}
 use Rattle.model.specs.Refusals.{refusal}
-use Rattle.model.specs.Step.{Line, answerType, answered, effect, final, finish, log, plan, received, step}
+use Rattle.model.specs.Step.{Line, answerType, answered, withholds, effect, final, finish, log, plan, received, step}
 use Rattle.model.specs.Post.{Post}
 use Rattle.model.specs.Demand3.{Seen, seen, seenEvents, Calls, Calls.none as no-call, Calls.call}
 use Rattle.model.specs.Tie.{Track, nothingYet, track, trackOfLog, said}
@@ -36,19 +37,25 @@ use Rattle.model.proofs.Opening.{sessions-open}
 use Rattle.model.proofs.Locality.{local-run}
 use Rattle.model.proofs.Standing.{stands-on}
 use Rattle.model.proofs.Tied.{tie}
+use Rattle.model.proofs.NextQuestion.{next-question}
+use Rattle.model.specs.NextQuestion.{questionUnread, synchronousOf, asynchronousOf, owes}
+use Rattle.model.specs.MessageTypes.{Interrupted, AsyncInterrupted}
+use Rattle.model.specs.Possible.{AllPossible}
 use Rattle.model.proofs.IsolationRun.{isolation-run}
 use Rattle.state.specs.View.{Memory, view}
 use Rattle.effects.specs.declared.Delivery.{Delivery}
 use Rattle.effects.specs.Did.{numbersOf}
+use Rattle.server.specs.declared.Answered.{Answered}
 use Rattle.server.specs.declared.Done.{Done}
 use Rattle.server.specs.Calls.{Delivered}
-use Rattle.server.specs.Events.{Called, Fresh, doneNumbers}
-use Rattle.server.specs.Program.{outcomeOf, refusedOr, deliveryReply, doneReply, Run, Run.stop, Run.hislip-open, Run.hislip-deliver, Run.hislip-cut, Run.hislip-clock, Run.hislip-answer, Run.hislip-status, trackIn, shownOf, Tied, OnlyOf, Program}
+use Rattle.server.specs.Events.{Called, Fresh, Replied, doneNumbers, answeredNumbers}
+use Rattle.server.specs.Program.{outcomeOf, refusedOr, deliveryReply, doneReply, answeredReply, Run, Run.stop, Run.hislip-open, Run.hislip-deliver, Run.hislip-cut, Run.hislip-clock, Run.hislip-answer, Run.hislip-status, trackIn, shownOf, Tied, OnlyOf, Program}
 
 -- was the call done?
 abbrev Done? : Reply → Type 0
 Done? (refused n) = ⊥
 Done? done = Unit {0}
+Done? withheld = ⊥
 Done? (took o k n) = ⊥
 
 -- the struct tells the reply y and how many bytes of the buffer hold frames
@@ -71,6 +78,7 @@ tells a = refusedOr (a .refusal) (took (outcomeOf (a .outcome)) (a .taken) (a .s
 told-took : (y : Reply) → Took y → (n l : ℕ) (r : Delivery) → numbersOf r ≡ deliveryAnswer y n l → Tells r y n
 told-took (refused z) t n l r e = absurd t
 told-took done t n l r e = absurd t
+told-took withheld t n l r e = absurd t
 told-took (took o k s) t n l r e = (ap tells e ∙ ap (λ (x : Outcome). took x k s) (outcome-of o), ap (λ (a : DeliveryAnswer). a .output) e)
 
 told-delivery : (d : Server) (c : ℕ) (bs : List ℕ) (room l : ℕ) (r : Delivery) → numbersOf r ≡ deliveryAnswer ((step d (delivery c bs room)) .reply) (length (bytesOf ((step d (delivery c bs room)) .frames))) l
@@ -125,6 +133,31 @@ delivery-post c bs room m m′ out out′ r p =
     let t = told-delivery (view m) c bs room _ r (p .numbers) in
     retold (delivery c bs room) m m′ out out′ (deliveryReply r) (r .output) (t .0) (t .1) (p .post)
 
+-- an answer: done, withheld or refused
+told-answer : (d : Server) (n : ℕ) (x : List ℕ) (end : Bool) (sh : List ℕ) (room : ℕ) (r : Answered)
+    → answeredNumbers r ≡ answeredAnswer ((step d (answer n x end sh room)) .reply) (length (bytesOf ((step d (answer n x end sh room)) .frames)))
+    → (answeredReply r ≡ (step d (answer n x end sh room)) .reply) × (r .output ≡ length (bytesOf ((step d (answer n x end sh room)) .frames)))
+unfolding step answered plan finish bytesOf
+told-answer d n x end sh room r q = go (refusal d (answer n x end sh room)) q
+  where
+    reply-of : AnsweredAnswer → Reply
+    reply-of a = refusedOr (a .refusal) (cond (eqb (a .withheld) 1) withheld done)
+
+    taken : (b : Bool) (k : ℕ) → answeredNumbers r ≡ answeredAnswer (cond b withheld done) k → (answeredReply r ≡ cond b withheld done) × (r .output ≡ k)
+    taken true k q = (ap reply-of q, ap (λ (a : AnsweredAnswer). a .output) q)
+    taken false k q = (ap reply-of q, ap (λ (a : AnsweredAnswer). a .output) q)
+
+    go : (z : ℕ) → answeredNumbers r ≡ answeredAnswer ((answered z d (answer n x end sh room)) .reply) (length (bytesOf ((answered z d (answer n x end sh room)) .frames)))
+        → (answeredReply r ≡ (answered z d (answer n x end sh room)) .reply) × (r .output ≡ length (bytesOf ((answered z d (answer n x end sh room)) .frames)))
+    go zero q = taken (withholds d n end sh) _ q
+    go (suc z) q = (ap reply-of q, ap (λ (a : AnsweredAnswer). a .output) q)
+
+answer-post : (n : ℕ) (x : List ℕ) (end : Bool) (sh : List ℕ) (room : ℕ) (m m′ : Memory) (out out′ : List ℕ) (r : Answered) → Replied (answer n x end sh room) r m m′ out out′
+    → Post view (answer n x end sh room) m m′ out out′ (answeredReply r) (r .output)
+answer-post n x end sh room m m′ out out′ r p =
+    let t = told-answer (view m) n x end sh room r (p .numbers) in
+    retold (answer n x end sh room) m m′ out out′ (answeredReply r) (r .output) (t .0) (t .1) (p .post)
+
 -- a run is a list of calls
 calls : {m m′ : Memory} {ss : List Seen} → Run m ss m′ → Calls view m ss m′
 unfolding plan
@@ -138,8 +171,8 @@ calls {m = m} (hislip-cut {m′ = m′} c out out′ r p g) =
     call (cut c (length out)) out out′ (doneReply r) (r .output) (call-post (cut c (length out)) m m′ out out′ refl r p) (calls g)
 calls {m = m} (hislip-clock {m′ = m′} t out out′ r p g) =
     call (clock t (length out)) out out′ (doneReply r) (r .output) (call-post (clock t (length out)) m m′ out out′ refl r p) (calls g)
-calls {m = m} (hislip-answer {m′ = m′} n q end out out′ r p g) =
-    call (answer n q (not (eqb end 0)) (length out)) out out′ (doneReply r) (r .output) (call-post (answer n q (not (eqb end 0)) (length out)) m m′ out out′ refl r p) (calls g)
+calls {m = m} (hislip-answer {m′ = m′} n q end sh out out′ r p g) =
+    call (answer n q (not (eqb end 0)) sh (length out)) out out′ (answeredReply r) (r .output) (answer-post n q (not (eqb end 0)) sh (length out) m m′ out out′ r p) (calls g)
 calls (hislip-status b p g) = call (status b) [] [] done 0 p (calls g)
 
 -- a session's track, by what the host saw and by the log
@@ -160,33 +193,66 @@ not-refused d e q = go (refusal d e) q
     go zero q = refl
     go (suc k) q = absurd (done≢refused k q)
 
-tied : (v : Making) (m m′ m″ : Memory) (ss : List Seen) (s : Seen) → Fresh v m → Run m ss m′ → Run m′ (s ∷ []) m″
-    → (n : ℕ) (payload : List ℕ) (end : Bool) (room : ℕ) → s .event ≡ answer n payload end room → s .reply ≡ done → Tied v ss m′ n payload end (s .output)
-unfolding log
-tied v m m′ m″ ss s f g g′ n payload end room x y =
-    let es : List Event = seenEvents ss in
-    let e : Event = answer n payload end room in
-    let h = made view (calls g) in
-    let d : view m′ ≡ final (fresh v) es = h .1 ∙ ap (λ (x : Server). final x es) (f .shows) in
-    let t : ss ≡ map seen (log (fresh v) es) = h .0 ∙ ap (λ (x : Server). map seen (log x es)) (f .shows) in
-    let o : s ≡ seen record { event = e; reply = (step (final (fresh v) es) e) .reply; frames = (step (final (fresh v) es) e) .frames } =
-    ap first (made view (calls g′) .0 ∙ ap₂ (λ (a : Server) (b : Event). map seen (log a (b ∷ []))) d x) in
-    let q = tie v es n payload end room (not-refused (final (fresh v) es) e (sym (ap (λ (a : Seen). a .reply) o) ∙ y)) in
-    let k : shownOf v ss n ≡ said v es n = ap (λ (a : List Seen). shownOf v a n) t ∙ track-seen (v .prefersOverlap) (log (fresh v) es) n (nothingYet (v .prefersOverlap)) in
-    record {
-      number = q .number;
-      asked = λ z. ap (λ (a : Track). a .asked) k ∙ q .asked (sym (ap (λ (a : Track). a .overlap) k) ∙ z);
-      counted = λ z. ap (λ (a : Track). a .count) k ∙ q .counted (sym (ap (λ (a : Track). a .overlap) k) ∙ z);
-      sent =
-          ap (λ (a : Seen). a .output) o
-          ∙ ap bytesOf (q .sent)
-          ∙ bytes-one _
-          ∙ ap (λ (a : Server). frameBytes (frameOf ((at (a .locks .entries) (slotOfNumber (a .locks .entries) n)) .synchronous) (answerType end) 0 (q .number) payload)) (sym d);
-    }
-  where
-    first : List Seen → Seen
-    first [] = s
-    first (a ∷ rest) = a
+-- one more call behind a run, by the log
+module _ (v : Making) (m m′ m″ : Memory) (ss : List Seen) (s : Seen) (f : Fresh v m) (g : Run m ss m′) (g′ : Run m′ (s ∷ []) m″) where
+  abbrev es : List Event
+  es = seenEvents ss
+
+  abbrev d : Server
+  d = final (fresh v) es
+
+  there : view m′ ≡ d
+  there = made view (calls g) .1 ∙ ap (λ (x : Server). final x es) (f .shows)
+
+  first : List Seen → Seen
+  first [] = s
+  first (a ∷ rest) = a
+
+  then : (e : Event) → s .event ≡ e → s ≡ seen record { event = e; reply = (step d e) .reply; frames = (step d e) .frames }
+  unfolding log first
+  then e x = ap first (made view (calls g′) .0 ∙ ap₂ (λ (a : Server) (b : Event). map seen (log a (b ∷ []))) there x)
+
+  shown-said : (n : ℕ) → shownOf v ss n ≡ said v es n
+  shown-said n =
+      let t : ss ≡ map seen (log (fresh v) es) = made view (calls g) .0 ∙ ap (λ (x : Server). map seen (log x es)) (f .shows) in
+      ap (λ (a : List Seen). shownOf v a n) t ∙ track-seen (v .prefersOverlap) (log (fresh v) es) n (nothingYet (v .prefersOverlap))
+
+  tied : (n : ℕ) (payload : List ℕ) (end : Bool) (shown : List ℕ) (room : ℕ) → s .event ≡ answer n payload end shown room → s .reply ≡ done → Tied v ss m′ n payload end (s .output)
+  tied n payload end shown room x y =
+      let o = then (answer n payload end shown room) x in
+      let q = tie v es n payload end shown room (sym (ap (λ (a : Seen). a .reply) o) ∙ y) in
+      let k = shown-said n in
+      record {
+        number = q .number;
+        asked = λ z. ap (λ (a : Track). a .asked) k ∙ q .asked (sym (ap (λ (a : Track). a .overlap) k) ∙ z);
+        counted = λ z. ap (λ (a : Track). a .count) k ∙ q .counted (sym (ap (λ (a : Track). a .overlap) k) ∙ z);
+        sent =
+            ap (λ (a : Seen). a .output) o
+            ∙ ap bytesOf (q .sent)
+            ∙ bytes-one _
+            ∙ ap (λ (a : Server). frameBytes (frameOf ((at (a .locks .entries) (slotOfNumber (a .locks .entries) n)) .synchronous) (answerType end) 0 (q .number) payload)) (sym there);
+      }
+
+  module _ (possible : AllPossible es) (n : ℕ) (payload shown : List ℕ) (room : ℕ) (x : s .event ≡ answer n payload true shown room) (o : (shownOf v ss n) .overlap ≡ false) (r : owes v es n ≡ 0) where
+    mode : (said v es n) .overlap ≡ false
+    mode = sym (ap (λ (a : Track). a .overlap) (shown-said n)) ∙ o
+
+    withheld-then : refusal (view m′) (s .event) ≡ 0 → questionUnread shown ≡ true
+        → (s .reply ≡ withheld) × (s .output ≡ bytesOf (frameOf (asynchronousOf v es n) AsyncInterrupted 0 ((header shown) .param) [] ∷ frameOf (synchronousOf v es n) Interrupted 0 ((header shown) .param) [] ∷ []))
+    withheld-then q u =
+        let w = next-question v es .withholds n payload shown room possible (ap₂ refusal (sym there) (sym x) ∙ q) mode r u in
+        let h = then (answer n payload true shown room) x in
+        (ap (λ (a : Seen). a .reply) h ∙ w .0, ap (λ (a : Seen). a .output) h ∙ ap bytesOf (w .1))
+
+    in-time : s .reply ≡ done → questionUnread shown ≡ false
+    in-time y = by (questionUnread shown) refl
+      where
+        by : (b : Bool) → questionUnread shown ≡ b → b ≡ false
+        by false u = refl
+        by true u =
+            let h = then (answer n payload true shown room) x in
+            let w = next-question v es .withholds n payload shown room possible (not-refused d (answer n payload true shown room) (sym (ap (λ (a : Seen). a .reply) h) ∙ y)) mode r u in
+            absurd (subst (λ (z : Reply). Done? z) (sym y ∙ ap (λ (a : Seen). a .reply) h ∙ w .0) tt)
 
 decided : (m m′ n n′ : Memory) (ss rs : List Seen) → view m ≡ view n → Run m ss m′ → Run n rs n′ → seenEvents ss ≡ seenEvents rs → (ss ≡ rs) × (view m′ ≡ view n′)
 decided m m′ n n′ ss rs v f g e =
@@ -232,6 +298,8 @@ program =
       opens = λ v m m′ ss f g c bs room. subst (λ (d : Server). Opens d v c bs room) (sym (left v m m′ ss f g)) (sessions-open v (seenEvents ss) .opens-next c bs room);
       locality = λ m m′ ss g. local-run (view m) (seenEvents ss);
       tie = tied;
+      in-time = λ v m m′ m″ ss s f g g′ p n payload shown room x y o r. in-time v m m′ m″ ss s f g g′ p n payload shown room x o r y;
+      withheld-answer = λ v m m′ m″ ss s f g g′ p n payload shown room x q o r u. withheld-then v m m′ m″ ss s f g g′ p n payload shown room x o r q u;
       standing = λ v m m′ ss f g j k n. subst (λ (d : Server). StandsOn d j k n) (sym (left v m m′ ss f g)) (stands-on v (seenEvents ss) j k n);
       isolation = isolated;
     }

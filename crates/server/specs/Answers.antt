@@ -1,25 +1,30 @@
 -- An instrument's answer: its refusals in 01's order, from the words that were read, and its frame. Assumes nothing.
-use mathlib.Core.Path.{_≡_, sym, ap, _∙_}
-use mathlib.Core.Bool.{Bool, true, false, not, _||_}
+use mathlib.Core.Path.{_≡_, refl, sym, ap, subst, _∙_}
+use mathlib.Core.Bool.{Bool, true, false, not, _||_, cond}
 use mathlib.Core.List.{List, [], _∷_}
 use Prim.Native.Nat.{ℕ, _≤_, _<_}
 use lib.Dec.{ltb}
 use lib.ListN.{length, List·getD-eq-default}
 use borrow.Author.Tests.{lt-ltb, le-ltb, eq-eqb, ne-eqb}
+use Rattle.wire.specs.Frame.{bytesOf, written}
+use Rattle.wire.specs.Message.{header}
 use Rattle.model.specs.Sizes.{sessionLimit, outputMinimum, payloadLimit}
 use Rattle.model.specs.State.{Server, Entry, Exchange, at, blank, live, slotOfNumber, exchangeAt}
-use Rattle.model.specs.Interface.{Event.answer}
-use Rattle.model.specs.Exchange.{mayAnswer}
+use Rattle.model.specs.Interface.{Event.answer, Reply.done, Reply.withheld, answeredAnswer}
+use Rattle.model.specs.Exchange.{mayAnswer, interrupted}
+use Rattle.model.specs.Acts.{interruptions}
+use Rattle.model.specs.Canonical.{omits}
 use Rattle.model.specs.Refusals.{causes, refusal, firstCause, Cause, smallRoom}
 use Rattle.state.specs.Change.{exchangeWith}
 use Rattle.state.specs.View.{Memory, view, locksOf}
 use Rattle.effects.specs.Closing.{sessions-held}
-use Rattle.effects.specs.Events.{Answers, answerFrame, answer-finishes}
-use Rattle.server.specs.declared.Done.{Done}
+use Rattle.effects.specs.Events.{Answers, answeredAs, answer-finishes}
+use Rattle.effects.specs.Interrupted.{Noted, withheldAt}
+use Rattle.server.specs.declared.Answered.{Answered}
 use Rattle.server.specs.Causes.{short-room, enough-room}
-use Rattle.server.specs.Events.{Called, taken-call}
+use Rattle.server.specs.Events.{Replied, answeredNumbers, taken-answer}
 
-module _ (d : Server) (n i : ℕ) (p : List ℕ) (end : Bool) (room : ℕ) (found : slotOfNumber (d .locks .entries) n ≡ i) where
+module _ (d : Server) (n i : ℕ) (p : List ℕ) (end : Bool) (sh : List ℕ) (room : ℕ) (found : slotOfNumber (d .locks .entries) n ≡ i) where
   -- the causes at the slot that was found, behind the buffer's
   row : List Cause
   row =
@@ -28,34 +33,34 @@ module _ (d : Server) (n i : ℕ) (p : List ℕ) (end : Bool) (room : ℕ) (foun
       ∷ record { test = ltb payloadLimit (length p) || ltb ((exchangeAt (d .rest) i) .clientSize) (length p); number = 6 }
       ∷ []
 
-  at-row : causes d (answer n p end room) ≡ smallRoom room ∷ row
+  at-row : causes d (answer n p end sh room) ≡ smallRoom room ∷ row
   unfolding causes row
   at-row =
       ap (λ (j : ℕ). smallRoom room ∷ record { test = not (live (at (d .locks .entries) j)); number = 8 } ∷ record { test = not (mayAnswer (at (d .locks .entries) j) (exchangeAt (d .rest) j)); number = 5 } ∷ record { test = ltb payloadLimit (length p) || ltb ((exchangeAt (d .rest) j) .clientSize) (length p); number = 6 } ∷ []) found
 
-  pub answer-short-room : room < outputMinimum → refusal d (answer n p end room) ≡ 7
-  answer-short-room = short-room d (answer n p end room) room row at-row
+  pub answer-short-room : room < outputMinimum → refusal d (answer n p end sh room) ≡ 7
+  answer-short-room = short-room d (answer n p end sh room) room row at-row
 
-  then-row : outputMinimum ≤ room → refusal d (answer n p end room) ≡ firstCause row
-  then-row = enough-room d (answer n p end room) room row at-row
+  then-row : outputMinimum ≤ room → refusal d (answer n p end sh room) ≡ firstCause row
+  then-row = enough-room d (answer n p end sh room) room row at-row
 
-  pub answer-nobody : outputMinimum ≤ room → live (at (d .locks .entries) i) ≡ false → refusal d (answer n p end room) ≡ 8
+  pub answer-nobody : outputMinimum ≤ room → live (at (d .locks .entries) i) ≡ false → refusal d (answer n p end sh room) ≡ 8
   unfolding row
   answer-nobody h l = then-row h ∙ rw l
 
-  pub answer-unasked : outputMinimum ≤ room → live (at (d .locks .entries) i) ≡ true → mayAnswer (at (d .locks .entries) i) (exchangeAt (d .rest) i) ≡ false → refusal d (answer n p end room) ≡ 5
+  pub answer-unasked : outputMinimum ≤ room → live (at (d .locks .entries) i) ≡ true → mayAnswer (at (d .locks .entries) i) (exchangeAt (d .rest) i) ≡ false → refusal d (answer n p end sh room) ≡ 5
   unfolding row
   answer-unasked h l a = then-row h ∙ rw (l, a)
 
-  pub answer-long : outputMinimum ≤ room → live (at (d .locks .entries) i) ≡ true → mayAnswer (at (d .locks .entries) i) (exchangeAt (d .rest) i) ≡ true → payloadLimit < length p → refusal d (answer n p end room) ≡ 6
+  pub answer-long : outputMinimum ≤ room → live (at (d .locks .entries) i) ≡ true → mayAnswer (at (d .locks .entries) i) (exchangeAt (d .rest) i) ≡ true → payloadLimit < length p → refusal d (answer n p end sh room) ≡ 6
   unfolding row
   answer-long h l a q = then-row h ∙ rw (l, a, lt-ltb payloadLimit (length p) q)
 
-  pub answer-over : outputMinimum ≤ room → live (at (d .locks .entries) i) ≡ true → mayAnswer (at (d .locks .entries) i) (exchangeAt (d .rest) i) ≡ true → length p ≤ payloadLimit → (exchangeAt (d .rest) i) .clientSize < length p → refusal d (answer n p end room) ≡ 6
+  pub answer-over : outputMinimum ≤ room → live (at (d .locks .entries) i) ≡ true → mayAnswer (at (d .locks .entries) i) (exchangeAt (d .rest) i) ≡ true → length p ≤ payloadLimit → (exchangeAt (d .rest) i) .clientSize < length p → refusal d (answer n p end sh room) ≡ 6
   unfolding row
   answer-over h l a q r = then-row h ∙ rw (l, a, le-ltb payloadLimit (length p) q, lt-ltb ((exchangeAt (d .rest) i) .clientSize) (length p) r)
 
-  pub answer-taken : outputMinimum ≤ room → live (at (d .locks .entries) i) ≡ true → mayAnswer (at (d .locks .entries) i) (exchangeAt (d .rest) i) ≡ true → length p ≤ payloadLimit → length p ≤ (exchangeAt (d .rest) i) .clientSize → refusal d (answer n p end room) ≡ 0
+  pub answer-taken : outputMinimum ≤ room → live (at (d .locks .entries) i) ≡ true → mayAnswer (at (d .locks .entries) i) (exchangeAt (d .rest) i) ≡ true → length p ≤ payloadLimit → length p ≤ (exchangeAt (d .rest) i) .clientSize → refusal d (answer n p end sh room) ≡ 0
   unfolding row
   answer-taken h l a q r = then-row h ∙ rw (l, a, le-ltb payloadLimit (length p) q, le-ltb ((exchangeAt (d .rest) i) .clientSize) (length p) r)
 
@@ -74,12 +79,44 @@ is-live e r p q = ap not (ne-eqb (e .number) 0 (λ z. q (sym p ∙ z)))
 pub size-read : (x : Exchange) (r : ℕ) → exchangeWith 3 r x ≡ x → r ≡ x .clientSize
 size-read x r e = ap (λ (y : Exchange). y .clientSize) e
 
-pub answer-call : (n i : ℕ) (p : List ℕ) (end : Bool) (room : ℕ) (r : Done) (m m′ : Memory) (out out′ : List ℕ) (k : ℕ) → slotOfNumber (view m .locks .entries) n ≡ i → refusal (view m) (answer n p end room) ≡ 0
-    → Answers (view m) i end p (view m′) out out′ k → r ≡ record { refusal = 0; output = k } → Called (answer n p end room) r m m′ out out′
-answer-call n i p end room r m m′ out out′ k e q a f =
-    taken-call (answer n p end room) _ (answerFrame (view m) i end p ∷ []) r m m′ out out′ q (answer-finishes (view m) n i p end room e) (a .server) (a .buffer)
-    (f ∙ ap (λ (x : ℕ). record { refusal = 0; output = x }) (a .place))
+-- 02, Q-5: an answer that is not refused, withheld or sent: the exchange, the frames, the numbers
+pub record Gives (d : Server) (i : ℕ) (end : Bool) (p sh : List ℕ) (r : Answered) (d′ : Server) (out out′ : List ℕ) : Type 0 where
+  pub server : d′ ≡ (answeredAs d i p end sh (withheldAt d i end sh)) .server
+  pub buffer : out′ ≡ written out ((answeredAs d i p end sh (withheldAt d i end sh)) .frames)
+  pub numbers : r ≡ record { refusal = 0; withheld = cond (withheldAt d i end sh) 1 0; output = length (bytesOf ((answeredAs d i p end sh (withheldAt d i end sh)) .frames)) }
+
+module _ (d : Server) (i : ℕ) (end : Bool) (p sh : List ℕ) (r : Answered) (d′ : Server) (out out′ : List ℕ) (k : ℕ) where
+  gives : (b : Bool) → withheldAt d i end sh ≡ b → d′ ≡ (answeredAs d i p end sh b) .server → out′ ≡ written out ((answeredAs d i p end sh b) .frames)
+      → r ≡ record { refusal = 0; withheld = cond b 1 0; output = length (bytesOf ((answeredAs d i p end sh b) .frames)) } → Gives d i end p sh r d′ out out′
+  gives b e v o f =
+      record {
+        server = v ∙ ap (λ (x : Bool). (answeredAs d i p end sh x) .server) (sym e);
+        buffer = o ∙ ap (λ (x : Bool). written out ((answeredAs d i p end sh x) .frames)) (sym e);
+        numbers = f ∙ ap (λ (x : Bool). record { refusal = 0; withheld = cond x 1 0; output = length (bytesOf ((answeredAs d i p end sh x) .frames)) }) (sym e);
+      }
+
+  pub gives-withheld : withheldAt d i end sh ≡ true → Noted d i interrupted (interruptions (at (d .locks .entries) i) ((header sh) .param)) d′ out out′ k
+      → r ≡ record { refusal = 0; withheld = 1; output = k } → Gives d i end p sh r d′ out out′
+  gives-withheld e n f = gives true e (n .server) (n .buffer) (f ∙ ap (λ (x : ℕ). record { refusal = 0; withheld = 1; output = x }) (n .place))
+
+  pub gives-sent : withheldAt d i end sh ≡ false → Answers d i end p d′ out out′ k → r ≡ record { refusal = 0; withheld = 0; output = k } → Gives d i end p sh r d′ out out′
+  gives-sent e a f = gives false e (a .server) (a .buffer) (f ∙ ap (λ (x : ℕ). record { refusal = 0; withheld = 0; output = x }) (a .place))
+
+pub answer-call : (n i : ℕ) (p : List ℕ) (end : Bool) (sh : List ℕ) (room : ℕ) (r : Answered) (m m′ : Memory) (out out′ : List ℕ) → slotOfNumber (view m .locks .entries) n ≡ i → refusal (view m) (answer n p end sh room) ≡ 0
+    → Gives (view m) i end p sh r (view m′) out out′ → Replied (answer n p end sh room) r m m′ out out′
+answer-call n i p end sh room r m m′ out out′ e q a =
+    let b : Bool = withheldAt (view m) i end sh in
+    taken-answer (answer n p end sh room) (answeredAs (view m) i p end sh b) r m m′ out out′ q (answer-finishes (view m) n i p end sh room e b refl) (kept b) (a .server) (a .buffer)
+    (ap answeredNumbers (a .numbers) ∙ told b (length (bytesOf ((answeredAs (view m) i p end sh b) .frames))))
+  where
+    kept : (b : Bool) → omits (cond b withheld done) ≡ false
+    kept true = refl
+    kept false = refl
+
+    told : (b : Bool) (k : ℕ) → record { refusal = 0; withheld = cond b 1 0; output = k } ≡ answeredAnswer (cond b withheld done) k
+    told true k = refl
+    told false k = refl
 
 -- the same END bit, however it was computed
-pub same-end : (d d′ : Server) (i : ℕ) (end end′ : Bool) (p out out′ : List ℕ) (k : ℕ) → end ≡ end′ → Answers d i end′ p d′ out out′ k → Answers d i end p d′ out out′ k
-same-end d d′ i end end′ p out out′ k h a = rw h a
+pub same-end : (d d′ : Server) (i : ℕ) (end end′ : Bool) (p sh : List ℕ) (r : Answered) (out out′ : List ℕ) → end ≡ end′ → Gives d i end′ p sh r d′ out out′ → Gives d i end p sh r d′ out out′
+same-end d d′ i end end′ p sh r out out′ h a = subst (λ (x : Bool). Gives d i x p sh r d′ out out′) (sym h) a

@@ -10,7 +10,7 @@ use Rattle.wire.specs.Frame.{Frame, bytesOf, written}
 use Rattle.wire.specs.Splice.{splice-nil}
 use Rattle.model.specs.Sizes.{connectionLimit, outputMinimum, clockLimit}
 use Rattle.model.specs.State.{Making, Server, Rest, fresh, connectionAt, withStatus}
-use Rattle.model.specs.Interface.{Event, Event.opening, Event.cut, Event.clock, Event.status, Reply.refused, Reply.done, DoneAnswer, doneAnswer}
+use Rattle.model.specs.Interface.{Event, Event.opening, Event.cut, Event.clock, Event.status, Reply.refused, Reply.done, DoneAnswer, doneAnswer, AnsweredAnswer, answeredAnswer}
 use Rattle.model.specs.Canonical.{omits}
 use Rattle.model.specs.Refusals.{causes, refusal}
 use Rattle.model.specs.Locks.{LockEvent.reading, change, grantPass}
@@ -22,6 +22,7 @@ use Rattle.state.specs.Change.{onRest}
 use Rattle.state.specs.Fresh.{freshWords, freshStrings}
 use Rattle.locks.specs.Outcome.{Met}
 use Rattle.effects.specs.Closing.{Closes, closedServer}
+use Rattle.server.specs.declared.Answered.{Answered}
 use Rattle.server.specs.declared.Done.{Done}
 use Rattle.server.specs.Causes.{untimely, enough-room, clock-causes}
 
@@ -32,11 +33,45 @@ pub record Called (e : Event) (r : Done) (m m′ : Memory) (out out′ : List �
   pub numbers : doneNumbers r ≡ doneAnswer ((step (view m) e) .reply) (length (bytesOf ((step (view m) e) .frames)))
   pub post : Post view e m m′ out out′ ((step (view m) e) .reply) (length (bytesOf ((step (view m) e) .frames)))
 
+-- 02, Q-5: the same of an answer, which may be withheld
+abbrev pub answeredNumbers : Answered → AnsweredAnswer
+answeredNumbers r = record { refusal = r .refusal; withheld = r .withheld; output = r .output }
+
+pub record Replied (e : Event) (r : Answered) (m m′ : Memory) (out out′ : List ℕ) : Type 0 where
+  pub numbers : answeredNumbers r ≡ answeredAnswer ((step (view m) e) .reply) (length (bytesOf ((step (view m) e) .frames)))
+  pub post : Post view e m m′ out out′ ((step (view m) e) .reply) (length (bytesOf ((step (view m) e) .frames)))
+
 -- what hislip_new leaves: every word and byte is written, whatever was there, and the memory shows the fresh server
 pub record Fresh (v : Making) (m : Memory) : Type 0 where
   pub words : m .words ≡ freshWords v
   pub strings : m .strings ≡ freshStrings
   pub shows : view m ≡ fresh v
+
+-- a refused call's post-condition, a taken one's
+refused-post : (e : Event) (n : ℕ) (m : Memory) (out : List ℕ) → step (view m) e ≡ record { server = view m; reply = refused (suc n); frames = [] }
+    → Post view e m m out out ((step (view m) e) .reply) (length (bytesOf ((step (view m) e) .frames)))
+unfolding bytesOf
+refused-post e n m out x =
+    record {
+      new-server = ap (λ (y : Result). y .server) (sym x);
+      replies = refl;
+      buffer = sym (splice-nil out 0) ∙ ap (λ (y : Result). written out (y .frames)) (sym x);
+      output-length = refl;
+      same-memory = λ z. refl;
+      same-buffer = λ z. refl;
+    }
+
+taken-post : (e : Event) (x : Result) (m m′ : Memory) (out out′ : List ℕ) → step (view m) e ≡ x → omits (x .reply) ≡ false → view m′ ≡ x .server → out′ ≡ written out (x .frames)
+    → Post view e m m′ out out′ ((step (view m) e) .reply) (length (bytesOf ((step (view m) e) .frames)))
+taken-post e x m m′ out out′ s o v b =
+    record {
+      new-server = v ∙ ap (λ (y : Result). y .server) (sym s);
+      replies = refl;
+      buffer = b ∙ ap (λ (y : Result). written out (y .frames)) (sym s);
+      output-length = refl;
+      same-memory = λ z. absurd (true≢false (sym z ∙ ap (λ (y : Result). omits (y .reply)) s ∙ o));
+      same-buffer = λ z. absurd (true≢false (sym z ∙ ap (λ (y : Result). omits (y .reply)) s ∙ o));
+    }
 
 -- a refused call
 pub refused-call : (e : Event) (n : ℕ) (r : Done) (m : Memory) (out : List ℕ) → refusal (view m) e ≡ suc n → r ≡ record { refusal = suc n; output = 0 } → Called e r m m out out
@@ -45,14 +80,7 @@ refused-call e n r m out q f =
     let x : step (view m) e ≡ record { server = view m; reply = refused (suc n); frames = [] } = ap (λ (k : ℕ). answered k (view m) e) q in
     record {
       numbers = ap doneNumbers f ∙ ap (λ (y : Result). doneAnswer (y .reply) (length (bytesOf (y .frames)))) (sym x);
-      post = record {
-        new-server = ap (λ (y : Result). y .server) (sym x);
-        replies = refl;
-        buffer = sym (splice-nil out 0) ∙ ap (λ (y : Result). written out (y .frames)) (sym x);
-        output-length = refl;
-        same-memory = λ z. refl;
-        same-buffer = λ z. refl;
-      };
+      post = refused-post e n m out x;
     }
 
 -- a call that is taken: the new server, the frames, and the numbers
@@ -63,15 +91,22 @@ taken-call e d′ fs r m m′ out out′ q p v b f =
     let x : step (view m) e ≡ record { server = d′; reply = done; frames = fs } = ap (λ (k : ℕ). answered k (view m) e) q ∙ p in
     record {
       numbers = ap doneNumbers f ∙ ap (λ (y : Result). doneAnswer (y .reply) (length (bytesOf (y .frames)))) (sym x);
-      post = record {
-        new-server = v ∙ ap (λ (y : Result). y .server) (sym x);
-        replies = refl;
-        buffer = b ∙ ap (λ (y : Result). written out (y .frames)) (sym x);
-        output-length = refl;
-        same-memory = λ z. absurd (true≢false (sym z ∙ ap (λ (y : Result). omits (y .reply)) x));
-        same-buffer = λ z. absurd (true≢false (sym z ∙ ap (λ (y : Result). omits (y .reply)) x));
-      };
+      post = taken-post e (record { server = d′; reply = done; frames = fs }) m m′ out out′ x refl v b;
     }
+
+-- an answer, refused and taken
+pub refused-answer : (e : Event) (n : ℕ) (r : Answered) (m : Memory) (out : List ℕ) → refusal (view m) e ≡ suc n → r ≡ record { refusal = suc n; withheld = 0; output = 0 } → Replied e r m m out out
+unfolding bytesOf step answered
+refused-answer e n r m out q f =
+    let x : step (view m) e ≡ record { server = view m; reply = refused (suc n); frames = [] } = ap (λ (k : ℕ). answered k (view m) e) q in
+    record { numbers = ap answeredNumbers f ∙ ap (λ (y : Result). answeredAnswer (y .reply) (length (bytesOf (y .frames)))) (sym x); post = refused-post e n m out x }
+
+pub taken-answer : (e : Event) (x : Result) (r : Answered) (m m′ : Memory) (out out′ : List ℕ) → refusal (view m) e ≡ 0 → finish (view m) (plan (view m) e) ≡ x → omits (x .reply) ≡ false
+    → view m′ ≡ x .server → out′ ≡ written out (x .frames) → answeredNumbers r ≡ answeredAnswer (x .reply) (length (bytesOf (x .frames))) → Replied e r m m′ out out′
+unfolding step answered
+taken-answer e x r m m′ out out′ q p o v b f =
+    let s : step (view m) e ≡ x = ap (λ (k : ℕ). answered k (view m) e) q ∙ p in
+    record { numbers = f ∙ ap (λ (y : Result). answeredAnswer (y .reply) (length (bytesOf (y .frames)))) (sym s); post = taken-post e x m m′ out out′ s o v b }
 
 -- the refusals
 module _ (d : Server) (c : ℕ) where

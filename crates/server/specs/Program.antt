@@ -8,13 +8,13 @@ use Prim.Native.Nat.{ℕ, zero, suc, _<_, _^_}
 use lib.Dec.{eqb}
 use lib.ListN.{length, take}
 use Rattle.wire.specs.Class.{one-of}
-use Rattle.wire.specs.Frame.{frameOf, frameBytes}
+use Rattle.wire.specs.Frame.{frameOf, frameBytes, bytesOf}
 use Rattle.wire.specs.Message.{header}
-use Rattle.model.specs.Interface.{Event.opening, Event.delivery, Event.cut, Event.clock, Event.answer, Event.status, Outcome, Outcome.more-needed, Outcome.skipped, Outcome.held, Outcome.ignored, Outcome.error-sent, Outcome.closed, Outcome.acted, Reply, Reply.refused, Reply.done, Reply.took}
+use Rattle.model.specs.Interface.{Event.opening, Event.delivery, Event.cut, Event.clock, Event.answer, Event.status, Outcome, Outcome.more-needed, Outcome.skipped, Outcome.held, Outcome.ignored, Outcome.error-sent, Outcome.closed, Outcome.acted, Reply, Reply.refused, Reply.done, Reply.withheld, Reply.took}
 use Rattle.model.specs.State.{Asked.some, Kind, Making, at, fresh, slotOfNumber}
 use Rattle.model.specs.Step.{final, log, answerType}
 use Rattle.model.specs.Post.{Post}
-use Rattle.model.specs.MessageTypes.{commands}
+use Rattle.model.specs.MessageTypes.{Interrupted, AsyncInterrupted, commands}
 use Rattle.model.specs.IsolationRun.{Undisturbed}
 use Rattle.model.specs.Tie.{Track, nothingYet, track}
 use Rattle.model.specs.Demand3.{Seen, seen, seenEvents, Demand3}
@@ -28,12 +28,15 @@ use Rattle.model.specs.SessionId.{lastInLog}
 use Rattle.model.specs.Permitted.{ActsExactly}
 use Rattle.model.specs.Opening.{Opens}
 use Rattle.model.specs.Locality.{LocalRun}
+use Rattle.model.specs.NextQuestion.{questionUnread, synchronousOf, asynchronousOf, owes}
+use Rattle.model.specs.Refusals.{refusal}
 use Rattle.model.specs.Standing.{StandsOn}
 use Rattle.state.specs.View.{Memory, view}
 use Rattle.effects.specs.declared.Delivery.{Delivery}
+use Rattle.server.specs.declared.Answered.{Answered}
 use Rattle.server.specs.declared.Done.{Done}
 use Rattle.server.specs.Calls.{Delivered}
-use Rattle.server.specs.Events.{Called, Fresh}
+use Rattle.server.specs.Events.{Called, Fresh, Replied}
 
 -- the reply that a returned struct tells: a refusal, else the outcome by its number, the bytes taken and the session
 abbrev pub outcomeOf : ℕ → Outcome
@@ -55,6 +58,10 @@ deliveryReply r = refusedOr (r .refusal) (took (outcomeOf (r .outcome)) (r .take
 abbrev pub doneReply : Done → Reply
 doneReply r = refusedOr (r .refusal) done
 
+-- 02, Q-5: of an answer also whether it was withheld
+abbrev pub answeredReply : Answered → Reply
+answeredReply r = refusedOr (r .refusal) (cond (eqb (r .withheld) 1) withheld done)
+
 -- from one memory to another; nobody else writes it, and each call lends whatever buffer
 pub data Run : Memory → List Seen → Memory → Type 0 where
   stop : {m : Memory} → Run m [] m
@@ -66,8 +73,8 @@ pub data Run : Memory → List Seen → Memory → Type 0 where
       → Run m (record { event = cut c (length out); reply = doneReply r; output = take (r .output) out′ } ∷ ss) m″
   hislip-clock : {m m′ m″ : Memory} {ss : List Seen} (t : ℕ) (out out′ : List ℕ) (r : Done) → Called (clock t (length out)) r m m′ out out′ → Run m′ ss m″
       → Run m (record { event = clock t (length out); reply = doneReply r; output = take (r .output) out′ } ∷ ss) m″
-  hislip-answer : {m m′ m″ : Memory} {ss : List Seen} (n : ℕ) (payload : List ℕ) (end : ℕ) (out out′ : List ℕ) (r : Done) → Called (answer n payload (not (eqb end 0)) (length out)) r m m′ out out′ → Run m′ ss m″
-      → Run m (record { event = answer n payload (not (eqb end 0)) (length out); reply = doneReply r; output = take (r .output) out′ } ∷ ss) m″
+  hislip-answer : {m m′ m″ : Memory} {ss : List Seen} (n : ℕ) (payload : List ℕ) (end : ℕ) (shown out out′ : List ℕ) (r : Answered) → Replied (answer n payload (not (eqb end 0)) shown (length out)) r m m′ out out′ → Run m′ ss m″
+      → Run m (record { event = answer n payload (not (eqb end 0)) shown (length out); reply = answeredReply r; output = take (r .output) out′ } ∷ ss) m″
   hislip-status : {m m′ m″ : Memory} {ss : List Seen} (b : ℕ) → Post view (status b) m m′ [] [] done 0 → Run m′ ss m″
       → Run m (record { event = status b; reply = done; output = [] } ∷ ss) m″
 
@@ -85,7 +92,7 @@ trackIn w (s ∷ ss) n p = trackIn w ss n (track w (s .event) (s .reply) n p)
 abbrev pub shownOf : Making → List Seen → ℕ → Track
 shownOf v ss n = trackIn (v .prefersOverlap) ss n (nothingYet (v .prefersOverlap))
 
--- F about the program: an answer of the instrument that is not refused writes one frame, to the session's synchronous connection. In
+-- F about the program: an answer of the instrument that is not refused and not withheld writes one frame, to the session's synchronous connection. In
 -- synchronized mode its MessageID is that of the last DataEND or Trigger of the session that acted, with no device clear and no END answer
 -- since; 02, Q-1: in overlap mode it is the count of the session's answers since it opened or was cleared
 pub record Tied (v : Making) (ss : List Seen) (m : Memory) (n : ℕ) (payload : List ℕ) (end : Bool) (output : List ℕ) : Type 0 where
@@ -120,9 +127,20 @@ pub record Program (New : Making → Memory → Type 0) (Ran : Memory → List S
   pub opens : (v : Making) (m m′ : Memory) (ss : List Seen) → New v m → Ran m ss m′ → (c : ℕ) (bs : List ℕ) (room : ℕ) → Opens (view m′) v c bs room
   -- from any memory: which call changed which field, and to what
   pub locality : (m m′ : Memory) (ss : List Seen) → Ran m ss m′ → LocalRun (view m) (seenEvents ss)
-  -- of an answer that was not refused
+  -- of an answer that was sent
   pub tie : (v : Making) (m m′ m″ : Memory) (ss : List Seen) (s : Seen) → New v m → Ran m ss m′ → Ran m′ (s ∷ []) m″
-      → (n : ℕ) (payload : List ℕ) (end : Bool) (room : ℕ) → s .event ≡ answer n payload end room → s .reply ≡ done → Tied v ss m′ n payload end (s .output)
+      → (n : ℕ) (payload : List ℕ) (end : Bool) (shown : List ℕ) (room : ℕ) → s .event ≡ answer n payload end shown room → s .reply ≡ done → Tied v ss m′ n payload end (s .output)
+  -- 02, Q-5: an answer that ended, was sent in synchronized mode with nothing to skip: no next question was unread
+  pub in-time : (v : Making) (m m′ m″ : Memory) (ss : List Seen) (s : Seen) → New v m → Ran m ss m′ → Ran m′ (s ∷ []) m″ → AllPossible (seenEvents ss)
+      → (n : ℕ) (payload shown : List ℕ) (room : ℕ) → s .event ≡ answer n payload true shown room → s .reply ≡ done
+      → (shownOf v ss n) .overlap ≡ false → owes v (seenEvents ss) n ≡ 0 → questionUnread shown ≡ false
+  -- where one was unread, it is withheld: AsyncInterrupted, then Interrupted, with the question's number
+  pub withheld-answer : (v : Making) (m m′ m″ : Memory) (ss : List Seen) (s : Seen) → New v m → Ran m ss m′ → Ran m′ (s ∷ []) m″ → AllPossible (seenEvents ss)
+      → (n : ℕ) (payload shown : List ℕ) (room : ℕ) → s .event ≡ answer n payload true shown room → refusal (view m′) (s .event) ≡ 0
+      → (shownOf v ss n) .overlap ≡ false → owes v (seenEvents ss) n ≡ 0 → questionUnread shown ≡ true
+      → (s .reply ≡ withheld) × (s .output
+      ≡ bytesOf (frameOf (asynchronousOf v (seenEvents ss) n) AsyncInterrupted 0 ((header shown) .param) []
+      ∷ frameOf (synchronousOf v (seenEvents ss) n) Interrupted 0 ((header shown) .param) [] ∷ []))
   -- Q about the program: a release that is not answered at once stands until its message, a device clear or its session's closing
   pub standing : (v : Making) (m m′ : Memory) (ss : List Seen) → New v m → Ran m ss m′ → (j : ℕ) (k : Kind) (n : ℕ) → StandsOn (view m′) j k n
   -- N about the program: from where a session holds exclusive until its release is answered or its closing, nobody else's command acts

@@ -12,7 +12,7 @@ use Rattle.wire.specs.declared.Header.{Header}
 use Rattle.wire.specs.Message.{header, prologue, payloadOf}
 use Rattle.model.specs.Sizes.{payloadLimit}
 use Rattle.model.specs.State.{Server, connectionAt}
-use Rattle.model.specs.Interface.{Outcome.more-needed, Outcome.skipped, Outcome.held, Outcome.ignored, Outcome.error-sent, Outcome.closed, Outcome.acted, Reply, Reply.refused, Reply.done, Reply.took}
+use Rattle.model.specs.Interface.{Outcome.more-needed, Outcome.skipped, Outcome.held, Outcome.ignored, Outcome.error-sent, Outcome.closed, Outcome.acted, Reply, Reply.refused, Reply.done, Reply.withheld, Reply.took}
 use Rattle.model.specs.Scan.{Scan, Scan.empty, Scan.few, Scan.wrong, Scan.skipping, Scan.long, Scan.part, Scan.whole, sorted, freshScan, scan}
 use Rattle.model.specs.Missing.{ifMore, lacking}
 use Rattle.model.specs.MessageTypes.{Initialize, AsyncInitialize}
@@ -72,6 +72,7 @@ scan-few bs h = ap (λ (x : Bool). sorted x (prologue bs) (ltb payloadLimit (hea
 none-missing : (y : Reply) → ifMore y 0 ≡ 0
 none-missing (refused n) = refl
 none-missing done = refl
+none-missing withheld = refl
 none-missing (took more-needed k n) = refl
 none-missing (took skipped k n) = refl
 none-missing (took held k n) = refl

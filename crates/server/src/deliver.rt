@@ -9,12 +9,14 @@ ghost use Rattle.model.specs.Locks.{stands};
 ghost use Rattle.model.specs.Place.{Role, Role.r-asynchronous, Role.r-synchronous, roleOf, slotIn};
 ghost use Rattle.model.specs.Missing.{ifMore, lacking};
 ghost use Rattle.model.specs.Scan.{Scan, Scan.whole, freshScan, leftover, scan, size};
-ghost use Rattle.model.specs.State.{at, connectionAt};
+ghost use Rattle.model.specs.Exchange.{differs};
+ghost use Rattle.model.specs.State.{at, connectionAt, exchangeAt};
 ghost use Rattle.server.specs.Scanning.{DidOn};
 ghost use Rattle.model.specs.Step.{effect, finish, received};
 ghost use Rattle.state.specs.Channels.{Unshown};
 ghost use Rattle.state.specs.Search.{roleNumber};
 ghost use Rattle.state.specs.View.{locksOf, memory, restOf, view};
+ghost use lib.Dec.{eqb};
 ghost use lib.ListN.{length};
 ghost use mathlib.Core.Bool.{false, true};
 ghost use mathlib.Core.List.{List};
@@ -33,6 +35,7 @@ use checks::whole;
 use effects::Delivery;
 use effects::answer;
 use effects::asynchronous;
+use effects::interrupted;
 use effects::opening;
 use effects::outcome;
 use effects::replies;
@@ -153,7 +156,7 @@ fn deliver_kind(
     told
 }
 
-// A whole Data or DataEND of a session of which no release stands.
+// A whole Data or DataEND in turn, of a session of which no release stands.
 fn deliver_plain(
     w: &mut Words,
     strings: &mut Strings,
@@ -166,7 +169,7 @@ fn deliver_plain(
     len: u64,
     payload: &[u8],
 ) -> Delivery
-    requires { ⌜ (c < connectionLimit) × (len ≤ payloadLimit) × (length (now payload) ≡ len) × (outputMinimum ≤ length (now out)) × ((s : List ℕ) → slotIn (locksOf (now w) s .entries) c ≡ i) × (i < sessionLimit) × (isCommand kind ≡ true) × ((s : List ℕ) → stands ((at (locksOf (now w) s .entries) i) .standing) ≡ false) ⌝ }
+    requires { ⌜ (c < connectionLimit) × (len ≤ payloadLimit) × (length (now payload) ≡ len) × (outputMinimum ≤ length (now out)) × ((s : List ℕ) → slotIn (locksOf (now w) s .entries) c ≡ i) × (i < sessionLimit) × (isCommand kind ≡ true) × ((s : List ℕ) → stands ((at (locksOf (now w) s .entries) i) .standing) ≡ false) × (differs (eqb code 1) ((exchangeAt (restOf (now w)) i) .rmtExpected) ≡ false) ⌝ }
     ensures { λ r. ⌜ Did (finish (view (memory (now (w .entry)) (now (strings .entry)))) (effect (judged r-synchronous (view (memory (now (w .entry)) (now (strings .entry)))) i (message kind code param len) (now (payload .entry))) (whole (message kind code param len) (now (payload .entry))) r-synchronous (view (memory (now (w .entry)) (now (strings .entry)))) i c)) r (memory (now (w .entry)) (now (strings .entry))) (memory (now (w .exit)) (now (strings .exit))) (now (out .entry)) (now (out .exit)) ⌝ }
 {
     let v = on_synchronous::synchronous_verdict(w, i, kind, code, len);
@@ -256,7 +259,18 @@ fn deliver_status(
     told
 }
 
-// A whole message on a session's synchronous channel. Data and DataEND, unless a release stands that they may complete, are told as constants:
+// May a message with this control code do more than it says: complete a release that stands, or interrupt?
+fn is_eventful(w: &Words, i: usize, code: u8) -> bool
+    requires { ⌜ i < sessionLimit ⌝ }
+    ensures { λ r. ⌜ (r ≡ false → ((s : List ℕ) → stands ((at (locksOf (now (w .entry)) s .entries) i) .standing) ≡ false) × (differs (eqb code 1) ((exchangeAt (restOf (now (w .entry))) i) .rmtExpected) ≡ false)) ⌝ }
+{
+    if standing::stands(w, i) {
+        return true;
+    }
+    !interrupted::in_turn(w, i, code)
+}
+
+// A whole message on a session's synchronous channel. Data and DataEND, unless they may complete a release or interrupt, are told as constants:
 // checks and effect are then compiled for the one kind. All else is a call, whose answer goes through a local as that of `apply` does.
 fn deliver_synchronous(
     w: &mut Words,
@@ -273,7 +287,7 @@ fn deliver_synchronous(
     requires { ⌜ (c < connectionLimit) × (len ≤ payloadLimit) × (length (now payload) ≡ len) × (outputMinimum ≤ length (now out)) × ((s : List ℕ) → slotIn (locksOf (now w) s .entries) c ≡ i) × (i < sessionLimit) ⌝ }
     ensures { λ r. ⌜ Did (finish (view (memory (now (w .entry)) (now (strings .entry)))) (effect (judged r-synchronous (view (memory (now (w .entry)) (now (strings .entry)))) i (message kind code param len) (now (payload .entry))) (whole (message kind code param len) (now (payload .entry))) r-synchronous (view (memory (now (w .entry)) (now (strings .entry)))) i c)) r (memory (now (w .entry)) (now (strings .entry))) (memory (now (w .exit)) (now (strings .exit))) (now (out .entry)) (now (out .exit)) ⌝ }
 {
-    if standing::stands(w, i) {
+    if is_eventful(w, i, code) {
         let told = deliver_kind(
             w,
             strings,

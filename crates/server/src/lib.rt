@@ -3,13 +3,16 @@ ghost use Rattle.model.specs.Interface.{Event, Event.answer, Event.clock, Event
 ghost use Rattle.model.specs.Interface.Reply.{done};
 ghost use Rattle.model.specs.Post.{Post};
 ghost use Rattle.server.specs.Calls.{Delivered};
-ghost use Rattle.server.specs.Events.{Called, Fresh};
+ghost use Rattle.server.specs.Answers.{Gives};
+ghost use Rattle.server.specs.Events.{Called, Fresh, Replied};
 ghost use Rattle.state.specs.View.{memory, view};
 ghost use lib.ListN.{length};
 ghost use lib.Dec.{eqb};
 ghost use mathlib.Core.Bool.{not};
-ghost use mathlib.Core.List.{[]};
+ghost use mathlib.Core.List.{List, []};
 ghost use mathlib.Core.Path.{_≡_};
+ghost use Rattle.model.specs.Sizes.{outputMinimum, payloadLimit, sessionLimit};
+ghost use Prim.Native.Nat.{ℕ, _<_, _≤_};
 ghost use Rattle.state.specs.Layout.{STRINGS, WORDS};
 
 mod asking;
@@ -19,6 +22,7 @@ use effects::Delivery;
 use effects::answer;
 use effects::closing;
 use effects::events;
+use effects::interrupted;
 use effects::mode;
 use locks::waiting;
 use state::fresh as start;
@@ -177,7 +181,45 @@ pub extern "C" fn hislip_string_bytes() -> u64
     sizes::string_bytes()
 }
 
-// The instrument answers a session, with END unless `end` is 0.
+// What hislip_answer answers the host: the refusal (0: none), 1 if the answer was withheld, and how many bytes of the output hold frames.
+#[repr(C)]
+pub struct Answered {
+    pub refusal: u64,
+    pub withheld: u64,
+    pub output: u64,
+}
+
+fn replied(refusal: u64, withheld: u64, output: u64) -> Answered
+    ensures { λ r. ⌜ r ≡ record { refusal = refusal; withheld = withheld; output = output } ⌝ }
+{
+    Answered {
+        refusal,
+        withheld,
+        output,
+    }
+}
+
+// An answer to slot i that is not refused: withheld where the next question is unread, else sent.
+fn give_answer(
+    words: &mut Words,
+    out: &mut [u8],
+    i: usize,
+    end: bool,
+    payload: &[u8],
+    shown: &[u8],
+) -> Answered
+    requires { ⌜ (i < sessionLimit) × (length (now payload) ≤ payloadLimit) × (outputMinimum ≤ length (now out)) ⌝ }
+    ensures { λ r. ⌜ ((s : List ℕ) → Gives (view (memory (now (words .entry)) s)) i end (now (payload .entry)) (now (shown .entry)) r (view (memory (now (words .exit)) s)) (now (out .entry)) (now (out .exit))) ⌝ }
+{
+    if interrupted::withholds(words, i, end, shown) {
+        let n = interrupted::withhold(words, out, i, shown);
+        return replied(0, 1, n as u64);
+    }
+    let n = events::send_answer(words, out, i, end, payload);
+    replied(0, 0, n as u64)
+}
+
+// The instrument answers a session, with END unless `end` is 0; `shown` is what is unread of the session's synchronous connection.
 #[no_mangle]
 pub extern "C" fn hislip_answer(
     words: &mut Words,
@@ -185,30 +227,30 @@ pub extern "C" fn hislip_answer(
     session: u32,
     payload: &[u8],
     end: u8,
+    shown: &[u8],
     out: &mut [u8],
-) -> Done
-    ensures { λ r. ⌜ Called (answer session (now (payload .entry)) (not (eqb end 0)) (length (now (out .entry)))) r (memory (now (words .entry)) (now (strings .entry))) (memory (now (words .exit)) (now (strings .exit))) (now (out .entry)) (now (out .exit)) ⌝ }
+) -> Answered
+    ensures { λ r. ⌜ Replied (answer session (now (payload .entry)) (not (eqb end 0)) (now (shown .entry)) (length (now (out .entry)))) r (memory (now (words .entry)) (now (strings .entry))) (memory (now (words .exit)) (now (strings .exit))) (now (out .entry)) (now (out .exit)) ⌝ }
 {
     if out.len() < OUTPUT_MINIMUM {
-        return told(7, 0);
+        return replied(7, 0, 0);
     }
     let i = search::slot_of_number(words, session as u64);
     if i >= SESSION_LIMIT {
-        return told(8, 0);
+        return replied(8, 0, 0);
     }
     if tables::entry(words, i, tables::NUMBER) == 0 {
-        return told(8, 0);
+        return replied(8, 0, 0);
     }
     if !mode::may_answer(words, i) {
-        return told(5, 0);
+        return replied(5, 0, 0);
     }
     if payload.len() > PAYLOAD_LIMIT {
-        return told(6, 0);
+        return replied(6, 0, 0);
     }
     if tables::exchange(words, i, tables::CLIENT_SIZE) < payload.len() as u64 {
-        return told(6, 0);
+        return replied(6, 0, 0);
     }
     let with_end = is_set(end);
-    let n = events::send_answer(words, out, i, with_end, payload);
-    told(0, n as u64)
+    give_answer(words, out, i, with_end, payload, shown)
 }

@@ -32,7 +32,7 @@ freshWords v =
     v .vendor
     ∷ flagWord (v .prefersOverlap)
     ∷ replicate 5 0
-    ++ rows sessionLimit (0 ∷ 0 ∷ 0 ∷ payloadLimit ∷ 0 ∷ start ∷ 0 ∷ [])
+    ++ rows sessionLimit (0 ∷ 0 ∷ 0 ∷ payloadLimit ∷ 0 ∷ start ∷ 0 ∷ 0 ∷ [])
     ++ replicate (connectionLimit * CONNECTION) 0
     ++ replicate 5 0
     ++ replicate (sessionLimit * ENTRY) 0

@@ -103,6 +103,7 @@ exchangeFrom t =
       overlap = flag (t 4);
       count = t 5 % 2 ^ 32;
       anySent = flag (t 6);
+      rmtExpected = flag (t 7);
     }
 
 abbrev pub exchangeOf : List ℕ → Exchange

@@ -26,7 +26,7 @@ use crate::sizes::Words;
 use crate::words::store;
 
 // The fields of an exchange: in device clear, what is asked (plus 1), message available, the client's size; in overlap mode, the number of
-// its next answer there, whether some answer was sent.
+// its next answer there, whether some answer was sent; whether an RMT is expected.
 pub const IN_CLEAR: usize = 0;
 
 pub const ASKED: usize = 1;
@@ -40,6 +40,8 @@ pub const OVERLAP: usize = 4;
 pub const ANSWER_COUNT: usize = 5;
 
 pub const ANY_SENT: usize = 6;
+
+pub const RMT_EXPECTED: usize = 7;
 
 // The fields of a connection: open, remainder to skip.
 pub const IS_OPEN: usize = 0;
@@ -89,14 +91,14 @@ const CONNECTION_NUMBERS: u64 = sizes::CONNECTIONS;
 
 // What a session has asked and been sent.
 pub fn exchange(w: &Words, i: usize, f: usize) -> u64
-    requires { ⌜ (i < sessionLimit) × (f < 7) ⌝ }
+    requires { ⌜ (i < sessionLimit) × (f < 8) ⌝ }
     ensures { λ r. ⌜ (exchangeWith f r (exchangeAt (restOf (now (w .entry))) i) ≡ exchangeAt (restOf (now (w .entry))) i) × (r ≡ exchangeWord (now (w .entry)) i f) ⌝ }
 {
     w[EXCHANGES + i * EXCHANGE + f]
 }
 
 pub fn set_exchange(w: &mut Words, i: usize, f: usize, v: u64)
-    requires { ⌜ (i < sessionLimit) × (f < 7) ⌝ }
+    requires { ⌜ (i < sessionLimit) × (f < 8) ⌝ }
     ensures { λ _. ⌜ ((s : List ℕ) → view (memory (now (w .exit)) s) ≡ onExchange (view (memory (now (w .entry)) s)) i (exchangeWith f v)) ⌝ }
 {
     store(w, EXCHANGES + i * EXCHANGE + f, v);

@@ -1,4 +1,4 @@
--- `events::note_answer` meets its contract: one store, the count, and another store with END.
+-- `events::note_answer` meets its contract: one store, the count, and two more stores with END.
 use Rattle.effects.specs.Events.{answered-part, answered-whole}
 use borrow.Author.Tests.{not-true, not-false}
 use Rattle.state.specs.View.{memory, view}
@@ -10,8 +10,8 @@ returns : tie.Need-returns
 returns c = let a = c .before .before .before .before .before .args in λ s. answered-part (view (memory (a .w .now) s)) _ _ (a .i) (c .before .before .before .set-exchange .ensures s) (c .before .count-answer .ensures s) (a .«end») (not-true (a .«end») (c .if1 .taken))
 
 returns-2 : tie.Need-returns-2
-returns-2 c = let a = c .before .before .before .before .before .before .before .args in λ s. answered-whole (view (memory (a .w .now) s)) _ _ (a .i) (c .before .before .before .before .before .set-exchange .ensures s) (c .before .before .before .count-answer .ensures s) (a .«end») (not-false (a .«end») (c .before .before .if1 .left)) _ (c .set-exchange2 .ensures s)
+returns-2 c = let a = c .before .before .before .before .before .before .before .before .before .args in λ s. answered-whole (view (memory (a .w .now) s)) _ _ (a .i) (c .before .before .before .before .before .before .before .set-exchange .ensures s) (c .before .before .before .before .before .count-answer .ensures s) (a .«end») (not-false (a .«end») (c .before .before .before .before .if1 .left)) _ _ (c .before .before .set-exchange2 .ensures s) (c .set-exchange3 .ensures s)
 
 pub note-answer-spec : {M : Type 1} → statement M
 note-answer-spec =
-    tie.close (tie.spec (λ c κs. search needs) (λ c κs. search needs) returns (λ c κs. search needs) returns-2)
+    tie.close (tie.spec (λ c κs. search needs) (λ c κs. search needs) returns (λ c κs. search needs) (λ c κs. search needs) returns-2)

@@ -20,7 +20,7 @@ returns c = c .before .before .deliver-kind .ensures r-synchronous refl
 deliver-plain-requires : tie.Need-deliver-plain-requires
 deliver-plain-requires c κs =
     let q = c .before .before .before .before .before .before .before .before .before .pre in
-    (search needs, search needs, q .2, search needs, q .4, q .5, refl, λ s. c .before .before .before .before .before .stands .ensures s ∙ c .before .before .before .before .if1 .left)
+    (search needs, search needs, q .2, search needs, q .4, q .5, refl, c .before .before .before .before .before .is-eventful .ensures (c .before .before .before .before .if1 .left) .0, c .before .before .before .before .before .is-eventful .ensures (c .before .before .before .before .if1 .left) .1)
 
 returns-2 : tie.Need-returns-2
 returns-2 c =
@@ -30,7 +30,7 @@ returns-2 c =
 deliver-plain-requires-2 : tie.Need-deliver-plain-requires-2
 deliver-plain-requires-2 c κs =
     let q = c .before .before .before .before .before .before .before .before .before .before .pre in
-    (search needs, search needs, q .2, search needs, q .4, q .5, refl, λ s. c .before .before .before .before .before .before .stands .ensures s ∙ c .before .before .before .before .before .if1 .left)
+    (search needs, search needs, q .2, search needs, q .4, q .5, refl, c .before .before .before .before .before .before .is-eventful .ensures (c .before .before .before .before .before .if1 .left) .0, c .before .before .before .before .before .before .is-eventful .ensures (c .before .before .before .before .before .if1 .left) .1)
 
 returns-3 : tie.Need-returns-3
 returns-3 c =

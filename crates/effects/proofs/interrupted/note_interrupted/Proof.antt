@@ -1,0 +1,12 @@
+-- `interrupted::note_interrupted` meets its contract: two stores.
+use Rattle.effects.specs.Interrupted.{both-off}
+use Rattle.state.specs.View.{memory, view}
+use borrow.Author.Needs.{needs}
+use Rattle.effects.proofs.interrupted.note_interrupted.Statement.{statement}
+use Rattle.effects.proofs.interrupted.note_interrupted.Tie as tie
+
+returns : tie.Need-returns
+returns c = let a = c .before .before .before .before .args in λ s. both-off (view (memory (a .w .now) s)) _ _ (a .i) (c .before .before .set-exchange .ensures s) (c .set-exchange2 .ensures s)
+
+pub note-interrupted-spec : {M : Type 1} → statement M
+note-interrupted-spec = tie.close (tie.spec (λ c κs. search needs) (λ c κs. search needs) returns)
