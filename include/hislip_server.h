@@ -15,12 +15,13 @@
  * WHAT THE HOST OWES. The library checks every number and every byte; it relies on pointers alone:
  *  - `words` points to HISLIP_WORDS uint64_t, aligned as uint64_t, and `strings` to
  *    HISLIP_STRING_BYTES bytes. In hislip_deliver `bytes` points to `len` bytes, in hislip_answer
- *    `payload` to `len` bytes, and in these two, hislip_cut and hislip_clock `out` to `out_len` bytes.
+ *    `payload` to `len` bytes and `shown` to `shown_len`, and in these two, hislip_cut and hislip_clock
+ *    `out` to `out_len` bytes.
  *    Byte memory needs no alignment.
  *  - NO POINTER IS NULL, NOT EVEN BESIDE A LENGTH OF 0. The proved code takes references, and a
  *    reference is never null: of a null one the proofs say nothing. Beside 0 any other pointer will
  *    do, for instance "". GCC and Clang warn of a null constant.
- *  - words, strings, bytes or payload, and out do not overlap one another.
+ *  - words, strings, bytes, payload, shown and out do not overlap one another; payload and shown may.
  *  - Two threads do not use one server at once. Different servers are independent.
  *  - hislip_new has written the memory before the other calls see it.
  *
@@ -29,8 +30,9 @@
  * of HISLIP_OUTPUT bytes always suffices.
  *
  * WHAT IS WRITTEN. `words`, `strings` and the first `output` bytes of `out`; the bytes of `out` after
- * them keep their values, and `bytes` and `payload` are only read. A refused call, a delivery answered
- * more needed or held, and the two questions (hislip_deadline, hislip_client_size) write nothing at all.
+ * them keep their values, and `bytes`, `payload` and `shown` are only read. A refused call, a delivery
+ * answered more needed or held, and the two questions (hislip_deadline, hislip_client_size) write nothing
+ * at all.
  *
  * RELEASES. A lock release (AsyncLock with code 0) names the last Data, DataEND or Trigger that its
  * client has sent, or fffffefe hex if it has sent none since it opened or since its last device clear.
@@ -83,9 +85,9 @@ extern "C" {
 /* The version of this interface. A change of the first number, or below 1.0 of the second, may ask
  * for changes in the host. */
 #define HISLIP_VERSION_MAJOR 0
-#define HISLIP_VERSION_MINOR 3
+#define HISLIP_VERSION_MINOR 4
 #define HISLIP_VERSION_PATCH 0
-#define HISLIP_VERSION "0.3.0"
+#define HISLIP_VERSION "0.4.0"
 
 /* Compilers that know these words warn; the others pass over them.
  * HISLIP_NOT_NULL: no pointer is null, see WHAT THE HOST OWES.
@@ -100,7 +102,7 @@ extern "C" {
 #endif
 
 /* Sizes. */
-#define HISLIP_WORDS 684          /* uint64_t to lend as `words`: what hislip_words() tells         */
+#define HISLIP_WORDS 716          /* uint64_t to lend as `words`: what hislip_words() tells         */
 #define HISLIP_STRING_BYTES 8448  /* bytes to lend as `strings`: what hislip_string_bytes() tells   */
 #define HISLIP_SESSIONS 32        /* live sessions, half-open ones included                         */
 #define HISLIP_CONNECTIONS 64     /* connections are numbered 0 to 63                               */
@@ -176,6 +178,12 @@ typedef struct {
     uint64_t refusal, outcome, session, taken, output, missing;
 } hislip_delivery;
 
+/* The answer to an instrument's answer. `withheld`: 1 if the answer was not sent, since the session's
+ * next message has come; the output then tells the client so. `output`: bytes of frames in `out`. */
+typedef struct {
+    uint64_t refusal, withheld, output;
+} hislip_answered;
+
 /* The answer to any other event that has one. An opening's `output` is 0. */
 typedef struct {
     uint64_t refusal, output;
@@ -240,11 +248,21 @@ hislip_done hislip_clock(uint64_t *words, uint8_t *strings, uint64_t millisecond
  * `len` may be 0. Refusals, in this order: 7, 8 (no live session of that number), 5 (it has asked
  * nothing: no DataEND or Trigger since the last answer with END, or a device clear came after it; in
  * overlap mode: it is half-open or in a device clear), 6 (`len` above 1,024 or above the size the client
- * announced). */
+ * announced).
+ *
+ * `shown`: all unread bytes of the session's synchronous connection, from the first one not yet taken.
+ * They are looked at with `end`, in synchronized mode, after the refusals. If they begin with a whole
+ * header, "HS" and type Data, DataEND or Trigger, and no payload of a too large message is still to be
+ * skipped, the client has asked again before it was answered: the answer is withheld, nothing is asked any
+ * more, message available goes off, and AsyncInterrupted and Interrupted are in the output. The message
+ * itself stays unread, to be delivered as any other. A host that shows nothing (`shown_len` 0) never has an
+ * answer withheld. The server also looks at RMT-delivered of each Data, DataEND and Trigger: a client that
+ * does not tell of an END sent to it, or tells of one that was not, is sent the same two messages with that
+ * delivery. */
 HISLIP_NOT_NULL HISLIP_USE_RESULT
-hislip_done hislip_answer(uint64_t *words, uint8_t *strings, uint32_t session,
-                          const uint8_t *payload, size_t len, uint8_t end,
-                          uint8_t *out, size_t out_len);
+hislip_answered hislip_answer(uint64_t *words, uint8_t *strings, uint32_t session,
+                              const uint8_t *payload, size_t len, uint8_t end,
+                              const uint8_t *shown, size_t shown_len, uint8_t *out, size_t out_len);
 
 /* The instrument's status byte changes. Never refused; sends nothing. In status responses the value
  * 16 is replaced by the session's own message available. */

@@ -116,6 +116,13 @@ static hislip_delivery widened(hislip_done done)
     return told;
 }
 
+/* The same for an answer; one that was withheld is no answer of these examples. */
+static hislip_delivery answered(hislip_answered done)
+{
+    hislip_done sent = {done.refusal + done.withheld, done.output};
+    return widened(sent);
+}
+
 static hislip_delivery call(const row *row, size_t length)
 {
     hislip_delivery none = {0};
@@ -130,7 +137,8 @@ static hislip_delivery call(const row *row, size_t length)
     case CLOCK:
         return widened(hislip_clock(words, strings, row->number, out, sizeof out));
     case ANSWER:
-        return widened(hislip_answer(words, strings, row->number, bytes, length, 1, out, sizeof out));
+        return answered(hislip_answer(words, strings, row->number, bytes, length, 1,
+                                      (const uint8_t *)"", 0, out, sizeof out));
     default:
         hislip_status(words, strings, (uint8_t)row->number);
         return none;

@@ -94,16 +94,19 @@ static void lock_and_hold(void)
 
 static void ask_and_answer(void)
 {
+    static const uint8_t nothing[1] = {0};
     hislip_delivery told = send(0, HISLIP_TYPE_DATA_END, 0, 0xffffff00, "*IDN?");
     hislip_sized sized = hislip_client_size(words, strings, 1);
+    hislip_answered answered;
     hislip_done done;
     expect("A takes answers of 1,024 bytes", sized.refusal == HISLIP_ACCEPTED && sized.size == 1024);
     expect("A asks", told.outcome == HISLIP_ACTED_ON && told.session == 1 && told.taken == 21);
-    done = hislip_answer(words, strings, 1, (const uint8_t *)"", 0, 1, out, sizeof out);
+    answered = hislip_answer(words, strings, 1, nothing, 0, 1, nothing, 0, out, sizeof out);
     expect("the answer carries the question's number",
-           one_frame(done.output, 0, HISLIP_TYPE_DATA_END, 0, 0xffffff00));
-    done = hislip_answer(words, strings, 1, (const uint8_t *)"", 0, 1, out, sizeof out);
-    expect("and is sent once", done.refusal == HISLIP_REFUSED_NOTHING_ASKED && done.output == 0);
+           one_frame(answered.output, 0, HISLIP_TYPE_DATA_END, 0, 0xffffff00));
+    answered = hislip_answer(words, strings, 1, nothing, 0, 1, nothing, 0, out, sizeof out);
+    expect("and is sent once",
+           answered.refusal == HISLIP_REFUSED_NOTHING_ASKED && answered.output == 0);
     hislip_status(words, strings, 0x41);
     told = send(1, HISLIP_TYPE_ASYNC_STATUS_QUERY, 0, 0xffffff00, "");
     expect("status 41 with an answer sent is 51",

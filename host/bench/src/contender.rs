@@ -52,6 +52,7 @@ impl Contender for Library {
             taken: told.taken,
             output: told.output,
             missing: told.missing,
+            withheld: 0,
         }
     }
 
@@ -60,11 +61,17 @@ impl Contender for Library {
         let (words, strings) = (self.words.as_mut_ptr(), self.strings.as_mut_ptr());
         let (bytes, len) = (payload.as_ptr(), payload.len());
         let (out, out_len) = (out.as_mut_ptr(), out.len());
-        let done =
-            unsafe { sys::hislip_answer(words, strings, session, bytes, len, END, out, out_len) };
+        let shown: &[u8] = &[];
+        let (unread, none) = (shown.as_ptr(), shown.len());
+        let answered = unsafe {
+            sys::hislip_answer(
+                words, strings, session, bytes, len, END, unread, none, out, out_len,
+            )
+        };
         Reply {
-            refusal: done.refusal,
-            output: done.output,
+            refusal: answered.refusal,
+            output: answered.output,
+            withheld: answered.withheld,
             ..Reply::default()
         }
     }
@@ -89,6 +96,6 @@ impl Contender for Ordinary {
 
     #[inline(always)]
     fn answer(&mut self, session: u32, payload: &[u8], out: &mut [u8]) -> Reply {
-        self.0.answer(session, payload, END, out)
+        self.0.answer(session, payload, END, &[], out)
     }
 }

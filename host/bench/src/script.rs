@@ -1,4 +1,5 @@
-//! What the sessions' programs send: messages with a count as their number, and releases that name the last one.
+//! What the sessions' programs send: messages counted as the server expects them, releases that name the
+//! last message, and RMT-delivered as answers have ended.
 
 use std::collections::BTreeMap;
 
@@ -28,12 +29,19 @@ const FIRST: u32 = 0xffff_ff00;
 const BEFORE_FIRST: u32 = FIRST - 2;
 const COMMAND: &[u8] = b"CONFigure:VOLTage:DC 10,0.001;:INITiate";
 
+#[derive(Clone, Copy, Default)]
+struct Program {
+    /// So many of its messages have acted.
+    acted: u32,
+    /// An answer has ended, and no message has told that it was delivered.
+    answered: bool,
+}
+
 /// Steps one after another, and the bytes that they show.
 pub struct Script {
     pub steps: Vec<Step>,
     pub bytes: Vec<u8>,
-    /// So many messages of each session have acted.
-    acted: [u32; SESSIONS],
+    programs: [Program; SESSIONS],
     /// Made when first sent; programs that are equally far send the same one. By type, code and count.
     counted: BTreeMap<(u8, u8), Vec<Option<Part>>>,
     /// With RMT-delivered 0 and 1.
@@ -71,7 +79,7 @@ impl Script {
             reading: keep(&[b'7'; PAYLOAD]),
             bytes,
             steps: Vec::new(),
-            acted: [0; SESSIONS],
+            programs: [Program::default(); SESSIONS],
             counted: BTreeMap::new(),
         }
     }
@@ -84,22 +92,24 @@ impl Script {
         self.steps.push(Step::Deliver(2 * session + 1, part));
     }
 
-    /// Data or DataEND of a session that has access; code 1 is RMT-delivered.
-    pub fn message(&mut self, session: u32, kind: u8, code: u8) {
-        self.held(session, kind, code);
-        self.acted[session as usize] += 1;
+    /// Data or DataEND of a session that has access.
+    pub fn message(&mut self, session: u32, kind: u8) {
+        self.held(session, kind);
+        let program = &mut self.programs[session as usize];
+        program.acted += 1;
+        program.answered = false;
     }
 
     /// Data or DataEND of a session that has none: it will be sent again.
-    pub fn held(&mut self, session: u32, kind: u8, code: u8) {
-        let acted = self.acted[session as usize];
+    pub fn held(&mut self, session: u32, kind: u8) {
+        let Program { acted, answered } = self.programs[session as usize];
         let number = FIRST.wrapping_add(2 * acted);
-        let part = self.counted(kind, code, acted, number, COMMAND);
+        let part = self.counted(kind, answered.into(), acted, number, COMMAND);
         self.synchronous(session, part);
     }
 
     pub fn release(&mut self, session: u32) {
-        let acted = self.acted[session as usize];
+        let acted = self.programs[session as usize].acted;
         let number = BEFORE_FIRST.wrapping_add(2 * acted);
         let part = self.counted(kind::LOCK, 0, acted, number, b"");
         self.asynchronous(session, part);
@@ -107,6 +117,7 @@ impl Script {
 
     /// The instrument's answer, with its end.
     pub fn answer(&mut self, session: u32) {
+        self.programs[session as usize].answered = true;
         self.steps.push(Step::Answer(1 + session, self.reading));
     }
 

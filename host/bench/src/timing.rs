@@ -144,7 +144,7 @@ mod tests {
         (outcomes, sent)
     }
 
-    /// No Error, and no release stands: every lock message is answered once, and granted or released.
+    /// No Error, nothing interrupted, and no release stands: every lock message is answered once, and granted or released.
     #[test]
     fn programs_keep_step_with_the_server() {
         const EVENTS: usize = 6_000;

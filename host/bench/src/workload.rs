@@ -80,14 +80,11 @@ const KINDS: [Kind; 6] = [
     Kind::Release,
 ];
 
-/// RMT-delivered of Data and DataEND.
-const CODES: [u8; 2] = [0, 1];
-
 /// One delivery of each kind: of which session, and what is drawn beside it.
 struct Round {
     order: [Kind; 6],
-    data: (u32, u8),
-    data_end: (u32, u8),
+    data: u32,
+    data_end: u32,
     status: (u32, Part),
     piece: (u32, Part),
     holder: u32,
@@ -128,8 +125,8 @@ impl Author {
             order,
             holder: draw.below(sessions),
             request: draw.pick(&[script.exclusive, script.shared]),
-            data: (draw.below(sessions), draw.pick(&CODES)),
-            data_end: (draw.below(sessions), draw.pick(&CODES)),
+            data: draw.below(sessions),
+            data_end: draw.below(sessions),
             status: (draw.below(sessions), draw.pick(&script.status)),
             piece: (draw.below(sessions), draw.pick(&script.pieces)),
         }
@@ -138,11 +135,11 @@ impl Author {
     fn round(&mut self, round: &Round, wanted: &[Kind]) {
         let script = &mut self.script;
         let mut locked = false;
-        let message = |script: &mut Script, (session, code): (u32, u8), kind: u8, locked: bool| {
+        let message = |script: &mut Script, session: u32, kind: u8, locked: bool| {
             if locked && session != round.holder {
-                script.held(session, kind, code);
+                script.held(session, kind);
             } else {
-                script.message(session, kind, code);
+                script.message(session, kind);
             }
         };
         for kind in round.order.iter().filter(|kind| wanted.contains(kind)) {
@@ -170,8 +167,8 @@ impl Author {
             let session = round as u32 % ALL;
             let script = &mut self.script;
             let request = [script.exclusive, script.shared][round / SESSIONS % 2];
-            script.message(session, kind::DATA, 0);
-            script.message(session, kind::DATA_END, 1);
+            script.message(session, kind::DATA);
+            script.message(session, kind::DATA_END);
             script.asynchronous(session, script.status[0]);
             script.synchronous(session, script.pieces[round % 3]);
             script.asynchronous(session, request);
@@ -194,8 +191,8 @@ impl Author {
         self.script.asynchronous(0, self.script.exclusive);
         self.begin();
         for _ in 0..self.count() {
-            let (kind, code) = draw.pick(&[(kind::DATA, 0), (kind::DATA_END, 1)]);
-            self.script.held(1 + draw.below(ALL - 1), kind, code);
+            let kind = draw.pick(&[kind::DATA, kind::DATA_END]);
+            self.script.held(1 + draw.below(ALL - 1), kind);
         }
     }
 
@@ -237,14 +234,14 @@ impl Author {
         let mut draw = Draw::new();
         let mut asked: Vec<u32> = (0..ALL).collect();
         for asks in &asked {
-            self.script.message(*asks, kind::DATA_END, 1);
+            self.script.message(*asks, kind::DATA_END);
         }
         self.begin();
         while self.script.steps.len() < self.count() {
             let answered = asked.swap_remove(draw.below(asked.len() as u32) as usize);
             self.script.answer(answered);
             let asks = draw.below(ALL);
-            self.script.message(asks, kind::DATA_END, 1);
+            self.script.message(asks, kind::DATA_END);
             if !asked.contains(&asks) {
                 asked.push(asks);
             }

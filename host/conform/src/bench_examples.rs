@@ -4,7 +4,9 @@ use reference::event::Frame;
 use reference::{Event, Fresh, Mode, Reply};
 
 use crate::bout::{Bout, Difference, Failed, Pair, BENCH};
-use crate::messages::{answer, clock, deliver, header, lock, message, release, session};
+use crate::messages::{
+    answer, answer_beside, clock, deliver, header, lock, message, release, session,
+};
 
 /// One event with its outcome and whole output.
 struct Example {
@@ -211,6 +213,55 @@ fn overlap() -> Conversation {
     }
 }
 
+/// AsyncInterrupted and Interrupted on connections 1 and 0.
+fn interrupted(number: u32) -> Vec<u8> {
+    [frame(1, 14, 0, number), frame(0, 13, 0, number)].concat()
+}
+
+/// An answer of session 1, sent.
+fn sent(kind: u8, number: u32) -> Vec<u8> {
+    [vec![0], message(kind, 0, number, b"x")].concat()
+}
+
+/// 003's appendix A, figures 2 to 5: a second query that comes too early.
+fn figures() -> [Conversation; 4] {
+    const ONE: u32 = 0xffff_ff00;
+    const TWO: u32 = 0xffff_ff02;
+    let acted = Reply::ACTED_ON;
+    let second = message(7, 0, TWO, b"?");
+    let asks = || [session(0, 1, 1), vec![deliver(0, message(7, 0, ONE, b"?"))]].concat();
+    let ends = || answer(1, b"x", 1);
+    let beside = || answer_beside(1, b"x", 1, &second[..]);
+    let asks_again = || deliver(0, &second[..]);
+    let conversation = |examples| Conversation {
+        fresh: BENCH,
+        before: asks(),
+        examples,
+    };
+    [
+        conversation(vec![
+            example("figure 2, the answer is sent", ends(), 0, sent(7, ONE)),
+            example("figure 2, not read", asks_again(), acted, interrupted(TWO)),
+            example("figure 2, the second answer", ends(), 0, sent(7, TWO)),
+        ]),
+        conversation(vec![
+            example("figure 3, withheld", beside(), 0, interrupted(TWO)),
+            example("figure 3, the second query", asks_again(), acted, vec![]),
+            example("figure 3, the second answer", ends(), 0, sent(7, TWO)),
+        ]),
+        conversation(vec![
+            example("figure 4, a part", answer(1, b"x", 0), 0, sent(6, ONE)),
+            example("figure 4, the end withheld", beside(), 0, interrupted(TWO)),
+            example("figure 4, the second query", asks_again(), acted, vec![]),
+            example("figure 4, the second answer", ends(), 0, sent(7, TWO)),
+        ]),
+        conversation(vec![
+            example("figure 5, still on the way", ends(), 0, sent(7, ONE)),
+            example("figure 5, the race", asks_again(), acted, interrupted(TWO)),
+        ]),
+    ]
+}
+
 /// Runs all; returns the events run.
 pub fn check(pair: Pair) -> Result<usize, Failed> {
     let all = [
@@ -223,7 +274,7 @@ pub fn check(pair: Pair) -> Result<usize, Failed> {
         overlap(),
     ];
     let mut count = 0;
-    for conversation in all {
+    for conversation in all.into_iter().chain(figures()) {
         count += conversation.check(pair)?;
     }
     Ok(count)

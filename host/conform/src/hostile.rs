@@ -262,7 +262,8 @@ impl Author {
         if self.numbers.permille(self.temper.rubbish) {
             return self.rubbish(connection, number);
         }
-        let code = self.numbers.pick(&[0, 0, 0, 1, 1, 1, 1, 2]);
+        let right = u8::from(known.rmt_expected);
+        let code = self.numbers.pick(&[right, right, right, right, 0, 1, 1, 2]);
         let bytes = match self.numbers.below(20) {
             0..=4 => message(6, code, number, &self.payload()),
             5..=12 => message(7, code, number, &self.payload()),
@@ -449,8 +450,28 @@ impl Author {
             session,
             payload,
             end: self.numbers.pick(&[0, 0, 1, 1, 1, 2, 255]),
+            shown: self.shown(session),
             room: self.room(),
         }
+    }
+
+    /// What the host shows with an answer: the session's unread bytes, or a part of them, and
+    /// sometimes what is not there.
+    fn shown(&mut self, session: u32) -> Vec<u8> {
+        let mut sessions = self.world.sessions.iter();
+        let known = sessions.find(|known| u32::from(known.number) == session);
+        let unread = known.map(|known| self.world.wires[known.synchronous as usize].unread.clone());
+        let mut shown = unread.unwrap_or_default();
+        match self.numbers.below(10) {
+            0 => shown.truncate(self.numbers.pick(&[0, 1, 15, 16, 17])),
+            1 => {
+                let kind = self.numbers.pick(&[6, 7, 12, 12, 7, 6, 8, 3]);
+                let length = self.numbers.pick(&[0, 5, 1024, 1025, u64::MAX]);
+                shown = header(kind, self.numbers.byte(), 0x8642_0000, length);
+            }
+            _ => {}
+        }
+        shown
     }
 
     /// Numbers that no good host would give.

@@ -8,6 +8,7 @@ pub mod cables;
 pub mod command;
 pub mod demand3;
 pub mod hostile;
+pub mod interrupts;
 pub mod json;
 pub mod library;
 pub mod listing;

@@ -71,6 +71,7 @@ impl Subject for Library {
             taken: delivery.taken,
             output: delivery.output,
             missing: delivery.missing,
+            withheld: 0,
         }
     }
 
@@ -85,11 +86,35 @@ impl Subject for Library {
         done(unsafe { sys::hislip_clock(words, strings, milliseconds, out, out_len) })
     }
 
-    fn answer(&mut self, session: u32, payload: &[u8], end: u8, out: &mut [u8]) -> Reply {
+    fn answer(
+        &mut self,
+        session: u32,
+        payload: &[u8],
+        end: u8,
+        shown: &[u8],
+        out: &mut [u8],
+    ) -> Reply {
         let (words, strings) = self.lent();
-        let (bytes, len) = (payload.as_ptr(), payload.len());
-        let (out, out_len) = (out.as_mut_ptr(), out.len());
-        done(unsafe { sys::hislip_answer(words, strings, session, bytes, len, end, out, out_len) })
+        let answered = unsafe {
+            sys::hislip_answer(
+                words,
+                strings,
+                session,
+                payload.as_ptr(),
+                payload.len(),
+                end,
+                shown.as_ptr(),
+                shown.len(),
+                out.as_mut_ptr(),
+                out.len(),
+            )
+        };
+        Reply {
+            refusal: answered.refusal,
+            withheld: answered.withheld,
+            output: answered.output,
+            ..Reply::default()
+        }
     }
 
     fn status(&mut self, status: u8) {

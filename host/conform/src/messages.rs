@@ -2,7 +2,7 @@
 
 use reference::Event;
 
-pub use reference::compose::{answer, clock, cut, deliver, header, message, ROOM};
+pub use reference::compose::{answer, answer_beside, clock, cut, deliver, header, message, ROOM};
 
 /// Opens a connection and sends Initialize on it.
 pub fn half_open(synchronous: u32) -> [Event; 2] {

@@ -15,6 +15,8 @@ pub struct Reach {
     pub fatal_errors: [usize; 5],
     pub errors: [usize; 5],
     pub lock_answers: [usize; 4],
+    /// Answers withheld, and messages that interrupted.
+    pub interrupted: [usize; 2],
     /// Releases that stood, that a message let act, and that a clear let act.
     pub standing: [usize; 3],
     /// Most lock answers in one event.
@@ -39,12 +41,14 @@ impl Reach {
         if reply.refusal == 0 && matches!(event, Event::Deliver { .. }) {
             bump(&mut self.outcomes, reply.outcome as usize);
         }
+        self.interrupted[0] += reply.withheld as usize;
         let mut answers = 0;
         for frame in frames(output).unwrap_or_default() {
             bump(&mut self.frames, frame.kind.into());
             match frame.kind {
                 2 => bump(&mut self.fatal_errors, frame.code.into()),
                 3 => bump(&mut self.errors, frame.code.into()),
+                13 => self.interrupted[1] += 1 - reply.withheld as usize,
                 5 => {
                     bump(&mut self.lock_answers, frame.code.into());
                     answers += 1;
@@ -60,7 +64,11 @@ impl Reach {
 
     /// What a message that acted says of a standing release.
     fn standing(&mut self, bytes: &[u8], sent: &[Frame]) {
-        let first = sent.iter().find(|frame| frame.kind != 5 || frame.code > 0);
+        let told = |frame: &&Frame| match frame.kind {
+            5 => frame.code > 0,
+            kind => kind != 13 && kind != 14,
+        };
+        let first = sent.iter().find(told);
         let released = first.is_some_and(|frame| frame.kind == 5);
         match bytes {
             [_, _, 4, 0, ..] if sent.is_empty() => self.standing[0] += 1,
@@ -76,7 +84,7 @@ impl Reach {
     }
 
     /// In words, a line for each kind.
-    pub fn lines(&self) -> [String; 7] {
+    pub fn lines(&self) -> [String; 8] {
         [
             format!("reached: refusals 1 to 8 {:?}", &self.refusals[1..]),
             format!(
@@ -89,6 +97,10 @@ impl Reach {
             format!(
                 "reached: lock answers 0 to 3 {:?}, at most {} in one event",
                 self.lock_answers, self.most_lock_answers
+            ),
+            format!(
+                "reached: answers withheld, messages that interrupted {:?}",
+                self.interrupted
             ),
             format!(
                 "reached: releases that stood, acted with a message, acted in a clear {:?}",
@@ -106,6 +118,7 @@ impl Reach {
             ("errors", json::numbers(&self.errors)),
             ("answers", self.answers().to_string()),
             ("lock_answers", json::numbers(&self.lock_answers)),
+            ("interrupted", json::numbers(&self.interrupted)),
             ("standing_releases", json::numbers(&self.standing)),
             ("most_lock_answers", self.most_lock_answers.to_string()),
         ])

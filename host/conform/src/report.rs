@@ -21,6 +21,9 @@ pub fn describe_reply(event: &Event, reply: &Reply) -> String {
         return format!("refusal {}", reply.refusal);
     }
     let output = reply.output;
+    if reply.withheld != 0 {
+        return format!("withheld, {output} bytes of output");
+    }
     if !matches!(event, Event::Deliver { .. }) {
         return format!("done, {output} bytes of output");
     }
@@ -48,10 +51,12 @@ pub fn describe_event(event: &Event) -> String {
             session,
             payload,
             end,
+            shown,
             ..
         } => format!(
-            "answer to session {session}, {} bytes, end {end}{short}",
-            payload.len()
+            "answer to session {session}, {} bytes, end {end}, beside {}{short}",
+            payload.len(),
+            describe_bytes(shown)
         ),
         Event::Status { status } => format!("status {status:02x}"),
     }

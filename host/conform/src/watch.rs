@@ -165,22 +165,25 @@ impl Watch {
     /// Calls with input that begins at any place, and sees that it is left as it was.
     fn call(&mut self, event: &Event, lent: Range<usize>) -> Result<Reply, Complaint> {
         let out = &mut self.area[lent];
-        let shown = match event {
-            Event::Deliver { bytes, .. } => &bytes[..],
-            Event::Answer { payload, .. } => &payload[..],
+        let (first, second) = match event {
+            Event::Deliver { bytes, .. } => (&bytes[..], &[][..]),
+            Event::Answer { payload, shown, .. } => (&payload[..], &shown[..]),
             _ => return Ok(self.subject.apply(event, out)),
         };
         let shift = self.calls / SHIFTS % SHIFTS;
         self.input.clear();
         self.input.resize(shift, 0);
-        self.input.extend_from_slice(shown);
-        let input = &self.input[shift..];
+        self.input.extend_from_slice(first);
+        self.input.extend_from_slice(second);
+        let (input, shown) = self.input[shift..].split_at(first.len());
         let reply = match event {
-            Event::Answer { session, end, .. } => self.subject.answer(*session, input, *end, out),
+            Event::Answer { session, end, .. } => {
+                self.subject.answer(*session, input, *end, shown, out)
+            }
             Event::Deliver { connection, .. } => self.subject.deliver(*connection, input, out),
             _ => Reply::default(),
         };
-        if self.input[shift..] != *shown {
+        if (input, shown) != (first, second) {
             return Err("the bytes shown were changed".into());
         }
         Ok(reply)
@@ -203,6 +206,10 @@ fn check_reply(event: &Event, reply: &Reply, output: &[u8]) -> Result<(), Compla
     let refused = Reply::refused(reply.refusal);
     if reply.refusal != 0 && *reply != refused {
         return Err("a refusal with other fields that are not 0".into());
+    }
+    let answer = matches!(event, Event::Answer { .. });
+    if reply.withheld > u64::from(answer) {
+        return Err("withheld, though it is no answer".into());
     }
     if reply.refusal > 8 || reply.outcome > 6 {
         return Err("a refusal or an outcome that does not exist".into());

@@ -40,6 +40,8 @@ pub struct Known {
     pub in_clear: bool,
     /// In overlap mode, the number of the next answer.
     pub count: u32,
+    /// In synchronized mode, an answer's end was sent, and no message has told of its delivery.
+    pub rmt_expected: bool,
 }
 
 impl Known {
@@ -136,6 +138,7 @@ impl World {
                 if let Some(known) = self.known(*session) {
                     known.asked &= *end == 0;
                     known.count = known.count.wrapping_add(2);
+                    known.rmt_expected |= *end != 0 && reply.withheld == 0;
                 }
             }
             Event::Status { .. } => {}
@@ -158,8 +161,10 @@ impl World {
             4 => known.wants = code == 1,
             6 | 7 | 12 => {
                 known.asked |= kind != 6;
+                known.rmt_expected = false;
                 known.last = u32::from_be_bytes([p0, p1, p2, p3]);
             }
+            21 => known.rmt_expected &= code == 0,
             8 => {
                 known.next = FIRST;
                 known.in_clear = false;
@@ -168,6 +173,7 @@ impl World {
             19 => {
                 known.asked = false;
                 known.in_clear = true;
+                known.rmt_expected = false;
                 (known.next, known.last, known.count) = (FIRST, BEFORE_FIRST, FIRST);
             }
             _ => {}
@@ -199,6 +205,7 @@ impl World {
             mode: self.prefers,
             in_clear: false,
             count: FIRST,
+            rmt_expected: false,
         });
     }
 

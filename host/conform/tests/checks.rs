@@ -49,10 +49,14 @@ fn random_lists_reach_every_answer() {
         reach.lock_answers.iter().all(|count| *count > 200),
         "{reach:?}"
     );
-    for kind in [1, 2, 3, 5, 6, 7, 9, 11, 16, 18, 22, 23, 25] {
+    for kind in [1, 2, 3, 5, 6, 7, 9, 11, 13, 14, 16, 18, 22, 23, 25] {
         assert!(reach.frames[kind] > 20, "type {kind}: {reach:?}");
     }
     assert!(reach.most_lock_answers >= 5, "{reach:?}");
+    assert!(
+        reach.interrupted.iter().all(|count| *count > 50),
+        "{reach:?}"
+    );
     assert!(reach.standing.iter().all(|count| *count > 50), "{reach:?}");
 }
 

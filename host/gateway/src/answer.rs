@@ -1,6 +1,6 @@
 //! What the instrument gives back: answers go to their session in pieces that the client takes.
 
-use hislip::{Frames, PAYLOAD};
+use hislip::{Answered, Frames, PAYLOAD};
 
 use crate::connection::{Connection, Lane};
 use crate::describe::{self, kept};
@@ -97,11 +97,33 @@ impl Gateway {
             return false;
         }
         answer.sent += piece.len();
-        match self.server.answer(session, piece, end).map(kept) {
-            Ok(output) => self.sent(session, &output, end),
+        let shown = room.map_or(&[][..], |connection| &connection.unread);
+        match self.server.answer(session, piece, end, shown) {
+            Ok(Answered::Sent(frames)) => {
+                let output = kept(frames);
+                self.sent(session, &output, end);
+            }
+            Ok(Answered::Withheld(frames)) => {
+                let output = kept(frames);
+                self.withheld(session, &output);
+            }
             Err(refusal) => self.lost(session, refusal.reason()),
         }
         !end
+    }
+
+    /// The session's next message has come before the end of the answer: the rest is not sent.
+    fn withheld(&mut self, session: SessionId, output: &[u8]) {
+        self.route(output);
+        let state = self.sessions.get_mut(&session);
+        let answer = state.and_then(|state| state.answer.take());
+        let first = Frames::new(output).next();
+        let number = first.map_or(0, |frame| frame.parameter);
+        let who = self.who_of(session);
+        self.say(who, || {
+            let text = answer.map_or(String::new(), |answer| describe::text(&answer.bytes));
+            format!("answer {text} withheld: interrupted by {number:08x}")
+        });
     }
 
     fn sent(&mut self, session: SessionId, output: &[u8], end: bool) {

@@ -149,6 +149,12 @@ impl Gateway {
             let (code, number) = (acted.code, acted.parameter);
             describe::acted_on(acted.kind, code, number, acted.payload, reply)
         });
+        if Frames::new(output).any(|frame| frame.kind == names::INTERRUPTED) {
+            let number = acted.parameter;
+            self.say(who, || {
+                format!("interrupted by {number:08x}: its RMT-delivered")
+            });
+        }
         self.later_answers(later);
         self.pass_on(session, &acted);
     }

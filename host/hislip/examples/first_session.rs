@@ -54,9 +54,9 @@ pub fn main() -> Result<(), Refusal> {
     send(whole.frames);
 
     // It acted, so the instrument gets the payload; here is its answer.
-    send(server.answer(session, b"meter", true)?);
+    send(server.answer(session, b"meter", true, b"")?.frames());
     let again = server
-        .answer(session, b"meter", true)
+        .answer(session, b"meter", true, b"")
         .expect_err("one answer");
     println!("a second answer: {again}");
     Ok(())

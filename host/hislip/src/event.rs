@@ -2,7 +2,7 @@
 
 use crate::frame::Frames;
 use crate::numbers::{Connection, SessionId};
-use crate::outcome::Delivery;
+use crate::outcome::{Answered, Delivery};
 use crate::refusal::Refusal;
 use crate::server::Server;
 
@@ -39,6 +39,8 @@ pub enum Event<'a> {
         payload: &'a [u8],
         /// With END: the answer is complete.
         end: bool,
+        /// All unread bytes of the session's synchronous channel.
+        shown: &'a [u8],
     },
     /// The instrument's status byte changes.
     Status {
@@ -53,8 +55,10 @@ pub enum Event<'a> {
 pub enum Answer<'a> {
     /// An opening or a status change: nothing to send.
     Done,
-    /// A cut, a clock reading or an instrument's answer.
+    /// A cut or a clock reading.
     Frames(Frames<'a>),
+    /// An instrument's answer.
+    Answered(Answered<'a>),
     /// A delivery.
     Delivery(Delivery<'a>),
 }
@@ -77,7 +81,11 @@ impl Server {
                 session,
                 payload,
                 end,
-            } => self.answer(session, payload, end).map(Answer::Frames),
+                shown,
+            } => {
+                let answered = self.answer(session, payload, end, shown);
+                answered.map(Answer::Answered)
+            }
             Event::Status { status } => {
                 self.status(status);
                 Ok(Answer::Done)

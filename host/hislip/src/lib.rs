@@ -40,7 +40,7 @@ pub use frame::{Frame, Frames};
 pub use message_type::{type_name, MessageType};
 pub use mode::Mode;
 pub use numbers::{Connection, SessionId};
-pub use outcome::{Delivery, Outcome};
+pub use outcome::{Answered, Delivery, Outcome};
 pub use refusal::Refusal;
 pub use server::{Deadline, Server};
 pub use sizes::{

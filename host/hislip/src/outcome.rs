@@ -79,6 +79,31 @@ impl fmt::Display for Outcome {
     }
 }
 
+/// An instrument's answer that was not refused.
+#[derive(Clone, Debug)]
+#[must_use = "what is in it is to be sent"]
+pub enum Answered<'a> {
+    /// It is in the frames.
+    Sent(Frames<'a>),
+    /// It was not sent, since the session's next message has come: nothing is asked any more, and the
+    /// frames tell the client so (AsyncInterrupted, Interrupted).
+    Withheld(Frames<'a>),
+}
+
+impl<'a> Answered<'a> {
+    /// What to send, in this order.
+    pub fn frames(self) -> Frames<'a> {
+        match self {
+            Answered::Sent(frames) | Answered::Withheld(frames) => frames,
+        }
+    }
+
+    /// True if the answer was not sent.
+    pub fn is_withheld(&self) -> bool {
+        matches!(self, Answered::Withheld(_))
+    }
+}
+
 /// One accepted delivery: what became of it, how many bytes it took, and what to send.
 #[derive(Clone, Debug)]
 #[must_use = "its bytes are to be dropped from the unread ones, and its frames to be sent"]

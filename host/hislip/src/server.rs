@@ -3,7 +3,7 @@
 use crate::frame::Frames;
 use crate::mode::Mode;
 use crate::numbers::{Connection, SessionId};
-use crate::outcome::{Delivery, Outcome};
+use crate::outcome::{Answered, Delivery, Outcome};
 use crate::refusal::Refusal;
 use crate::sizes::OUTPUT;
 use crate::sys;
@@ -144,8 +144,10 @@ impl Server {
     }
 
     /// The instrument answers a session, with or without END; the frame has the MessageID of the
-    /// question, in overlap mode the session's count of answers. Refused: no live session of that
-    /// number, nothing asked (in overlap mode: half-open or in a device clear), or too long.
+    /// question, in overlap mode the session's count of answers. `shown` is all unread bytes of the
+    /// session's synchronous channel: in synchronized mode the end of an answer is withheld if they begin
+    /// with Data, DataEND or Trigger. Refused: no live session of that number, nothing asked (in overlap
+    /// mode: half-open or in a device clear), or too long.
     ///
     /// # Panics
     ///
@@ -155,7 +157,8 @@ impl Server {
         session: impl Into<SessionId>,
         payload: &[u8],
         end: bool,
-    ) -> Result<Frames<'_>, Refusal> {
+        shown: &[u8],
+    ) -> Result<Answered<'_>, Refusal> {
         let (words, strings) = self.memory();
         let (out, out_len) = (self.out.as_mut_ptr(), self.out.len());
         let (bytes, len) = (payload.as_ptr(), payload.len());
@@ -168,11 +171,18 @@ impl Server {
                 bytes,
                 len,
                 end.into(),
+                shown.as_ptr(),
+                shown.len(),
                 out,
                 out_len,
             )
         };
-        self.sent(done)
+        Refusal::check(done.refusal)?;
+        let frames = self.frames(done.output);
+        Ok(match done.withheld {
+            0 => Answered::Sent(frames),
+            _ => Answered::Withheld(frames),
+        })
     }
 
     /// The instrument's status byte changes. Never refused.

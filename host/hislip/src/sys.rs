@@ -51,6 +51,18 @@ pub struct hislip_sized {
     pub size: u64,
 }
 
+/// The answer to an instrument's answer.
+#[repr(C)]
+#[derive(Clone, Copy, Debug, PartialEq, Eq)]
+pub struct hislip_answered {
+    /// 0, or 1 to 8 and then the other fields are 0.
+    pub refusal: u64,
+    /// 1 if the answer was not sent, since another message has come.
+    pub withheld: u64,
+    /// Bytes of frames in the buffer.
+    pub output: u64,
+}
+
 extern "C" {
     /// How many words to lend.
     pub fn hislip_words() -> u64;
@@ -98,9 +110,11 @@ extern "C" {
         payload: *const u8,
         len: usize,
         end: u8,
+        shown: *const u8,
+        shown_len: usize,
         out: *mut u8,
         out_len: usize,
-    ) -> hislip_done;
+    ) -> hislip_answered;
     /// The instrument's status byte changes.
     pub fn hislip_status(words: *mut u64, strings: *mut u8, status: u8);
     /// How many lock requests wait, and until when.

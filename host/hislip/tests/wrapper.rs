@@ -1,8 +1,8 @@
 //! The safe wrapper: typed answers, and nothing that is passed can do harm.
 
 use hislip::{
-    sys, Answer, Connection, Deadline, Event, Frame, Frames, MessageType, Mode, Outcome, Refusal,
-    Server, OUTPUT,
+    sys, Answer, Answered, Connection, Deadline, Event, Frame, Frames, MessageType, Mode, Outcome,
+    Refusal, Server, OUTPUT,
 };
 use reference::compose::message;
 
@@ -35,8 +35,8 @@ fn refusals_have_number_and_cause() {
         server.open(0).unwrap_err(),
         server.clock(8).unwrap_err(),
         server.clock(u64::MAX).unwrap_err(),
-        server.answer(1, b"", true).unwrap_err(),
-        server.answer(7, b"", true).unwrap_err(),
+        server.answer(1, b"", true, b"").unwrap_err(),
+        server.answer(7, b"", true, b"").unwrap_err(),
     ]
     .map(|refusal| (refusal.number(), refusal.to_string()))
     .to_vec();
@@ -55,9 +55,11 @@ fn a_question_and_its_answer() {
     let mut server = with_session();
     let asked = server.deliver(0, &message(7, 0, 0xffff_ff00, b"*IDN?"));
     assert_eq!(asked.expect("open").taken, 21);
-    let too_long = server.answer(1, &[0; 1025], true).unwrap_err();
+    let too_long = server.answer(1, &[0; 1025], true, b"").unwrap_err();
     assert_eq!(too_long, Refusal::AnswerTooLong);
-    let frames: Vec<Frame> = server.answer(1, b"meter", true).expect("asked").collect();
+    let answered = server.answer(1, b"meter", true, b"").expect("asked");
+    assert!(!answered.is_withheld());
+    let frames: Vec<Frame> = answered.frames().collect();
     assert_eq!(frames.len(), 1);
     assert_eq!(frames[0].connection, Connection::new(0));
     assert_eq!(frames[0].message_type(), Some(MessageType::DataEnd));
@@ -154,7 +156,7 @@ fn any_output_buffer_is_safe() {
         assert_eq!(server.cut(0).unwrap_err(), Refusal::ShortBuffer);
         assert_eq!(server.clock(0).unwrap_err(), Refusal::ShortBuffer);
         assert_eq!(
-            server.answer(0, b"", false).unwrap_err(),
+            server.answer(0, b"", false, b"").unwrap_err(),
             Refusal::ShortBuffer
         );
     }
@@ -170,6 +172,7 @@ fn events_as_values() {
     let mut frames_of = |event: Event| match server.apply(event).expect("accepted") {
         Answer::Done => 0,
         Answer::Frames(frames) => frames.count(),
+        Answer::Answered(answered) => answered.frames().count(),
         Answer::Delivery(delivery) => delivery.frames.count(),
     };
     let bytes = &message(21, 0, 0, b"")[..];
@@ -187,6 +190,7 @@ fn events_as_values() {
         session: 1.into(),
         payload: b"",
         end: true,
+        shown: b"",
     };
     assert_eq!(server.apply(answer).unwrap_err(), Refusal::NothingAsked);
 }
@@ -244,4 +248,29 @@ fn the_mode_preferred_is_told() {
         assert_eq!(Mode::of_code(told.code), prefers);
     }
     assert_eq!(Mode::Overlap.to_string(), "overlap");
+}
+
+#[test]
+fn an_answer_is_sent_or_withheld() {
+    let mut server = with_session();
+    let question = |number| message(7, 0, number, b"?");
+    let first = server.deliver(0, &question(0xffff_ff00)).expect("open");
+    let Outcome::ActedOn { session } = first.outcome else {
+        panic!("the question acts");
+    };
+    let second = question(0xffff_ff02);
+    let part = server.answer(session, b"1", false, &second).expect("asked");
+    assert!(matches!(part, Answered::Sent(_)), "only an end is withheld");
+    let end = server.answer(session, b"2", true, &second).expect("asked");
+    let Answered::Withheld(frames) = end else {
+        panic!("the next question has come");
+    };
+    let told: Vec<_> = frames
+        .map(|frame| (frame.message_type(), frame.parameter))
+        .collect();
+    let interrupted = [
+        (Some(MessageType::AsyncInterrupted), 0xffff_ff02),
+        (Some(MessageType::Interrupted), 0xffff_ff02),
+    ];
+    assert_eq!(told, interrupted);
 }

@@ -36,6 +36,7 @@ impl Server {
         let session = &mut self.sessions[usize::from(message.slot)];
         if message.code == 1 {
             session.message_available = false;
+            session.rmt_expected = false;
         }
         let available = match session.mode {
             Mode::Synchronized => session.message_available,
@@ -119,6 +120,7 @@ impl Server {
         session.message_available = false;
         session.last = None;
         (session.count, session.sent) = (FIRST, None);
+        session.rmt_expected = false;
         let released = self.end_standing(message.slot, frames);
         let prefers = self.prefers as u8;
         let acknowledged = kind::DEVICE_CLEAR_ACKNOWLEDGE;

@@ -6,7 +6,7 @@ use reference::{Mode, Refusal, Reply};
 
 use crate::frames::Frames;
 use crate::replies::{acted_on, closed, error_sent, held, ignored, more_needed, refused, skipped};
-use crate::server::{Connection, Role, Server};
+use crate::server::{Connection, Role, Server, Session};
 
 /// Vendor types begin here.
 const VENDOR: u8 = 128;
@@ -133,17 +133,14 @@ impl Server {
                 if message.kind == kind::TRIGGER && !message.payload.is_empty() {
                     return message.error(error::UNIDENTIFIED, out);
                 }
-                if message.code == 1 {
-                    session.message_available = false;
+                let mut frames = Frames::new(out);
+                let freed = session.act(message, &mut frames);
+                if freed {
+                    self.end_standing(message.slot, &mut frames);
+                    self.grant_pass(&mut frames);
                 }
-                if message.kind != kind::DATA {
-                    session.asked = Some(message.parameter);
-                }
-                session.last = Some(message.parameter);
-                match session.standing {
-                    Some(named) if named.number == message.parameter => self.came(message, out),
-                    _ => acted_on(session.number, message.size(), 0),
-                }
+                let session = &self.sessions[usize::from(message.slot)];
+                acted_on(session.number, message.size(), frames.used())
             }
             kind::CLEAR_COMPLETE => {
                 if !session.in_clear || !message.payload.is_empty() {
@@ -160,16 +157,6 @@ impl Server {
             VENDOR.. => message.error(error::VENDOR_MESSAGE, out),
             _ => message.error(error::MESSAGE_TYPE, out),
         }
-    }
-
-    /// A message acts that a standing release waited for.
-    #[cold]
-    fn came(&mut self, message: &Message, out: &mut [u8; OUTPUT]) -> Reply {
-        let mut frames = Frames::new(out);
-        self.end_standing(message.slot, &mut frames);
-        self.grant_pass(&mut frames);
-        let session = &self.sessions[usize::from(message.slot)];
-        acted_on(session.number, message.size(), frames.used())
     }
 
     /// Checks 8, 10 and 11 on the asynchronous channel; nothing is held or cleared there.
@@ -247,6 +234,25 @@ impl Server {
         }
         let session = self.close(connection, &mut frames);
         closed(session, frames.used())
+    }
+}
+
+impl Session {
+    /// Data, DataEND or Trigger: true if a standing release has waited for it.
+    fn act(&mut self, message: &Message, frames: &mut Frames) -> bool {
+        let rmt_delivered = message.code == 1;
+        if self.rmt_expected != rmt_delivered && self.mode == Mode::Synchronized {
+            self.interrupt(message.parameter, frames);
+        }
+        self.rmt_expected = false;
+        if rmt_delivered {
+            self.message_available = false;
+        }
+        if message.kind != kind::DATA {
+            self.asked = Some(message.parameter);
+        }
+        self.last = Some(message.parameter);
+        matches!(self.standing, Some(named) if named.number == message.parameter)
     }
 }
 

@@ -9,6 +9,7 @@ const NOTHING: Reply = Reply {
     taken: 0,
     output: 0,
     missing: 0,
+    withheld: 0,
 };
 
 pub fn refused(refusal: Refusal) -> Reply {
@@ -21,6 +22,15 @@ pub fn refused(refusal: Refusal) -> Reply {
 pub fn done(output: usize) -> Reply {
     Reply {
         output: output as u64,
+        ..NOTHING
+    }
+}
+
+/// An answer of the instrument that was not sent.
+pub fn withheld(output: usize) -> Reply {
+    Reply {
+        output: output as u64,
+        withheld: 1,
         ..NOTHING
     }
 }

@@ -1,12 +1,12 @@
 //! The state, and the events that are not deliveries.
 
 use reference::limits::{CLOCK, CONNECTIONS, OUTPUT, PAYLOAD, SESSIONS};
-use reference::wire::kind;
+use reference::wire::{kind, HEADER};
 use reference::{Mode, Refusal, Reply};
 
 use crate::frames::Frames;
 use crate::locks::{Locks, Released};
-use crate::replies::{done, refused};
+use crate::replies::{done, refused, withheld};
 
 #[derive(Clone, Copy, PartialEq, Eq, Hash)]
 pub enum Role {
@@ -60,6 +60,8 @@ pub struct Session {
     /// Overlap mode: the number of the next answer, and of the last one.
     pub count: u32,
     pub sent: Option<u32>,
+    /// Synchronized mode: an END was sent, and no message has told yet that it was delivered.
+    pub rmt_expected: bool,
     pub client_size: u64,
 }
 
@@ -78,6 +80,7 @@ const NOBODY: Session = Session {
     mode: Mode::Synchronized,
     count: FIRST,
     sent: None,
+    rmt_expected: false,
     client_size: PAYLOAD as u64,
 };
 
@@ -98,6 +101,30 @@ impl Session {
             Mode::Overlap if self.asynchronous.is_none() || self.in_clear => None,
             Mode::Overlap => Some(self.count),
         }
+    }
+
+    /// An answer of this number is sent, with END or without.
+    fn answered(&mut self, number: u32, end: bool) {
+        if self.mode == Mode::Overlap {
+            self.sent = Some(number);
+            self.count = number.wrapping_add(2);
+            return;
+        }
+        self.message_available = true;
+        if end {
+            self.asked = None;
+            self.rmt_expected = true;
+        }
+    }
+
+    /// What was asked is forgotten, and the client is told on both channels which message interrupted.
+    pub fn interrupt(&mut self, number: u32, frames: &mut Frames) {
+        self.asked = None;
+        self.message_available = false;
+        if let Some(asynchronous) = self.asynchronous {
+            frames.send(asynchronous, kind::ASYNC_INTERRUPTED, 0, number);
+        }
+        frames.send(self.synchronous, kind::INTERRUPTED, 0, number);
     }
 }
 
@@ -181,9 +208,17 @@ impl Server {
         done(frames.used())
     }
 
-    /// The instrument's answer to a session. A call of its own, like the library's.
+    /// The instrument's answer to a session, beside its unread synchronous bytes. A call of its own, like
+    /// the library's.
     #[inline(never)]
-    pub fn answer(&mut self, session: u32, payload: &[u8], end: u8, out: &mut [u8]) -> Reply {
+    pub fn answer(
+        &mut self,
+        session: u32,
+        payload: &[u8],
+        end: u8,
+        shown: &[u8],
+        out: &mut [u8],
+    ) -> Reply {
         let Some(out) = out.first_chunk_mut::<OUTPUT>() else {
             return refused(Refusal::ShortBuffer);
         };
@@ -197,17 +232,16 @@ impl Server {
         if payload.len() > PAYLOAD || payload.len() as u64 > live.client_size {
             return refused(Refusal::AnswerTooLong);
         }
-        let kind = if end == 0 { kind::DATA } else { kind::DATA_END };
-        if live.mode == Mode::Overlap {
-            live.sent = Some(number);
-            live.count = number.wrapping_add(2);
-        } else {
-            live.message_available = true;
-            if end != 0 {
-                live.asked = None;
+        let mut frames = Frames::new(out);
+        let skips = self.connections[usize::from(live.synchronous)].skip > 0;
+        if end != 0 && live.mode == Mode::Synchronized && !skips {
+            if let Some(interrupts) = interrupting(shown) {
+                live.interrupt(interrupts, &mut frames);
+                return withheld(frames.used());
             }
         }
-        let mut frames = Frames::new(out);
+        live.answered(number, end != 0);
+        let kind = if end == 0 { kind::DATA } else { kind::DATA_END };
         frames.send_with(live.synchronous, kind, 0, number, payload);
         done(frames.used())
     }
@@ -242,4 +276,12 @@ impl Server {
             frames.send(connection, kind::LOCK_RESPONSE, 1, 0);
         });
     }
+}
+
+/// The number of the Data, DataEND or Trigger that unread bytes begin with; a whole header will do.
+fn interrupting(shown: &[u8]) -> Option<u32> {
+    let header = shown.first_chunk::<HEADER>()?;
+    let interrupts = matches!(header[2], kind::DATA | kind::DATA_END | kind::TRIGGER);
+    let number = u32::from_be_bytes([header[4], header[5], header[6], header[7]]);
+    (header[..2] == *b"HS" && interrupts).then_some(number)
 }

@@ -28,8 +28,15 @@ impl Subject for Server {
         Server::clock(self, milliseconds, out)
     }
 
-    fn answer(&mut self, session: u32, payload: &[u8], end: u8, out: &mut [u8]) -> Reply {
-        Server::answer(self, session, payload, end, out)
+    fn answer(
+        &mut self,
+        session: u32,
+        payload: &[u8],
+        end: u8,
+        shown: &[u8],
+        out: &mut [u8],
+    ) -> Reply {
+        Server::answer(self, session, payload, end, shown, out)
     }
 
     fn status(&mut self, status: u8) {

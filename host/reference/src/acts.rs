@@ -51,6 +51,7 @@ impl Server {
             mode: self.prefers,
             count: FIRST,
             sent: None,
+            rmt_expected: false,
         });
         self.connections[usize::from(connection)].role = Role::Synchronous(slot);
         let version = VERSION.min((parameter >> 16) as u16);
@@ -97,6 +98,12 @@ impl Server {
     pub(crate) fn data_or_trigger(&mut self, message: &Message, frames: &mut Frames) {
         let header = message.header;
         let session = self.session_mut(message.slot);
+        if session.mode == Mode::Synchronized {
+            let rmt_delivered = header.code == 1;
+            if std::mem::take(&mut session.rmt_expected) != rmt_delivered {
+                session.interrupt(header.parameter, frames);
+            }
+        }
         if header.code == 1 {
             session.message_available = false;
         }
@@ -203,6 +210,7 @@ impl Server {
         session.last = None;
         session.count = FIRST;
         session.sent = None;
+        session.rmt_expected = false;
         let standing = session.standing.take();
         if let Some(standing) = standing {
             self.release(message.slot, standing.lock, frames);
@@ -224,6 +232,7 @@ impl Server {
         let session = self.session_mut(message.slot);
         if message.header.code == 1 {
             session.message_available = false;
+            session.rmt_expected = false;
         }
         let available = if session.available(message.header.parameter) {
             MESSAGE_AVAILABLE

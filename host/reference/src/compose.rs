@@ -42,11 +42,18 @@ pub fn clock(milliseconds: u64) -> Event {
     }
 }
 
+/// An answer while nothing is unread.
 pub fn answer(session: u32, payload: &[u8], end: u8) -> Event {
+    answer_beside(session, payload, end, [])
+}
+
+/// An answer while these synchronous bytes are unread.
+pub fn answer_beside(session: u32, payload: &[u8], end: u8, shown: impl Into<Vec<u8>>) -> Event {
     Event::Answer {
         session,
         payload: payload.to_vec(),
         end,
+        shown: shown.into(),
         room: ROOM,
     }
 }

@@ -24,6 +24,8 @@ pub enum Event {
         payload: Vec<u8>,
         /// 0 is no END, any other value is END.
         end: u8,
+        /// The session's unread synchronous bytes.
+        shown: Vec<u8>,
         room: usize,
     },
     Status {
@@ -45,7 +47,8 @@ impl Event {
 }
 
 /// The answer in 01's numbers: refusal 0 is none, outcomes count from 0 (more needed) to 6 (acted
-/// on), `output` counts the bytes of frames, `missing` those that more needed asks for.
+/// on), `output` counts the bytes of frames, `missing` those that more needed asks for; `withheld` is 1 if
+/// an instrument's answer was not sent.
 #[derive(Clone, Copy, Debug, Default, PartialEq, Eq)]
 pub struct Reply {
     pub refusal: u64,
@@ -54,6 +57,7 @@ pub struct Reply {
     pub taken: u64,
     pub output: u64,
     pub missing: u64,
+    pub withheld: u64,
 }
 
 impl Reply {

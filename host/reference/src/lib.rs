@@ -24,6 +24,6 @@ pub mod wire;
 
 pub use event::{Deadline, Event, Reply, Size};
 pub use mode::{Fresh, Mode};
-pub use reply::{Delivery, Outcome, Refusal};
+pub use reply::{Answered, Delivery, Outcome, Refusal};
 pub use server::Server;
 pub use subject::Subject;

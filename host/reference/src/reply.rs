@@ -25,6 +25,13 @@ pub enum Outcome {
     ActedOn = 6,
 }
 
+/// An instrument's answer that was not refused: sent, or withheld.
+#[derive(Clone, Copy, Debug, PartialEq, Eq)]
+pub struct Answered {
+    pub withheld: bool,
+    pub output: usize,
+}
+
 /// An accepted delivery: `session` is 0 unless it closed one or was acted on, `missing` 0 unless more is
 /// needed.
 #[derive(Clone, Copy, Debug, PartialEq, Eq)]

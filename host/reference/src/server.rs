@@ -4,8 +4,8 @@ use crate::limits::{CLOCK, CONNECTIONS, OUTPUT, PAYLOAD, SESSIONS};
 use crate::lock_view::{LockView, SessionView, StandingView, WaitingView};
 use crate::locks::{Locks, Released, Request};
 use crate::mode::Mode;
-use crate::reply::Refusal;
-use crate::wire::{kind, Frames};
+use crate::reply::{Answered, Refusal};
+use crate::wire::{kind, Frames, Header};
 
 #[derive(Clone, Copy, Debug, PartialEq, Eq, Hash)]
 pub(crate) enum Role {
@@ -55,6 +55,8 @@ pub(crate) struct Session {
     /// Overlap mode: the number of the next answer, and of the last one since the last reset.
     pub count: u32,
     pub sent: Option<u32>,
+    /// Synchronized mode: an END was sent, and no message has told yet that it was delivered.
+    pub rmt_expected: bool,
 }
 
 impl Session {
@@ -74,6 +76,7 @@ impl Session {
                 self.message_available = true;
                 if end {
                     self.asked = None;
+                    self.rmt_expected = true;
                 }
             }
             Mode::Overlap => {
@@ -81,6 +84,17 @@ impl Session {
                 self.count = self.count.wrapping_add(2);
             }
         }
+    }
+
+    /// The interrupted error: what was asked is forgotten, and the client is told on both channels which
+    /// message interrupted.
+    pub fn interrupt(&mut self, number: u32, frames: &mut Frames) {
+        self.asked = None;
+        self.message_available = false;
+        if let Some(asynchronous) = self.asynchronous {
+            frames.send(asynchronous, kind::ASYNC_INTERRUPTED, 0, number);
+        }
+        frames.send(self.synchronous, kind::INTERRUPTED, 0, number);
     }
 
     /// Message available, as a status query that carries this number sees it.
@@ -177,14 +191,15 @@ impl Server {
         Ok(frames.used())
     }
 
-    /// The instrument's answer to a session. Returns the bytes of output.
+    /// The instrument's answer to a session, beside the session's unread synchronous bytes.
     pub fn answer(
         &mut self,
         session: u32,
         payload: &[u8],
         end: bool,
+        shown: &[u8],
         out: &mut [u8],
-    ) -> Result<usize, Refusal> {
+    ) -> Result<Answered, Refusal> {
         if out.len() < OUTPUT {
             return Err(Refusal::ShortBuffer);
         }
@@ -198,11 +213,24 @@ impl Server {
         if payload.len() > PAYLOAD || payload.len() as u64 > session.client_size {
             return Err(Refusal::AnswerTooLong);
         }
-        session.answered(end);
         let mut frames = Frames::new(out);
+        let skips = self.connections[usize::from(session.synchronous)].skip > 0;
+        if end && session.mode == Mode::Synchronized && !skips {
+            if let Some(interrupting) = interrupting(shown) {
+                session.interrupt(interrupting, &mut frames);
+                return Ok(Answered {
+                    withheld: true,
+                    output: frames.used(),
+                });
+            }
+        }
+        session.answered(end);
         let kind = if end { kind::DATA_END } else { kind::DATA };
         frames.send_with(session.synchronous, kind, 0, number, payload);
-        Ok(frames.used())
+        Ok(Answered {
+            withheld: false,
+            output: frames.used(),
+        })
     }
 
     pub fn status(&mut self, status: u8) {
@@ -300,6 +328,13 @@ impl Server {
         self.locks
             .grant_pass(|slot| answer_lock(sessions, slot, 1, frames));
     }
+}
+
+/// The number of the Data, DataEND or Trigger that unread bytes begin with; a whole header will do.
+fn interrupting(shown: &[u8]) -> Option<u32> {
+    let header = Header::read(shown.first_chunk()?)?;
+    let interrupts = matches!(header.kind, kind::DATA | kind::DATA_END | kind::TRIGGER);
+    interrupts.then_some(header.parameter)
 }
 
 /// Sends AsyncLockResponse on the slot's asynchronous connection.

@@ -15,7 +15,14 @@ pub trait Subject {
     fn deliver(&mut self, connection: u32, bytes: &[u8], out: &mut [u8]) -> Reply;
     fn cut(&mut self, connection: u32, out: &mut [u8]) -> Reply;
     fn clock(&mut self, milliseconds: u64, out: &mut [u8]) -> Reply;
-    fn answer(&mut self, session: u32, payload: &[u8], end: u8, out: &mut [u8]) -> Reply;
+    fn answer(
+        &mut self,
+        session: u32,
+        payload: &[u8],
+        end: u8,
+        shown: &[u8],
+        out: &mut [u8],
+    ) -> Reply;
     fn status(&mut self, status: u8);
 
     /// Questions, which change nothing.
@@ -50,8 +57,9 @@ pub trait Subject {
                 session,
                 payload,
                 end,
+                shown,
                 ..
-            } => self.answer(*session, payload, *end, out),
+            } => self.answer(*session, payload, *end, shown, out),
             Event::Status { status } => {
                 self.status(*status);
                 Reply::default()
@@ -103,6 +111,7 @@ macro_rules! subject_of {
                         taken: delivery.taken as u64,
                         output: delivery.output as u64,
                         missing: delivery.missing,
+                        withheld: 0,
                     },
                     Err(refusal) => $crate::Reply::refused(refusal as u64),
                 }
@@ -127,10 +136,14 @@ macro_rules! subject_of {
                 session: u32,
                 payload: &[u8],
                 end: u8,
+                shown: &[u8],
                 out: &mut [u8],
             ) -> $crate::Reply {
-                match <$server>::answer(self, session, payload, end != 0, out) {
-                    Ok(output) => $crate::Reply::done(output as u64),
+                match <$server>::answer(self, session, payload, end != 0, shown, out) {
+                    Ok(answered) => $crate::Reply {
+                        withheld: u64::from(answered.withheld),
+                        ..$crate::Reply::done(answered.output as u64)
+                    },
                     Err(refusal) => $crate::Reply::refused(refusal as u64),
                 }
             }

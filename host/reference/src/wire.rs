@@ -18,6 +18,8 @@ pub mod kind {
     pub const REMOTE_LOCAL: u8 = 10;
     pub const REMOTE_LOCAL_RESPONSE: u8 = 11;
     pub const TRIGGER: u8 = 12;
+    pub const INTERRUPTED: u8 = 13;
+    pub const ASYNC_INTERRUPTED: u8 = 14;
     pub const MAXIMUM_SIZE: u8 = 15;
     pub const MAXIMUM_SIZE_RESPONSE: u8 = 16;
     pub const ASYNC_INITIALIZE: u8 = 17;

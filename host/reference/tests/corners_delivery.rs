@@ -504,7 +504,7 @@ fn item_32_which_messages_carry_rmt_delivered() {
     let (mut bench, [a, b]) = Bench::with();
     let mut available_after = |kind: u8, code: u8, payload: &[u8]| {
         bench.ask(a, 2);
-        bench.answer(1, b"", true).expect("asked");
+        bench.answer(1, b"", false).expect("asked");
         let to = if matches!(kind, 6 | 7 | 12) {
             a.sync
         } else {

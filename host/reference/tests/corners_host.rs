@@ -22,7 +22,7 @@ fn item_36_refusals_in_order_and_without_effect() {
             Err(Refusal::ShortBuffer)
         );
         assert_eq!(
-            server.answer(9, &[0; 2000], true, &mut short),
+            server.answer(9, &[0; 2000], true, b"", &mut short),
             Err(Refusal::ShortBuffer)
         );
         assert_eq!(bench.try_cut(64), Err(Refusal::Connection));
@@ -101,7 +101,7 @@ fn item_39_the_clients_size_bounds_answers_alone() {
         let answer = bench.answer(1, &vec![1; fits], true).expect("fits");
         assert_eq!(answer[0].payload.len(), fits);
     }
-    assert_eq!(bench.send(a.sync, DATA, 0, &[0; 1024]), acted(a, 1040, &[]));
+    assert_eq!(bench.send(a.sync, DATA, 1, &[0; 1024]), acted(a, 1040, &[]));
 }
 
 #[test]
@@ -263,12 +263,13 @@ fn item_64_the_buffer_holds_frames_and_then_what_it_held() {
     bench.ask(a, 2);
     let old: Vec<u8> = (0..3000).map(|i| (i % 251) as u8).collect();
     let mut out = old.clone();
-    assert_eq!(bench.server.answer(1, b"xyz", true, &mut out), Ok(20));
+    let answered = bench.server.answer(1, b"xyz", true, b"", &mut out);
+    assert_eq!(answered.map(|answered| answered.output), Ok(20));
     assert_eq!((&out[..3], &out[17..20]), (&b"\0HS"[..], &b"xyz"[..]));
     assert_eq!(out[20..], old[20..]);
     out.clone_from(&old);
     assert_eq!(
-        bench.server.answer(1, b"xyz", true, &mut out),
+        bench.server.answer(1, b"xyz", true, b"", &mut out),
         Err(Refusal::NothingAsked)
     );
     assert_eq!(out, old, "refused");

@@ -2,7 +2,7 @@
 
 use std::collections::{BTreeMap, BTreeSet};
 
-use reference::event::frames;
+use reference::event::{frames, Frame};
 use reference::lock_model::LockModel;
 use reference::lock_view::LockView;
 use reference::{Event, Reply};
@@ -74,6 +74,11 @@ pub type State = (u16, Kind, String);
 fn message_id(bytes: &[u8]) -> u32 {
     let parameter = bytes.get(4..8).and_then(|bytes| bytes.try_into().ok());
     u32::from_be_bytes(parameter.unwrap_or_default())
+}
+
+/// Data or DataEND to a client.
+fn is_reading(frame: &Frame) -> bool {
+    matches!(frame.kind, DATA | DATA_END)
 }
 
 fn text(string: &[u8]) -> String {
@@ -166,7 +171,11 @@ impl Lanes {
             }
             Event::Cut { connection, .. } => drop(self.held.remove(connection)),
             Event::Answer { session, .. } => {
-                for frame in frames(output).unwrap_or_default() {
+                let sent = frames(output).unwrap_or_default();
+                for frame in sent
+                    .iter()
+                    .filter(|frame| reply.withheld == 0 && is_reading(frame))
+                {
                     self.mark(*session as u16, place, frame.parameter, true);
                 }
             }

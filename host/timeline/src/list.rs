@@ -7,6 +7,7 @@
 //! deliver 0 4853                                    -> more needed
 //! clock 1000                                        -> done
 //! answer 1 312e30 end                               -> done | 0048530700..
+//! answer 1 312e30 end 48530700..                    -> withheld | 0148530e00..
 //! answer 1 - more                                   -> refused 5
 //! cut 0                                             -> done
 //! status 41                                         -> done
@@ -15,7 +16,8 @@
 //! Connections, sessions, milliseconds, counts and refusals are decimal; bytes and the status byte
 //! are hexadecimal, `-` for no bytes. An outcome has its session and its bytes taken behind it where
 //! they are not 0. Spaces more or less do not matter; an empty line and one that begins with `#` are
-//! passed over. The length of the output buffer is not told.
+//! passed over. Behind `end` stand the session's unread bytes, if there are any. The length of the output
+//! buffer is not told.
 
 use reference::compose::ROOM;
 use reference::{Event, Reply};
@@ -37,6 +39,8 @@ pub struct Entry {
 const MORE: &str = "more";
 /// With END.
 const END: &str = "end";
+/// The answer was not sent.
+const WITHHELD: &str = "withheld";
 
 fn event_text(event: &Event) -> String {
     match event {
@@ -50,10 +54,15 @@ fn event_text(event: &Event) -> String {
             session,
             payload,
             end,
+            shown,
             ..
         } => {
             let end = if *end == 0 { MORE } else { END };
-            format!("answer {session} {} {end}", hex(payload))
+            let text = format!("answer {session} {} {end}", hex(payload));
+            match &shown[..] {
+                [] => text,
+                shown => format!("{text} {}", hex(shown)),
+            }
         }
         Event::Status { status } => format!("status {status:02x}"),
     }
@@ -62,6 +71,9 @@ fn event_text(event: &Event) -> String {
 fn reply_text(event: &Event, reply: &Reply) -> String {
     if reply.refusal != 0 {
         return format!("refused {}", reply.refusal);
+    }
+    if reply.withheld != 0 {
+        return WITHHELD.into();
     }
     if !matches!(event, Event::Deliver { .. }) {
         return "done".into();
@@ -112,6 +124,7 @@ fn event(text: &str) -> Result<Event, String> {
             session: number(words.next("a session")?)?,
             payload: bytes(words.next("bytes")?)?,
             end: end(words.next("`end` or `more`")?)?,
+            shown: words.next("unread bytes").map_or(Ok(vec![]), bytes)?,
             room: ROOM,
         },
         "status" => Event::Status {
@@ -144,6 +157,10 @@ fn reply(text: &str) -> Result<Reply, String> {
     let mut reply = match first.strip_prefix("refused ") {
         Some(refusal) => Reply::refused(number(refusal)?),
         None if first == "done" => Reply::done(0),
+        None if first == WITHHELD => Reply {
+            withheld: 1,
+            ..Reply::default()
+        },
         None => {
             let outcome = Reply::OUTCOMES.iter().position(|name| *name == first);
             Reply {
@@ -198,6 +215,7 @@ deliver 0 - -> more needed
 deliver 0 0102 -> closed, session 1
 clock 1000 -> done
 answer 1 312e30 end -> done | 0048
+answer 1 312e30 end 4853 -> withheld | 0148
 answer 1 - more -> refused 5
 cut 31 -> done
 status 41 -> done

@@ -26,7 +26,7 @@ pub struct Client {
     next: u32,
     pub sent: u32,
     /// An answer's end was delivered, and no message has told the server so yet.
-    rmt_delivered: bool,
+    pub rmt_delivered: bool,
     /// The mode that the server told last.
     pub overlap: bool,
 }

@@ -36,9 +36,10 @@ fn a_null_pointer_is_warned_of() {
     let answer = |payload: &str| {
         format!(
             "#include \"hislip_server.h\"\n\
-             hislip_done answer(uint64_t *words, uint8_t *strings, uint8_t *out);\n\
-             hislip_done answer(uint64_t *words, uint8_t *strings, uint8_t *out)\n\
-             {{ return hislip_answer(words, strings, 1, {payload}, 0, 1, out, HISLIP_OUTPUT); }}\n"
+             hislip_answered answer(uint64_t *words, uint8_t *strings, uint8_t *out);\n\
+             hislip_answered answer(uint64_t *words, uint8_t *strings, uint8_t *out)\n\
+             {{ return hislip_answer(words, strings, 1, {payload}, 0, 1, (const uint8_t *)\"\", 0,\n\
+                                     out, HISLIP_OUTPUT); }}\n"
         )
     };
     warned_of("null", &answer("(const uint8_t *)\"\""), &answer("NULL"));

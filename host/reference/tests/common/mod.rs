@@ -176,15 +176,30 @@ impl Bench {
         self.try_clock(milliseconds).expect("a good reading")
     }
 
+    /// An answer while nothing is unread: it is sent.
     pub fn answer(
         &mut self,
         session: u32,
         payload: &[u8],
         end: bool,
     ) -> Result<Vec<Sent>, Refusal> {
-        let answered =
-            self.output(|server, out| Ok(((), server.answer(session, payload, end, out)?)))?;
-        Ok(answered.1)
+        let (withheld, frames) = self.answer_beside(session, payload, end, b"")?;
+        assert!(!withheld);
+        Ok(frames)
+    }
+
+    /// An answer while these bytes are unread; whether it is withheld, and what is sent.
+    pub fn answer_beside(
+        &mut self,
+        session: u32,
+        payload: &[u8],
+        end: bool,
+        shown: &[u8],
+    ) -> Result<(bool, Vec<Sent>), Refusal> {
+        self.output(|server, out| {
+            let answered = server.answer(session, payload, end, shown, out)?;
+            Ok((answered.withheld, answered.output))
+        })
     }
 
     /// Opens the connection and sends Initialize.
