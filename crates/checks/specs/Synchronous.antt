@@ -2,7 +2,7 @@
 use mathlib.Core.Path.{_≡_, sym, ap}
 use mathlib.Core.Bool.{Bool, true, false, _&&_, cond}
 use mathlib.Core.List.{List}
-use Prim.Native.Nat.{ℕ, _≤_, _<_}
+use Prim.Native.Nat.{ℕ, _%_, _^_, _≤_, _<_}
 use lib.Dec.{eqb, ltb, leb}
 use borrow.Author.Tests.{lt-ltb, le-ltb, ne-eqb}
 use Rattle.wire.specs.Class.{classOf, synchronous, one-of, actedOn}
@@ -17,6 +17,9 @@ use Rattle.checks.specs.Classes.{acts-on}
 -- what the word that was read says
 pub clear-read : (x : Exchange) (r : ℕ) → exchangeWith 0 r x ≡ x → x .inClear ≡ eqb r 1
 clear-read x r q = sym (ap (λ (y : Exchange). y .inClear) q)
+
+pub number-read : (x : Exchange) (r : ℕ) → exchangeWith 8 r x ≡ x → x .numberExpected ≡ r % 2 ^ 32
+number-read x r q = sym (ap (λ (y : Exchange). y .numberExpected) q)
 
 -- check 10 of DeviceClearComplete: no payload, and only in a clear
 unfoldable pub completed : Bool → ℕ → Verdict
@@ -35,33 +38,39 @@ module _ (clearing : Bool) (len : ℕ) where
   unfolding completed
   complete-outside l q = rw (le-ltb 0 len l, q)
 
--- checks 9 and 10 of Data, DataEND and Trigger
-unfoldable pub commanded : Bool → ℕ → ℕ → ℕ → Verdict
-commanded may kind code len = cond may (cond (ltb 1 code) (v-error 2) (cond (eqb kind Trigger && ltb 0 len) (v-error 0) v-acts)) v-held
+-- checks 9 and 10 of Data, DataEND and Trigger; 02, Q-10: the number between them
+unfoldable pub commanded : Bool → Bool → ℕ → ℕ → ℕ → Verdict
+commanded may expected kind code len =
+    cond may (cond expected (cond (ltb 1 code) (v-error 2) (cond (eqb kind Trigger && ltb 0 len) (v-error 0) v-acts)) (v-error 0)) v-held
 
-module _ (may : Bool) (kind code len : ℕ) where
-  pub command-held : may ≡ false → commanded may kind code len ≡ v-held
+module _ (may expected : Bool) (kind code len : ℕ) where
+  pub command-held : may ≡ false → commanded may expected kind code len ≡ v-held
   unfolding commanded
   command-held a = rw a
 
   module _ (a : may ≡ true) where
-    pub command-code : 1 < code → commanded may kind code len ≡ v-error 2
+    pub command-number : expected ≡ false → commanded may expected kind code len ≡ v-error 0
     unfolding commanded
-    command-code l = rw (a, lt-ltb 1 code l)
+    command-number o = rw (a, o)
 
-    module _ (l : code ≤ 1) where
-      pub command-acts : (kind ≡ Trigger → ⊥) → commanded may kind code len ≡ v-acts
+    module _ (o : expected ≡ true) where
+      pub command-code : 1 < code → commanded may expected kind code len ≡ v-error 2
       unfolding commanded
-      command-acts n = rw (a, le-ltb 1 code l, ne-eqb kind 12 n)
+      command-code l = rw (a, o, lt-ltb 1 code l)
 
-      module _ (e : kind ≡ Trigger) where
-        pub trigger-payload : 0 < len → commanded may kind code len ≡ v-error 0
+      module _ (l : code ≤ 1) where
+        pub command-acts : (kind ≡ Trigger → ⊥) → commanded may expected kind code len ≡ v-acts
         unfolding commanded
-        trigger-payload m = rw (a, le-ltb 1 code l, e, lt-ltb 0 len m)
+        command-acts n = rw (a, o, le-ltb 1 code l, ne-eqb kind 12 n)
 
-        pub trigger-acts : len ≤ 0 → commanded may kind code len ≡ v-acts
-        unfolding commanded
-        trigger-acts m = rw (a, le-ltb 1 code l, e, le-ltb 0 len m)
+        module _ (e : kind ≡ Trigger) where
+          pub trigger-payload : 0 < len → commanded may expected kind code len ≡ v-error 0
+          unfolding commanded
+          trigger-payload m = rw (a, o, le-ltb 1 code l, e, lt-ltb 0 len m)
+
+          pub trigger-acts : len ≤ 0 → commanded may expected kind code len ≡ v-acts
+          unfolding commanded
+          trigger-acts m = rw (a, o, le-ltb 1 code l, e, le-ltb 0 len m)
 
 module _ (d : Server) (i kind code param len : ℕ) (p : List ℕ) where
   abbrev pub row : Verdict
@@ -104,7 +113,8 @@ module _ (d : Server) (i kind code param len : ℕ) (p : List ℕ) where
                   rw (ne-eqb kind 0 n0, ne-eqb kind 2 n2, ne-eqb kind 3 n3, ne-eqb kind 8 n8) at
                   (acts-on (leb 128 kind) (one-of (actedOn synchronous) kind) v u)
 
-              pub sync-command : (b : Bool) → access (d .locks .entries) i ≡ b → row ≡ commanded b kind code len
+              pub sync-command : (b m : Bool) → access (d .locks .entries) i ≡ b → eqb param ((exchangeAt (d .rest) i) .numberExpected) ≡ m → row ≡ commanded b m kind code len
               unfolding commanded
-              sync-command true a = rw (is-command, ne-eqb kind 2 n2, ne-eqb kind 3 n3, q, v, u, ne-eqb kind 0 n0, ne-eqb kind 8 n8, a)
-              sync-command false a = rw (is-command, ne-eqb kind 2 n2, ne-eqb kind 3 n3, q, v, u, ne-eqb kind 0 n0, a)
+              sync-command true true a o = rw (is-command, ne-eqb kind 2 n2, ne-eqb kind 3 n3, q, v, u, ne-eqb kind 0 n0, ne-eqb kind 8 n8, a, o)
+              sync-command true false a o = rw (is-command, ne-eqb kind 2 n2, ne-eqb kind 3 n3, q, v, u, ne-eqb kind 0 n0, a, o)
+              sync-command false m a o = rw (is-command, ne-eqb kind 2 n2, ne-eqb kind 3 n3, q, v, u, ne-eqb kind 0 n0, a)

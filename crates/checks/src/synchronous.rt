@@ -6,6 +6,7 @@ ghost use Rattle.model.specs.Checks.{first, synchronousRules};
 ghost use Rattle.model.specs.Locks.{access};
 ghost use Rattle.model.specs.State.{exchangeAt};
 ghost use Rattle.state.specs.View.{locksOf, memory, restOf, view};
+ghost use lib.Dec.{eqb};
 ghost use mathlib.Core.List.{List};
 ghost use mathlib.Core.Path.{_≡_};
 ghost use Rattle.model.specs.Sizes.{sessionLimit};
@@ -19,16 +20,26 @@ use crate::verdict::FATAL_3;
 use crate::verdict::HELD;
 use crate::verdict::IGNORED;
 use locks::access;
+use locks::standing::NUMBERS;
 use state::sizes::Words;
 use state::tables;
 use wire::class;
 use wire::types;
 
-fn in_clear(w: &Words, i: usize) -> bool
+pub fn in_clear(w: &Words, i: usize) -> bool
     requires { ⌜ i < sessionLimit ⌝ }
     ensures { λ r. ⌜ (exchangeAt (restOf (now (w .entry))) i) .inClear ≡ r ⌝ }
 {
     tables::exchange(w, i, tables::IN_CLEAR) == 1
+}
+
+// Is this the number that the next Data, DataEND or Trigger must carry?
+pub fn is_expected(w: &Words, i: usize, param: u32) -> bool
+    requires { ⌜ i < sessionLimit ⌝ }
+    ensures { λ r. ⌜ eqb param ((exchangeAt (restOf (now (w .entry))) i) .numberExpected) ≡ r ⌝ }
+{
+    let expected = tables::exchange(w, i, tables::NUMBER_EXPECTED) % NUMBERS;
+    param as u64 == expected
 }
 
 // Check 10 of DeviceClearComplete: no payload, and only in a clear.
@@ -44,13 +55,16 @@ fn complete_verdict(clearing: bool, len: u64) -> u8
     ERROR_0
 }
 
-// Checks 9 and 10 of Data, DataEND and Trigger (12).
-fn command_verdict(w: &Words, i: usize, kind: u8, code: u8, len: u64) -> u8
+// Checks 9 and 10 of Data, DataEND and Trigger (12), and that of the number between them.
+fn command_verdict(w: &Words, i: usize, kind: u8, code: u8, param: u32, len: u64) -> u8
     requires { ⌜ i < sessionLimit ⌝ }
-    ensures { λ r. ⌜ ((s : List ℕ) → Numbered (commanded (access (locksOf (now (w .entry)) s .entries) i) kind code len) r) ⌝ }
+    ensures { λ r. ⌜ ((s : List ℕ) → Numbered (commanded (access (locksOf (now (w .entry)) s .entries) i) (eqb param ((exchangeAt (restOf (now (w .entry))) i) .numberExpected)) kind code len) r) ⌝ }
 {
     if !access::has_access(w, i) {
         return HELD;
+    }
+    if !is_expected(w, i, param) {
+        return ERROR_0;
     }
     if code > 1 {
         return ERROR_2;
@@ -65,9 +79,9 @@ fn command_verdict(w: &Words, i: usize, kind: u8, code: u8, len: u64) -> u8
 }
 
 // Checks 6 to 10 of a message for the session in slot `i`.
-pub fn synchronous_verdict(w: &Words, i: usize, kind: u8, code: u8, len: u64) -> u8
+pub fn synchronous_verdict(w: &Words, i: usize, kind: u8, code: u8, param: u32, len: u64) -> u8
     requires { ⌜ i < sessionLimit ⌝ }
-    ensures { λ r. ⌜ ((s p : List ℕ) (param : ℕ) → Numbered (first (synchronousRules (view (memory (now (w .entry)) s)) i (message kind code param len) p)) r) ⌝ }
+    ensures { λ r. ⌜ ((s p : List ℕ) → Numbered (first (synchronousRules (view (memory (now (w .entry)) s)) i (message kind code param len) p)) r) ⌝ }
 {
     // check 6
     if kind == types::FATAL_ERROR {
@@ -96,5 +110,5 @@ pub fn synchronous_verdict(w: &Words, i: usize, kind: u8, code: u8, len: u64) ->
         return FATAL_3;
     }
     // checks 9 and 10: 6, 7 and 12 are left
-    command_verdict(w, i, kind, code, len)
+    command_verdict(w, i, kind, code, param, len)
 }

@@ -66,7 +66,7 @@ pub fn whole_verdict(
     match role {
         NO_ROLE => opening::opening_verdict(w, kind, param, len, payload),
         HALF_OPEN => FATAL_2,
-        ON_SYNCHRONOUS => synchronous::synchronous_verdict(w, i, kind, code, len),
+        ON_SYNCHRONOUS => synchronous::synchronous_verdict(w, i, kind, code, param, len),
         _ => asynchronous::asynchronous_verdict(kind, code, len),
     }
 }

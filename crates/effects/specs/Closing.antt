@@ -57,11 +57,11 @@ shut-past w s x h =
     ap (λ (y : List Connection). onRest (view (memory w s)) (λ (r : Rest). withConnections r y)) (sym (set-out (restOf w .connections) x closedConnection l))
 
 -- a store for each field makes an exchange new, in the mode of a word; the count has its own function
-pub renewed : (i v : ℕ) (d d₁ d₂ d₃ d₄ d₅ d₆ d₇ : Server) → d₁ ≡ onExchange d i (exchangeWith 0 0) → d₂ ≡ onExchange d₁ i (exchangeWith 1 0) → d₃ ≡ onExchange d₂ i (exchangeWith 2 0)
+pub renewed : (i v : ℕ) (d d₁ d₂ d₃ d₄ d₅ d₆ d₇ d₈ : Server) → d₁ ≡ onExchange d i (exchangeWith 0 0) → d₂ ≡ onExchange d₁ i (exchangeWith 1 0) → d₃ ≡ onExchange d₂ i (exchangeWith 2 0)
     → d₄ ≡ onExchange d₃ i (exchangeWith 3 1024) → d₅ ≡ onExchange d₄ i (exchangeWith 4 v) → d₆ ≡ onExchange d₅ i (exchangeWith 7 0)
-    → d₇ ≡ onExchange d₆ i (withCount start false) → d₇ ≡ onRest d (λ (r : Rest). withExchange r i (openExchange (eqb v 1)))
-renewed i v d d₁ d₂ d₃ d₄ d₅ d₆ d₇ e₁ e₂ e₃ e₄ e₅ e₆ e₇ =
-    rw (e₇, e₆, e₅, e₄, e₃, e₂, e₁, upd-upd, upd-upd, upd-upd, upd-upd, upd-upd, upd-upd)
+    → d₇ ≡ onExchange d₆ i (exchangeWith 8 start) → d₈ ≡ onExchange d₇ i (withCount start false) → d₈ ≡ onRest d (λ (r : Rest). withExchange r i (openExchange (eqb v 1)))
+renewed i v d d₁ d₂ d₃ d₄ d₅ d₆ d₇ d₈ e₁ e₂ e₃ e₄ e₅ e₆ e₇ e₈ =
+    rw (e₈, e₇, e₆, e₅, e₄, e₃, e₂, e₁, upd-upd, upd-upd, upd-upd, upd-upd, upd-upd, upd-upd, upd-upd)
     (ap (λ (l : List Exchange). onRest d (λ (r : Rest). record { exchanges = l; connections = r .connections; lastIssued = r .lastIssued; made = r .made; status = r .status; remoteLocal = r .remoteLocal }))
     (sym (upd-set (d .rest .exchanges) i freshExchange (λ (x : Exchange). openExchange (eqb v 1)))))
 

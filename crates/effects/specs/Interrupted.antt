@@ -17,7 +17,7 @@ use Rattle.model.specs.Sizes.{connectionLimit}
 use Rattle.model.specs.MessageTypes.{Data, DataEND, Trigger, Interrupted, AsyncInterrupted, commands}
 use Rattle.model.specs.State.{Locks, Server, Rest, Entry, Exchange, Connection, closedConnection, at, exchangeAt, connectionAt, withExchange}
 use Rattle.model.specs.Locks.{LockEvent, LockResult, change, frees, settle}
-use Rattle.model.specs.Exchange.{afterRmt, noteRmt, queried, interrupted, interrupts, differs, outOfTurn, tested, withExpectation}
+use Rattle.model.specs.Exchange.{afterRmt, noteRmt, queried, interrupted, interrupts, differs, outOfTurn, stepped, tested, withExpectation}
 use Rattle.model.specs.Acts.{interruptions}
 use Rattle.model.specs.Step.{finish, lockFrame}
 use Rattle.state.specs.Change.{onRest, onExchange, exchangeWith, connectionWith, entryWith}
@@ -29,7 +29,7 @@ use Rattle.effects.specs.Did.{Did, numbersOf}
 use Rattle.effects.specs.Asynchronous.{delivered, planFirst}
 use Rattle.effects.specs.Closing.{connections-held}
 use Rattle.effects.specs.Replies.{two-frames}
-use Rattle.effects.specs.Synchronous.{withSlot, slot-changed, slot-twice, slot-then, isCommand}
+use Rattle.effects.specs.Synchronous.{withSlot, slot-changed, slot-twice, slot-then, slot-both, isCommand}
 use Rattle.effects.specs.LockMessages.{behind, behind-length}
 
 -- slot i's exchange changed by g, and these frames at the beginning of the buffer; r is the place behind them
@@ -143,7 +143,7 @@ module _ (x : Exchange) (code a n m : ℕ) (read : exchangeWith 7 a x ≡ x) (p 
   differs-by-words = as-bits (eqb code 1) (x .rmtExpected) ∙ ap₂ (λ (u v : ℕ). not (eqb u v)) (sym p) (ap bit expected ∙ sym q)
 
 -- the bytes shown with an answer
-commands-are : (k : ℕ) → isCommand k ≡ one-of commands k
+pub commands-are : (k : ℕ) → isCommand k ≡ one-of commands k
 commands-are k = by (eqb k Data) (eqb k DataEND) (eqb k Trigger)
   where
     by : (x y z : Bool) → (x || (y || z)) ≡ (x || (y || (z || false)))
@@ -222,15 +222,16 @@ expectation-kept d d₁ i code a v x e q d₂ p =
     q ∙ slot-changed d i (exchangeWith 7 v) ∙ ap (λ (b : Bool). onRest d (withSlot i (withExpectation b))) (e ∙ ap (λ (z : Exchange). not (eqb code 1) && z .rmtExpected) x) in
     slot-twice d d₁ d₂ i (still code) (noteRmt code) (t ∙ sym (slot-changed d i (still code))) p
 
--- a command: what is said first, what it notes, then the answers of the lock event behind that
-pub did-tested : (m m₂ m′ : Memory) (d₁ : Server) (out out₁ out′ : List ℕ) (i n len a r : ℕ) (f g : Exchange → Exchange) (fs : List Frame) (v : LockEvent) (told : Delivery) → told ≡ delivered n len r
+-- a command: what is said first, what it notes, the number expected behind it, then the answers of the lock event behind that
+pub did-tested : (m m₂ m′ : Memory) (d₁ d₂ : Server) (out out₁ out′ : List ℕ) (i n len a r : ℕ) (f g : Exchange → Exchange) (fs : List Frame) (v : LockEvent) (told : Delivery) → told ≡ delivered n len r
     → entryWith 0 n (at (view m .locks .entries) i) ≡ at (view m .locks .entries) i → a ≤ length out → Noted (view m) i f fs d₁ out out₁ a
-    → view m₂ ≡ onRest d₁ (withSlot i g) → Met (settled (view m₂ .locks) v) m₂ m′ out₁ out′ a r
-    → Did (finish (view m) (planFirst (view m) i len (withSlot i (λ (x : Exchange). g (f x)) (view m .rest)) fs v)) told m m′ out out′
+    → d₂ ≡ onRest d₁ (withSlot i g) → view m₂ ≡ onRest d₂ (withSlot i stepped) → Met (settled (view m₂ .locks) v) m₂ m′ out₁ out′ a r
+    → Did (finish (view m) (planFirst (view m) i len (withSlot i (λ (x : Exchange). stepped (g (f x))) (view m .rest)) fs v)) told m m′ out out′
 unfolding finish
-did-tested m m₂ m′ d₁ out out₁ out′ i n len a r f g fs v told t e fits p q x =
+did-tested m m₂ m′ d₁ d₂ out out₁ out′ i n len a r f g fs v told t e fits p q o x =
     let d : Server = view m in
-    let u : view m₂ ≡ onRest d (withSlot i (λ (x : Exchange). g (f x))) = slot-twice d d₁ (view m₂) i f g (p .server ∙ sym (slot-changed d i f)) q in
+    let u : view m₂ ≡ onRest d (withSlot i (λ (x : Exchange). stepped (g (f x)))) =
+    slot-both d d₂ (view m₂) i (λ (x : Exchange). g (f x)) stepped (slot-both d d₁ d₂ i f g (p .server) q) o in
     let y : Met (settled (d .locks) v) m₂ m′ out₁ out′ a r = subst (λ (l : Locks). Met (settled l v) m₂ m′ out₁ out′ a r) (ap (λ (k : Server). k .locks) u) x in
     let xs : LockResult = change (d .locks) v in
     let ys : LockResult = settle (frees (d .locks) v) (xs .locks) in

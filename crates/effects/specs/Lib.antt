@@ -3,6 +3,7 @@ pub mod Did
 pub mod Replies
 pub mod Synchronous
 pub mod Mode
+pub mod Numbering
 pub mod Interrupted
 pub mod Opening
 pub mod SessionIds

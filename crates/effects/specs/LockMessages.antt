@@ -37,9 +37,9 @@ module _ (xs ys : List Frame) (a : ℕ) (e : a ≡ 0 + length (bytesOf xs)) wher
   behind-length r p = omega (arith, ap length (bytesOf-append xs ys), length-append (bytesOf xs) (bytesOf ys))
 
 -- three stores enter device clear, and the count begins anew
-pub clear-entered : (i : ℕ) (d d₁ d₂ d₃ d₄ d₅ : Server) → d₁ ≡ onExchange d i (exchangeWith 0 1) → d₂ ≡ onExchange d₁ i (exchangeWith 1 0) → d₃ ≡ onExchange d₂ i (exchangeWith 2 0)
-    → d₄ ≡ onExchange d₃ i (exchangeWith 7 0) → d₅ ≡ onExchange d₄ i (withCount start false) → d₅ ≡ onExchange d i enterClear
-clear-entered i d d₁ d₂ d₃ d₄ d₅ e₁ e₂ e₃ e₄ e₅ = rw (e₅, e₄, e₃, e₂, e₁, upd-upd, upd-upd, upd-upd, upd-upd)
+pub clear-entered : (i : ℕ) (d d₁ d₂ d₃ d₄ d₅ d₆ : Server) → d₁ ≡ onExchange d i (exchangeWith 0 1) → d₂ ≡ onExchange d₁ i (exchangeWith 1 0) → d₃ ≡ onExchange d₂ i (exchangeWith 2 0)
+    → d₄ ≡ onExchange d₃ i (exchangeWith 7 0) → d₅ ≡ onExchange d₄ i (exchangeWith 8 start) → d₆ ≡ onExchange d₅ i (withCount start false) → d₆ ≡ onExchange d i enterClear
+clear-entered i d d₁ d₂ d₃ d₄ d₅ d₆ e₁ e₂ e₃ e₄ e₅ e₆ = rw (e₆, e₅, e₄, e₃, e₂, e₁, upd-upd, upd-upd, upd-upd, upd-upd, upd-upd)
 
 -- an event that says nothing but its answers, with the pass behind it; other stores came first
 pub did-settled : (m m₁ m′ : Memory) (out out′ : List ℕ) (i n len r : ℕ) (q : Rest) (v : LockEvent) (told : Delivery) → told ≡ delivered n len r

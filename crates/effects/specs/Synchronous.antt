@@ -15,7 +15,7 @@ use Rattle.wire.specs.declared.Header.{Header}
 use Rattle.model.specs.MessageTypes.{Data, DataEND, Trigger, DeviceClearAcknowledge}
 use Rattle.model.specs.State.{Server, Rest, Exchange, Asked, Asked.none, Asked.some, at, freshExchange, exchangeAt, withExchange}
 use Rattle.model.specs.Interface.{Reply.took, Outcome.acted}
-use Rattle.model.specs.Exchange.{afterRmt, withAnswering, noteRmt, ask, bit0, leaveClear, outOfTurn, tested}
+use Rattle.model.specs.Exchange.{afterRmt, withAnswering, noteRmt, ask, bit0, leaveClear, outOfTurn, stepped, tested}
 use Rattle.model.specs.Place.{Role.r-synchronous}
 use Rattle.model.specs.Locks.{LockEvent.nothing, LockEvent.command}
 use Rattle.model.specs.Acts.{Plan, say, SynchronousKind, SynchronousKind.k-data, SynchronousKind.k-dataEnd, SynchronousKind.k-trigger, SynchronousKind.k-clearComplete, synchronousKind, synchronousExchange, interruptions, synchronousFirst, synchronousSaid, synchronousEvent, acts}
@@ -45,6 +45,10 @@ slot-twice d d₁ d₂ i f g e₁ e₂ =
 
 pub slot-then : (d d₁ d₂ : Server) (i : ℕ) (f g : Exchange → Exchange) → d₁ ≡ onRest d (withSlot i f) → d₂ ≡ onExchange d₁ i g → d₂ ≡ onRest d (withSlot i (λ (x : Exchange). g (f x)))
 slot-then d d₁ d₂ i f g e₁ e₂ = slot-twice d d₁ d₂ i f g (e₁ ∙ sym (slot-changed d i f)) (e₂ ∙ slot-changed d₁ i g)
+
+-- two changes of one exchange, as the model has them
+pub slot-both : (d d₁ d₂ : Server) (i : ℕ) (f g : Exchange → Exchange) → d₁ ≡ onRest d (withSlot i f) → d₂ ≡ onRest d₁ (withSlot i g) → d₂ ≡ onRest d (withSlot i (λ (x : Exchange). g (f x)))
+slot-both d d₁ d₂ i f g e₁ e₂ = slot-twice d d₁ d₂ i f g (e₁ ∙ sym (slot-changed d i f)) e₂
 
 -- DeviceClearComplete: two stores, the second by the code's bit 0
 pub clear-left : (d d₁ d₂ : Server) (i code : ℕ) → d₁ ≡ onExchange d i (exchangeWith 0 0) → d₂ ≡ onExchange d₁ i (exchangeWith 4 (code % 2)) → d₂ ≡ onRest d (withSlot i (leaveClear code))
@@ -127,12 +131,12 @@ module _ (d : Server) (i c : ℕ) (h : Header) (p : List ℕ) where
   turnFrames = cond (outOfTurn (h .code) (exchangeAt (d .rest) i)) (interruptions (at (d .locks .entries) i) (h .param)) []
 
   pub plan-command : isCommand (h .kind) ≡ true
-      → acts r-synchronous d i c h p ≡ planFirst d i (h .len) (withSlot i (λ (e : Exchange). commandNotes (h .kind) (h .code) (h .param) (tested (h .code) e)) (d .rest)) turnFrames (command i (h .param))
+      → acts r-synchronous d i c h p ≡ planFirst d i (h .len) (withSlot i (λ (e : Exchange). stepped (commandNotes (h .kind) (h .code) (h .param) (tested (h .code) e))) (d .rest)) turnFrames (command i (h .param))
   unfolding acts synchronousExchange synchronousSaid
   plan-command = by (eqb (h .kind) Data) (eqb (h .kind) DataEND) (eqb (h .kind) Trigger)
     where
       by : (x y z : Bool) → (x || (y || z)) ≡ true
-          → planBy (kinds x y z) ≡ planFirst d i (h .len) (withSlot i (λ (e : Exchange). cond x (noteRmt (h .code) (tested (h .code) e)) (ask (h .code) (h .param) (tested (h .code) e))) (d .rest)) turnFrames (command i (h .param))
+          → planBy (kinds x y z) ≡ planFirst d i (h .len) (withSlot i (λ (e : Exchange). stepped (cond x (noteRmt (h .code) (tested (h .code) e)) (ask (h .code) (h .param) (tested (h .code) e)))) (d .rest)) turnFrames (command i (h .param))
       by true y z q = refl
       by false true z q = refl
       by false false true q = refl

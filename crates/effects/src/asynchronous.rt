@@ -31,6 +31,7 @@ use locks::request;
 use locks::standing;
 use remote::RemoteLocal;
 use remote::commanded;
+use state::fresh::START;
 use state::sizes::Strings;
 use state::sizes::Words;
 use state::tables;
@@ -169,7 +170,7 @@ fn note_size(w: &mut Words, out: &mut [u8], c: u64, i: usize, len: u64, payload:
     answer::acted(n, len, 25)
 }
 
-// In device clear, with nothing asked, no message available and no answer counted.
+// In device clear, with nothing asked, no message available, no answer counted, and the first number expected.
 fn enter_clear(w: &mut Words, i: usize)
     requires { ⌜ i < sessionLimit ⌝ }
     ensures { λ _. ⌜ ((s : List ℕ) → view (memory (now (w .exit)) s) ≡ onExchange (view (memory (now (w .entry)) s)) i enterClear) ⌝ }
@@ -178,6 +179,7 @@ fn enter_clear(w: &mut Words, i: usize)
     tables::set_exchange(w, i, tables::ASKED, 0);
     tables::set_exchange(w, i, tables::AVAILABLE, 0);
     tables::set_exchange(w, i, tables::RMT_EXPECTED, 0);
+    tables::set_exchange(w, i, tables::NUMBER_EXPECTED, START);
     mode::reset_count(w, i);
 }
 

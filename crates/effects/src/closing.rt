@@ -17,6 +17,7 @@ ghost use Rattle.model.specs.Sizes.{sessionLimit};
 use crate::mode::reset_count;
 use locks::grant_pass;
 use locks::sessions;
+use state::fresh::START;
 use state::sizes::CONNECTIONS;
 use state::sizes::NO_CONNECTION;
 use state::sizes::PAYLOAD;
@@ -47,6 +48,7 @@ pub fn renew_exchange(w: &mut Words, i: usize, mode: u64)
     tables::set_exchange(w, i, tables::CLIENT_SIZE, PAYLOAD);
     tables::set_exchange(w, i, tables::OVERLAP, mode);
     tables::set_exchange(w, i, tables::RMT_EXPECTED, 0);
+    tables::set_exchange(w, i, tables::NUMBER_EXPECTED, START);
     reset_count(w, i);
 }
 

@@ -5,6 +5,7 @@ pub mod closing;
 pub mod events;
 pub mod interrupted;
 pub mod mode;
+pub mod numbering;
 pub mod opening;
 pub mod outcome;
 pub mod replies;

@@ -19,6 +19,7 @@ ghost use Rattle.model.specs.Sizes.{connectionLimit, outputMinimum, payloadLimi
 use crate::Delivery;
 use crate::answer;
 use crate::interrupted::take_turn;
+use crate::numbering::step_number;
 use locks::complete;
 use state::sizes::Strings;
 use state::sizes::Words;
@@ -104,8 +105,8 @@ fn note_command(w: &mut Words, i: usize, kind: u8, code: u8, param: u32)
     note_asked(w, i, code, MessageId::new(param));
 }
 
-// A message of a kind that passed all checks acts: a command that is out of turn interrupts first, and a release that waits for it takes
-// effect behind it.
+// A message of a kind that passed all checks acts: a command that is out of turn interrupts first, moves the number expected, and a release
+// that waits for it takes effect behind it.
 pub fn act_synchronous(
     w: &mut Words,
     strings: &mut Strings,
@@ -124,6 +125,7 @@ pub fn act_synchronous(
     if is_command(kind) {
         let at = take_turn(w, out, i, code, param);
         note_command(w, i, kind, code, param);
+        step_number(w, i);
         let end = complete::at_message(w, strings, out, at, i, param);
         return answer::acted(session, len, end as u64);
     }
@@ -147,6 +149,7 @@ pub fn act_plainly(w: &mut Words, i: usize, kind: u8, code: u8, param: u32, len:
     let session = tables::entry(w, i, tables::NUMBER);
     tables::set_exchange(w, i, tables::RMT_EXPECTED, 0);
     note_command(w, i, kind, code, param);
+    step_number(w, i);
     complete::note_message(w, i, param);
     answer::acted(session, len, 0)
 }

@@ -74,21 +74,24 @@ module _ (d : Server) (i : ℕ) (p : List ℕ) where
   abbrev clearing : Bool
   clearing = (exchangeAt (d .rest) i) .inClear
 
-  pub command-passes : clearing ≡ false → access (d .locks .entries) i ≡ true → (h : Header) → permits commandForms h ≡ true → first (Checks.synchronousRules d i h p) ≡ v-acts
+  abbrev expecting : ℕ
+  expecting = (exchangeAt (d .rest) i) .numberExpected
+
+  pub command-passes : clearing ≡ false → access (d .locks .entries) i ≡ true → (h : Header) → h .param ≡ expecting → permits commandForms h ≡ true → first (Checks.synchronousRules d i h p) ≡ v-acts
   unfolding classOf
-  command-passes n a =
-      form-of (λ h. first (Checks.synchronousRules d i h p) ≡ v-acts) commandForms
-      ((λ h t k l. rw (t, n, a, above 1 (h .code) k))
-      also (λ h t k l. rw (t, n, a, above 1 (h .code) k))
-      also (λ h t k l. rw (t, n, a, above 1 (h .code) k, eqb-true (h .len) 0 l))
-      also tt)
+  command-passes n a h e f =
+      form-of (λ h. eqb (h .param) expecting ≡ true → first (Checks.synchronousRules d i h p) ≡ v-acts) commandForms
+      ((λ h t k l m. rw (t, n, a, m, above 1 (h .code) k))
+      also (λ h t k l m. rw (t, n, a, m, above 1 (h .code) k))
+      also (λ h t k l m. rw (t, n, a, m, above 1 (h .code) k, eqb-true (h .len) 0 l))
+      also tt) h f (eq-eqb (h .param) expecting e)
 
   pub clear-passes : clearing ≡ true → (h : Header) → permits clearForms h ≡ true → first (Checks.synchronousRules d i h p) ≡ v-acts
   unfolding classOf
   clear-passes n = form-of (λ h. first (Checks.synchronousRules d i h p) ≡ v-acts) clearForms ((λ h t k l. rw (t, n, eqb-true (h .len) 0 l)), tt)
 
   abbrev pub Synchronous : Header → Type 0
-  Synchronous h = ((clearing ≡ false) × (access (d .locks .entries) i ≡ true) × (permits commandForms h ≡ true)) ⊎ ((clearing ≡ true) × (permits clearForms h ≡ true))
+  Synchronous h = ((clearing ≡ false) × (access (d .locks .entries) i ≡ true) × (h .param ≡ expecting) × (permits commandForms h ≡ true)) ⊎ ((clearing ≡ true) × (permits clearForms h ≡ true))
 
   -- by type
   abbrev Lets : Header → ℕ → Type 0
@@ -101,10 +104,10 @@ module _ (d : Server) (i : ℕ) (p : List ℕ) where
       ((λ q. absurd (true≢false (q .1 .1 .1 .1 .1 .0)))
       also (λ q. absurd (true≢false (q .0)))
       also (λ q. absurd (true≢false (q .1 .0)))
-      also (λ q. inl (sym (and-true _) ∙ q .1 .1 .0, not-off _ (q .1 .1 .1 .1 .1 .1 .0), rw (below 1 (h .code) (q .1 .1 .1 .1 .1 .1 .1 .0))))
-      also (λ q. inl (sym (and-true _) ∙ q .1 .1 .0, not-off _ (q .1 .1 .1 .1 .1 .1 .0), rw (below 1 (h .code) (q .1 .1 .1 .1 .1 .1 .1 .0))))
-      also (λ q. inr (not-off _ (q .1 .1 .1 .1 .1 .1 .1 .1 .1 .0), rw (empty (h .len) (q .1 .1 .1 .1 .1 .1 .1 .1 .0))))
-      also (λ q. inl (sym (and-true _) ∙ q .1 .1 .0, not-off _ (q .1 .1 .1 .1 .1 .1 .0), rw (below 1 (h .code) (q .1 .1 .1 .1 .1 .1 .1 .0), empty (h .len) (q .1 .1 .1 .1 .1 .1 .1 .1 .0))))
+      also (λ q. inl (sym (and-true _) ∙ q .1 .1 .0, not-off _ (q .1 .1 .1 .1 .1 .1 .0), eqb-true _ _ (not-off _ (q .1 .1 .1 .1 .1 .1 .1 .0)), rw (below 1 (h .code) (q .1 .1 .1 .1 .1 .1 .1 .1 .0))))
+      also (λ q. inl (sym (and-true _) ∙ q .1 .1 .0, not-off _ (q .1 .1 .1 .1 .1 .1 .0), eqb-true _ _ (not-off _ (q .1 .1 .1 .1 .1 .1 .1 .0)), rw (below 1 (h .code) (q .1 .1 .1 .1 .1 .1 .1 .1 .0))))
+      also (λ q. inr (not-off _ (q .1 .1 .1 .1 .1 .1 .1 .1 .1 .1 .0), rw (empty (h .len) (q .1 .1 .1 .1 .1 .1 .1 .1 .1 .0))))
+      also (λ q. inl (sym (and-true _) ∙ q .1 .1 .0, not-off _ (q .1 .1 .1 .1 .1 .1 .0), eqb-true _ _ (not-off _ (q .1 .1 .1 .1 .1 .1 .1 .0)), rw (below 1 (h .code) (q .1 .1 .1 .1 .1 .1 .1 .1 .0), empty (h .len) (q .1 .1 .1 .1 .1 .1 .1 .1 .1 .0))))
       also tt)
 
   pub sync-permitted : (h : Header) → first (Checks.synchronousRules d i h p) ≡ v-acts → Synchronous h

@@ -65,4 +65,6 @@ pub mod LocalityTable
 pub mod Outcomes
 pub mod Missing
 pub mod NextQuestion
+pub mod Numbering
+pub mod InStep
 pub mod Asking

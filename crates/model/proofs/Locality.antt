@@ -7,7 +7,7 @@ use Prim.Native.Nat.{ℕ, zero, suc, _+_}
 use native.Mathlib.Omega.{arith}
 use lib.Dec.{eqb}
 use lib.ListN.{take, drop, length}
-use borrow.Author.Tests.{eqb-true}
+use borrow.Author.Tests.{eqb-true, ne-eqb}
 use Rattle.wire.specs.declared.Header.{Header}
 use Rattle.wire.specs.Message.{Message, header, messageOf}
 use Rattle.wire.specs.Frame.{Frame, frameOf}
@@ -19,20 +19,20 @@ use Rattle.model.specs.Scan.{Scan, Scan.empty, Scan.few, Scan.wrong, Sca
 use Rattle.model.specs.Place.{slotIn, slotOf, roleOf, roleBy, onConnection, entryOf, Role, Role.r-none, Role.r-halfOpen, Role.r-synchronous, Role.r-asynchronous}
 use Rattle.model.specs.Locks
 use Rattle.model.specs.Locks.{LockEvent, change, grantPass, passOver}
-use Rattle.model.specs.Exchange.{answerNumberIn, answerNumber, numberAsked, answeredWith, interrupted}
+use Rattle.model.specs.Exchange.{withNumber, answerNumberIn, answerNumber, numberAsked, answeredWith, interrupted}
 use Rattle.model.specs.Checks
 use Rattle.model.specs.Checks.{Verdict, Verdict.v-more, Verdict.v-skipped, Verdict.v-held, Verdict.v-ignored, Verdict.v-closed, Verdict.v-acts, Verdict.v-error, Verdict.v-fatal, verdict, judged, either}
 use Rattle.model.specs.Acts
 use Rattle.model.specs.Acts.{Plan}
 use Rattle.model.specs.Refusals.{causes, refusal}
-use Rattle.model.specs.Step.{effect, received, plan, answered, finish, step, final, log, channels, closing, answerType, withholds}
+use Rattle.model.specs.Step.{counted, effect, received, plan, answered, finish, step, final, log, channels, closing, answerType, withholds}
 use Rattle.model.specs.Happening.{Heard, Heard.silence, Heard.with-code, Happening, Happening.unmoved, Happening.disconnected, Happening.message-acted, heard, happened}
 use Rattle.model.specs.LocalityReplies.{saidTo, askedNumber, numberSent}
-use Rattle.model.specs.LocalityRows.{isSilence, Single, singly, clock-row, status-row, made-row, issued-row, enable-row, lockout-row, remote-row}
+use Rattle.model.specs.LocalityRows.{step-row, isSilence, Single, singly, clock-row, status-row, made-row, issued-row, enable-row, lockout-row, remote-row}
 use Rattle.model.specs.Locality.{atCall, Local, clientsFatalError, Locality, EachLocal, overLog, LocalRun}
 use Rattle.model.proofs.Basics.{and-l, and-r, or→, not-off}
-use Rattle.model.proofs.Scanning.{whole-scan}
-use Rattle.model.proofs.Place.{place-sound, place-role, async-live}
+use Rattle.model.proofs.Scanning.{whole-scan, long-scan}
+use Rattle.model.proofs.Place.{place-sound, place-role, no-role, async-live}
 use Rattle.model.proofs.Classes.{acted-class}
 use Rattle.model.proofs.Numbers.{live-found}
 use Rattle.model.proofs.Fits.{Passes, uncaused, opening-passed, sync-passed, async-passed, real-delivery, real-cut}
@@ -142,6 +142,61 @@ error-scan r-synchronous d i (part h) n e = absurd (let y : _≡_ {A = ℕ} 0 1 
 error-scan r-asynchronous d i (part h) n e = absurd (let y : _≡_ {A = ℕ} 0 1 = cc in omega arith)
 error-scan r d i (whole h p) n e = (λ z. omega arith, λ k z. let y : _≡_ {A = ℕ} 0 1 = cc in omega arith)
 
+-- the number expected after an Error: by the message's header, if it came on its session's synchronous connection
+module _ (d : Server) (c : ℕ) (bs : List ℕ) (real : c ≡ noConnection → ⊥) where
+  abbrev e₀ : Entry
+  e₀ = entryOf d c
+
+  abbrev numberBy : Header → Exchange → ℕ
+  numberBy h x = (step-row x) .by-error h (x .numberExpected)
+
+  abbrev RowBy : Role → Scan → Exchange → Type 0
+  RowBy r s x = counted r s x ≡ cond (eqb (e₀ .synchronous) c) (withNumber (numberBy (header bs) x) x) x
+
+  on-first : (a b s : Bool) → roleBy a b s ≡ r-synchronous → s ≡ true
+  on-first true true s q = cc
+  on-first true false true q = refl
+  on-first true false false q = cc
+  on-first false b s q = cc
+
+  not-first : (a b s : Bool) → roleBy a b s ≡ r-asynchronous → s ≡ false
+  not-first true true s q = cc
+  not-first true false true q = cc
+  not-first true false false q = refl
+  not-first false b s q = cc
+
+  headed : (h : Header) (x : Exchange) → roleOf (d .locks .entries) c ≡ r-synchronous → header bs ≡ h → RowBy r-synchronous (Scan.long h) x
+  headed h x er eh =
+      ap (λ (k : Header). withNumber (numberBy k x) x) (sym eh)
+      ∙ sym (ap (λ b. cond b (withNumber (numberBy (header bs) x) x) x) (on-first (live e₀) (eqb (e₀ .asynchronous) noConnection) (eqb (e₀ .synchronous) c) (sym (place-role (d .locks .entries) c) ∙ er)))
+
+  no-session : roleOf (d .locks .entries) c ≡ r-none → eqb (e₀ .synchronous) c ≡ false
+  no-session er = go (place-sound (d .locks .entries) c)
+    where
+      go : (onConnection c e₀ ≡ true) ⊎ (e₀ ≡ blank) → eqb (e₀ .synchronous) c ≡ false
+      go (inl h) = absurd (no-role (d .locks .entries) c er (slotOf d c) h)
+      go (inr h) = ap (λ (e : Entry). eqb (e .synchronous) c) h ∙ ne-eqb noConnection c (λ z. real (sym z))
+
+  numbered-row : (n : ℕ) (r : Role) (s : Scan) (x : Exchange) → scan ((connectionAt (d .rest) c) .remainder) bs ≡ s → roleOf (d .locks .entries) c ≡ r → verdict r d (slotOf d c) s ≡ v-error n → RowBy r s x
+  unfolding verdict
+  numbered-row n r-synchronous (long h) x es er ev = headed h x er (long-scan _ bs h es)
+  numbered-row n r-synchronous (whole h p) x es er ev = headed h x er ((whole-scan _ bs h p es) .0)
+  numbered-row n r-synchronous empty x es er ev = absurd (let y : _≡_ {A = ℕ} 0 1 = cc in omega arith)
+  numbered-row n r-synchronous few x es er ev = absurd (let y : _≡_ {A = ℕ} 0 1 = cc in omega arith)
+  numbered-row n r-synchronous wrong x es er ev = absurd (let y : _≡_ {A = ℕ} 0 1 = cc in omega arith)
+  numbered-row n r-synchronous (skipping k) x es er ev = absurd (let y : _≡_ {A = ℕ} 0 1 = cc in omega arith)
+  numbered-row n r-synchronous (part h) x es er ev = absurd (let y : _≡_ {A = ℕ} 0 1 = cc in omega arith)
+  numbered-row n r-asynchronous s x es er ev =
+      sym (ap (λ b. cond b (withNumber (numberBy (header bs) x) x) x) (not-first (live e₀) (eqb (e₀ .asynchronous) noConnection) (eqb (e₀ .synchronous) c) (sym (place-role (d .locks .entries) c) ∙ er)))
+  numbered-row n r-none s x es er ev = sym (ap (λ b. cond b (withNumber (numberBy (header bs) x) x) x) (no-session er))
+  numbered-row n r-halfOpen empty x es er ev = absurd (let y : _≡_ {A = ℕ} 0 1 = cc in omega arith)
+  numbered-row n r-halfOpen few x es er ev = absurd (let y : _≡_ {A = ℕ} 0 1 = cc in omega arith)
+  numbered-row n r-halfOpen wrong x es er ev = absurd (let y : _≡_ {A = ℕ} 0 1 = cc in omega arith)
+  numbered-row n r-halfOpen (skipping k) x es er ev = absurd (let y : _≡_ {A = ℕ} 0 1 = cc in omega arith)
+  numbered-row n r-halfOpen (long h) x es er ev = absurd (let y : _≡_ {A = ℕ} 0 1 = cc in omega arith)
+  numbered-row n r-halfOpen (part h) x es er ev = absurd (let y : _≡_ {A = ℕ} 0 1 = cc in omega arith)
+  numbered-row n r-halfOpen (whole h p) x es er ev = absurd (let y : _≡_ {A = ℕ} 0 1 = cc in omega arith)
+
 module _ (d : Server) (c : ℕ) (bs : List ℕ) (room : ℕ) (real : c ≡ noConnection → ⊥) (opened : (connectionAt (d .rest) c) .isOpen ≡ true) where
   abbrev Does : Plan → Type 0
   Does x = Local d (happened (delivery c bs room) (x .reply) ((finish d x) .frames)) (finish d x)
@@ -158,7 +213,12 @@ module _ (d : Server) (c : ℕ) (bs : List ℕ) (room : ℕ) (real : c ≡ noCon
   effect-local v-ignored s r es er ev = local-unmoved d _ (λ o k n e. cc)
   effect-local (v-error x) s r es er ev =
       let z = error-scan r d (slotOf d c) s x ev in
-      assemble d _ _ (d .locks .entries) [] (rest-error d c ((header bs) .len) (leftover s) (with-code x) opened (scan-error ((connectionAt (d .rest) c) .remainder) bs s es (z .0) (z .1))) (locks-error d c ((header bs) .len) (with-code x)) refl (λ o k n e. cc)
+      let y = exchangeAt (d .rest) (slotOf d c) in
+      assemble d _ _ (d .locks .entries) []
+      (rest-error d c (header bs) (leftover s) (counted r s y) (with-code x) opened (scan-error ((connectionAt (d .rest) c) .remainder) bs s es (z .0) (z .1)) (numbered-row d c bs real x r s y es er ev))
+      (locks-error d c (header bs) (with-code x))
+      refl
+      (λ o k n e. cc)
   effect-local (v-fatal x) s r es er ev =
       rw (fatal-heard x (live (entryOf d c)) ((entryOf d c) .synchronous) c (cond (eqb ((entryOf d c) .asynchronous) noConnection) [] ((entryOf d c) .asynchronous ∷ [])) _) (local-closing d c real (with-code x) _ (λ o k n e. cc))
   effect-local v-closed s r es er ev = rw (none-heard ((passOver (stay d c) (freed d c)) .answers)) (local-closing d c real silence _ (λ o k n e. cc))
@@ -266,7 +326,7 @@ same-made (e ∷ es) d = same-made es ((step d e) .server) ∙ (local-call d e) 
     never (Happening.connected c) x = refl
     never (disconnected c k) x = refl
     never (Happening.skipped-over c k) x = refl
-    never (Happening.errored c n k) x = refl
+    never (Happening.errored c h k) x = refl
     never (message-acted a) x = refl
     never (Happening.clock-read t) x = refl
     never (Happening.status-set b) x = refl

@@ -1,6 +1,6 @@
 -- Lists that a call changes at one place, and the rows of a record read off the rows of its fields.
 use mathlib.Core.Path.{_≡_, refl, sym, ap, _∙_}
-use mathlib.Core.Bool.{Bool, true, false, _||_, cond}
+use mathlib.Core.Bool.{Bool, true, false, _&&_, _||_, cond}
 use mathlib.Core.List.{List, [], _∷_}
 use mathlib.Core.Logic.{_⊎_, inl, inr}
 use Prim.Native.Nat.{ℕ, _<_}
@@ -8,12 +8,14 @@ use lib.Dec.{eqb}
 use lib.ListN.{getD, set, length, length-set}
 use lib.Seq.{getD-set-same, getD-set-other}
 use borrow.Author.Tests.{eqb-true, eq-eqb, ne-eqb}
+use Rattle.wire.specs.declared.Header.{Header}
 use Rattle.model.specs.State.{Entry, Waiting, Exchange, Asked.none, at, blank, slotOfNumber}
 use Rattle.model.specs.Place.{slotIn}
 use Rattle.model.specs.Locks.{withLocks, give}
+use Rattle.model.specs.Exchange
 use Rattle.model.specs.Closing.{OldestFirst, OldestFirst.pass-end, OldestFirst.pass-grant, OldestFirst.pass-wait}
 use Rattle.model.specs.Happening.{Action, Happening, Happening.unmoved, Happening.connected, Happening.disconnected, Happening.skipped-over, Happening.errored, Happening.message-acted, Happening.clock-read, Happening.status-set, Happening.answer-sent, Happening.answer-withheld}
-use Rattle.model.specs.LocalityRows.{Row, inSlot, slotActed, clear-row, asked-row, available-row, size-row, mode-row, count-row, sent-row, expected-row, number-row, synchronous-row, asynchronous-row, exclusive-row, shared-row, last-row, standing-row}
+use Rattle.model.specs.LocalityRows.{Row, inSlot, slotActed, clear-row, asked-row, available-row, size-row, mode-row, count-row, sent-row, expected-row, step-row, number-row, synchronous-row, asynchronous-row, exclusive-row, shared-row, last-row, standing-row}
 use Rattle.model.specs.Locality.{entryDue, givenExclusive, givenShared, Look}
 use Rattle.model.proofs.Basics.{same?}
 
@@ -55,29 +57,33 @@ module _ {A : Type 0} (z : A) (r : Row A) (es : List Entry) (xs : List A) where
 
 -- a field of a row
 pub project : {X A : Type 0} (g : X → A) (r : Row X) (s : X → Row A) → ((a : Action) (x : X) → g (r .by-message a x) ≡ (s x) .by-message a (g x)) → ((b : Bool) (x : X) → g (r .by-answer b x) ≡ (s x) .by-answer b (g x))
-    → ((x : X) → g (r .when-withheld x) ≡ (s x) .when-withheld (g x)) → ((x : X) → g (r .once-closed) ≡ (s x) .once-closed) → (es : List Entry) (i : ℕ) (h : Happening) (x : X) → g (inSlot r es i h x) ≡ inSlot (s x) es i h (g x)
-project g r s m n w q es i unmoved x = refl
-project g r s m n w q es i (connected c) x = refl
-project g r s m n w q es i (disconnected c k) x = push (eqb i _)
+    → ((x : X) → g (r .when-withheld x) ≡ (s x) .when-withheld (g x)) → ((h : Header) (x : X) → g (r .by-error h x) ≡ (s x) .by-error h (g x)) → ((x : X) → g (r .once-closed) ≡ (s x) .once-closed) → (es : List Entry) (i : ℕ) (h : Happening) (x : X) → g (inSlot r es i h x) ≡ inSlot (s x) es i h (g x)
+project g r s m n w v q es i unmoved x = refl
+project g r s m n w v q es i (connected c) x = refl
+project g r s m n w v q es i (disconnected c k) x = push (eqb i _)
   where
     push : (b : Bool) → g (cond b (r .once-closed) x) ≡ cond b ((s x) .once-closed) (g x)
     push true = q x
     push false = refl
-project g r s m n w q es i (skipped-over c k) x = refl
-project g r s m n w q es i (errored c l k) x = refl
-project g r s m n w q es i (message-acted a) x = push (eqb i (slotActed es a))
+project g r s m n w v q es i (skipped-over c k) x = refl
+project g r s m n w v q es i (errored c h k) x = push (eqb i (slotIn es c) && eqb ((at es i) .synchronous) c)
+  where
+    push : (b : Bool) → g (cond b (r .by-error h x) x) ≡ cond b ((s x) .by-error h (g x)) (g x)
+    push true = v h x
+    push false = refl
+project g r s m n w v q es i (message-acted a) x = push (eqb i (slotActed es a))
   where
     push : (b : Bool) → g (cond b (r .by-message a x) x) ≡ cond b ((s x) .by-message a (g x)) (g x)
     push true = m a x
     push false = refl
-project g r s m n w q es i (clock-read t) x = refl
-project g r s m n w q es i (status-set b) x = refl
-project g r s m n w q es i (answer-sent k p end) x = push (eqb i _)
+project g r s m n w v q es i (clock-read t) x = refl
+project g r s m n w v q es i (status-set b) x = refl
+project g r s m n w v q es i (answer-sent k p end) x = push (eqb i _)
   where
     push : (b : Bool) → g (cond b (r .by-answer end x) x) ≡ cond b ((s x) .by-answer end (g x)) (g x)
     push true = n end x
     push false = refl
-project g r s m n w q es i (answer-withheld k p) x = push (eqb i _)
+project g r s m n w v q es i (answer-withheld k p) x = push (eqb i _)
   where
     push : (b : Bool) → g (cond b (r .when-withheld x) x) ≡ cond b ((s x) .when-withheld (g x)) (g x)
     push true = w x
@@ -87,10 +93,11 @@ project g r s m n w q es i (answer-withheld k p) x = push (eqb i _)
 abbrev pub exchangeRow : Bool → Row Exchange
 exchangeRow preferred =
     record {
-      by-message = λ a x. record { inClear = clear-row .by-message a (x .inClear); asked = (asked-row x) .by-message a (x .asked); messageAvailable = (available-row x) .by-message a (x .messageAvailable); clientSize = size-row .by-message a (x .clientSize); overlap = (mode-row preferred) .by-message a (x .overlap); count = count-row .by-message a (x .count); anySent = sent-row .by-message a (x .anySent); rmtExpected = expected-row .by-message a (x .rmtExpected) };
-      by-answer = λ b x. record { inClear = clear-row .by-answer b (x .inClear); asked = (asked-row x) .by-answer b (x .asked); messageAvailable = (available-row x) .by-answer b (x .messageAvailable); clientSize = size-row .by-answer b (x .clientSize); overlap = (mode-row preferred) .by-answer b (x .overlap); count = count-row .by-answer b (x .count); anySent = sent-row .by-answer b (x .anySent); rmtExpected = expected-row .by-answer b (x .rmtExpected) };
-      when-withheld = λ x. record { inClear = clear-row .when-withheld (x .inClear); asked = (asked-row x) .when-withheld (x .asked); messageAvailable = (available-row x) .when-withheld (x .messageAvailable); clientSize = size-row .when-withheld (x .clientSize); overlap = (mode-row preferred) .when-withheld (x .overlap); count = count-row .when-withheld (x .count); anySent = sent-row .when-withheld (x .anySent); rmtExpected = expected-row .when-withheld (x .rmtExpected) };
-      once-closed = record { inClear = clear-row .once-closed; asked = none; messageAvailable = false; clientSize = size-row .once-closed; overlap = (mode-row preferred) .once-closed; count = count-row .once-closed; anySent = sent-row .once-closed; rmtExpected = expected-row .once-closed };
+      by-message = λ a x. record { inClear = clear-row .by-message a (x .inClear); asked = (asked-row x) .by-message a (x .asked); messageAvailable = (available-row x) .by-message a (x .messageAvailable); clientSize = size-row .by-message a (x .clientSize); overlap = (mode-row preferred) .by-message a (x .overlap); count = count-row .by-message a (x .count); anySent = sent-row .by-message a (x .anySent); rmtExpected = expected-row .by-message a (x .rmtExpected); numberExpected = (step-row x) .by-message a (x .numberExpected) };
+      by-answer = λ b x. record { inClear = clear-row .by-answer b (x .inClear); asked = (asked-row x) .by-answer b (x .asked); messageAvailable = (available-row x) .by-answer b (x .messageAvailable); clientSize = size-row .by-answer b (x .clientSize); overlap = (mode-row preferred) .by-answer b (x .overlap); count = count-row .by-answer b (x .count); anySent = sent-row .by-answer b (x .anySent); rmtExpected = expected-row .by-answer b (x .rmtExpected); numberExpected = x .numberExpected };
+      when-withheld = λ x. record { inClear = clear-row .when-withheld (x .inClear); asked = (asked-row x) .when-withheld (x .asked); messageAvailable = (available-row x) .when-withheld (x .messageAvailable); clientSize = size-row .when-withheld (x .clientSize); overlap = (mode-row preferred) .when-withheld (x .overlap); count = count-row .when-withheld (x .count); anySent = sent-row .when-withheld (x .anySent); rmtExpected = expected-row .when-withheld (x .rmtExpected); numberExpected = x .numberExpected };
+      by-error = λ h x. Exchange.withNumber ((step-row x) .by-error h (x .numberExpected)) x;
+      once-closed = record { inClear = clear-row .once-closed; asked = none; messageAvailable = false; clientSize = size-row .once-closed; overlap = (mode-row preferred) .once-closed; count = count-row .once-closed; anySent = sent-row .once-closed; rmtExpected = expected-row .once-closed; numberExpected = 0xffffff00 };
     }
 
 abbrev pub entryRow : Row Entry
@@ -107,6 +114,7 @@ entryRow =
       };
       by-answer = λ b x. x;
       when-withheld = λ x. x;
+      by-error = λ h x. x;
       once-closed = blank;
     }
 
@@ -129,7 +137,7 @@ due-entry es i unmoved x = refl
 due-entry es i (connected c) x = refl
 due-entry es i (disconnected c k) x = split-entry (eqb i (slotIn es c)) blank x
 due-entry es i (skipped-over c k) x = refl
-due-entry es i (errored c l k) x = refl
+due-entry es i (errored c h k) x = split-entry (eqb i (slotIn es c) && eqb ((at es i) .synchronous) c) x x
 due-entry es i (message-acted a) x = split-entry (eqb i (slotActed es a)) (entryRow .by-message a x) x
 due-entry es i (clock-read t) x = refl
 due-entry es i (status-set b) x = refl

@@ -1,10 +1,11 @@
 -- Locality of the locks: what each lock event and its look leave of the slots and of the requests, and what they answer.
 use mathlib.Core.Path.{_≡_, refl, sym, ap, _∙_}
-use mathlib.Core.Bool.{Bool, true, false, not, _||_, cond}
+use mathlib.Core.Bool.{Bool, true, false, not, _&&_, _||_, cond}
 use mathlib.Core.List.{List, [], _∷_, map}
 use Prim.Native.Nat.{ℕ}
 use lib.Dec.{eqb}
 use lib.ListN.{set, length-set}
+use Rattle.wire.specs.declared.Header.{Header}
 use Rattle.wire.specs.Frame.{Frame}
 use Rattle.model.specs.Lists.{keep}
 use Rattle.model.specs.State.{Server, Locks, Entry, Waiting, Kind.exclusive-lock, Kind.shared-lock, Standing, Standing.no-release, Standing.release-of, at, blank, slotOfNumber}
@@ -32,8 +33,13 @@ module _ (d : Server) where
   pub locks-skipped : (c k : ℕ) → LocksPart d (skipped-over c k) (d .locks) (d .locks .entries) []
   locks-skipped c k = record { clock = refl; rows = record { size = refl; each = λ i l. refl }; look = (refl, refl, refl) }
 
-  pub locks-error : (c n : ℕ) (k : Heard) → LocksPart d (errored c n k) (d .locks) (d .locks .entries) []
-  locks-error c n k = record { clock = refl; rows = record { size = refl; each = λ i l. refl }; look = (refl, refl, refl) }
+  pub locks-error : (c : ℕ) (h : Header) (k : Heard) → LocksPart d (errored c h k) (d .locks) (d .locks .entries) []
+  locks-error c h k =
+      record {
+        clock = refl;
+        rows = record { size = refl; each = λ i l. sym (same-both (eqb i (slotOf d c) && eqb ((at (d .locks .entries) i) .synchronous) c) (at (d .locks .entries) i) (at (d .locks .entries) i) refl) };
+        look = (refl, refl, refl);
+      }
 
   pub locks-status : (b : ℕ) → LocksPart d (status-set b) (d .locks) (d .locks .entries) []
   locks-status b = record { clock = refl; rows = record { size = refl; each = λ i l. refl }; look = (refl, refl, refl) }

@@ -7,7 +7,7 @@ use Rattle.model.specs.State.{Making, Server, Locks, Rest, Entry, Waitin
 use Rattle.model.specs.Interface.{Outcome, Reply.took}
 use Rattle.model.specs.Step.{Result}
 use Rattle.model.specs.Happening.{Happening}
-use Rattle.model.specs.LocalityRows.{clear-row, asked-row, available-row, size-row, mode-row, count-row, sent-row, expected-row, requestsLeft, looksAfter, open-row, remainder-row, singly, clock-row, status-row, made-row, issued-row, enable-row, lockout-row, remote-row}
+use Rattle.model.specs.LocalityRows.{clear-row, asked-row, available-row, size-row, mode-row, count-row, sent-row, expected-row, step-row, requestsLeft, looksAfter, open-row, remainder-row, singly, clock-row, status-row, made-row, issued-row, enable-row, lockout-row, remote-row}
 use Rattle.model.specs.LocalityReplies.{saidFirst, direct, answeredFirst, answerTo, sessionSaid}
 use Rattle.model.specs.Locality.{entryDue, Look, Local}
 use Rattle.model.proofs.LocalityLists.{Rowed, project, exchangeRow, entryRow, due-entry, lookedAt, look-sized, look-each}
@@ -50,14 +50,15 @@ assemble d h r due granted p l f s =
       lockout = p .singles .lockout;
       remote = p .singles .remote;
       exchange-slots = p .exchanges .size;
-      in-clear = λ i q. ap (λ (x : Exchange). x .inClear) (p .exchanges .each i q) ∙ project (λ (x : Exchange). x .inClear) (exchangeRow (d .rest .made .prefersOverlap)) (λ x. clear-row) (λ a x. refl) (λ b x. refl) (λ x. refl) (λ x. refl) es i h _;
-      asked = λ i q. ap (λ (x : Exchange). x .asked) (p .exchanges .each i q) ∙ project (λ (x : Exchange). x .asked) (exchangeRow (d .rest .made .prefersOverlap)) asked-row (λ a x. refl) (λ b x. refl) (λ x. refl) (λ x. refl) es i h _;
-      message-available = λ i q. ap (λ (x : Exchange). x .messageAvailable) (p .exchanges .each i q) ∙ project (λ (x : Exchange). x .messageAvailable) (exchangeRow (d .rest .made .prefersOverlap)) available-row (λ a x. refl) (λ b x. refl) (λ x. refl) (λ x. refl) es i h _;
-      client-size = λ i q. ap (λ (x : Exchange). x .clientSize) (p .exchanges .each i q) ∙ project (λ (x : Exchange). x .clientSize) (exchangeRow (d .rest .made .prefersOverlap)) (λ x. size-row) (λ a x. refl) (λ b x. refl) (λ x. refl) (λ x. refl) es i h _;
-      mode = λ i q. ap (λ (x : Exchange). x .overlap) (p .exchanges .each i q) ∙ project (λ (x : Exchange). x .overlap) (exchangeRow (d .rest .made .prefersOverlap)) (λ x. mode-row (d .rest .made .prefersOverlap)) (λ a x. refl) (λ b x. refl) (λ x. refl) (λ x. refl) es i h _;
-      count = λ i q. ap (λ (x : Exchange). x .count) (p .exchanges .each i q) ∙ project (λ (x : Exchange). x .count) (exchangeRow (d .rest .made .prefersOverlap)) (λ x. count-row) (λ a x. refl) (λ b x. refl) (λ x. refl) (λ x. refl) es i h _;
-      any-sent = λ i q. ap (λ (x : Exchange). x .anySent) (p .exchanges .each i q) ∙ project (λ (x : Exchange). x .anySent) (exchangeRow (d .rest .made .prefersOverlap)) (λ x. sent-row) (λ a x. refl) (λ b x. refl) (λ x. refl) (λ x. refl) es i h _;
-      rmt-expected = λ i q. ap (λ (x : Exchange). x .rmtExpected) (p .exchanges .each i q) ∙ project (λ (x : Exchange). x .rmtExpected) (exchangeRow (d .rest .made .prefersOverlap)) (λ x. expected-row) (λ a x. refl) (λ b x. refl) (λ x. refl) (λ x. refl) es i h _;
+      in-clear = λ i q. ap (λ (x : Exchange). x .inClear) (p .exchanges .each i q) ∙ project (λ (x : Exchange). x .inClear) (exchangeRow (d .rest .made .prefersOverlap)) (λ x. clear-row) (λ a x. refl) (λ b x. refl) (λ x. refl) (λ k x. refl) (λ x. refl) es i h _;
+      asked = λ i q. ap (λ (x : Exchange). x .asked) (p .exchanges .each i q) ∙ project (λ (x : Exchange). x .asked) (exchangeRow (d .rest .made .prefersOverlap)) asked-row (λ a x. refl) (λ b x. refl) (λ x. refl) (λ k x. refl) (λ x. refl) es i h _;
+      message-available = λ i q. ap (λ (x : Exchange). x .messageAvailable) (p .exchanges .each i q) ∙ project (λ (x : Exchange). x .messageAvailable) (exchangeRow (d .rest .made .prefersOverlap)) available-row (λ a x. refl) (λ b x. refl) (λ x. refl) (λ k x. refl) (λ x. refl) es i h _;
+      client-size = λ i q. ap (λ (x : Exchange). x .clientSize) (p .exchanges .each i q) ∙ project (λ (x : Exchange). x .clientSize) (exchangeRow (d .rest .made .prefersOverlap)) (λ x. size-row) (λ a x. refl) (λ b x. refl) (λ x. refl) (λ k x. refl) (λ x. refl) es i h _;
+      mode = λ i q. ap (λ (x : Exchange). x .overlap) (p .exchanges .each i q) ∙ project (λ (x : Exchange). x .overlap) (exchangeRow (d .rest .made .prefersOverlap)) (λ x. mode-row (d .rest .made .prefersOverlap)) (λ a x. refl) (λ b x. refl) (λ x. refl) (λ k x. refl) (λ x. refl) es i h _;
+      count = λ i q. ap (λ (x : Exchange). x .count) (p .exchanges .each i q) ∙ project (λ (x : Exchange). x .count) (exchangeRow (d .rest .made .prefersOverlap)) (λ x. count-row) (λ a x. refl) (λ b x. refl) (λ x. refl) (λ k x. refl) (λ x. refl) es i h _;
+      any-sent = λ i q. ap (λ (x : Exchange). x .anySent) (p .exchanges .each i q) ∙ project (λ (x : Exchange). x .anySent) (exchangeRow (d .rest .made .prefersOverlap)) (λ x. sent-row) (λ a x. refl) (λ b x. refl) (λ x. refl) (λ k x. refl) (λ x. refl) es i h _;
+      rmt-expected = λ i q. ap (λ (x : Exchange). x .rmtExpected) (p .exchanges .each i q) ∙ project (λ (x : Exchange). x .rmtExpected) (exchangeRow (d .rest .made .prefersOverlap)) (λ x. expected-row) (λ a x. refl) (λ b x. refl) (λ x. refl) (λ k x. refl) (λ x. refl) es i h _;
+      number-expected = λ i q. ap (λ (x : Exchange). x .numberExpected) (p .exchanges .each i q) ∙ project (λ (x : Exchange). x .numberExpected) (exchangeRow (d .rest .made .prefersOverlap)) step-row (λ a x. refl) (λ b x. refl) (λ x. refl) (λ k x. refl) (λ x. refl) es i h _;
       connection-places = p .connections .size;
       is-open = λ x q. ap (λ (y : Connection). y .isOpen) (p .connections .each x q);
       remainder = λ x q. ap (λ (y : Connection). y .remainder) (p .connections .each x q);

@@ -8,6 +8,7 @@ use native.Mathlib.Omega.{arith}
 use lib.Dec.{eqb, ltb}
 use lib.ListN.{getD, set, length, length-set}
 use borrow.Author.Tests.{eqb-true, eq-eqb, ltb-false}
+use Rattle.wire.specs.declared.Header.{Header}
 use Rattle.wire.specs.Message.{header, prologue}
 use Rattle.wire.specs.Class.{one-of}
 use Rattle.model.specs.Sizes.{noConnection, payloadLimit}
@@ -30,7 +31,7 @@ Still unmoved = Unit {0}
 Still (connected c) = Unit {0}
 Still (disconnected c k) = Unit {0}
 Still (skipped-over c k) = Unit {0}
-Still (errored c n k) = Unit {0}
+Still (errored c h k) = Unit {0}
 Still (message-acted a) = ⊥
 Still (clock-read t) = ⊥
 Still (status-set b) = ⊥
@@ -42,7 +43,7 @@ as-it-was r unmoved x s = refl
 as-it-was r (connected c) x s = refl
 as-it-was r (disconnected c k) x s = refl
 as-it-was r (skipped-over c k) x s = refl
-as-it-was r (errored c n k) x s = refl
+as-it-was r (errored c h k) x s = refl
 as-it-was r (message-acted a) x s = absurd s
 as-it-was r (clock-read t) x s = absurd s
 as-it-was r (status-set b) x s = absurd s
@@ -145,13 +146,18 @@ rest-skipped d c k o =
     part true y = refl
     part false y = refl
 
--- an Error leaves a remainder just where the length is above 1,024
-pub rest-error : (d : Server) (c n m : ℕ) (k : Heard) → (connectionAt (d .rest) c) .isOpen ≡ true → m ≡ cond (ltb 1024 n) n ((connectionAt (d .rest) c) .remainder)
-    → RestPart d (errored c n k) (withConnection (d .rest) c (openConnection m))
-rest-error d c n m k o e =
+-- an Error leaves a remainder just where the length is above 1,024, and moves the number expected of a session on its synchronous connection
+pub rest-error : (d : Server) (c : ℕ) (h : Header) (m : ℕ) (y : Exchange) (k : Heard) → (connectionAt (d .rest) c) .isOpen ≡ true → m ≡ cond (ltb 1024 (h .len)) (h .len) ((connectionAt (d .rest) c) .remainder)
+    → y ≡ cond (eqb ((entryOf d c) .synchronous) c) ((exchangeRow (d .rest .made .prefersOverlap)) .by-error h (exchangeAt (d .rest) (slotOf d c))) (exchangeAt (d .rest) (slotOf d c))
+    → RestPart d (errored c h k) (withConnection (withExchange (d .rest) (slotOf d c) y) c (openConnection m))
+rest-error d c h m y k o e ey =
     record {
-      singles = singles-still d (errored c n k) tt;
-      exchanges = record { size = refl; each = λ i l. refl };
+      singles = singles-still d (errored c h k) tt;
+      exchanges =
+          record {
+            size = length-set (d .rest .exchanges) (slotOf d c) y;
+            each = λ i l. touch (d .rest .exchanges) (slotOf d c) g y freshExchange i l ey ∙ here i (eqb i (slotOf d c)) refl (exchangeAt (d .rest) i);
+          };
       connections =
           record {
             size = length-set (d .rest .connections) c _;
@@ -159,6 +165,19 @@ rest-error d c n m k o e =
           };
     }
   where
+    n : ℕ
+    n = h .len
+
+    moves : Exchange → Exchange
+    moves x = (exchangeRow (d .rest .made .prefersOverlap)) .by-error h x
+
+    g : Exchange → Exchange
+    g x = cond (eqb ((entryOf d c) .synchronous) c) (moves x) x
+
+    here : (i : ℕ) (b : Bool) → eqb i (slotOf d c) ≡ b → (x : Exchange) → cond b (g x) x ≡ cond (b && eqb ((at (d .locks .entries) i) .synchronous) c) (moves x) x
+    here i true q x = ap (λ (j : ℕ). cond (eqb ((at (d .locks .entries) j) .synchronous) c) (moves x) x) (sym (eqb-true i (slotOf d c) q))
+    here i false q x = refl
+
     f : Connection → Connection
     f y = record { isOpen = y .isOpen; remainder = cond (ltb 1024 n) n (y .remainder) }
 

@@ -63,6 +63,7 @@ module _ (d : Server) (h : Happening) (r r′ : Result) (a : Local d h r) (b : L
         count = (a .count i l ∙ sym (b .count i l)) j;
         anySent = (a .any-sent i l ∙ sym (b .any-sent i l)) j;
         rmtExpected = (a .rmt-expected i l ∙ sym (b .rmt-expected i l)) j;
+        numberExpected = (a .number-expected i l ∙ sym (b .number-expected i l)) j;
       })
 
   same-connections : r .server .rest .connections ≡ r′ .server .rest .connections

@@ -5,7 +5,7 @@ use mathlib.Core.List.{List, map}
 use Prim.Native.Nat.{ℕ, zero, suc}
 use native.Mathlib.Omega.{arith}
 use lib.Dec.{eqb, ltb}
-use borrow.Author.Tests.{ne-eqb, lt-ltb}
+use borrow.Author.Tests.{eq-eqb, ne-eqb, lt-ltb}
 use Rattle.wire.specs.declared.Header.{Header}
 use Rattle.wire.specs.Message.{header, payloadOf}
 use Rattle.wire.specs.Class.{one-of, classOf}
@@ -51,13 +51,14 @@ module _ (d : Server) (i : ℕ) (p : List ℕ) (h : Header) where
   abbrev Errs : List Form → ℕ → Type 0
   Errs fs t = permits fs (typed t h) ≡ false → first (Checks.synchronousRules d i (typed t h) p) ≡ v-error (fault fs (typed t h))
 
-  command-errs : clearing ≡ false → access (d .locks .entries) i ≡ true → (t : ℕ) → one-of (map (λ f. f .kind) commandForms) t ≡ true → Errs commandForms t
+  command-errs : clearing ≡ false → access (d .locks .entries) i ≡ true → h .param ≡ (exchangeAt (d .rest) i) .numberExpected → (t : ℕ) → one-of (map (λ f. f .kind) commandForms) t ≡ true → Errs commandForms t
   unfolding classOf
-  command-errs n a =
+  command-errs n a m =
+      let m : eqb (h .param) ((exchangeAt (d .rest) i) .numberExpected) ≡ true = eq-eqb _ _ m in
       each-of (Errs commandForms) (map (λ f. f .kind) commandForms)
-      ((λ e. rw (n, a, limit 1 (h .code)) (stages (ltb 1 (h .code)) false (rw (limit 1 (h .code)) at e)))
-      also (λ e. rw (n, a, limit 1 (h .code)) (stages (ltb 1 (h .code)) false (rw (limit 1 (h .code)) at e)))
-      also (λ e. rw (n, a, limit 1 (h .code)) (stages (ltb 1 (h .code)) (ltb 0 (h .len)) (rw (limit 1 (h .code), none (h .len)) at e)))
+      ((λ e. rw (n, a, m, limit 1 (h .code)) (stages (ltb 1 (h .code)) false (rw (limit 1 (h .code)) at e)))
+      also (λ e. rw (n, a, m, limit 1 (h .code)) (stages (ltb 1 (h .code)) false (rw (limit 1 (h .code)) at e)))
+      also (λ e. rw (n, a, m, limit 1 (h .code)) (stages (ltb 1 (h .code)) (ltb 0 (h .len)) (rw (limit 1 (h .code), none (h .len)) at e)))
       also tt)
 
   clear-errs : clearing ≡ true → (t : ℕ) → one-of (map (λ f. f .kind) clearForms) t ≡ true → Errs clearForms t
@@ -100,9 +101,9 @@ module _ (d : Server) (c : ℕ) (bs : List ℕ) (room : ℕ) where
       let one = whole-step d c bs room z w r er ∙ ap (λ v. finish d (effect v (Scan.whole (header bs) p) r d (slotOf d c) c)) q in
       record { replies = ap (λ (x : Result). x .reply) one; sent = ap (λ (x : Result). x .frames) one; locks-same = ap (λ (x : Result). x .server .locks) one }
 
-  wrong-form : (fs : List Form) → refusal d (delivery c bs room) ≡ 0 → WholeMessage ((connectionAt (d .rest) c) .remainder) bs → Takes d c fs
+  wrong-form : (fs : List Form) → refusal d (delivery c bs room) ≡ 0 → WholeMessage ((connectionAt (d .rest) c) .remainder) bs → Takes d c ((header bs) .param) fs
       → ofType fs (header bs) ≡ true → permits fs (header bs) ≡ false → AnswersError d c bs room (fault fs (header bs))
-  wrong-form fs z w (Permitted.commands s n a) o e = answers z w r-synchronous (role-sync d c s) _ (command-errs d (slotOf d c) p (header bs) n a ((header bs) .kind) o e)
+  wrong-form fs z w (Permitted.commands s n a m) o e = answers z w r-synchronous (role-sync d c s) _ (command-errs d (slotOf d c) p (header bs) n a m ((header bs) .kind) o e)
   wrong-form fs z w (Permitted.clear-complete s n) o e = answers z w r-synchronous (role-sync d c s) _ (clear-errs d (slotOf d c) p (header bs) n ((header bs) .kind) o e)
   wrong-form fs z w (Permitted.on-asynchronous s) o e = answers z w r-asynchronous (role-async d c s) _ (async-errs p (header bs) ((header bs) .kind) o e)
 

@@ -177,7 +177,7 @@ Mute unmoved = Unit {0}
 Mute (connected c) = Unit {0}
 Mute (disconnected c k) = Unit {0}
 Mute (skipped-over c k) = Unit {0}
-Mute (errored c n k) = Unit {0}
+Mute (errored c h k) = Unit {0}
 Mute (message-acted a) = Unit {0}
 Mute (clock-read t) = Unit {0}
 Mute (status-set b) = Unit {0}
@@ -190,7 +190,7 @@ module _ (d : Server) where
   none-first (connected c) = refl
   none-first (disconnected c k) = refl
   none-first (skipped-over c k) = refl
-  none-first (errored c n k) = refl
+  none-first (errored c h k) = refl
   none-first (message-acted a) = go (interruptedBy (exchangeAt (d .rest) (slotActed (d .locks .entries) a)) a)
     where
       go : (b : Bool) → none (cond b (pairTo (at (d .locks .entries) (slotActed (d .locks .entries) a)) (a .message .param)) []) ≡ true
@@ -206,7 +206,7 @@ module _ (d : Server) where
   none-answered (connected c) = refl
   none-answered (disconnected c k) = refl
   none-answered (skipped-over c k) = refl
-  none-answered (errored c n k) = refl
+  none-answered (errored c h k) = refl
   none-answered (message-acted a) = go (eqb (kindOf a) 4) (eqb (kindOf a) 19)
     where
       es : List Entry
@@ -235,7 +235,7 @@ module _ (d : Server) where
   none-direct (connected c) q = refl
   none-direct (disconnected c k) q = none-said k 2 (fatalTo (d .locks .entries) c) refl
   none-direct (skipped-over c k) q = refl
-  none-direct (errored c n k) q = none-said k 3 (c ∷ []) refl
+  none-direct (errored c h k) q = none-said k 3 (c ∷ []) refl
   none-direct (message-acted a) q = none-in (replies d a) (kindOf a) refl
   none-direct (clock-read t) q = refl
   none-direct (status-set b) q = refl

@@ -87,6 +87,18 @@ module _ (d : Server) (inv : Inv (d .locks)) (v : Making) (made : d .rest .made 
         },
       )
 
+  -- a free slot, a number and a connection that no session has
+  pub entering : (k n : ℕ) → R .reply ≡ took acted k n → (header bs) .kind ≡ Initialize → Enters (d .locks .entries) (slotOfNumber (d .locks .entries) 0) n c
+  unfolding finish
+  entering k n e t =
+      let s = shows d c bs room k n e in
+      let r = initialize-role d c (header bs) (payloadOf (header bs) bs) (roleOf (d .locks .entries) c) t (s .passes) in
+      let b : eqb ((header bs) .kind) 0 ≡ true = eq-eqb _ _ t in
+      let passes = opening-passed d (header bs) (payloadOf (header bs) bs) (ap (λ x. judged x d (slotOf d c) (header bs) (payloadOf (header bs) bs)) (sym r) ∙ s .passes) in
+      let replied : took acted (16 + (header bs) .len) (issued sessionLimit 0 (d .locks .entries) (d .rest .lastIssued)) ≡ took acted k n = ap (λ (x : Result). x .reply) (sym (does true k n e b r)) ∙ e in
+      let n-is : issued sessionLimit 0 (d .locks .entries) (d .rest .lastIssued) ≡ n = cc in
+      subst (λ m. Enters (d .locks .entries) (slotOfNumber (d .locks .entries) 0) m c) n-is (opens-fit d c (header bs) (payloadOf (header bs) bs) true b (real k n e) inv r passes)
+
   opens : (k n : ℕ) → R .reply ≡ took acted k n → (header bs) .kind ≡ Initialize → OpensTo n R
   unfolding finish
   opens k n e t =

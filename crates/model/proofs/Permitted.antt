@@ -165,7 +165,7 @@ module _ (d : Server) (c : ℕ) (bs : List ℕ) (room : ℕ) where
 
     acts : (n : ℕ) → refusal d (delivery c bs room) ≡ 0 → Permitted d last c bs n → Acted n
     unfolding finish Acts.acts
-    acts n z (Permitted.established fs w (Permitted.commands s q a) f) = ap (λ (x : Result). x .reply) (whole-does z w r-synchronous (role-sync d c s) (command-passes d (slotOf d c) p q a (header bs) f))
+    acts n z (Permitted.established fs w (Permitted.commands s q a m) f) = ap (λ (x : Result). x .reply) (whole-does z w r-synchronous (role-sync d c s) (command-passes d (slotOf d c) p q a (header bs) m f))
     acts n z (Permitted.established fs w (Permitted.clear-complete s q) f) = ap (λ (x : Result). x .reply) (whole-does z w r-synchronous (role-sync d c s) (clear-passes d (slotOf d c) p q (header bs) f))
     acts n z (Permitted.established fs w (Permitted.on-asynchronous s) f) = ap (λ (x : Result). x .reply) (whole-does z w r-asynchronous (role-async d c s) (async-passes p (header bs) f))
     acts n z (Permitted.initialize m w o f s l x) =
@@ -205,7 +205,7 @@ module _ (d : Server) (c : ℕ) (bs : List ℕ) (room : ℕ) where
     by-role r-synchronous k n w er q e f = same-reply k n _ e (go (sync-permitted d (slotOf d c) p (header bs) q))
       where
         go : Synchronous d (slotOf d c) p (header bs) → Permitted d last c bs ((entryOf d c) .number)
-        go (inl x) = Permitted.established _ w (Permitted.commands (sync-role d c er) (x .0) (x .1)) (x .2)
+        go (inl x) = Permitted.established _ w (Permitted.commands (sync-role d c er) (x .0) (x .1) (x .2)) (x .3)
         go (inr x) = Permitted.established _ w (Permitted.clear-complete (sync-role d c er) (x .0)) (x .1)
     by-role r-asynchronous k n w er q e f = same-reply k n _ e (Permitted.established _ w (Permitted.on-asynchronous (async-role d c er)) (async-permitted p (header bs) q))
 

@@ -278,7 +278,7 @@ module _ (d : Server) (g : InRange d) (c : ℕ) (small : c < 256) where
   effect-fits v-skipped s r i e q = record { first = tt; said = tt; rest = record { asked = g .rest .asked; vendor = g .rest .vendor; status = g .rest .status }; brings = tt }
   effect-fits v-ignored s r i e q = record { first = tt; said = tt; rest = g .rest; brings = tt }
   effect-fits (v-error n) s r i e q =
-      record { first = tt; said = one 3 n 0 (lit< tt) (let l = ltb-true n 5 e in omega arith) (lit< tt); rest = record { asked = g .rest .asked; vendor = g .rest .vendor; status = g .rest .status }; brings = tt }
+      record { first = tt; said = one 3 n 0 (lit< tt) (let l = ltb-true n 5 e in omega arith) (lit< tt); rest = record { asked = all-set exchangeFits (d .rest .exchanges) i _ (own-exchange i) (g .rest .asked); vendor = g .rest .vendor; status = g .rest .status }; brings = tt }
   effect-fits (v-fatal n) s r i e q =
       let x = entryOf d c in
       record { first = tt; said = fatal-fits n (live x) (eqb (x .asynchronous) noConnection) x (let l = ltb-true n 5 e in omega arith) (all-at reachable (d .locks .entries) (slotOf d c) refl (g .entries)); rest = closing-fits; brings = tt }

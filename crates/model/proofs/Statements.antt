@@ -11,6 +11,7 @@ use Rattle.model.proofs.SessionId.{numbers-issued}
 use Rattle.model.proofs.Sending.{sending}
 use Rattle.model.proofs.GrantingRule.{may-exclusive, exclusive-may, may-shared, shared-may}
 use Rattle.model.proofs.Access.{accessed}
+use Rattle.model.proofs.InStep.{out, in-steps}
 use Rattle.model.proofs.Canonical.{canonical-history}
 use Rattle.model.proofs.FixedPoint.{fixed-point}
 use Rattle.model.proofs.OnlyWhole.{taken-whole}
@@ -49,6 +50,8 @@ statements =
         exclusive-rule = λ es i. (may-exclusive es i, exclusive-may es i);
         shared-rule = λ es i x k. (may-shared es i x k, shared-may es i x k);
         access = accessed;
+        out-of-step = out;
+        in-step = in-steps;
         standing = stands-on;
         missing = λ d c bs room. tells-missing d c room bs;
       };

@@ -5,7 +5,7 @@ use mathlib.Core.List.{List, [], _∷_, _++_}
 use Prim.Native.Nat.{ℕ, zero, suc, _<_}
 use native.Mathlib.Omega.{arith}
 use lib.Dec.{eqb}
-use lib.ListN.{length, length-set}
+use lib.ListN.{getD, set, length, length-set}
 use Rattle.wire.specs.declared.Header.{Header}
 use Rattle.wire.specs.Message.{header}
 use Rattle.wire.specs.Frame.{Frame, frameOf}
@@ -22,7 +22,7 @@ use Rattle.model.specs.Checks.{Verdict, Verdict.v-more, Verdict.v-skippe
 use Rattle.model.specs.Acts
 use Rattle.model.specs.Acts.{Plan}
 use Rattle.model.specs.Refusals.{causes, refusal}
-use Rattle.model.specs.Step.{answerType, withholds, effect, received, plan, answered, finish, step, final, log, closing}
+use Rattle.model.specs.Step.{counted, answerType, withholds, effect, received, plan, answered, finish, step, final, log, closing}
 use Rattle.model.specs.Tie.{Track, nothingYet, follows, track, answeredTrack, withheldTrack, trackOfLog, said, Tie}
 use Rattle.model.proofs.Basics.{not-off, inside}
 use Rattle.model.proofs.Scanning.{whole-scan}
@@ -53,6 +53,14 @@ sync-calm Acts.k-data i h = tt
 sync-calm Acts.k-dataEnd i h = tt
 sync-calm Acts.k-trigger i h = tt
 sync-calm Acts.k-clearComplete i h = tt
+
+-- a store that changes nothing that is tracked
+untracked : (xs : List Exchange) (i : ℕ) (y : Exchange) → trackOf y ≡ trackOf (getD xs i freshExchange) → (j : ℕ) → trackOf (getD (set xs i y) j freshExchange) ≡ trackOf (getD xs j freshExchange)
+untracked [] i y e j = refl
+untracked (x ∷ xs) zero y e zero = e
+untracked (x ∷ xs) zero y e (suc j) = refl
+untracked (x ∷ xs) (suc i) y e zero = refl
+untracked (x ∷ xs) (suc i) y e (suc j) = untracked xs i y e j
 
 -- after a plan
 pub record After (d : Server) (p : Plan) (f : ℕ → Track) : Type 0 where
@@ -146,7 +154,13 @@ module _ (d : Server) (f : ℕ → Track) (i : Inv (d .locks)) (z : length (d .r
   effect-tied c bs room k n v-held s r es er ev = still (d .rest) _ _ _ tt refl (λ m. refl) []
   effect-tied c bs room k n v-skipped s r es er ev = still _ _ _ _ tt refl (λ m. refl) _
   effect-tied c bs room k n v-ignored s r es er ev = still (d .rest) _ _ _ tt refl (λ m. refl) []
-  effect-tied c bs room k n (v-error x) s r es er ev = still _ _ _ _ tt refl (λ m. refl) _
+  effect-tied c bs room k n (v-error x) s r es er ev =
+      -- the number expected is not tracked
+      let y = counted r s (exchangeAt (d .rest) (slotOf d c)) in
+      record {
+        tied = rest-same (d .locks .entries) (ends (d .locks) LockEvent.nothing) (d .rest) (withExchange (d .rest) (slotOf d c) y) f _ (calm-num (d .locks) LockEvent.nothing tt) (untracked (d .rest .exchanges) (slotOf d c) y refl) (λ m. refl) t;
+        sized = length-set (d .rest .exchanges) (slotOf d c) y ∙ z;
+      }
   effect-tied c bs room k n (v-fatal x) s r es er ev = closes c _ _ _ (λ m. refl)
   effect-tied c bs room k n v-closed s r es er ev = closes c _ _ _ (λ m. refl)
   effect-tied c bs room k n v-acts empty r es er ev = still (d .rest) _ _ _ tt refl (λ m. refl) []

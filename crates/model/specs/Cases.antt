@@ -92,7 +92,7 @@ access-cases =
     after (three ++ (request 1 0 [] ∷ [])) (send 2 (message 6 0 0 cal)) (λ r. isHeld (r .reply) && unsent r)
     ∷ after (three ++ (request 1 0 [] ∷ [])) (send 2 (message 12 7 0 cal)) (λ r. isHeld (r .reply) && unsent r)
     ∷ after (three ++ (request 1 0 [] ∷ [])) (send 2 (message 8 0 0 [])) (λ r. not (isHeld (r .reply)))
-    ∷ after (three ++ (request 1 0 [] ∷ [])) (send 0 (message 6 0 0 cal)) (λ r. isActed 1 (r .reply))
+    ∷ after (three ++ (request 1 0 [] ∷ [])) (send 0 (message 6 0 0xffffff00 cal)) (λ r. isActed 1 (r .reply))
     ∷ []
 
 -- L. The last issued was 65,534, 65,535, or 65,535 with 1 live
@@ -125,7 +125,7 @@ string-cases =
 -- K. An answer of 1,400 bytes for a client whose size allows it; a session that asks a hundred times, then the clock
 pub output-cases : List Case
 output-cases =
-    after (three ++ (send 1 (message 15 0 0 (field 8 5000)) ∷ send 0 (message 7 0 0 []) ∷ [])) (answer 1 (replicate 1400 7) true [] outputMinimum) fitsBuffer
+    after (three ++ (send 1 (message 15 0 0 (field 8 5000)) ∷ send 0 (message 7 0 0xffffff00 []) ∷ [])) (answer 1 (replicate 1400 7) true [] outputMinimum) fitsBuffer
     ∷ after (three ++ (request 1 0 [] ∷ replicate 100 (request 3 5 []))) (clock 5 outputMinimum) (λ r. fitsBuffer r && eqb (length (r .frames)) 1)
     ∷ []
 
@@ -201,7 +201,7 @@ request-cases =
 mixed : List Event
 mixed =
     three
-    ++ (send 0 (message 6 0 0 (replicate 1025 7)) ∷ send 0 (replicate 1030 7) ∷ send 0 (0x48 ∷ []) ∷ send 0 (message 7 0 2 cal ++ (0x48 ∷ []))
+    ++ (send 0 (message 6 0 0 (replicate 1025 7)) ∷ send 0 (replicate 1030 7) ∷ send 0 (0x48 ∷ []) ∷ send 0 (message 7 0 0xffffff00 cal ++ (0x48 ∷ []))
     ∷ request 1 0 [] ∷ send 2 (message 6 0 0 cal) ∷ opening 0 ∷ cut 4 outputMinimum ∷ clock 3 outputMinimum
     ∷ [])
 

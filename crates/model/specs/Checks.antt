@@ -76,6 +76,8 @@ synchronousRules d i h p =
     ∷ record { test = eqb t Initialize; then = v-fatal 3 }
     -- check 9: Data, DataEND or Trigger without access
     ∷ record { test = one-of commands t && not (access (d .locks .entries) i); then = v-held }
+    -- 02, Q-10, "between document 01's checks 9 and 10": any other number than the one expected
+    ∷ record { test = one-of commands t && not (eqb (h .param) ((exchangeAt (d .rest) i) .numberExpected)); then = v-error 0 }
     -- check 10: code 0 or 1 for Data, DataEND, Trigger; then no payload for DeviceClearComplete and Trigger
     ∷ record { test = one-of commands t && ltb 1 (h .code); then = v-error 2 }
     ∷ record { test = either DeviceClearComplete Trigger t && ltb 0 (h .len); then = v-error 0 }

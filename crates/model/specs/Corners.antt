@@ -20,6 +20,7 @@ use Rattle.model.specs.Checks.{verdict}
 use Rattle.model.specs.Acts.{acts, synchronousExchange, synchronousSaid, asynchronousRest, asynchronousSaid, asynchronousEvent}
 use Rattle.model.specs.Refusals.{refusal, causes}
 use Rattle.model.specs.Step.{final, log, step, answered, plan, finish, received, effect}
+use Rattle.model.specs.InStep.{countUp, numbering, numberingOf}
 use Rattle.model.specs.Table.{benchMaking, Corner, corner, found, foundOn, sought, message, send, request, release, releaseOf, cal, Cal, eightZeros, initialize, asyncInitialize, three}
 
 -- a message without payload and with parameter 0, to a connection
@@ -39,9 +40,9 @@ exclusive = three ++ (request 1 0 [] ∷ [])
 abbrev shared : List Event
 shared = three ++ (request 1 0 cal ∷ request 3 0 cal ∷ [])
 
--- A's command with MessageID 2, and an answer without END; status byte 41 hex
+-- A's command with MessageID ffffff00, and an answer without END; status byte 41 hex
 abbrev asked : List Event
-asked = three ++ (status 0x41 ∷ send 0 (message 7 0 2 []) ∷ answer 1 [] false [] 2048 ∷ [])
+asked = three ++ (status 0x41 ∷ send 0 (message 7 0 0xffffff00 []) ∷ answer 1 [] false [] 2048 ∷ [])
 
 -- "hislip" and one byte
 abbrev hislip : ℕ → List ℕ
@@ -100,12 +101,12 @@ checks =
     -- 9 before 10: held though code and payload are wrong; Trigger and DataEND too
     ∷ corner exclusive (send 2 (message 12 9 0 cal)) (took held 0 0) []
     ∷ corner exclusive (send 2 (message 7 0 0 [])) (took held 0 0) []
-    ∷ corner exclusive (send 0 (message 7 0 0 [])) (took acted 16 1) []
+    ∷ corner exclusive (send 0 (message 7 0 0xffffff00 [])) (took acted 16 1) []
     ∷ corner shared (send 4 (message 6 0 0 [])) (took held 0 0) []
-    ∷ corner shared (send 2 (message 6 0 0 [])) (took acted 16 2) []
+    ∷ corner shared (send 2 (message 6 0 0xffffff00 [])) (took acted 16 2) []
     -- 10: code before payload
-    ∷ corner three (send 0 (message 12 9 0 cal)) (took error-sent 19 0) (plain 0 3 2)
-    ∷ corner three (send 0 (message 6 2 0 cal)) (took error-sent 19 0) (plain 0 3 2)
+    ∷ corner three (send 0 (message 12 9 0xffffff00 cal)) (took error-sent 19 0) (plain 0 3 2)
+    ∷ corner three (send 0 (message 6 2 0xffffff00 cal)) (took error-sent 19 0) (plain 0 3 2)
     ∷ corner three (send 1 (message 10 7 0 cal)) (took error-sent 19 0) (plain 1 3 2)
     ∷ corner three (send 1 (message 10 6 0 [])) (took acted 16 1) (plain 1 11 0)
     ∷ corner three (send 1 (message 4 2 0 [])) (took error-sent 16 0) (plain 1 3 2)
@@ -203,9 +204,9 @@ sent = exclusive ++ (send 0 (message 6 0 0xffffff00 cal) ∷ [])
 abbrev stood : List Event
 stood = sent ++ (releaseOf 1 0xffffff02 ∷ [])
 
--- A exclusive, in a clear; then a release of message 8
+-- A exclusive, in a clear; then a release of the first message after it
 abbrev clearing : List Event
-clearing = exclusive ++ (send 1 (message 19 0 0 []) ∷ releaseOf 1 8 ∷ [])
+clearing = exclusive ++ (send 1 (message 19 0 0 []) ∷ releaseOf 1 0xffffff00 ∷ [])
 
 pub releases : List Corner
 releases =
@@ -223,7 +224,9 @@ releases =
     ∷ corner stood (releaseOf 1 0xffffff00) (took acted 16 1) (plain 1 5 3)
     ∷ corner stood (request 1 9 cal) (took acted 19 1) (plain 1 5 3)
     -- another number, an error, a held and a too large message leave it; Data, DataEND or Trigger of its number ends it, then grants
-    ∷ corner stood (send 0 (message 6 0 0xffffff04 cal)) (took acted 19 1) []
+    ∷ corner stood (send 0 (message 6 0 0xffffff04 cal)) (took error-sent 19 0) (plain 0 3 0)
+    ∷ corner (sent ++ (releaseOf 1 0xffffff04 ∷ [])) (send 0 (message 6 0 0xffffff02 cal)) (took acted 19 1) []
+    ∷ corner (sent ++ (releaseOf 1 0xffffff04 ∷ send 0 (message 6 0 0xffffff02 cal) ∷ [])) (send 0 (message 7 0 0xffffff04 [])) (took acted 16 1) (plain 1 5 1)
     ∷ corner stood (send 0 (message 6 7 0xffffff02 cal)) (took error-sent 19 0) (plain 0 3 2)
     ∷ corner (stood ++ (send 0 (message 6 7 0xffffff02 cal) ∷ [])) (releaseOf 1 0xffffff00) (took acted 16 1) (plain 1 5 3)
     ∷ corner (stood ++ (send 0 (message 6 0 0xffffff02 (replicate 1025 7)) ∷ [])) (releaseOf 1 0xffffff00) (took acted 16 1) (plain 1 5 3)
@@ -239,11 +242,11 @@ releases =
     ∷ corner (three ++ (request 1 0 cal ∷ request 3 0 cal ∷ request 1 0 [] ∷ request 3 90 [] ∷ releaseOf 3 8 ∷ [])) (send 3 (message 19 0 0 [])) (took acted 16 2) (plain 3 5 0 ++ (plain 3 5 2 ++ plain 3 23 0))
     ∷ corner (sent ++ (send 1 (message 19 0 0 []) ∷ send 0 (message 8 0 0 []) ∷ [])) (release 1) (took acted 16 1) (plain 1 5 1)
     -- a release in a clear stands through it: an ignored message does not act, DeviceClearComplete leaves it
-    ∷ corner (clearing ++ (send 0 (message 6 0 8 []) ∷ [])) (releaseOf 1 8) (took acted 16 1) (plain 1 5 3)
-    ∷ corner (clearing ++ (send 0 (message 8 0 0 []) ∷ [])) (send 0 (message 6 0 8 [])) (took acted 16 1) (plain 1 5 1)
+    ∷ corner (clearing ++ (send 0 (message 6 0 0xffffff00 []) ∷ [])) (releaseOf 1 0xffffff00) (took acted 16 1) (plain 1 5 3)
+    ∷ corner (clearing ++ (send 0 (message 8 0 0 []) ∷ [])) (send 0 (message 6 0 0xffffff00 [])) (took acted 16 1) (plain 1 5 1)
     -- which lock it frees is fixed when it arrives: exclusive is granted meanwhile, and shared goes. Then A is exclusive alone while B shares
-    ∷ corner (shared ++ (request 3 0 [] ∷ request 1 90 [] ∷ releaseOf 1 8 ∷ release 3 ∷ [])) (send 0 (message 6 0 8 [])) (took acted 16 1) (plain 1 5 2)
-    ∷ corner (shared ++ (request 3 0 [] ∷ request 1 90 [] ∷ releaseOf 1 8 ∷ release 3 ∷ send 0 (message 6 0 8 []) ∷ [])) (send 5 (message 24 0 0 [])) (took acted 16 3) (5 ∷ 0x48 ∷ 0x53 ∷ 25 ∷ 1 ∷ 0 ∷ 0 ∷ 0 ∷ 2 ∷ eightZeros)
+    ∷ corner (shared ++ (request 3 0 [] ∷ request 1 90 [] ∷ releaseOf 1 0xffffff00 ∷ release 3 ∷ [])) (send 0 (message 6 0 0xffffff00 [])) (took acted 16 1) (plain 1 5 2)
+    ∷ corner (shared ++ (request 3 0 [] ∷ request 1 90 [] ∷ releaseOf 1 0xffffff00 ∷ release 3 ∷ send 0 (message 6 0 0xffffff00 []) ∷ [])) (send 5 (message 24 0 0 [])) (took acted 16 3) (5 ∷ 0x48 ∷ 0x53 ∷ 25 ∷ 1 ∷ 0 ∷ 0 ∷ 0 ∷ 2 ∷ eightZeros)
     -- a closing drops it, unanswered
     ∷ corner (stood ++ (request 3 9 [] ∷ [])) (cut 0 2048) done (plain 3 5 1)
     ∷ []
@@ -279,7 +282,7 @@ overlapping =
     ∷ corner (three ++ (send 1 (message 19 0 0 []) ∷ [])) (answer 1 [] true [] 2048) (refused 5) []
     -- cleared into synchronized mode: refusal 5 till something is asked, whose number is sent
     ∷ corner (three ++ cleared 0) (answer 1 [] true [] 2048) (refused 5) []
-    ∷ corner (three ++ (answer 1 [] true [] 2048 ∷ cleared 0 ++ (send 0 (message 7 0 0xffffff44 []) ∷ []))) (answer 1 [] true [] 2048) done (reply 7 0x44)
+    ∷ corner (three ++ (answer 1 [] true [] 2048 ∷ cleared 0 ++ (send 0 (message 6 0 0xffffff00 []) ∷ send 0 (message 7 0 0xffffff02 []) ∷ []))) (answer 1 [] true [] 2048) done (reply 7 2)
     -- message available: none sent; another number than the last one sent; the last one; RMT-delivered has no effect; after a clear
     ∷ corner three (send 1 (message 21 0 7 [])) (took acted 16 1) (plain 1 22 0)
     ∷ corner (three ++ (answer 1 [] true [] 2048 ∷ [])) (send 1 (message 21 0 0xfffffefe [])) (took acted 16 1) (plain 1 22 16)
@@ -346,7 +349,7 @@ interruptions-of =
     ∷ corner (ended ++ (send 0 (message 6 0 0xffffff02 []) ∷ [])) (send 1 (message 21 0 0 [])) (took acted 16 1) (plain 1 22 0)
     -- a message that is held or answered Error is not tested
     ∷ corner (ended ++ (request 3 0 [] ∷ [])) (send 0 (message 7 0 0xffffff02 [])) (took held 0 0) []
-    ∷ corner (ended ++ (send 0 (message 7 2 0xffffff02 []) ∷ [])) (send 0 (message 7 0 0xffffff02 [])) (took acted 16 1) (numbered 1 14 2 ++ numbered 0 13 2)
+    ∷ corner (ended ++ (send 0 (message 7 2 0xffffff02 []) ∷ [])) (send 0 (message 7 0 0xffffff04 [])) (took acted 16 1) (numbered 1 14 4 ++ numbered 0 13 4)
     -- an answer without END expects nothing; a status query with RMT-delivered and a device clear clear the expectation
     ∷ corner (query ++ (answer 1 [] false [] 2048 ∷ [])) (send 0 (message 6 0 0xffffff02 [])) (took acted 16 1) []
     ∷ corner (ended ++ (send 1 (message 21 1 0 []) ∷ [])) (send 0 (message 6 0 0xffffff02 [])) (took acted 16 1) []
@@ -363,13 +366,58 @@ interruptions-hold = refl
 pub uninterrupted : List Corner
 uninterrupted =
     corner three (answer 1 [] true (message 7 0 0xffffff02 []) 2048) done (numbered 0 7 0)
-    ∷ corner (three ++ (answer 1 [] true [] 2048 ∷ [])) (send 0 (message 7 0 0xffffff02 [])) (took acted 16 1) []
-    ∷ corner three (send 0 (message 7 1 0xffffff02 [])) (took acted 16 1) []
+    ∷ corner (three ++ (answer 1 [] true [] 2048 ∷ [])) (send 0 (message 7 0 0xffffff00 [])) (took acted 16 1) []
+    ∷ corner three (send 0 (message 7 1 0xffffff00 [])) (took acted 16 1) []
     ∷ []
 
 pub uninterrupted-hold : map (foundOn overlapMaking) uninterrupted ≡ map sought uninterrupted
 unfolding uninterrupted log final step refusal causes answered plan finish received effect verdict placeOf acts synchronousExchange synchronousSaid asynchronousRest asynchronousSaid asynchronousEvent controlled mayAnswer answerNumber availableAt scan freshScan header field encode headerBytes frameBytes bytesOf classOf mayGrant access passOver grantPass change
 uninterrupted-hold = refl
+
+-- 02, Q-10: numbers out of step
+pub inStep : List Corner
+inStep =
+    -- the first is ffffff00 hex; any other of permitted size is Error 0, whatever its code, and leaves the expectation
+    corner three (send 0 (message 6 0 0xffffff02 [])) (took error-sent 16 0) (plain 0 3 0)
+    ∷ corner three (send 0 (message 6 9 0xffffff02 [])) (took error-sent 16 0) (plain 0 3 0)
+    ∷ corner (three ++ (send 0 (message 6 0 0xffffff02 []) ∷ [])) (send 0 (message 6 0 0xffffff00 [])) (took acted 16 1) []
+    ∷ corner (three ++ (send 0 (message 6 0 0xffffff00 []) ∷ [])) (send 0 (message 12 0 0xffffff00 [])) (took error-sent 16 0) (plain 0 3 0)
+    ∷ corner (three ++ (send 0 (message 6 0 0xffffff00 []) ∷ [])) (send 0 (message 12 0 0xffffff02 [])) (took acted 16 1) []
+    -- it moves also with one too large, one with a wrong code, one with payload where none belongs
+    ∷ corner (three ++ (send 0 (message 6 0 0xffffff00 (replicate 1025 7)) ∷ send 0 (replicate 1025 7) ∷ [])) (send 0 (message 6 0 0xffffff02 [])) (took acted 16 1) []
+    ∷ corner (three ++ (send 0 (message 6 0 0xffffff02 (replicate 1025 7)) ∷ send 0 (replicate 1025 7) ∷ [])) (send 0 (message 6 0 0xffffff00 [])) (took acted 16 1) []
+    ∷ corner (three ++ (send 0 (message 6 9 0xffffff00 []) ∷ [])) (send 0 (message 6 0 0xffffff02 [])) (took acted 16 1) []
+    ∷ corner (three ++ (send 0 (message 12 0 0xffffff00 cal) ∷ [])) (send 0 (message 6 0 0xffffff02 [])) (took acted 16 1) []
+    -- not with one that is held, or in a clear; a clear begins anew; access is tested before the number
+    ∷ corner (exclusive ++ (send 2 (message 6 0 0xffffff00 []) ∷ release 1 ∷ [])) (send 2 (message 6 0 0xffffff00 [])) (took acted 16 2) []
+    ∷ corner exclusive (send 2 (message 6 0 7 [])) (took held 0 0) []
+    ∷ corner (three ++ (send 1 (message 19 0 0 []) ∷ send 0 (message 6 0 0xffffff00 []) ∷ send 0 (message 8 0 0 []) ∷ [])) (send 0 (message 6 0 0xffffff00 [])) (took acted 16 1) []
+    ∷ corner (three ++ (send 1 (message 19 0 0 []) ∷ send 0 (message 6 0 0xffffff00 (replicate 1025 7)) ∷ send 0 (replicate 1025 7) ∷ send 0 (message 8 0 0 []) ∷ [])) (send 0 (message 6 0 0xffffff00 [])) (took acted 16 1) []
+    ∷ corner (three ++ (send 0 (message 6 0 0xffffff00 []) ∷ cleared 0)) (send 0 (message 6 0 0xffffff00 [])) (took acted 16 1) []
+    -- in a clear none is tested; a held one is tested when it is taken; a too large one moves it without access too
+    ∷ corner (three ++ (send 1 (message 19 0 0 []) ∷ [])) (send 0 (message 6 0 7 [])) (took ignored 16 0) []
+    ∷ corner (exclusive ++ (send 2 (message 6 0 7 []) ∷ release 1 ∷ [])) (send 2 (message 6 0 7 [])) (took error-sent 16 0) (plain 2 3 0)
+    ∷ corner (exclusive ++ (send 2 (message 6 0 0xffffff00 (replicate 1025 7)) ∷ send 2 (replicate 1025 7) ∷ release 1 ∷ [])) (send 2 (message 6 0 0xffffff02 [])) (took acted 16 2) []
+    -- each session has its own
+    ∷ corner (three ++ (send 0 (message 6 0 0xffffff00 []) ∷ [])) (send 2 (message 6 0 0xffffff00 [])) (took acted 16 2) []
+    -- other types and the other channel carry no number that is tested
+    ∷ corner three (send 1 (message 21 0 7 [])) (took acted 16 1) (plain 1 22 0)
+    ∷ []
+
+pub in-step-hold : map found inStep ≡ map sought inStep
+unfolding inStep log final step refusal causes answered plan finish received effect verdict placeOf acts synchronousExchange synchronousSaid asynchronousRest asynchronousSaid asynchronousEvent controlled mayAnswer answerNumber availableAt scan freshScan header field encode headerBytes frameBytes bytesOf classOf mayGrant access passOver grantPass change
+in-step-hold = refl
+
+-- a client that counts: B, through a message in two pieces, one held, one with a wrong code and one too large; what the reader has of it
+abbrev counting : List Event
+counting =
+    three
+    ++ (send 2 (message 6 0 0xffffff00 cal) ∷ send 2 (take 9 (message 7 0 0xffffff02 [])) ∷ request 1 0 [] ∷ send 2 (message 7 0 0xffffff02 []) ∷ release 1
+    ∷ send 2 (message 7 0 0xffffff02 []) ∷ send 2 (message 6 9 0xffffff04 []) ∷ send 2 (message 6 0 0xffffff06 (replicate 1025 7)) ∷ send 2 (replicate 1025 7) ∷ [])
+
+pub counting-holds : (numbering benchMaking counting 2) .taken ≡ countUp 4
+unfolding numberingOf log final step refusal causes answered plan finish received effect verdict placeOf acts synchronousExchange synchronousSaid asynchronousRest asynchronousSaid asynchronousEvent controlled mayAnswer answerNumber availableAt scan freshScan header field encode headerBytes frameBytes bytesOf classOf mayGrant access passOver grantPass change
+counting-holds = refl
 
 -- clear, status, remote, sizes, answers
 pub exchanges : List Corner
@@ -383,28 +431,28 @@ exchanges =
     -- DeviceClearComplete ends it; outside a clear Error 0
     ∷ corner inClear (send 0 (message 8 0 0 [])) (took acted 16 1) (plain 0 9 0)
     ∷ corner (inClear ++ (send 0 (message 8 0 0 []) ∷ [])) (send 0 (message 8 0 0 [])) (took error-sent 16 0) (plain 0 3 0)
-    ∷ corner (inClear ++ (send 0 (message 8 0 0 []) ∷ [])) (send 0 (message 6 0 0 [])) (took acted 16 1) []
+    ∷ corner (inClear ++ (send 0 (message 8 0 0 []) ∷ [])) (send 0 (message 6 0 0xffffff00 [])) (took acted 16 1) []
     -- message available: on when an answer is sent, off by RMT-delivered of Data, DataEND, Trigger and of a status query before its response
     ∷ corner asked (send 1 (message 21 0 0 [])) (took acted 16 1) (plain 1 22 0x51)
     ∷ corner asked (send 1 (message 21 1 0 [])) (took acted 16 1) (plain 1 22 0x41)
     ∷ corner (asked ++ (send 1 (message 21 1 0 []) ∷ [])) (send 1 (message 21 0 0 [])) (took acted 16 1) (plain 1 22 0x41)
-    ∷ corner (asked ++ (send 0 (message 6 1 4 []) ∷ [])) (send 1 (message 21 0 0 [])) (took acted 16 1) (plain 1 22 0x41)
-    ∷ corner (asked ++ (send 0 (message 7 1 4 []) ∷ [])) (send 1 (message 21 0 0 [])) (took acted 16 1) (plain 1 22 0x41)
-    ∷ corner (asked ++ (send 0 (message 12 1 4 []) ∷ [])) (send 1 (message 21 0 0 [])) (took acted 16 1) (plain 1 22 0x41)
-    ∷ corner (asked ++ (send 0 (message 7 0 4 []) ∷ [])) (send 1 (message 21 0 0 [])) (took acted 16 1) (plain 1 22 0x51)
+    ∷ corner (asked ++ (send 0 (message 6 1 0xffffff02 []) ∷ [])) (send 1 (message 21 0 0 [])) (took acted 16 1) (plain 1 22 0x41)
+    ∷ corner (asked ++ (send 0 (message 7 1 0xffffff02 []) ∷ [])) (send 1 (message 21 0 0 [])) (took acted 16 1) (plain 1 22 0x41)
+    ∷ corner (asked ++ (send 0 (message 12 1 0xffffff02 []) ∷ [])) (send 1 (message 21 0 0 [])) (took acted 16 1) (plain 1 22 0x41)
+    ∷ corner (asked ++ (send 0 (message 7 0 0xffffff02 []) ∷ [])) (send 1 (message 21 0 0 [])) (took acted 16 1) (plain 1 22 0x51)
     ∷ corner (status 0xff ∷ three) (send 1 (message 21 0 0 [])) (took acted 16 1) (plain 1 22 0xef)
     -- what is asked: not by Data; by the last DataEND or Trigger; an answer without END keeps it, one with END clears it; each session's own
     ∷ corner (three ++ (send 0 (message 6 0 2 []) ∷ [])) (answer 1 [] true [] 2048) (refused 5) []
-    ∷ corner (asked ++ (send 0 (message 12 0 6 []) ∷ [])) (answer 1 [] true [] 2048) done (0 ∷ 0x48 ∷ 0x53 ∷ 7 ∷ 0 ∷ 0 ∷ 0 ∷ 0 ∷ 6 ∷ eightZeros)
-    ∷ corner (asked ++ (send 0 (message 6 0 6 []) ∷ [])) (answer 1 (9 ∷ []) false [] 2048) done (0 ∷ 0x48 ∷ 0x53 ∷ 6 ∷ 0 ∷ 0 ∷ 0 ∷ 0 ∷ 2 ∷ 0 ∷ 0 ∷ 0 ∷ 0 ∷ 0 ∷ 0 ∷ 0 ∷ 1 ∷ 9 ∷ [])
+    ∷ corner (asked ++ (send 0 (message 12 0 0xffffff02 []) ∷ [])) (answer 1 [] true [] 2048) done (0 ∷ 0x48 ∷ 0x53 ∷ 7 ∷ 0 ∷ 0xff ∷ 0xff ∷ 0xff ∷ 2 ∷ eightZeros)
+    ∷ corner (asked ++ (send 0 (message 6 0 0xffffff02 []) ∷ [])) (answer 1 (9 ∷ []) false [] 2048) done (0 ∷ 0x48 ∷ 0x53 ∷ 6 ∷ 0 ∷ 0xff ∷ 0xff ∷ 0xff ∷ 0 ∷ 0 ∷ 0 ∷ 0 ∷ 0 ∷ 0 ∷ 0 ∷ 0 ∷ 1 ∷ 9 ∷ [])
     ∷ corner (asked ++ (answer 1 [] true [] 2048 ∷ [])) (answer 1 [] true [] 2048) (refused 5) []
-    ∷ corner (asked ++ (send 2 (message 7 0 8 []) ∷ [])) (answer 2 [] true [] 2048) done (2 ∷ 0x48 ∷ 0x53 ∷ 7 ∷ 0 ∷ 0 ∷ 0 ∷ 0 ∷ 8 ∷ eightZeros)
+    ∷ corner (asked ++ (send 2 (message 7 0 0xffffff00 []) ∷ [])) (answer 2 [] true [] 2048) done (2 ∷ 0x48 ∷ 0x53 ∷ 7 ∷ 0 ∷ 0xff ∷ 0xff ∷ 0xff ∷ 0 ∷ eightZeros)
     -- an answer flows though another holds the lock; the client's size; the reply says 1,024
-    ∷ corner (asked ++ (request 3 0 [] ∷ [])) (answer 1 [] true [] 2048) done (0 ∷ 0x48 ∷ 0x53 ∷ 7 ∷ 0 ∷ 0 ∷ 0 ∷ 0 ∷ 2 ∷ eightZeros)
+    ∷ corner (asked ++ (request 3 0 [] ∷ [])) (answer 1 [] true [] 2048) done (0 ∷ 0x48 ∷ 0x53 ∷ 7 ∷ 0 ∷ 0xff ∷ 0xff ∷ 0xff ∷ 0 ∷ eightZeros)
     ∷ corner three (send 1 (message 15 0 0 (0 ∷ 0 ∷ 0 ∷ 0 ∷ 0 ∷ 0 ∷ 2 ∷ 0 ∷ []))) (took acted 24 1) (1 ∷ 0x48 ∷ 0x53 ∷ 16 ∷ 0 ∷ 0 ∷ 0 ∷ 0 ∷ 0 ∷ 0 ∷ 0 ∷ 0 ∷ 0 ∷ 0 ∷ 0 ∷ 0 ∷ 8 ∷ 0 ∷ 0 ∷ 0 ∷ 0 ∷ 0 ∷ 0 ∷ 4 ∷ 0 ∷ [])
     ∷ corner (asked ++ (send 1 (message 15 0 0 (0 ∷ 0 ∷ 0 ∷ 0 ∷ 0 ∷ 0 ∷ 0 ∷ 3 ∷ [])) ∷ [])) (answer 1 (1 ∷ 2 ∷ 3 ∷ 4 ∷ []) true [] 2048) (refused 6) []
-    ∷ corner (asked ++ (send 1 (message 15 0 0 (0 ∷ 0 ∷ 0 ∷ 0 ∷ 0 ∷ 0 ∷ 0 ∷ 0 ∷ [])) ∷ [])) (answer 1 [] true [] 2048) done (0 ∷ 0x48 ∷ 0x53 ∷ 7 ∷ 0 ∷ 0 ∷ 0 ∷ 0 ∷ 2 ∷ eightZeros)
-    ∷ corner (asked ++ (send 1 (message 15 0 0 (0 ∷ 0 ∷ 0 ∷ 0 ∷ 0 ∷ 0 ∷ 0 ∷ 3 ∷ [])) ∷ [])) (answer 1 (1 ∷ 2 ∷ 3 ∷ []) true [] 2048) done (0 ∷ 0x48 ∷ 0x53 ∷ 7 ∷ 0 ∷ 0 ∷ 0 ∷ 0 ∷ 2 ∷ 0 ∷ 0 ∷ 0 ∷ 0 ∷ 0 ∷ 0 ∷ 0 ∷ 3 ∷ 1 ∷ 2 ∷ 3 ∷ [])
+    ∷ corner (asked ++ (send 1 (message 15 0 0 (0 ∷ 0 ∷ 0 ∷ 0 ∷ 0 ∷ 0 ∷ 0 ∷ 0 ∷ [])) ∷ [])) (answer 1 [] true [] 2048) done (0 ∷ 0x48 ∷ 0x53 ∷ 7 ∷ 0 ∷ 0xff ∷ 0xff ∷ 0xff ∷ 0 ∷ eightZeros)
+    ∷ corner (asked ++ (send 1 (message 15 0 0 (0 ∷ 0 ∷ 0 ∷ 0 ∷ 0 ∷ 0 ∷ 0 ∷ 3 ∷ [])) ∷ [])) (answer 1 (1 ∷ 2 ∷ 3 ∷ []) true [] 2048) done (0 ∷ 0x48 ∷ 0x53 ∷ 7 ∷ 0 ∷ 0xff ∷ 0xff ∷ 0xff ∷ 0 ∷ 0 ∷ 0 ∷ 0 ∷ 0 ∷ 0 ∷ 0 ∷ 0 ∷ 3 ∷ 1 ∷ 2 ∷ 3 ∷ [])
     ∷ []
 
 pub exchanges-hold : map found exchanges ≡ map sought exchanges

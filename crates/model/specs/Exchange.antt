@@ -17,24 +17,116 @@ use Rattle.model.specs.State.{Entry, Exchange, Asked, Asked.none, Asked.
 abbrev pub afterRmt : ℕ → Bool → Bool
 afterRmt code available = not (eqb code 1) && available
 
--- a change of one part: what is asked and message available; the device clear; the client's size; the mode; the count of answers
+-- a change of one part: what is asked and message available; the device clear; the client's size; the mode; the count of answers; whether an
+-- RMT is expected; the number expected
 abbrev pub withAnswering : Asked → Bool → Exchange → Exchange
-withAnswering a m x = record { inClear = x .inClear; asked = a; messageAvailable = m; clientSize = x .clientSize; overlap = x .overlap; count = x .count; anySent = x .anySent; rmtExpected = x .rmtExpected }
+withAnswering a m x =
+    record {
+      inClear = x .inClear;
+      asked = a;
+      messageAvailable = m;
+      clientSize = x .clientSize;
+      overlap = x .overlap;
+      count = x .count;
+      anySent = x .anySent;
+      rmtExpected = x .rmtExpected;
+      numberExpected = x .numberExpected;
+    }
 
 abbrev pub withClear : Bool → Exchange → Exchange
-withClear b x = record { inClear = b; asked = x .asked; messageAvailable = x .messageAvailable; clientSize = x .clientSize; overlap = x .overlap; count = x .count; anySent = x .anySent; rmtExpected = x .rmtExpected }
+withClear b x =
+    record {
+      inClear = b;
+      asked = x .asked;
+      messageAvailable = x .messageAvailable;
+      clientSize = x .clientSize;
+      overlap = x .overlap;
+      count = x .count;
+      anySent = x .anySent;
+      rmtExpected = x .rmtExpected;
+      numberExpected = x .numberExpected;
+    }
 
 abbrev pub withClientSize : ℕ → Exchange → Exchange
-withClientSize n x = record { inClear = x .inClear; asked = x .asked; messageAvailable = x .messageAvailable; clientSize = n; overlap = x .overlap; count = x .count; anySent = x .anySent; rmtExpected = x .rmtExpected }
+withClientSize n x =
+    record {
+      inClear = x .inClear;
+      asked = x .asked;
+      messageAvailable = x .messageAvailable;
+      clientSize = n;
+      overlap = x .overlap;
+      count = x .count;
+      anySent = x .anySent;
+      rmtExpected = x .rmtExpected;
+      numberExpected = x .numberExpected;
+    }
 
 abbrev pub withMode : Bool → Exchange → Exchange
-withMode b x = record { inClear = x .inClear; asked = x .asked; messageAvailable = x .messageAvailable; clientSize = x .clientSize; overlap = b; count = x .count; anySent = x .anySent; rmtExpected = x .rmtExpected }
+withMode b x =
+    record {
+      inClear = x .inClear;
+      asked = x .asked;
+      messageAvailable = x .messageAvailable;
+      clientSize = x .clientSize;
+      overlap = b;
+      count = x .count;
+      anySent = x .anySent;
+      rmtExpected = x .rmtExpected;
+      numberExpected = x .numberExpected;
+    }
 
 abbrev pub withCount : ℕ → Bool → Exchange → Exchange
-withCount n b x = record { inClear = x .inClear; asked = x .asked; messageAvailable = x .messageAvailable; clientSize = x .clientSize; overlap = x .overlap; count = n; anySent = b; rmtExpected = x .rmtExpected }
+withCount n b x =
+    record {
+      inClear = x .inClear;
+      asked = x .asked;
+      messageAvailable = x .messageAvailable;
+      clientSize = x .clientSize;
+      overlap = x .overlap;
+      count = n;
+      anySent = b;
+      rmtExpected = x .rmtExpected;
+      numberExpected = x .numberExpected;
+    }
 
 abbrev pub withExpectation : Bool → Exchange → Exchange
-withExpectation b x = record { inClear = x .inClear; asked = x .asked; messageAvailable = x .messageAvailable; clientSize = x .clientSize; overlap = x .overlap; count = x .count; anySent = x .anySent; rmtExpected = b }
+withExpectation b x =
+    record {
+      inClear = x .inClear;
+      asked = x .asked;
+      messageAvailable = x .messageAvailable;
+      clientSize = x .clientSize;
+      overlap = x .overlap;
+      count = x .count;
+      anySent = x .anySent;
+      rmtExpected = b;
+      numberExpected = x .numberExpected;
+    }
+
+abbrev pub withNumber : ℕ → Exchange → Exchange
+withNumber n x =
+    record {
+      inClear = x .inClear;
+      asked = x .asked;
+      messageAvailable = x .messageAvailable;
+      clientSize = x .clientSize;
+      overlap = x .overlap;
+      count = x .count;
+      anySent = x .anySent;
+      rmtExpected = x .rmtExpected;
+      numberExpected = n;
+    }
+
+-- 02, Q-10: "each next two more, wrapping"
+abbrev pub stepped : Exchange → Exchange
+stepped x = withNumber (next (x .numberExpected)) x
+
+-- outside a clear, a Data, DataEND or Trigger that carries the number expected moves it, also one that does not act
+abbrev pub carries : Header → Exchange → Bool
+carries h x = not (x .inClear) && (one-of commands (h .kind) && eqb (h .param) (x .numberExpected))
+
+abbrev pub numberAfter : Header → Exchange → ℕ
+numberAfter h x = cond (carries h x) (next (x .numberExpected)) (x .numberExpected)
 
 -- 02, Q-5: an interrupted session: what is asked is cleared, message available goes off
 abbrev pub interrupted : Exchange → Exchange
@@ -55,13 +147,14 @@ tested code x = withExpectation false (cond (outOfTurn code x) (interrupted x) x
 abbrev pub noteRmt : ℕ → Exchange → Exchange
 noteRmt code x = withAnswering (x .asked) (afterRmt code (x .messageAvailable)) x
 
--- DataEND and Trigger acted on set what is asked to their MessageID; the number is the client's and is not tested
+-- DataEND and Trigger acted on set what is asked to their MessageID
 abbrev pub ask : ℕ → ℕ → Exchange → Exchange
 ask code id x = withAnswering (some id) (afterRmt code (x .messageAvailable)) x
 
--- AsyncDeviceClear: nothing is asked any more and message available goes off; 02, Q-1: the count is reset; Q-5: no RMT is expected
+-- AsyncDeviceClear: nothing is asked any more and message available goes off; 02, Q-1: the count is reset; Q-5: no RMT is expected; Q-10: the
+-- first number is
 abbrev pub enterClear : Exchange → Exchange
-enterClear x = withExpectation false (withCount start false (withClear true (withAnswering none false x)))
+enterClear x = withNumber start (withExpectation false (withCount start false (withClear true (withAnswering none false x))))
 
 -- DeviceClearComplete ends it; 02, Q-1: its bit 0 is granted as asked
 abbrev pub bit0 : ℕ → ℕ

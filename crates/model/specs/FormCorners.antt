@@ -24,7 +24,7 @@ plain c t n = c ∷ 0x48 ∷ 0x53 ∷ t ∷ n ∷ 0 ∷ 0 ∷ 0 ∷ 0 ∷ eightZ
 
 -- A is interrupted (02, Q-5)
 abbrev pair : List ℕ
-pair = plain 1 14 0 ++ plain 0 13 0
+pair = (1 ∷ 0x48 ∷ 0x53 ∷ 14 ∷ 0 ∷ 0xff ∷ 0xff ∷ 0xff ∷ 0 ∷ eightZeros) ++ (0 ∷ 0x48 ∷ 0x53 ∷ 13 ∷ 0 ∷ 0xff ∷ 0xff ∷ 0xff ∷ 0 ∷ eightZeros)
 
 -- A in device clear; a half-open session, and a connection without a role
 abbrev inClear : List Event
@@ -36,11 +36,11 @@ half = opening 0 ∷ send 0 initialize ∷ opening 1 ∷ []
 pub forms : List Corner
 forms =
     -- 0 or 1: the highest code that acts, the lowest that does not. No RMT is expected here
-    corner three (send 0 (message 6 1 0 cal)) (took acted 19 1) pair
-    ∷ corner three (send 0 (message 7 1 0 cal)) (took acted 19 1) pair
-    ∷ corner three (send 0 (message 7 2 0 cal)) (took error-sent 19 0) (plain 0 3 2)
-    ∷ corner three (send 0 (message 12 1 0 [])) (took acted 16 1) pair
-    ∷ corner three (send 0 (message 12 2 0 [])) (took error-sent 16 0) (plain 0 3 2)
+    corner three (send 0 (message 6 1 0xffffff00 cal)) (took acted 19 1) pair
+    ∷ corner three (send 0 (message 7 1 0xffffff00 cal)) (took acted 19 1) pair
+    ∷ corner three (send 0 (message 7 2 0xffffff00 cal)) (took error-sent 19 0) (plain 0 3 2)
+    ∷ corner three (send 0 (message 12 1 0xffffff00 [])) (took acted 16 1) pair
+    ∷ corner three (send 0 (message 12 2 0xffffff00 [])) (took error-sent 16 0) (plain 0 3 2)
     ∷ corner three (send 1 (message 21 1 0 [])) (took acted 16 1) (plain 1 22 0)
     ∷ corner three (send 1 (message 4 1 0 cal)) (took acted 19 1) (plain 1 5 1)
     -- any code
@@ -57,7 +57,7 @@ forms =
     ∷ corner three (send 1 (message 24 0 0 (7 ∷ []))) (took error-sent 17 0) (plain 1 3 0)
     -- 7 bytes for type 15; a whole payload of Data
     ∷ corner three (send 1 (message 15 0 0 (replicate 7 0))) (took error-sent 23 0) (plain 1 3 0)
-    ∷ corner three (send 0 (message 7 0 0 (replicate 1024 7))) (took acted 1040 1) []
+    ∷ corner three (send 0 (message 7 0 0xffffff00 (replicate 1024 7))) (took acted 1040 1) []
     ∷ []
 
 pub forms-hold : map found forms ≡ map sought forms

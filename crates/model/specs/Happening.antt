@@ -3,6 +3,7 @@ use mathlib.Core.Bool.{Bool, cond}
 use mathlib.Core.List.{List, [], _∷_}
 use Prim.Native.Nat.{ℕ}
 use lib.Dec.{eqb}
+use Rattle.wire.specs.declared.Header.{Header}
 use Rattle.wire.specs.Message.{Message, header, messageOf}
 use Rattle.wire.specs.Frame.{Frame}
 use Rattle.model.specs.Interface.{Event, Event.opening, Event.delivery, Event.cut, Event.clock, Event.answer, Event.status, Outcome, Outcome.more-needed, Outcome.skipped, Outcome.held, Outcome.ignored, Outcome.error-sent, Outcome.closed, Outcome.acted, Reply, Reply.refused, Reply.done, Reply.withheld, Reply.took}
@@ -32,8 +33,8 @@ pub data Happening : Type 0 where
   disconnected : ℕ → Heard → Happening
   -- of a connection so many bytes were skipped
   skipped-over : ℕ → ℕ → Happening
-  -- on a connection a message with this length was answered by Error (type 3) with this code
-  errored : ℕ → ℕ → Heard → Happening
+  -- on a connection a message with this header was answered by Error (type 3) with this code
+  errored : ℕ → Header → Heard → Happening
   message-acted : Action → Happening
   -- the clock's reading; the instrument's status byte
   clock-read status-set : ℕ → Happening
@@ -48,7 +49,7 @@ seenDelivery more-needed c bs k n fs = unmoved
 seenDelivery skipped c bs k n fs = skipped-over c k
 seenDelivery held c bs k n fs = unmoved
 seenDelivery ignored c bs k n fs = unmoved
-seenDelivery error-sent c bs k n fs = errored c ((header bs) .len) (heard 3 fs)
+seenDelivery error-sent c bs k n fs = errored c (header bs) (heard 3 fs)
 seenDelivery closed c bs k n fs = disconnected c (heard 2 fs)
 seenDelivery acted c bs k n fs = message-acted record { connection = c; message = messageOf (header bs) bs; session = n; told = heard 5 fs }
 

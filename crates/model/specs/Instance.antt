@@ -57,9 +57,9 @@ rich =
     -- a cut that leaves a grant, a FatalError from a client; connections used again; a half-open session that goes on; a wrong prologue
     ∷ cut 0 2048 ∷ send 1 [] ∷ send 3 (message 2 0 0 []) ∷ opening 0 ∷ opening 1 ∷ send 0 initialize ∷ send 0 (message 6 0 0 []) ∷ opening 0
     ∷ send 0 initialize ∷ send 1 (asyncInitialize 6) ∷ send 4 (message 7 0 12 []) ∷ send 5 (replicate 16 0) ∷ send 7 (message 24 0 0 []) ∷ release 7
-    ∷ request 1 5 [] ∷ send 0 (message 7 0 14 []) ∷ answer 6 (5 ∷ []) true [] 2048 ∷ clock 200 2048
+    ∷ request 1 5 [] ∷ send 0 (message 7 0 0xffffff00 []) ∷ answer 6 (5 ∷ []) true [] 2048 ∷ clock 200 2048
     -- 02, Q-5: interrupted by a message that acts, and by one that is unread
-    ∷ send 0 (message 7 0 16 []) ∷ answer 6 [] true (message 7 0 18 []) 2048
+    ∷ send 0 (message 7 0 0xffffff02 []) ∷ answer 6 [] true (message 7 0 18 []) 2048
     ∷ [])
 
 abbrev d₀ : Server
@@ -98,7 +98,7 @@ askedNumbers (some n) = 1 ∷ n ∷ []
 
 abbrev exchangeNumbers : List Exchange → List ℕ
 exchangeNumbers [] = 999 ∷ []
-exchangeNumbers (x ∷ xs) = flag (x .inClear) ∷ flag (x .messageAvailable) ∷ x .clientSize ∷ flag (x .overlap) ∷ x .count ∷ flag (x .anySent) ∷ flag (x .rmtExpected) ∷ askedNumbers (x .asked) ++ exchangeNumbers xs
+exchangeNumbers (x ∷ xs) = flag (x .inClear) ∷ flag (x .messageAvailable) ∷ x .clientSize ∷ flag (x .overlap) ∷ x .count ∷ flag (x .anySent) ∷ flag (x .rmtExpected) ∷ x .numberExpected ∷ askedNumbers (x .asked) ++ exchangeNumbers xs
 
 abbrev connectionNumbers : List Connection → List ℕ
 connectionNumbers [] = 999 ∷ []
@@ -132,7 +132,7 @@ codes =
     ∷ 1050 ∷ 1050 ∷ 105 ∷ 105 ∷ 108
     ∷ 50 ∷ 1050 ∷ 103 ∷ 107
     ∷ 2006 ∷ 6 ∷ 2 ∷ 6 ∷ 1006 ∷ 1006 ∷ 1050 ∷ 50
-    ∷ 1004 ∷ 1 ∷ 1 ∷ 6 ∷ 1006
+    ∷ 1004 ∷ 1 ∷ 1 ∷ 1004 ∷ 1006
     ∷ 1006 ∷ 1006 ∷ 6 ∷ 6 ∷ 1050
     ∷ 1006 ∷ 6 ∷ 6 ∷ 2 ∷ 2006 ∷ 3
     ∷ 1006 ∷ 2006 ∷ 6 ∷ 1006 ∷ 3006 ∷ 105 ∷ 1006

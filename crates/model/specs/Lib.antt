@@ -55,4 +55,5 @@ pub mod Sending
 pub mod Outcomes
 pub mod Missing
 pub mod NextQuestion
+pub mod InStep
 pub mod Asking

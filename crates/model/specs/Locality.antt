@@ -15,7 +15,7 @@ use Rattle.model.specs.Interface.{Event, Event.delivery, Outcome, Outcom
 use Rattle.model.specs.Step.{Line, Result, step, final, log}
 use Rattle.model.specs.Closing.{OldestFirst}
 use Rattle.model.specs.Happening.{Happening, heard, happened}
-use Rattle.model.specs.LocalityRows.{Row, inSlot, clear-row, asked-row, available-row, size-row, mode-row, count-row, sent-row, expected-row, number-row, synchronous-row, asynchronous-row, exclusive-row, shared-row, last-row, standing-row, requestsLeft, looksAfter, open-row, remainder-row, isSilence, Single, singly, clock-row, status-row, made-row, issued-row, enable-row, lockout-row, remote-row}
+use Rattle.model.specs.LocalityRows.{Row, inSlot, clear-row, asked-row, available-row, size-row, mode-row, count-row, sent-row, expected-row, step-row, number-row, synchronous-row, asynchronous-row, exclusive-row, shared-row, last-row, standing-row, requestsLeft, looksAfter, open-row, remainder-row, isSilence, Single, singly, clock-row, status-row, made-row, issued-row, enable-row, lockout-row, remote-row}
 use Rattle.model.specs.LocalityReplies.{saidFirst, direct, answeredFirst, answerTo, sessionSaid}
 
 -- what happened at a call, as the host sees it
@@ -87,6 +87,7 @@ pub record Local (d : Server) (h : Happening) (r : Result) : Type 0 where
   pub count : EachExchange d h r (λ x. x .count) (λ x. count-row)
   pub any-sent : EachExchange d h r (λ x. x .anySent) (λ x. sent-row)
   pub rmt-expected : EachExchange d h r (λ x. x .rmtExpected) (λ x. expected-row)
+  pub number-expected : EachExchange d h r (λ x. x .numberExpected) step-row
   -- connections
   pub connection-places : length (r .server .rest .connections) ≡ length (d .rest .connections)
   pub is-open : EachConnection d h r (λ y. y .isOpen) open-row

@@ -4,6 +4,7 @@ use mathlib.Core.Bool.{Bool, true, false, not, _&&_, _||_, cond}
 use mathlib.Core.List.{List, [], _∷_, _++_}
 use Prim.Native.Nat.{ℕ, _+_, _-_, _%_, _^_}
 use lib.Dec.{eqb, leb, ltb}
+use Rattle.wire.specs.declared.Header.{Header}
 use Rattle.wire.specs.Field.{number}
 use Rattle.wire.specs.Class.{one-of}
 use Rattle.model.specs.Sizes.{noConnection}
@@ -21,11 +22,13 @@ abbrev pub slotActed : List Entry → Action → ℕ
 slotActed es a = cond (eqb (kindOf a) 0) (slotOfNumber es 0) (cond (eqb (kindOf a) 17) (slotOfNumber es (a .message .param)) (slotIn es (a .connection)))
 
 -- a field that each session has: what a message of the session makes of it, what an answer to it makes of it, with or without END, what one
--- that is withheld makes of it (02, Q-5), and what it is once the session is closed
+-- that is withheld makes of it (02, Q-5), what a message on its synchronous connection that is answered Error makes of it (02, Q-10), and what
+-- it is once the session is closed
 pub record Row (A : Type 0) : Type 0 where
   pub by-message : Action → A → A
   pub by-answer : Bool → A → A
   pub when-withheld : A → A
+  pub by-error : Header → A → A
   pub once-closed : A
 
 -- of the session in slot i; nothing else changes it
@@ -34,7 +37,7 @@ inSlot r es i unmoved x = x
 inSlot r es i (connected c) x = x
 inSlot r es i (disconnected c k) x = cond (eqb i (slotIn es c)) (r .once-closed) x
 inSlot r es i (skipped-over c k) x = x
-inSlot r es i (errored c n k) x = x
+inSlot r es i (errored c h k) x = cond (eqb i (slotIn es c) && eqb ((at es i) .synchronous) c) (r .by-error h x) x
 inSlot r es i (message-acted a) x = cond (eqb i (slotActed es a)) (r .by-message a x) x
 inSlot r es i (clock-read t) x = x
 inSlot r es i (status-set b) x = x
@@ -48,6 +51,7 @@ clear-row =
       by-message = λ a b. cond (eqb (kindOf a) 19) true (cond (one-of (0 ∷ 8 ∷ []) (kindOf a)) false b);
       by-answer = λ end b. b;
       when-withheld = λ b. b;
+      by-error = λ h b. b;
       once-closed = false;
     }
 
@@ -64,6 +68,7 @@ asked-row x =
       by-message = λ a q. cond (one-of (7 ∷ 12 ∷ []) (kindOf a)) (some (a .message .param)) (cond (one-of (0 ∷ 19 ∷ []) (kindOf a) || interruptedBy x a) none q);
       by-answer = λ end q. cond end none q;
       when-withheld = λ q. none;
+      by-error = λ h q. q;
       once-closed = none;
     }
 
@@ -75,6 +80,7 @@ available-row x =
       by-message = λ a b. cond (one-of (0 ∷ 19 ∷ []) (kindOf a) || (interruptedBy x a || (one-of (6 ∷ 7 ∷ 12 ∷ 21 ∷ []) (kindOf a) && eqb (a .message .code) 1))) false b;
       by-answer = λ end b. true;
       when-withheld = λ b. false;
+      by-error = λ h b. b;
       once-closed = false;
     }
 
@@ -85,6 +91,7 @@ size-row =
       by-message = λ a n. cond (eqb (kindOf a) 15) (number (a .message .payload)) (cond (eqb (kindOf a) 0) 1024 n);
       by-answer = λ end n. n;
       when-withheld = λ n. n;
+      by-error = λ h n. n;
       once-closed = 1024;
     }
 
@@ -95,6 +102,7 @@ mode-row preferred =
       by-message = λ a b. cond (eqb (kindOf a) 0) preferred (cond (eqb (kindOf a) 8) (eqb (a .message .code % 2) 1) b);
       by-answer = λ end b. b;
       when-withheld = λ b. b;
+      by-error = λ h b. b;
       once-closed = false;
     }
 
@@ -105,12 +113,13 @@ count-row =
       by-message = λ a n. cond (one-of (0 ∷ 19 ∷ []) (kindOf a)) 0xffffff00 n;
       by-answer = λ end n. (n + 2) % 2 ^ 32;
       when-withheld = λ n. n;
+      by-error = λ h n. n;
       once-closed = 0xffffff00;
     }
 
 -- some answer was sent since the last reset
 abbrev pub sent-row : Row Bool
-sent-row = record { by-message = λ a b. cond (one-of (0 ∷ 19 ∷ []) (kindOf a)) false b; by-answer = λ end b. true; when-withheld = λ b. b; once-closed = false }
+sent-row = record { by-message = λ a b. cond (one-of (0 ∷ 19 ∷ []) (kindOf a)) false b; by-answer = λ end b. true; when-withheld = λ b. b; by-error = λ h b. b; once-closed = false }
 
 -- 02, Q-5: an RMT is expected after an answer with END was sent, until the next Data, DataEND or Trigger (6, 7, 12), a clear (19), or a status
 -- query (21) with RMT-delivered
@@ -120,15 +129,28 @@ expected-row =
       by-message = λ a b. cond (one-of (0 ∷ 6 ∷ 7 ∷ 12 ∷ 19 ∷ []) (kindOf a) || (eqb (kindOf a) 21 && eqb (a .message .code) 1)) false b;
       by-answer = λ end b. cond end true b;
       when-withheld = λ b. b;
+      by-error = λ h b. b;
       once-closed = false;
+    }
+
+-- 02, Q-10: the number expected: "ffffff00 hex first after opening or clear" (0, 19), "each next two more, wrapping". It moves with each Data,
+-- DataEND or Trigger (6, 7, 12) that acts, and with one that is answered Error, if that is outside a clear and carries it
+abbrev pub step-row : Exchange → Row ℕ
+step-row x =
+    record {
+      by-message = λ a n. cond (one-of (6 ∷ 7 ∷ 12 ∷ []) (kindOf a)) ((n + 2) % 2 ^ 32) (cond (one-of (0 ∷ 19 ∷ []) (kindOf a)) 0xffffff00 n);
+      by-answer = λ end n. n;
+      when-withheld = λ n. n;
+      by-error = λ h n. cond (not (x .inClear) && (one-of (6 ∷ 7 ∷ 12 ∷ []) (h .kind) && eqb (h .param) n)) ((n + 2) % 2 ^ 32) n;
+      once-closed = 0xffffff00;
     }
 
 -- SESSIONS. 01: Initialize (0) issues the number in its reply and is the synchronous connection, AsyncInitialize (17) the other one
 abbrev pub number-row : Row ℕ
-number-row = record { by-message = λ a n. cond (eqb (kindOf a) 0) (a .session) n; by-answer = λ end n. n; when-withheld = λ n. n; once-closed = 0 }
+number-row = record { by-message = λ a n. cond (eqb (kindOf a) 0) (a .session) n; by-answer = λ end n. n; when-withheld = λ n. n; by-error = λ h n. n; once-closed = 0 }
 
 abbrev pub synchronous-row : Row ℕ
-synchronous-row = record { by-message = λ a c. cond (eqb (kindOf a) 0) (a .connection) c; by-answer = λ end c. c; when-withheld = λ c. c; once-closed = noConnection }
+synchronous-row = record { by-message = λ a c. cond (eqb (kindOf a) 0) (a .connection) c; by-answer = λ end c. c; when-withheld = λ c. c; by-error = λ h c. c; once-closed = noConnection }
 
 abbrev pub asynchronous-row : Row ℕ
 asynchronous-row =
@@ -136,6 +158,7 @@ asynchronous-row =
       by-message = λ a c. cond (eqb (kindOf a) 17) (a .connection) (cond (eqb (kindOf a) 0) noConnection c);
       by-answer = λ end c. c;
       when-withheld = λ c. c;
+      by-error = λ h c. c;
       once-closed = noConnection;
     }
 
@@ -180,6 +203,7 @@ exclusive-row e =
       by-message = λ a b. cond (eqb (kindOf a) 0 || isCode 1 (releasedWith e a)) false (cond (obtains a && isNil (a .message .payload)) true b);
       by-answer = λ end b. b;
       when-withheld = λ b. b;
+      by-error = λ h b. b;
       once-closed = false;
     }
 
@@ -189,6 +213,7 @@ shared-row e =
       by-message = λ a s. cond (eqb (kindOf a) 0 || isCode 2 (releasedWith e a)) [] (cond (obtains a && not (isNil (a .message .payload))) (a .message .payload) s);
       by-answer = λ end s. s;
       when-withheld = λ s. s;
+      by-error = λ h s. s;
       once-closed = [];
     }
 
@@ -200,6 +225,7 @@ last-row =
       by-message = λ a n. cond (one-of (6 ∷ 7 ∷ 12 ∷ []) (kindOf a)) (a .message .param) (cond (one-of (0 ∷ 19 ∷ []) (kindOf a)) 0xfffffefe n);
       by-answer = λ end n. n;
       when-withheld = λ n. n;
+      by-error = λ h n. n;
       once-closed = 0xfffffefe;
     }
 
@@ -213,6 +239,7 @@ standing-row e =
           (cond (eqb (kindOf a) 0 || not (isSilence (endedWith a s))) no-release s);
       by-answer = λ end s. s;
       when-withheld = λ s. s;
+      by-error = λ h s. s;
       once-closed = no-release;
     }
 
@@ -229,7 +256,7 @@ requestsLeft es now unmoved ws = ws
 requestsLeft es now (connected c) ws = ws
 requestsLeft es now (disconnected c k) ws = keep (λ w. not (requestsOf (slotIn es c) w)) ws
 requestsLeft es now (skipped-over c k) ws = ws
-requestsLeft es now (errored c n k) ws = ws
+requestsLeft es now (errored c h k) ws = ws
 requestsLeft es now (message-acted a) ws =
     cond (waits a) (ws ++ record { slot = slotActed es a; deadline = now + a .message .param; string = a .message .payload } ∷ [])
     (cond (eqb (kindOf a) 19) (keep (λ w. not (requestsOf (slotActed es a) w)) ws) ws)
@@ -245,7 +272,7 @@ looksAfter es unmoved = false
 looksAfter es (connected c) = false
 looksAfter es (disconnected c k) = true
 looksAfter es (skipped-over c k) = false
-looksAfter es (errored c n k) = false
+looksAfter es (errored c h k) = false
 looksAfter es (message-acted a) = let r = releasedWith (at es (slotActed es a)) a in isCode 1 r || isCode 2 r
 looksAfter es (clock-read t) = false
 looksAfter es (status-set b) = false
@@ -265,7 +292,7 @@ open-row es x unmoved b = b
 open-row es x (connected c) b = cond (eqb x c) true b
 open-row es x (disconnected c k) b = cond (concerns es c x) false b
 open-row es x (skipped-over c k) b = b
-open-row es x (errored c n k) b = b
+open-row es x (errored c h k) b = b
 open-row es x (message-acted a) b = b
 open-row es x (clock-read t) b = b
 open-row es x (status-set s) b = b
@@ -278,7 +305,7 @@ remainder-row es x unmoved r = r
 remainder-row es x (connected c) r = cond (eqb x c) 0 r
 remainder-row es x (disconnected c k) r = cond (concerns es c x) 0 r
 remainder-row es x (skipped-over c k) r = cond (eqb x c) (r - k) r
-remainder-row es x (errored c n k) r = cond (eqb x c && ltb 1024 n) n r
+remainder-row es x (errored c h k) r = cond (eqb x c && ltb 1024 (h .len)) (h .len) r
 remainder-row es x (message-acted a) r = r
 remainder-row es x (clock-read t) r = r
 remainder-row es x (status-set b) r = r
@@ -296,7 +323,7 @@ singly r unmoved x = x
 singly r (connected c) x = x
 singly r (disconnected c k) x = x
 singly r (skipped-over c k) x = x
-singly r (errored c n k) x = x
+singly r (errored c h k) x = x
 singly r (message-acted a) x = r .on-message a x
 singly r (clock-read t) x = r .on-clock t x
 singly r (status-set b) x = r .on-status b x

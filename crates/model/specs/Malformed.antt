@@ -38,7 +38,7 @@ pub record AnswersError (d : Server) (c : ℕ) (bs : List ℕ) (room code : ℕ)
 
 -- on any server at all
 pub record Malformed (d : Server) (c : ℕ) (bs : List ℕ) (room : ℕ) : Type 0 where
-  pub wrong-form : (fs : List Form) → refusal d (delivery c bs room) ≡ 0 → WholeMessage ((connectionAt (d .rest) c) .remainder) bs → Takes d c fs
+  pub wrong-form : (fs : List Form) → refusal d (delivery c bs room) ≡ 0 → WholeMessage ((connectionAt (d .rest) c) .remainder) bs → Takes d c ((header bs) .param) fs
       → ofType fs (header bs) ≡ true → permits fs (header bs) ≡ false → AnswersError d c bs room (fault fs (header bs))
   -- 01: "outside a clear it is Error 0"
   pub no-clear : refusal d (delivery c bs room) ≡ 0 → WholeMessage ((connectionAt (d .rest) c) .remainder) bs → OnSynchronous d c → (exchangeAt (d .rest) (slotOf d c)) .inClear ≡ false

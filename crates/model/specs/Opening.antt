@@ -20,12 +20,12 @@ pub record OnlySlot (d d′ : Server) (i : ℕ) : Type 0 where
   pub clock-same : d′ .locks .clock ≡ d .locks .clock
 
 -- session n is opened over connection c: half-open, without locks, no message acted on, no release standing, with nothing asked, in the
--- mode that the host prefers (02, Q-1), no answer counted, no RMT expected (02, Q-5)
+-- mode that the host prefers (02, Q-1), no answer counted, no RMT expected (02, Q-5), and the first number expected (02, Q-10)
 pub record Opened (d d′ : Server) (v : Making) (c n : ℕ) : Type 0 where
   pub slot : ℕ
   pub was-free : live (at (d .locks .entries) slot) ≡ false
   pub session : at (d′ .locks .entries) slot ≡ record { number = n; synchronous = c; asynchronous = noConnection; exclusive = false; shared = []; last = beforeFirst; standing = no-release }
-  pub exchange : exchangeAt (d′ .rest) slot ≡ record { inClear = false; asked = none; messageAvailable = false; clientSize = payloadLimit; overlap = v .prefersOverlap; count = start; anySent = false; rmtExpected = false }
+  pub exchange : exchangeAt (d′ .rest) slot ≡ record { inClear = false; asked = none; messageAvailable = false; clientSize = payloadLimit; overlap = v .prefersOverlap; count = start; anySent = false; rmtExpected = false; numberExpected = start }
   pub no-more : OnlySlot d d′ slot
 
 -- half-open session n gets connection c as its second one, and is otherwise as it was

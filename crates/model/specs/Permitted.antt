@@ -84,18 +84,19 @@ pub record WithoutRole (d : Server) (c : ℕ) : Type 0 where
 pub record SubAddress (p : List ℕ) : Type 0 where
   pub empty-or-hislip0 : (p ≡ []) ⊎ (p ≡ hislip0)
 
--- the forms that a connection of an established session takes
-pub data Takes (d : Server) (c : ℕ) : List Form → Type 0 where
-  -- outside a device clear, with access
-  commands : OnSynchronous d c → (exchangeAt (d .rest) (slotOf d c)) .inClear ≡ false → accessOf d c ≡ true → Takes d c commandForms
+-- the forms that a connection of an established session takes of a message with number n
+pub data Takes (d : Server) (c n : ℕ) : List Form → Type 0 where
+  -- outside a device clear, with access; 02, Q-10: "must carry the number expected"
+  commands : OnSynchronous d c → (exchangeAt (d .rest) (slotOf d c)) .inClear ≡ false → accessOf d c ≡ true
+      → n ≡ (exchangeAt (d .rest) (slotOf d c)) .numberExpected → Takes d c n commandForms
   -- in a device clear
-  clear-complete : OnSynchronous d c → (exchangeAt (d .rest) (slotOf d c)) .inClear ≡ true → Takes d c clearForms
+  clear-complete : OnSynchronous d c → (exchangeAt (d .rest) (slotOf d c)) .inClear ≡ true → Takes d c n clearForms
   -- 01: "Asynchronous messages are not held"
-  on-asynchronous : OnAsynchronous d c → Takes d c asynchronousForms
+  on-asynchronous : OnAsynchronous d c → Takes d c n asynchronousForms
 
 -- what a delivery must show on connection c to act as a message of session n; LAST is the SessionID issued last
 pub data Permitted (d : Server) (last c : ℕ) (bs : List ℕ) : ℕ → Type 0 where
-  established : (fs : List Form) → WholeMessage ((connectionAt (d .rest) c) .remainder) bs → Takes d c fs → permits fs (header bs) ≡ true
+  established : (fs : List Form) → WholeMessage ((connectionAt (d .rest) c) .remainder) bs → Takes d c ((header bs) .param) fs → permits fs (header bs) ≡ true
       → Permitted d last c bs ((entryOf d c) .number)
   -- Initialize: fewer than 32 live sessions, half-open ones included; n is the next SessionID
   initialize : (n : ℕ) → WholeMessage ((connectionAt (d .rest) c) .remainder) bs → WithoutRole d c → permits initializeForms (header bs) ≡ true

@@ -48,8 +48,9 @@ pub data Asked : Type 0 where
   some : ℕ → Asked
 
 -- of a session, beside its locks: in device clear, what is asked, message available, the client's size; 02, Q-1: in overlap mode, the
--- number of its next answer there, and whether some answer was sent since the last reset; 02, Q-5: whether an RMT is expected. All are
--- kept in both modes: a mode changes only in a device clear, which resets them
+-- number of its next answer there, and whether some answer was sent since the last reset; 02, Q-5: whether an RMT is expected; 02, Q-10: the
+-- number that its next Data, DataEND or Trigger must carry. All are kept in both modes: a mode changes only in a device clear, which resets
+-- them
 pub record Exchange : Type 0 where
   pub inClear : Bool
   pub asked : Asked
@@ -59,6 +60,7 @@ pub record Exchange : Type 0 where
   pub count : ℕ
   pub anySent : Bool
   pub rmtExpected : Bool
+  pub numberExpected : ℕ
 
 -- of a connection: whether it is open, the remainder to skip
 pub record Connection : Type 0 where
@@ -94,9 +96,21 @@ pub record Server : Type 0 where
 abbrev pub blank : Entry
 blank = record { number = 0; synchronous = noConnection; asynchronous = noConnection; exclusive = false; shared = []; last = beforeFirst; standing = no-release }
 
--- 01: a client's size starts at 1,024 per session; 02, Q-1: a session starts in the preferred mode, and its count at ffffff00 hex
+-- 01: a client's size starts at 1,024 per session; 02, Q-1: a session starts in the preferred mode, and its count at ffffff00 hex; 02, Q-10: and
+-- so does the number expected
 abbrev pub openExchange : Bool → Exchange
-openExchange b = record { inClear = false; asked = none; messageAvailable = false; clientSize = payloadLimit; overlap = b; count = start; anySent = false; rmtExpected = false }
+openExchange b =
+    record {
+      inClear = false;
+      asked = none;
+      messageAvailable = false;
+      clientSize = payloadLimit;
+      overlap = b;
+      count = start;
+      anySent = false;
+      rmtExpected = false;
+      numberExpected = start;
+    }
 
 abbrev pub freshExchange : Exchange
 freshExchange = openExchange false

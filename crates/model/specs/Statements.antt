@@ -23,6 +23,7 @@ use Rattle.model.specs.SessionId.{NumbersIssued}
 use Rattle.model.specs.Sending.{Sending}
 use Rattle.model.specs.Granting.{MayExclusive, MayShared}
 use Rattle.model.specs.Access.{Access}
+use Rattle.model.specs.InStep.{OutOfStep, InStep}
 use Rattle.model.specs.Canonical.{Canonical}
 use Rattle.model.specs.FixedPoint.{FixedPoint}
 use Rattle.model.specs.OnlyWhole.{TakenWhole}
@@ -73,6 +74,10 @@ pub record Demand2 : Type 0 where
   pub shared-rule : (es : List Entry) (i x : ℕ) (k : List ℕ) → (mayGrant es i (x ∷ k) ≡ true) ↔ MayShared es i (x ∷ k)
   -- "While a program lacks access, its data and triggers of permitted size are held, neither acted on nor lost"
   pub access : (d : Server) (c : ℕ) (bs : List ℕ) (room : ℕ) → Access d c bs room
+  -- 02, Q-10: "Data, DataEND and Trigger must carry the number expected", any other is Error 0 and changes nothing; after any list that number is
+  -- known from the taken messages alone, and a client that counts never meets this Error 0
+  pub out-of-step : (d : Server) (c : ℕ) (bs : List ℕ) (room : ℕ) → OutOfStep d c bs room
+  pub in-step : (v : Making) (es : List Event) → InStep v es
   -- 02, Q-3: a release that is not answered at once stands until its message acts, a device clear acts or its session closes, and until
   -- then every AsyncLock of the session gets 3
   pub standing : (v : Making) (es : List Event) (j : ℕ) (k : Kind) (m : ℕ) → StandsOn (final (fresh v) es) j k m

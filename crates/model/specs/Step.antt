@@ -9,12 +9,12 @@ use Rattle.wire.specs.Message.{header}
 use Rattle.wire.specs.Frame.{Frame, frameOf}
 use Rattle.model.specs.Sizes.{noConnection}
 use Rattle.model.specs.MessageTypes.{FatalError, Error, AsyncLockResponse, Data, DataEND}
-use Rattle.model.specs.State.{Server, Rest, Connection, at, live, slotOfNumber, exchangeAt, connectionAt, openConnection, closedConnection, freshExchange, withConnections, withConnection, withExchange, withStatus}
+use Rattle.model.specs.State.{Server, Rest, Exchange, Connection, at, live, slotOfNumber, exchangeAt, connectionAt, openConnection, closedConnection, freshExchange, withConnections, withConnection, withExchange, withStatus}
 use Rattle.model.specs.Interface.{Event, Event.opening, Event.delivery, Event.cut, Event.clock, Event.answer, Event.status, Outcome.more-needed, Outcome.skipped, Outcome.held, Outcome.ignored, Outcome.error-sent, Outcome.closed, Reply, Reply.refused, Reply.done, Reply.withheld, Reply.took}
 use Rattle.model.specs.Scan.{Scan, Scan.empty, Scan.few, Scan.wrong, Scan.skipping, Scan.long, Scan.part, Scan.whole, scan, size, leftover}
-use Rattle.model.specs.Place.{Role, slotOf, roleOf, entryOf}
+use Rattle.model.specs.Place.{Role, Role.r-none, Role.r-halfOpen, Role.r-synchronous, Role.r-asynchronous, slotOf, roleOf, entryOf}
 use Rattle.model.specs.Locks.{Answer, LockEvent.nothing, LockEvent.close, LockEvent.reading, change, frees, settle}
-use Rattle.model.specs.Exchange.{answeredWith, answerNumber, interrupted, interrupts}
+use Rattle.model.specs.Exchange.{withNumber, numberAfter, answeredWith, answerNumber, interrupted, interrupts}
 use Rattle.model.specs.Checks.{Verdict, Verdict.v-more, Verdict.v-skipped, Verdict.v-held, Verdict.v-ignored, Verdict.v-closed, Verdict.v-acts, Verdict.v-error, Verdict.v-fatal, verdict}
 use Rattle.model.specs.Acts.{Plan, say, interruptions, acts}
 use Rattle.model.specs.Refusals.{refusal}
@@ -37,6 +37,23 @@ closing d c = withExchange (withConnections (d .rest) (shutAll (d .rest .connect
 -- changes nothing, says nothing
 abbrev pub idle : Server → Reply → Plan
 idle d r = record { reply = r; rest = d .rest; first = []; said = []; event = nothing }
+
+-- 02, Q-10: the number expected after a message that is answered Error: "even one refused as too large or by a later check" moves it, if it
+-- carries it. Only a message on the synchronous channel does
+abbrev pub numberTaken : Role → Scan → Exchange → ℕ
+numberTaken r-synchronous (long h) x = numberAfter h x
+numberTaken r-synchronous (whole h p) x = numberAfter h x
+numberTaken r-synchronous empty x = x .numberExpected
+numberTaken r-synchronous few x = x .numberExpected
+numberTaken r-synchronous wrong x = x .numberExpected
+numberTaken r-synchronous (skipping k) x = x .numberExpected
+numberTaken r-synchronous (part h) x = x .numberExpected
+numberTaken r-none s x = x .numberExpected
+numberTaken r-halfOpen s x = x .numberExpected
+numberTaken r-asynchronous s x = x .numberExpected
+
+abbrev pub counted : Role → Scan → Exchange → Exchange
+counted r s x = withNumber (numberTaken r s x) x
 
 -- only a whole message acts; the other clauses are never met
 abbrev pub acting : Scan → Role → Server → ℕ → ℕ → Plan
@@ -65,7 +82,7 @@ effect v-ignored s r d i c = record { reply = took ignored (size s) 0; rest = d 
 effect (v-error n) s r d i c =
     record {
       reply = took error-sent (size s) 0;
-      rest = withConnection (d .rest) c (openConnection (leftover s));
+      rest = withConnection (withExchange (d .rest) i (counted r s (exchangeAt (d .rest) i))) c (openConnection (leftover s));
       first = [];
       said = say c Error n 0;
       event = nothing;

@@ -87,6 +87,10 @@ about-the-code =
       tie = λ v m m′ m″ ss s f g g′. program .tie v m m′ m″ ss s (fresh f) (runs g) (runs g′);
       in-time = λ v m m′ m″ ss s f g g′. program .in-time v m m′ m″ ss s (fresh f) (runs g) (runs g′);
       withheld-answer = λ v m m′ m″ ss s f g g′. program .withheld-answer v m m′ m″ ss s (fresh f) (runs g) (runs g′);
+      number-read = λ v m m′ ss f g. program .number-read v m m′ ss (fresh f) (runs g);
+      number-carried = λ v m m′ m″ ss s f g g′. program .number-carried v m m′ m″ ss s (fresh f) (runs g) (runs g′);
+      out-of-step = λ m m′ s g. program .out-of-step m m′ s (runs g);
+      in-step = λ v m m′ ss f g. program .in-step v m m′ ss (fresh f) (runs g);
       standing = λ v m m′ ss f g. program .standing v m m′ ss (fresh f) (runs g);
       isolation = λ v m m′ m″ ss rs f g j h g′. program .isolation v m m′ m″ ss rs (fresh f) (runs g) j h (runs g′);
     }

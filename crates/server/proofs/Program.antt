@@ -3,21 +3,23 @@
 use mathlib.Core.Path.{_≡_, refl, sym, ap, ap₂, subst, _∙_}
 use mathlib.Core.Bool.{Bool, true, false, not, cond}
 use mathlib.Core.List.{List, [], _∷_, map}
-use Prim.Native.Nat.{ℕ, zero, suc}
+use Prim.Native.Nat.{ℕ, zero, suc, _+_}
 use lib.Dec.{eqb}
 use lib.ListN.{length, take}
 use lib.Seq.{take-nil}
 use Rattle.wire.specs.declared.Header.{Header}
+use Rattle.wire.specs.Class.{one-of}
 use Rattle.wire.specs.Message.{header}
 use Rattle.wire.specs.Frame.{bytesOf, bytes-one, frameBytes, frameOf}
-use Rattle.model.specs.State.{Making, Server, at, fresh, slotOfNumber}
+use Rattle.model.specs.Sizes.{noConnection}
+use Rattle.model.specs.State.{Making, Server, at, exchangeAt, fresh, live, slotOfNumber}
 use Rattle.model.specs.Interface.{Event, Event.opening, Event.delivery, Event.cut, Event.clock, Event.answer, Event.status, Outcome, Outcome.more-needed, Outcome.skipped, Outcome.held, Outcome.ignored, Outcome.error-sent, Outcome.closed, Outcome.acted, Reply, Reply.refused, Reply.done, Reply.withheld, Reply.took, outcomeNumber, DeliveryAnswer, deliveryAnswer, DoneAnswer, doneAnswer, AnsweredAnswer, answeredAnswer}
 use Rattle.model.specs.Scan.{Scan, Scan.empty, Scan.few, Scan.wrong, Scan.skipping, Scan.long, Scan.part, Scan.whole}
-use Rattle.model.specs.Place.{Role, Role.r-none, Role.r-halfOpen, Role.r-synchronous, Role.r-asynchronous}
+use Rattle.model.specs.Place.{slotOf, Role, Role.r-none, Role.r-halfOpen, Role.r-synchronous, Role.r-asynchronous}
 use Rattle.model.specs.Checks.{Verdict, Verdict.v-more, Verdict.v-skipped, Verdict.v-held, Verdict.v-ignored, Verdict.v-closed, Verdict.v-acts, Verdict.v-error, Verdict.v-fatal}
 use Rattle.model.specs.Acts.{acts, opens}
 use Rattle.model.specs.Refusals.{refusal}
-use Rattle.model.specs.Step.{Line, answerType, answered, withholds, effect, final, finish, log, plan, received, step}
+use Rattle.model.specs.Step.{Line, Result, answerType, answered, withholds, effect, final, finish, log, plan, received, step}
 use Rattle.model.specs.Post.{Post}
 use Rattle.model.specs.Demand3.{Seen, seen, seenEvents, Calls, Calls.none as no-call, Calls.call}
 use Rattle.model.specs.Tie.{Track, nothingYet, track, trackOfLog, said}
@@ -39,7 +41,10 @@ use Rattle.model.proofs.Standing.{stands-on}
 use Rattle.model.proofs.Tied.{tie}
 use Rattle.model.proofs.NextQuestion.{next-question}
 use Rattle.model.specs.NextQuestion.{questionUnread, synchronousOf, asynchronousOf, owes}
-use Rattle.model.specs.MessageTypes.{Interrupted, AsyncInterrupted}
+use Rattle.model.specs.MessageTypes.{Interrupted, AsyncInterrupted, commands}
+use Rattle.model.specs.Access.{Command, accessOf}
+use Rattle.model.specs.InStep.{Numbering, Knows, opened, expected, error-0, numbering}
+use Rattle.model.proofs.InStep.{in-steps, out}
 use Rattle.model.specs.Possible.{AllPossible}
 use Rattle.model.proofs.IsolationRun.{isolation-run}
 use Rattle.state.specs.View.{Memory, view}
@@ -49,7 +54,8 @@ use Rattle.server.specs.declared.Answered.{Answered}
 use Rattle.server.specs.declared.Done.{Done}
 use Rattle.server.specs.Calls.{Delivered}
 use Rattle.server.specs.Events.{Called, Fresh, Replied, doneNumbers, answeredNumbers}
-use Rattle.server.specs.Program.{outcomeOf, refusedOr, deliveryReply, doneReply, answeredReply, Run, Run.stop, Run.hislip-open, Run.hislip-deliver, Run.hislip-cut, Run.hislip-clock, Run.hislip-answer, Run.hislip-status, trackIn, shownOf, Tied, OnlyOf, Program}
+use Rattle.server.specs.Program.{outcomeOf, refusedOr, deliveryReply, doneReply, answeredReply, Run, Run.stop, Run.hislip-open, Run.hislip-deliver, Run.hislip-cut, Run.hislip-clock, Run.hislip-answer, Run.hislip-status, trackIn, shownOf, Tied, takenOf, CountsIn, NeverOutIn, OnlyOf, Program}
+use Rattle.server.proofs.Numbering.{noted-seen, counts-seen, never-seen}
 
 -- was the call done?
 abbrev Done? : Reply → Type 0
@@ -193,6 +199,41 @@ not-refused d e q = go (refusal d e) q
     go zero q = refl
     go (suc k) q = absurd (done≢refused k q)
 
+-- 02, Q-10: a run by the log, and the reader of what the host saw by that of the log
+module _ (v : Making) (m m′ : Memory) (ss : List Seen) (f : Fresh v m) (g : Run m ss m′) where
+  by-log : ss ≡ map seen (log (fresh v) (seenEvents ss))
+  by-log = made view (calls g) .0 ∙ ap (λ (x : Server). map seen (log x (seenEvents ss))) (f .shows)
+
+  took-seen : (n : ℕ) → takenOf ss n ≡ numbering v (seenEvents ss) n
+  took-seen n = ap (λ (a : List Seen). takenOf a n) by-log ∙ noted-seen (log (fresh v) (seenEvents ss)) n (opened noConnection)
+
+  in-step : (n : ℕ) → CountsIn ss n (opened noConnection) → NeverOutIn ss n (opened noConnection)
+  in-step n c =
+      subst (λ (a : List Seen). NeverOutIn a n (opened noConnection)) (sym by-log)
+      (never-seen (seenEvents ss) (fresh v) n (opened noConnection)
+      (in-steps v (seenEvents ss) .never n (counts-seen (log (fresh v) (seenEvents ss)) n (opened noConnection) (subst (λ (a : List Seen). CountsIn a n (opened noConnection)) by-log c))))
+
+-- one call from any memory
+module _ (m m′ : Memory) (s : Seen) (g : Run m (s ∷ []) m′) where
+  abbrev only : List Seen → Seen
+  only [] = s
+  only (a ∷ rest) = a
+
+  shown : s ≡ seen record { event = s .event; reply = (step (view m) (s .event)) .reply; frames = (step (view m) (s .event)) .frames }
+  unfolding log
+  shown = ap only (made view (calls g) .0)
+
+  leaves : view m′ ≡ (step (view m) (s .event)) .server
+  unfolding final
+  leaves = made view (calls g) .1
+
+  out-of-step : (c : ℕ) (bs : List ℕ) (room : ℕ) → s .event ≡ delivery c bs room
+      → refusal (view m) (delivery c bs room) ≡ 0 → Command (view m) c bs → accessOf (view m) c ≡ true → ((header bs) .param ≡ (exchangeAt (view m .rest) (slotOf (view m) c)) .numberExpected → ⊥)
+      → (s .reply ≡ took error-sent (16 + (header bs) .len) 0) × (s .output ≡ bytesOf (error-0 c)) × (view m′ ≡ view m)
+  out-of-step c bs room x z w a o =
+      let q = ap (step (view m)) x ∙ (out (view m) c bs room) .answered z w a o in
+      (ap (λ (b : Seen). b .reply) shown ∙ ap (λ (r : Result). r .reply) q, ap (λ (b : Seen). b .output) shown ∙ ap (λ (r : Result). bytesOf (r .frames)) q, leaves ∙ ap (λ (r : Result). r .server) q)
+
 -- one more call behind a run, by the log
 module _ (v : Making) (m m′ m″ : Memory) (ss : List Seen) (s : Seen) (f : Fresh v m) (g : Run m ss m′) (g′ : Run m′ (s ∷ []) m″) where
   abbrev es : List Event
@@ -254,6 +295,13 @@ module _ (v : Making) (m m′ m″ : Memory) (ss : List Seen) (s : Seen) (f : Fr
             let w = next-question v es .withholds n payload shown room possible (not-refused d (answer n payload true shown room) (sym (ap (λ (a : Seen). a .reply) h) ∙ y)) mode r u in
             absurd (subst (λ (z : Reply). Done? z) (sym y ∙ ap (λ (a : Seen). a .reply) h ∙ w .0) tt)
 
+  -- 02, Q-10: what acts carries the number expected
+  carried : (c : ℕ) (bs : List ℕ) (room k n : ℕ) → s .event ≡ delivery c bs room → s .reply ≡ took acted k n → one-of commands ((header bs) .kind) ≡ true
+      → (header bs) .param ≡ expected ((takenOf ss n) .taken)
+  carried c bs room k n x y o =
+      in-steps v es .acts c bs room k n (sym (ap (λ (a : Seen). a .reply) (then (delivery c bs room) x)) ∙ y) o .2
+      ∙ ap (λ (a : Numbering). expected (a .taken)) (sym (took-seen v m m′ ss f g n))
+
 decided : (m m′ n n′ : Memory) (ss rs : List Seen) → view m ≡ view n → Run m ss m′ → Run n rs n′ → seenEvents ss ≡ seenEvents rs → (ss ≡ rs) × (view m′ ≡ view n′)
 decided m m′ n n′ ss rs v f g e =
     let h = made view (calls f) in
@@ -300,6 +348,13 @@ program =
       tie = tied;
       in-time = λ v m m′ m″ ss s f g g′ p n payload shown room x y o r. in-time v m m′ m″ ss s f g g′ p n payload shown room x o r y;
       withheld-answer = λ v m m′ m″ ss s f g g′ p n payload shown room x q o r u. withheld-then v m m′ m″ ss s f g g′ p n payload shown room x o r q u;
+      number-read = λ v m m′ ss f g j a.
+          subst (λ (d : Server). live (at (d .locks .entries) j) ≡ true → Knows (takenOf ss ((at (d .locks .entries) j) .number)) (at (d .locks .entries) j) (exchangeAt (d .rest) j)) (sym (left v m m′ ss f g))
+          (λ a. let d : Server = final (fresh v) (seenEvents ss) in
+          subst (λ (p : Numbering). Knows p (at (d .locks .entries) j) (exchangeAt (d .rest) j)) (sym (took-seen v m m′ ss f g ((at (d .locks .entries) j) .number))) (in-steps v (seenEvents ss) .reads j a)) a;
+      number-carried = carried;
+      out-of-step = out-of-step;
+      in-step = in-step;
       standing = λ v m m′ ss f g j k n. subst (λ (d : Server). StandsOn d j k n) (sym (left v m m′ ss f g)) (stands-on v (seenEvents ss) j k n);
       isolation = isolated;
     }

@@ -1,5 +1,6 @@
-pub mod Verdicts
 pub mod Acting
+pub mod Numbering
+pub mod Verdicts
 pub mod Scanning
 pub mod Causes
 pub mod Calls

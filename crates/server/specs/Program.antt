@@ -4,17 +4,22 @@
 use mathlib.Core.Path.{_≡_}
 use mathlib.Core.Bool.{Bool, true, false, not, cond}
 use mathlib.Core.List.{List, [], _∷_, map}
-use Prim.Native.Nat.{ℕ, zero, suc, _<_, _^_}
+use Prim.Native.Nat.{ℕ, zero, suc, _+_, _<_, _^_}
 use lib.Dec.{eqb}
 use lib.ListN.{length, take}
 use Rattle.wire.specs.Class.{one-of}
 use Rattle.wire.specs.Frame.{frameOf, frameBytes, bytesOf}
 use Rattle.wire.specs.Message.{header}
 use Rattle.model.specs.Interface.{Event.opening, Event.delivery, Event.cut, Event.clock, Event.answer, Event.status, Outcome, Outcome.more-needed, Outcome.skipped, Outcome.held, Outcome.ignored, Outcome.error-sent, Outcome.closed, Outcome.acted, Reply, Reply.refused, Reply.done, Reply.withheld, Reply.took}
-use Rattle.model.specs.State.{Asked.some, Kind, Making, at, fresh, slotOfNumber}
+use Rattle.model.specs.Sizes.{noConnection}
+use Rattle.model.specs.State.{Asked.some, Kind, Making, at, exchangeAt, fresh, live, slotOfNumber}
 use Rattle.model.specs.Step.{final, log, answerType}
 use Rattle.model.specs.Post.{Post}
-use Rattle.model.specs.MessageTypes.{Interrupted, AsyncInterrupted, commands}
+use Rattle.model.specs.MessageTypes.{Trigger, Interrupted, AsyncInterrupted, commands}
+use Rattle.model.specs.Place.{slotOf}
+use Rattle.model.specs.Access.{Command, accessOf}
+use Rattle.model.specs.Happening.{happened}
+use Rattle.model.specs.InStep.{Numbering, Knows, opened, expected, noted, countUp, error-0}
 use Rattle.model.specs.IsolationRun.{Undisturbed}
 use Rattle.model.specs.Tie.{Track, nothingYet, track}
 use Rattle.model.specs.Demand3.{Seen, seen, seenEvents, Demand3}
@@ -101,6 +106,30 @@ pub record Tied (v : Making) (ss : List Seen) (m : Memory) (n : ℕ) (payload : 
   pub counted : (shownOf v ss n) .overlap ≡ true → (shownOf v ss n) .count ≡ number
   pub sent : output ≡ frameBytes (frameOf ((at (view m .locks .entries) (slotOfNumber (view m .locks .entries) n)) .synchronous) (answerType end) 0 number payload)
 
+-- 02, Q-10: of session n, the numbers of its Data, DataEND and Trigger messages, read off what the host saw (the rule is the model's reader's)
+abbrev pub notedSeen : Seen → ℕ → Numbering → Numbering
+notedSeen s n p = noted (happened (s .event) (s .reply) []) n p
+
+abbrev pub notedIn : List Seen → ℕ → Numbering → Numbering
+notedIn [] n p = p
+notedIn (s ∷ ss) n p = notedIn ss n (notedSeen s n p)
+
+abbrev pub takenOf : List Seen → ℕ → Numbering
+takenOf ss n = notedIn ss n (opened noConnection)
+
+-- each number that is taken of the session is the next of 003's count
+abbrev pub CountsIn : List Seen → ℕ → Numbering → Type 0
+CountsIn [] n p = Unit {0}
+CountsIn (s ∷ ss) n p = ((notedSeen s n p) .taken ≡ countUp (length ((notedSeen s n p) .taken))) × CountsIn ss n (notedSeen s n p)
+
+-- of the session's Data, DataEND and Trigger messages outside a clear a call answers Error 0 only to a Trigger with payload
+abbrev pub NeverOutIn : List Seen → ℕ → Numbering → Type 0
+NeverOutIn [] n p = Unit {0}
+NeverOutIn (s ∷ ss) n p =
+    ((bs : List ℕ) (room k m : ℕ) → s .event ≡ delivery (p .connection) bs room → s .reply ≡ took error-sent k m → p .inClear ≡ false → one-of commands ((header bs) .kind) ≡ true
+    → s .output ≡ bytesOf (error-0 (p .connection)) → ((header bs) .kind ≡ Trigger) × (0 < (header bs) .len))
+    × NeverOutIn ss n (notedSeen s n p)
+
 -- every Data, DataEND and Trigger that acted is session n's
 abbrev pub OnlyOf : ℕ → List Seen → Type 0
 OnlyOf n [] = Unit {0}
@@ -141,6 +170,19 @@ pub record Program (New : Making → Memory → Type 0) (Ran : Memory → List S
       → (s .reply ≡ withheld) × (s .output
       ≡ bytesOf (frameOf (asynchronousOf v (seenEvents ss) n) AsyncInterrupted 0 ((header shown) .param) []
       ∷ frameOf (synchronousOf v (seenEvents ss) n) Interrupted 0 ((header shown) .param) [] ∷ []))
+  -- 02, Q-10: "Data, DataEND and Trigger must carry the number expected": of each live session it is known from what the host saw
+  pub number-read : (v : Making) (m m′ : Memory) (ss : List Seen) → New v m → Ran m ss m′ → (j : ℕ) → live (at (view m′ .locks .entries) j) ≡ true
+      → Knows (takenOf ss ((at (view m′ .locks .entries) j) .number)) (at (view m′ .locks .entries) j) (exchangeAt (view m′ .rest) j)
+  -- one that acts carries it
+  pub number-carried : (v : Making) (m m′ m″ : Memory) (ss : List Seen) (s : Seen) → New v m → Ran m ss m′ → Ran m′ (s ∷ []) m″
+      → (c : ℕ) (bs : List ℕ) (room k n : ℕ) → s .event ≡ delivery c bs room → s .reply ≡ took acted k n → one-of commands ((header bs) .kind) ≡ true
+      → (header bs) .param ≡ expected ((takenOf ss n) .taken)
+  -- from any memory: "any other of permitted size is Error 0, expectation unchanged", and so is all else
+  pub out-of-step : (m m′ : Memory) (s : Seen) → Ran m (s ∷ []) m′ → (c : ℕ) (bs : List ℕ) (room : ℕ) → s .event ≡ delivery c bs room
+      → refusal (view m) (delivery c bs room) ≡ 0 → Command (view m) c bs → accessOf (view m) c ≡ true → ((header bs) .param ≡ (exchangeAt (view m .rest) (slotOf (view m) c)) .numberExpected → ⊥)
+      → (s .reply ≡ took error-sent (16 + (header bs) .len) 0) × (s .output ≡ bytesOf (error-0 c)) × (view m′ ≡ view m)
+  -- a client that counts as 003 says never meets this Error 0, whatever of it is held, cut, too large or refused in between
+  pub in-step : (v : Making) (m m′ : Memory) (ss : List Seen) → New v m → Ran m ss m′ → (n : ℕ) → CountsIn ss n (opened noConnection) → NeverOutIn ss n (opened noConnection)
   -- Q about the program: a release that is not answered at once stands until its message, a device clear or its session's closing
   pub standing : (v : Making) (m m′ : Memory) (ss : List Seen) → New v m → Ran m ss m′ → (j : ℕ) (k : Kind) (n : ℕ) → StandsOn (view m′) j k n
   -- N about the program: from where a session holds exclusive until its release is answered or its closing, nobody else's command acts

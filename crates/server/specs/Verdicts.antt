@@ -1,21 +1,28 @@
 -- From the number of a verdict to what is done: the plan of each verdict but "acts", and of a message that acts. Assumes nothing.
 use mathlib.Core.Path.{_≡_, sym, subst}
 use Prim.Native.Nat.{ℕ, _-_, _≤_, _<_}
+use mathlib.Core.Bool.{Bool}
 use mathlib.Core.List.{List, []}
 use native.Mathlib.Omega.{arith}
 use borrow.Author.Tests.{ne-eqb, lt-ltb, le-ltb}
 use Rattle.wire.specs.declared.Header.{Header}
-use Rattle.model.specs.State.{Server}
-use Rattle.model.specs.Interface.{Reply.took, Outcome.more-needed, Outcome.held}
+use Rattle.model.specs.MessageTypes.{Error}
+use Rattle.model.specs.State.{Server, exchangeAt, openConnection, withConnection, withExchange}
+use Rattle.model.specs.Interface.{Reply.took, Outcome.more-needed, Outcome.held, Outcome.error-sent}
 use Rattle.model.specs.Scan.{Scan, Scan.whole, size, leftover}
 use Rattle.model.specs.Place.{Role}
 use Rattle.model.specs.Checks.{Verdict, Verdict.v-more, Verdict.v-held, Verdict.v-ignored, Verdict.v-closed, Verdict.v-acts, Verdict.v-error, Verdict.v-fatal, judged}
-use Rattle.model.specs.Acts.{acts}
-use Rattle.model.specs.Step.{finish, effect, idle, channels}
+use Rattle.model.specs.Exchange.{withNumber}
+use Rattle.model.specs.Acts.{acts, say}
+use Rattle.model.specs.Step.{finish, effect, idle, channels, numberTaken}
+use Rattle.state.specs.Change.{onRest}
 use Rattle.state.specs.View.{Memory}
 use Rattle.checks.specs.Numbers.{message, verdictOf}
 use Rattle.effects.specs.declared.Delivery.{Delivery}
-use Rattle.effects.specs.Did.{Did}
+use Rattle.effects.specs.Did.{Did, plainly}
+use Rattle.effects.specs.Numbering.{movedBy}
+use Rattle.effects.specs.Synchronous.{withSlot}
+use Rattle.server.specs.Numbering.{error-moved}
 use Rattle.effects.specs.Replies.{errorPlan, ignorePlan, closePlan, fatals}
 
 module _ (d : Server) (c i : ℕ) (x : Scan) (ro : Role) (r : Delivery) (m m′ : Memory) (out out′ : List ℕ) where
@@ -32,11 +39,20 @@ module _ (d : Server) (c i : ℕ) (x : Scan) (ro : Role) (r : Delivery) (m m′ 
     unfolding effect
     fatal-done l q = by-verdict (verdictOf v) (v-fatal (v - 32)) (rw (le-ltb v 16 (omega arith), le-ltb v 32 l)) q
 
-    pub error-done : 16 ≤ v → v < 32 → (k l : ℕ) → size x ≡ k → leftover x ≡ l → Did (finish d (errorPlan d c (v - 16) k l)) r m m′ out out′ → Done (verdictOf v)
+    -- an Error that takes k bytes, leaves l to skip, and n as the number expected
+    abbrev Erred : ℕ → ℕ → ℕ → Type 0
+    Erred k l n =
+        Did (finish d (plainly (took error-sent k 0) (withConnection (withExchange (d .rest) i (withNumber n (exchangeAt (d .rest) i))) c (openConnection l)) (say c Error (v - 16) 0))) r m m′ out out′
+
+    pub error-done : 16 ≤ v → v < 32 → (k l : ℕ) → size x ≡ k → leftover x ≡ l → (b : Bool) → numberTaken ro x (exchangeAt (d .rest) i) ≡ (movedBy b (exchangeAt (d .rest) i)) .numberExpected
+        → (d₁ : Server) (m₁ : Memory) → d₁ ≡ onRest d (withSlot i (movedBy b)) → Did (finish d₁ (errorPlan d₁ c (v - 16) k l)) r m₁ m′ out out′ → Done (verdictOf v)
     unfolding effect
-    error-done h u k l e f q =
+    error-done h u k l e f b g d₁ m₁ p q =
+        let n : ℕ = (movedBy b (exchangeAt (d .rest) i)) .numberExpected in
         by-verdict (verdictOf v) (v-error (v - 16)) (rw (le-ltb v 16 h, lt-ltb v 32 u))
-        (subst (λ (a : ℕ). Did (finish d (errorPlan d c (v - 16) (size x) a)) r m m′ out out′) (sym f) (subst (λ (a : ℕ). Did (finish d (errorPlan d c (v - 16) a l)) r m m′ out out′) (sym e) q))
+        (subst (λ (a : ℕ). Erred (size x) (leftover x) a) (sym g)
+        (subst (λ (a : ℕ). Erred (size x) a n) (sym f)
+        (subst (λ (a : ℕ). Erred a l n) (sym e) (error-moved d d₁ (withSlot i (movedBy b) (d .rest)) c (v - 16) k l r m m₁ m′ out out′ p q))))
 
     pub closed-done : v ≡ 4 → Did (finish d (closePlan d c i [])) r m m′ out out′ → Done (verdictOf v)
     unfolding effect

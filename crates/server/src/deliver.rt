@@ -4,6 +4,7 @@ ghost use Rattle.checks.specs.Numbers.{message, verdictOf};
 ghost use Rattle.effects.specs.Did.{Did, DidWith};
 ghost use Rattle.model.specs.Acts.{acts};
 ghost use Rattle.model.specs.Checks.{Verdict.v-acts, judged};
+ghost use Rattle.effects.specs.Numbering.{movedBy};
 ghost use Rattle.effects.specs.Synchronous.{isCommand};
 ghost use Rattle.model.specs.Locks.{stands};
 ghost use Rattle.model.specs.Place.{Role, Role.r-asynchronous, Role.r-synchronous, roleOf, slotIn};
@@ -11,8 +12,9 @@ ghost use Rattle.model.specs.Missing.{ifMore, lacking};
 ghost use Rattle.model.specs.Scan.{Scan, Scan.whole, freshScan, leftover, scan, size};
 ghost use Rattle.model.specs.Exchange.{differs};
 ghost use Rattle.model.specs.State.{at, connectionAt, exchangeAt};
+ghost use Rattle.server.specs.Numbering.{movesOn};
 ghost use Rattle.server.specs.Scanning.{DidOn};
-ghost use Rattle.model.specs.Step.{effect, finish, received};
+ghost use Rattle.model.specs.Step.{effect, finish, numberTaken, received};
 ghost use Rattle.state.specs.Channels.{Unshown};
 ghost use Rattle.state.specs.Search.{roleNumber};
 ghost use Rattle.state.specs.View.{locksOf, memory, restOf, view};
@@ -36,6 +38,7 @@ use effects::Delivery;
 use effects::answer;
 use effects::asynchronous;
 use effects::interrupted;
+use effects::numbering;
 use effects::opening;
 use effects::outcome;
 use effects::replies;
@@ -57,7 +60,25 @@ use wire::types::ASYNC_STATUS_QUERY;
 use wire::types::DATA;
 use wire::types::DATA_END;
 
-// What a verdict other than "acts" and "held" does: so many bytes are taken, and so many are left to skip. Callers take the answer into a
+// Does a message of this kind and number, on the synchronous channel outside a clear, carry the number expected?
+fn carries(w: &Words, role: u8, i: usize, kind: u8, param: u32) -> bool
+    requires { ⌜ (role ≡ 2 → i < sessionLimit) ⌝ }
+    ensures { λ r. ⌜ (r ≡ true → i < sessionLimit) × ((ro : Role) (code len : ℕ) → roleNumber ro ≡ role → movesOn ro (message kind code param len) (exchangeAt (restOf (now (w .entry))) i) ≡ r) ⌝ }
+{
+    if role != ON_SYNCHRONOUS {
+        return false;
+    }
+    if on_synchronous::in_clear(w, i) {
+        return false;
+    }
+    if !synchronous::is_command(kind) {
+        return false;
+    }
+    on_synchronous::is_expected(w, i, param)
+}
+
+// What a verdict other than "acts" and "held" does: so many bytes are taken, and so many are left to skip; an Error moves the number expected
+// where its message carries it. Callers take the answer into a
 // local: it is written to memory by this call, and a delivery that acts keeps its own in registers. (Held, and more needed with what is
 // missing, the callers tell themselves.)
 fn apply(
@@ -69,14 +90,16 @@ fn apply(
     v: u8,
     taken: u64,
     left: u64,
+    moves: bool,
 ) -> Delivery
-    requires { ⌜ (c < connectionLimit) × (outputMinimum ≤ length (now out)) × ((s : List ℕ) → slotIn (locksOf (now w) s .entries) c ≡ i) × (v ≡ 5 → ⊥) × (v ≡ 2 → ⊥) ⌝ }
-    ensures { λ r. ⌜ ((ro : Role) (x : Scan) → size x ≡ taken → leftover x ≡ left → Did (finish (view (memory (now (w .entry)) (now (strings .entry)))) (effect (verdictOf v) x ro (view (memory (now (w .entry)) (now (strings .entry)))) i c)) r (memory (now (w .entry)) (now (strings .entry))) (memory (now (w .exit)) (now (strings .exit))) (now (out .entry)) (now (out .exit))) ⌝ }
+    requires { ⌜ (c < connectionLimit) × (outputMinimum ≤ length (now out)) × ((s : List ℕ) → slotIn (locksOf (now w) s .entries) c ≡ i) × (v ≡ 5 → ⊥) × (v ≡ 2 → ⊥) × (moves ≡ true → i < sessionLimit) ⌝ }
+    ensures { λ r. ⌜ ((ro : Role) (x : Scan) → size x ≡ taken → leftover x ≡ left → numberTaken ro x (exchangeAt (restOf (now (w .entry))) i) ≡ (movedBy moves (exchangeAt (restOf (now (w .entry))) i)) .numberExpected → Did (finish (view (memory (now (w .entry)) (now (strings .entry)))) (effect (verdictOf v) x ro (view (memory (now (w .entry)) (now (strings .entry)))) i c)) r (memory (now (w .entry)) (now (strings .entry))) (memory (now (w .exit)) (now (strings .exit))) (now (out .entry)) (now (out .exit))) ⌝ }
 {
     if v >= FATAL_0 {
         return replies::send_fatal(w, strings, out, c, i, v - FATAL_0);
     }
     if v >= ERROR_0 {
+        numbering::count_refused(w, i, moves);
         return replies::send_error(w, out, c, v - ERROR_0, taken, left);
     }
     if v == CLOSED {
@@ -152,7 +175,8 @@ fn deliver_kind(
     if v == HELD {
         return answer::quiet(outcome::HELD, 0);
     }
-    let told = apply(w, strings, out, c, i, v, 16 + len, 0);
+    let moves = carries(w, role, i, kind, param);
+    let told = apply(w, strings, out, c, i, v, 16 + len, 0, moves);
     told
 }
 
@@ -172,14 +196,15 @@ fn deliver_plain(
     requires { ⌜ (c < connectionLimit) × (len ≤ payloadLimit) × (length (now payload) ≡ len) × (outputMinimum ≤ length (now out)) × ((s : List ℕ) → slotIn (locksOf (now w) s .entries) c ≡ i) × (i < sessionLimit) × (isCommand kind ≡ true) × ((s : List ℕ) → stands ((at (locksOf (now w) s .entries) i) .standing) ≡ false) × (differs (eqb code 1) ((exchangeAt (restOf (now w)) i) .rmtExpected) ≡ false) ⌝ }
     ensures { λ r. ⌜ Did (finish (view (memory (now (w .entry)) (now (strings .entry)))) (effect (judged r-synchronous (view (memory (now (w .entry)) (now (strings .entry)))) i (message kind code param len) (now (payload .entry))) (whole (message kind code param len) (now (payload .entry))) r-synchronous (view (memory (now (w .entry)) (now (strings .entry)))) i c)) r (memory (now (w .entry)) (now (strings .entry))) (memory (now (w .exit)) (now (strings .exit))) (now (out .entry)) (now (out .exit)) ⌝ }
 {
-    let v = on_synchronous::synchronous_verdict(w, i, kind, code, len);
+    let v = on_synchronous::synchronous_verdict(w, i, kind, code, param, len);
     if v == ACTS {
         return synchronous::act_plainly(w, i, kind, code, param, len);
     }
     if v == HELD {
         return answer::quiet(outcome::HELD, 0); // none of it is taken
     }
-    let told = apply(w, strings, out, c, i, v, 16 + len, 0);
+    let moves = carries(w, ON_SYNCHRONOUS, i, kind, param);
+    let told = apply(w, strings, out, c, i, v, 16 + len, 0, moves);
     told
 }
 
@@ -229,7 +254,7 @@ fn deliver_lock(
     if v == HELD {
         return answer::quiet(outcome::HELD, 0);
     }
-    let told = apply(w, strings, out, c, i, v, 16 + len, 0);
+    let told = apply(w, strings, out, c, i, v, 16 + len, 0, false);
     told
 }
 
@@ -255,7 +280,7 @@ fn deliver_status(
     if v == HELD {
         return answer::quiet(outcome::HELD, 0);
     }
-    let told = apply(w, strings, out, c, i, v, 16 + len, 0);
+    let told = apply(w, strings, out, c, i, v, 16 + len, 0, false);
     told
 }
 
@@ -412,7 +437,8 @@ fn deliver_message(
     if len > PAYLOAD {
         let place = search::place_of(w, c);
         let v = whole::long_verdict(place.role);
-        let told = apply(w, strings, out, c, place.slot, v, 16, len);
+        let moves = carries(w, place.role, place.slot, h.kind, h.param);
+        let told = apply(w, strings, out, c, place.slot, v, 16, len, moves);
         return told;
     }
     let end = 16 + len as usize;
@@ -422,7 +448,7 @@ fn deliver_message(
         if v == MORE {
             return answer::more_needed((end - bytes.len()) as u64);
         }
-        let told = apply(w, strings, out, c, place.slot, v, 0, 0);
+        let told = apply(w, strings, out, c, place.slot, v, 0, 0, false);
         return told;
     }
     let place = search::place_of(w, c);

@@ -13,7 +13,7 @@ use lib.Seq.{getD-set-same, getD-set-other}
 use borrow.Author.Tests.{eqb-true, eqb-false}
 use Rattle.model.specs.Sizes.{sessionLimit, connectionLimit, stringLimit}
 use Rattle.model.specs.State.{Entry, Waiting, Locks, Exchange, Connection, RemoteLocal, Rest, Server, blank, at, freshExchange, closedConnection, exchangeAt, connectionAt}
-use Rattle.model.specs.Exchange.{withAnswering, withClear, withClientSize, withMode, withCount, withExpectation}
+use Rattle.model.specs.Exchange.{withAnswering, withClear, withClientSize, withMode, withCount, withExpectation, withNumber}
 use Rattle.model.specs.Locks.{withOrder}
 use Rattle.state.specs.Table.{tab, tab-same, tab-set, getD-tab, apart}
 use Rattle.state.specs.Grid.{upd, upd-set, part, grid, grid-set, grid-off, getD-grid, word-of}
@@ -38,7 +38,8 @@ exchangeWith (suc (suc (suc zero))) v x = withClientSize v x
 exchangeWith (suc (suc (suc (suc zero)))) v x = withMode (flag v) x
 exchangeWith (suc (suc (suc (suc (suc zero))))) v x = withCount (v % 2 ^ 32) (x .anySent) x
 exchangeWith (suc (suc (suc (suc (suc (suc zero)))))) v x = withCount (x .count) (flag v) x
-exchangeWith (suc (suc (suc (suc (suc (suc (suc f))))))) v x = withExpectation (flag v) x
+exchangeWith (suc (suc (suc (suc (suc (suc (suc zero))))))) v x = withExpectation (flag v) x
+exchangeWith (suc (suc (suc (suc (suc (suc (suc (suc f)))))))) v x = withNumber (v % 2 ^ 32) x
 
 abbrev pub connectionWith : ℕ → ℕ → Connection → Connection
 connectionWith zero v x = record { isOpen = flag v; remainder = x .remainder }
@@ -226,6 +227,7 @@ exchange-row r f v h l =
       count = t 5 k % 2 ^ 32;
       anySent = flag (t 6 k);
       rmtExpected = flag (t 7 k);
+      numberExpected = t 8 k % 2 ^ 32;
     })
     ∙ by f l
   where
@@ -238,7 +240,8 @@ exchange-row r f v h l =
     by (suc (suc (suc (suc (suc zero))))) l = refl
     by (suc (suc (suc (suc (suc (suc zero)))))) l = refl
     by (suc (suc (suc (suc (suc (suc (suc zero))))))) l = refl
-    by (suc (suc (suc (suc (suc (suc (suc (suc f)))))))) l = absurd (omega arith)
+    by (suc (suc (suc (suc (suc (suc (suc (suc zero)))))))) l = refl
+    by (suc (suc (suc (suc (suc (suc (suc (suc (suc f))))))))) l = absurd (omega arith)
 
 connection-row : (r : List ℕ) (f v : ℕ) → length r ≡ CONNECTION → f < HOME → connectionOf (set r f v) ≡ connectionWith f v (connectionOf r)
 connection-row r f v h l =
@@ -377,7 +380,8 @@ module _ (w : List ℕ) (i : ℕ) where
       again (suc (suc (suc (suc (suc zero))))) l = refl
       again (suc (suc (suc (suc (suc (suc zero)))))) l = refl
       again (suc (suc (suc (suc (suc (suc (suc zero))))))) l = refl
-      again (suc (suc (suc (suc (suc (suc (suc (suc f)))))))) l = absurd (omega arith)
+      again (suc (suc (suc (suc (suc (suc (suc (suc zero)))))))) l = refl
+      again (suc (suc (suc (suc (suc (suc (suc (suc (suc f))))))))) l = absurd (omega arith)
 
   connection-at : i < connectionLimit → connectionAt (restOf w) i ≡ connectionOf (part w (CONNECTIONS + i * CONNECTION) CONNECTION)
   unfolding restOf

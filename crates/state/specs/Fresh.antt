@@ -25,14 +25,14 @@ rows (suc n) r = r ++ rows n r
 abbrev pub flagWord : Bool → ℕ
 flagWord b = cond b 1 0
 
--- vendor number; preference; status, last SessionID and the flags; exchanges (the client's size is 1,024, the count at its start);
+-- vendor number; preference; status, last SessionID and the flags; exchanges (the client's size is 1,024, the count and the number expected at their start);
 -- connections; clock, holder, sharers, key, count; entries (free); orders (no message acted); requests; queue
 abbrev pub freshWords : Making → List ℕ
 freshWords v =
     v .vendor
     ∷ flagWord (v .prefersOverlap)
     ∷ replicate 5 0
-    ++ rows sessionLimit (0 ∷ 0 ∷ 0 ∷ payloadLimit ∷ 0 ∷ start ∷ 0 ∷ 0 ∷ [])
+    ++ rows sessionLimit (0 ∷ 0 ∷ 0 ∷ payloadLimit ∷ 0 ∷ start ∷ 0 ∷ 0 ∷ start ∷ [])
     ++ replicate (connectionLimit * CONNECTION) 0
     ++ replicate 5 0
     ++ replicate (sessionLimit * ENTRY) 0
@@ -42,7 +42,7 @@ freshWords v =
 
 -- the word of an exchange's field
 abbrev pub freshField : ℕ → ℕ
-freshField f = cond (eqb f 3) payloadLimit (cond (eqb f 5) start 0)
+freshField f = cond (eqb f 3) payloadLimit (cond (eqb f 5) start (cond (eqb f 8) start 0))
 
 -- the word at a place
 unfoldable pub freshWord : ℕ → ℕ

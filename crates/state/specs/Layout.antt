@@ -30,13 +30,13 @@ abbrev pub REMOTE : ℕ
 REMOTE = 6
 
 -- a row for each slot: in device clear, what is asked (plus 1), message available, the client's size; 02, Q-1: in overlap mode, the number
--- of its next answer there, whether some answer was sent; 02, Q-5: whether an RMT is expected
+-- of its next answer there, whether some answer was sent; 02, Q-5: whether an RMT is expected; 02, Q-10: the number expected
 abbrev pub EXCHANGES : ℕ
 EXCHANGES = 7
 
 -- words a row
 abbrev pub EXCHANGE : ℕ
-EXCHANGE = 8
+EXCHANGE = 9
 
 -- a row for each connection: open, remainder to skip, its home (the slot and the place in the slot's row that have it; 0: none)
 abbrev pub CONNECTIONS : ℕ

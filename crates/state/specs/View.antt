@@ -104,6 +104,7 @@ exchangeFrom t =
       count = t 5 % 2 ^ 32;
       anySent = flag (t 6);
       rmtExpected = flag (t 7);
+      numberExpected = t 8 % 2 ^ 32;
     }
 
 abbrev pub exchangeOf : List ℕ → Exchange

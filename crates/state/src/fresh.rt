@@ -19,15 +19,16 @@ use crate::sizes::Words;
 use crate::tables::ANSWER_COUNT;
 use crate::tables::CLIENT_SIZE;
 use crate::tables::LAST_NUMBER;
+use crate::tables::NUMBER_EXPECTED;
 use crate::tables::PREFERENCE;
 use crate::tables::VENDOR;
 use crate::tables::word_of;
 use wire::message_id::MessageId;
 
-// The number of a session's first answer in overlap mode.
+// The number of a session's first answer in overlap mode, and of its first message.
 pub const START: u64 = MessageId::START as u64;
 
-// The word of a fresh exchange's field: the client's size, and the count at its start; all else is 0.
+// The word of a fresh exchange's field: the client's size, the count and the number expected at their start; all else is 0.
 fn fresh_field(f: usize) -> u64
     ensures { λ r. ⌜ r ≡ freshField f ⌝ }
 {
@@ -37,10 +38,13 @@ fn fresh_field(f: usize) -> u64
     if f == ANSWER_COUNT {
         return START;
     }
+    if f == NUMBER_EXPECTED {
+        return START;
+    }
     0
 }
 
-// The word of a fresh server at a place: an exchange has the client's size and the count, in no slot a message acted, all else is 0.
+// The word of a fresh server at a place: an exchange has the client's size, the count and the number expected, in no slot a message acted, all else is 0.
 fn fresh_word(at: usize) -> u64
     ensures { λ r. ⌜ r ≡ freshWord at ⌝ }
 {

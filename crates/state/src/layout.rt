@@ -5,10 +5,10 @@ use crate::sizes::SESSION_LIMIT;
 use crate::sizes::STRING_LIMIT;
 
 // a row for each slot: in device clear, what is asked (plus 1), message available, the client's size; in overlap mode, the number of its
-// next answer there, whether some answer was sent; whether an RMT is expected
+// next answer there, whether some answer was sent; whether an RMT is expected; the number expected
 pub const EXCHANGES: usize = 7;
 
-pub const EXCHANGE: usize = 8;
+pub const EXCHANGE: usize = 9;
 
 // a row for each connection: open, remainder to skip, its home (the slot and the place in the slot's row that have it; 0: none)
 pub const CONNECTIONS: usize = EXCHANGES + SESSION_LIMIT * EXCHANGE;

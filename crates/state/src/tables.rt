@@ -26,7 +26,8 @@ use crate::sizes::Words;
 use crate::words::store;
 
 // The fields of an exchange: in device clear, what is asked (plus 1), message available, the client's size; in overlap mode, the number of
-// its next answer there, whether some answer was sent; whether an RMT is expected.
+// its next answer there, whether some answer was sent; whether an RMT is expected; the number that its next Data, DataEND or Trigger must
+// carry.
 pub const IN_CLEAR: usize = 0;
 
 pub const ASKED: usize = 1;
@@ -42,6 +43,8 @@ pub const ANSWER_COUNT: usize = 5;
 pub const ANY_SENT: usize = 6;
 
 pub const RMT_EXPECTED: usize = 7;
+
+pub const NUMBER_EXPECTED: usize = 8;
 
 // The fields of a connection: open, remainder to skip.
 pub const IS_OPEN: usize = 0;
@@ -91,14 +94,14 @@ const CONNECTION_NUMBERS: u64 = sizes::CONNECTIONS;
 
 // What a session has asked and been sent.
 pub fn exchange(w: &Words, i: usize, f: usize) -> u64
-    requires { ⌜ (i < sessionLimit) × (f < 8) ⌝ }
+    requires { ⌜ (i < sessionLimit) × (f < 9) ⌝ }
     ensures { λ r. ⌜ (exchangeWith f r (exchangeAt (restOf (now (w .entry))) i) ≡ exchangeAt (restOf (now (w .entry))) i) × (r ≡ exchangeWord (now (w .entry)) i f) ⌝ }
 {
     w[EXCHANGES + i * EXCHANGE + f]
 }
 
 pub fn set_exchange(w: &mut Words, i: usize, f: usize, v: u64)
-    requires { ⌜ (i < sessionLimit) × (f < 8) ⌝ }
+    requires { ⌜ (i < sessionLimit) × (f < 9) ⌝ }
     ensures { λ _. ⌜ ((s : List ℕ) → view (memory (now (w .exit)) s) ≡ onExchange (view (memory (now (w .entry)) s)) i (exchangeWith f v)) ⌝ }
 {
     store(w, EXCHANGES + i * EXCHANGE + f, v);

@@ -20,7 +20,7 @@ returns-2 c = let a = c .before .before .args in
 
 returns-3 : tie.Need-returns-3
 returns-3 c = let a = c .before .before .before .args in
-    λ s r e. same-number _ _ _ (judged-synchronous (view (memory (a .w .now) s)) (a .i) (message (a .kind) (a .code) (a .param) (a .len)) (a .payload .now) r (e ∙ c .before .match .keys3)) (c .synchronous-verdict .ensures s (a .payload .now) (a .param))
+    λ s r e. same-number _ _ _ (judged-synchronous (view (memory (a .w .now) s)) (a .i) (message (a .kind) (a .code) (a .param) (a .len)) (a .payload .now) r (e ∙ c .before .match .keys3)) (c .synchronous-verdict .ensures s (a .payload .now))
 
 returns-4 : tie.Need-returns-4
 returns-4 c = let a = c .before .before .before .args in

@@ -15,23 +15,26 @@ use Rattle.effects.proofs.synchronous.act_plainly.Statement.{statement}
 use Rattle.effects.proofs.synchronous.act_plainly.Tie as tie
 
 note-message-requires : tie.Need-note-message-requires
-note-message-requires c κs = let p = c .before .before .before .before .before .before .before in
+note-message-requires c κs = let p = c .before .before .before .before .before .before .before .before .before in
     let f : Server → Bool = λ d. stands ((at (d .locks .entries) (p .args .i)) .standing) in
-    (search needs, λ s. ap f (c .before .note-command .ensures s) ∙ ap f (c .before .before .before .set-exchange .ensures s) ∙ p .pre .3 s)
+    (search needs, λ s. ap f (c .before .step-number .ensures s) ∙ ap f (c .before .before .before .note-command .ensures s) ∙ ap f (c .before .before .before .before .before .set-exchange .ensures s) ∙ p .pre .3 s)
 
 returns : tie.Need-returns
-returns c = let p = c .before .before .before .before .before .before .before .before .before in
+returns c = let p = c .before .before .before .before .before .before .before .before .before .before .before in
     let a = p .args in
     let h : Header = record { kind = a .kind; code = a .code; param = a .param; len = a .len } in
+    let n = c .before .before .before .before .before .before .before .before .before .entry in
     λ s q out k. let d : Server = view (memory (a .w .now) s) in
     did-plan d (acts r-synchronous d (a .i) k h q) _ _ _ _ _ _ (plan-command d (a .i) k h q (p .pre .2))
-    (did-tested (memory (a .w .now) s) _ _ _ out _ _ (a .i) (c .before .before .before .before .before .before .before .entry .result) (a .len) 0 0 (tested (a .code)) (commandNotes (a .kind) (a .code) (a .param)) _ (command (a .i) (a .param)) _
-    (c .acted .ensures) (c .before .before .before .before .before .before .before .entry .ensures .0 s) (search needs) (tested-in-turn d (a .i) (a .param) (a .code) _ out (p .pre .4) (c .before .before .before .before .before .set-exchange .ensures s)) (c .before .before .before .note-command .ensures s) (c .before .note-message .ensures s out))
+    (did-tested (memory (a .w .now) s) _ _ _ _ out _ _ (a .i) (n .result) (a .len) 0 0 (tested (a .code)) (commandNotes (a .kind) (a .code) (a .param)) _ (command (a .i) (a .param)) _
+    (c .acted .ensures) (n .ensures .0 s) (search needs) (tested-in-turn d (a .i) (a .param) (a .code) _ out (p .pre .4) (c .before .before .before .before .before .before .before .set-exchange .ensures s))
+    (c .before .before .before .before .before .note-command .ensures s) (c .before .before .before .step-number .ensures s) (c .before .note-message .ensures s out))
 
 pub act-plainly-spec : {M : Type 1} → statement M
 act-plainly-spec =
     tie.close
     (tie.spec
+    (λ c κs. search needs)
     (λ c κs. search needs)
     (λ c κs. search needs)
     (λ c κs. search needs)

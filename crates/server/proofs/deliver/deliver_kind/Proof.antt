@@ -4,9 +4,11 @@ use native.Mathlib.Omega.{arith}
 use Rattle.checks.specs.Numbers.{message, verdictOf}
 use Rattle.model.specs.Checks.{judged}
 use Rattle.model.specs.Scan.{Scan.whole}
-use Rattle.state.specs.View.{memory, view}
+use Rattle.model.specs.State.{exchangeAt}
+use Rattle.state.specs.View.{memory, restOf, view}
 use Rattle.effects.specs.Did.{did-nothing, numbersOf}
 use Rattle.model.specs.Interface.{Reply.took, Outcome.held}
+use Rattle.server.specs.Numbering.{moved-whole}
 use Rattle.server.specs.Verdicts.{acts-done, by-verdict, held-done}
 use borrow.Author.Needs.{needs}
 use Rattle.server.proofs.deliver.deliver_kind.Statement.{statement}
@@ -40,14 +42,17 @@ returns-2 c =
     λ ro e. by-verdict d (a .c) (a .i) x ro _ _ _ _ _ (judged ro d (a .i) h (a .payload .now)) (verdictOf (v .result)) (v .ensures (a .strings .now) ro e .case)
     (held-done d (a .c) (a .i) x ro _ _ _ _ _ (v .result) (c .before .if2 .taken) (did-nothing 0 (took held 0 0) _ _ _ (ap numbersOf (c .quiet .ensures))))
 
+carries-requires : tie.Need-carries-requires
+carries-requires c κs = λ e. c .before .before .before .before .before .before .before .pre .5 (λ z. omega arith)
+
 returns-3 : tie.Need-returns-3
 returns-3 c =
-    let a = c .before .before .before .before .before .before .before .before .before .before .before .before .args in
-    let v = c .before .before .before .before .before .before .before .before .whole-verdict in
+    let a = c .before .before .before .before .before .before .before .before .before .before .before .before .before .before .args in
+    let v = c .before .before .before .before .before .before .before .before .before .before .whole-verdict in
     let d = view (memory (a .w .now) (a .strings .now)) in
     let h = message (a .kind) (a .code) (a .param) (a .len) in
     λ ro e. by-verdict d (a .c) (a .i) (whole h (a .payload .now)) ro _ _ _ _ _ (judged ro d (a .i) h (a .payload .now)) (verdictOf (v .result))
-    (v .ensures (a .strings .now) ro e .case) (c .before .before .apply .ensures ro (whole h (a .payload .now)) refl refl)
+    (v .ensures (a .strings .now) ro e .case) (c .before .before .apply .ensures ro (whole h (a .payload .now)) refl refl (moved-whole h (exchangeAt (restOf (a .w .now)) (a .i)) ro (a .payload .now) _ (c .before .before .before .before .before .before .carries .ensures .1 ro (a .code) (a .len) e)))
 
 pub deliver-kind-spec : {M : Type 1} → statement M
 deliver-kind-spec =
@@ -59,6 +64,7 @@ deliver-kind-spec =
     returns
     (λ c κs. search needs)
     returns-2
+    carries-requires
     (λ c. search needs)
     (λ c κs. search needs)
     (λ c. search needs)

@@ -43,7 +43,7 @@ returns-3 c =
     let h = message 4 (a .code) (a .param) (a .len) in
     let e : judged r-asynchronous d (a .i) h (a .payload .now) ≡ verdictOf (v .result) = judged-asynchronous d (a .i) h (a .payload .now) r-asynchronous (λ q. let z : ⊥ = omega arith in z) (λ q. let z : ⊥ = omega arith in z) (λ q. let z : ⊥ = omega arith in z) ∙ v .ensures (a .payload .now) (a .param) .case in
     by-verdict d (a .c) (a .i) (whole h (a .payload .now)) r-asynchronous _ _ _ _ _ (judged r-asynchronous d (a .i) h (a .payload .now)) (verdictOf (v .result)) e
-    (c .before .before .apply .ensures r-asynchronous (whole h (a .payload .now)) refl refl)
+    (c .before .before .apply .ensures r-asynchronous (whole h (a .payload .now)) refl refl refl)
 
 pub deliver-lock-spec : {M : Type 1} → statement M
 deliver-lock-spec =
