@@ -34,6 +34,12 @@
  * answered more needed or held, and the two questions (hislip_deadline, hislip_client_size) write nothing
  * at all.
  *
+ * MESSAGE NUMBERS. A client counts its Data, DataEND and Trigger from ffffff00 hex by two, wrapping, from
+ * its opening and again from each AsyncDeviceClear. A message that carries another number than the one
+ * expected is answered Error 0 and does not act; the expectation stays, so that a client that has lost count
+ * gets on by a device clear. A message that is refused for another cause (too large, its code, its payload)
+ * still counts, if it carries the number expected; one that is held is tested when it is taken.
+ *
  * RELEASES. A lock release (AsyncLock with code 0) names the last Data, DataEND or Trigger that its
  * client has sent, or fffffefe hex if it has sent none since it opened or since its last device clear.
  * It acts, and is answered, when that message has acted. A release that names any other number is
@@ -85,9 +91,9 @@ extern "C" {
 /* The version of this interface. A change of the first number, or below 1.0 of the second, may ask
  * for changes in the host. */
 #define HISLIP_VERSION_MAJOR 0
-#define HISLIP_VERSION_MINOR 4
+#define HISLIP_VERSION_MINOR 5
 #define HISLIP_VERSION_PATCH 0
-#define HISLIP_VERSION "0.4.0"
+#define HISLIP_VERSION "0.5.0"
 
 /* Compilers that know these words warn; the others pass over them.
  * HISLIP_NOT_NULL: no pointer is null, see WHAT THE HOST OWES.
@@ -102,7 +108,7 @@ extern "C" {
 #endif
 
 /* Sizes. */
-#define HISLIP_WORDS 716          /* uint64_t to lend as `words`: what hislip_words() tells         */
+#define HISLIP_WORDS 748          /* uint64_t to lend as `words`: what hislip_words() tells         */
 #define HISLIP_STRING_BYTES 8448  /* bytes to lend as `strings`: what hislip_string_bytes() tells   */
 #define HISLIP_SESSIONS 32        /* live sessions, half-open ones included                         */
 #define HISLIP_CONNECTIONS 64     /* connections are numbered 0 to 63                               */

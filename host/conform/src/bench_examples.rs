@@ -213,6 +213,36 @@ fn overlap() -> Conversation {
     }
 }
 
+/// too large messages count, but not in a clear; a number repeated is Error 0.
+fn numbers() -> Conversation {
+    let (acted, error) = (Reply::ACTED_ON, Reply::ERROR_SENT);
+    let data = |number| deliver(0, message(6, 0, number, b"x"));
+    let too_large = |number| deliver(0, header(6, 0, number, 1025));
+    let payload = || deliver(0, vec![0; 1025]);
+    let told = |code| frame(0, 3, code, 0);
+    let done = deliver(0, header(8, 0, 0, 0));
+    Conversation {
+        fresh: BENCH,
+        before: [session(0, 1, 1), vec![deliver(1, header(19, 0, 0, 0))]].concat(),
+        examples: vec![
+            example(
+                "too large in a clear",
+                too_large(0xffff_ff00),
+                error,
+                told(4),
+            ),
+            example("its payload", payload(), Reply::SKIPPED, vec![]),
+            example("the clear ends", done, acted, frame(0, 9, 0, 0)),
+            example("the first number", data(0xffff_ff00), acted, vec![]),
+            example("repeated", data(0xffff_ff00), error, told(0)),
+            example("one missed", data(0xffff_ff04), error, told(0)),
+            example("too large in step", too_large(0xffff_ff02), error, told(4)),
+            example("its payload too", payload(), Reply::SKIPPED, vec![]),
+            example("the third", data(0xffff_ff04), acted, vec![]),
+        ],
+    }
+}
+
 /// AsyncInterrupted and Interrupted on connections 1 and 0.
 fn interrupted(number: u32) -> Vec<u8> {
     [frame(1, 14, 0, number), frame(0, 13, 0, number)].concat()
@@ -272,6 +302,7 @@ pub fn check(pair: Pair) -> Result<usize, Failed> {
         waiting(),
         status(),
         overlap(),
+        numbers(),
     ];
     let mut count = 0;
     for conversation in all.into_iter().chain(figures()) {

@@ -25,6 +25,9 @@ const LARGE: [u64; 8] = [
     u64::MAX,
 ];
 
+/// So many unread bytes, and no more is sent.
+const MOST_UNREAD: usize = 3000;
+
 /// How likely each kind of event is.
 #[derive(Clone, Debug)]
 struct Temper {
@@ -169,10 +172,35 @@ impl Author {
     /// The program sends; the host shows all that is unread, or a part of it.
     fn send(&mut self, connection: u32, bytes: &[u8]) -> Event {
         let wire = &mut self.world.wires[connection as usize];
-        if wire.unread.len() < 3000 {
+        if wire.unread.len() < MOST_UNREAD {
             wire.unread.extend_from_slice(bytes);
+            self.sent(connection, bytes);
         }
         self.show(connection)
+    }
+
+    /// The program counts what it has sent.
+    fn sent(&mut self, connection: u32, bytes: &[u8]) {
+        let role = self.world.wires[connection as usize].role;
+        let (Role::Synchronous(session), &[_, _, 6 | 7 | 12, _, p0, p1, p2, p3, ..]) =
+            (role, bytes)
+        else {
+            return;
+        };
+        self.world
+            .sent(session, u32::from_be_bytes([p0, p1, p2, p3]));
+    }
+
+    /// The number of a program's next message: mostly the right one, else one repeated, one missed or
+    /// any.
+    fn number(&mut self, known: &Known) -> u32 {
+        let right = self.world.fall_in(known.number);
+        if self.numbers.permille(950) {
+            return right;
+        }
+        let any = self.numbers.any() as u32;
+        let wrong = [right.wrapping_sub(2), right.wrapping_add(2), right ^ 1, any];
+        self.numbers.pick(&wrong)
     }
 
     fn show(&mut self, connection: u32) -> Event {
@@ -258,7 +286,10 @@ impl Author {
             return self.towards_a_session();
         };
         let connection = known.synchronous;
-        let number = self.world.next_number(known.number);
+        if self.world.wires[connection as usize].unread.len() >= MOST_UNREAD {
+            return self.show(connection);
+        }
+        let number = self.number(&known);
         if self.numbers.permille(self.temper.rubbish) {
             return self.rubbish(connection, number);
         }

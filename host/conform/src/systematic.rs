@@ -36,6 +36,10 @@ const LAST: u32 = CONNECTIONS as u32 - 1;
 /// One that is not open, but with all sessions live.
 const FREE: u32 = LAST - 2;
 
+/// A program's first two MessageIDs.
+const ONE: u32 = 0xffff_ff00;
+const TWO: u32 = 0xffff_ff02;
+
 /// How much of the payload is in the delivery.
 #[derive(Clone, Copy)]
 enum Shown {
@@ -111,12 +115,13 @@ fn opening() -> Vec<State> {
 }
 
 fn plain() -> Vec<State> {
-    let answered = two(&[deliver(0, message(7, 0, 5, b"?")), answer(1, b"x", 0)]);
+    let answered = two(&[deliver(0, message(7, 0, ONE, b"?")), answer(1, b"x", 0)]);
     vec![
-        state("synchronous", 0, 7, two(&[])),
+        state("synchronous", 0, ONE, two(&[])),
+        state("synchronous, out of step", 0, 7, two(&[])),
         state("asynchronous", 1, 7, two(&[])),
         state("asynchronous, timeout 0", 1, 0, two(&[])),
-        state("synchronous, answered", 0, 7, answered.clone()),
+        state("synchronous, answered", 0, TWO, answered.clone()),
         state("asynchronous, answered", 1, 7, answered),
     ]
 }
@@ -125,9 +130,14 @@ fn clearing() -> Vec<State> {
     let clear = deliver(1, header(19, 0, 0, 0));
     let locked = two(&[lock(3, b"", 0), lock(1, b"k", 50), clear.clone()]);
     vec![
-        state("synchronous in a clear", 0, 7, two(slice::from_ref(&clear))),
+        state(
+            "synchronous in a clear",
+            0,
+            ONE,
+            two(slice::from_ref(&clear)),
+        ),
         state("asynchronous in a clear", 1, 7, two(&[clear])),
-        state("in a clear without access", 0, 7, locked),
+        state("in a clear without access", 0, ONE, locked),
     ]
 }
 
@@ -137,38 +147,48 @@ fn locking() -> Vec<State> {
     let waits = two(&[lock(3, b"", 0), lock(1, b"k", 50)]);
     let holds = two(&[lock(1, b"k", 0), lock(1, b"", 0), lock(3, b"k", 50)]);
     vec![
-        state("synchronous without access", 0, 7, exclusive),
-        state("synchronous, others shared", 0, 7, shared.clone()),
+        state("synchronous without access", 0, ONE, exclusive),
+        state("synchronous, others shared", 0, ONE, shared.clone()),
         state("asynchronous, others shared", 1, 7, shared),
         state("asynchronous, waiting", 1, 7, waits),
-        state("synchronous, another waits", 0, 7, holds.clone()),
+        state("synchronous, another waits", 0, ONE, holds.clone()),
         state("asynchronous, another waits", 1, 7, holds),
     ]
 }
 
-/// A release stands, or may act at once. The messages of these states have number 7.
+/// A release stands, or may act at once. The messages of these states are in step.
 fn releasing() -> Vec<State> {
     let both = [lock(1, b"k", 0), lock(1, b"", 0)];
     let after = |number| [&both[..], &[release_after(1, number)]].concat();
-    let wanted = [after(7), vec![lock(3, b"k", 50)]].concat();
+    let wanted = [after(ONE), vec![lock(3, b"k", 50)]].concat();
     let beside = [
         &[lock(1, b"k", 0), lock(3, b"k", 0), lock(3, b"", 0)],
-        &[lock(1, b"", 50), release_after(1, 7)][..],
+        &[lock(1, b"", 50), release_after(1, ONE)][..],
     ]
     .concat();
     let clear = deliver(1, header(19, 0, 0, 0));
     let in_clear = [&[clear][..], &wanted].concat();
-    let acted = [&[deliver(0, message(6, 0, 7, b"x"))], &both[..]].concat();
+    let acted = [&[deliver(0, message(6, 0, ONE, b"x"))], &both[..]].concat();
     vec![
-        state("synchronous, a release stands for 7", 0, 7, two(&wanted)),
-        state("synchronous, a release stands for 9", 0, 7, two(&after(9))),
+        state("synchronous, a release stands for it", 0, ONE, two(&wanted)),
+        state(
+            "synchronous, a release stands for the next",
+            0,
+            ONE,
+            two(&after(TWO)),
+        ),
         state("asynchronous, a release stands", 1, 7, two(&wanted)),
         state("a release stands beside a request", 1, 7, two(&beside)),
-        state("held, a release stands for 7", 0, 7, two(&beside)),
-        state("in a clear, a release stands", 0, 7, two(&in_clear)),
+        state("held, a release stands for it", 0, ONE, two(&beside)),
+        state("in a clear, a release stands", 0, ONE, two(&in_clear)),
         state("clearing again, a release stands", 1, 7, two(&in_clear)),
-        state("asynchronous, 7 has acted", 1, 7, two(&acted)),
-        state("asynchronous, 7 and no older has acted", 1, 5, two(&acted)),
+        state("asynchronous, its message has acted", 1, ONE, two(&acted)),
+        state(
+            "asynchronous, another message has acted",
+            1,
+            TWO,
+            two(&acted),
+        ),
     ]
 }
 
@@ -181,7 +201,7 @@ fn overlapping() -> Vec<State> {
     let clearing = [&answered[..], &[clear]].concat();
     let number = 0xffff_ff02;
     let mut states = vec![
-        state("synchronous, overlap", 0, number, two(&asked)),
+        state("synchronous, overlap", 0, ONE, two(&asked)),
         state("asynchronous, overlap", 1, number, two(&asked)),
         state("overlap, all delivered", 1, number, two(&answered)),
         state("overlap, one not delivered", 1, 0xffff_ff00, two(&answered)),
@@ -210,7 +230,7 @@ fn remaining() -> Vec<State> {
     let few = two(&[skip(0, 1025), deliver(0, vec![0; 985])]);
     let endless = two(&[skip(1, u64::MAX)]);
     vec![
-        state("remainder of 40", 0, 7, few),
+        state("remainder of 40", 0, ONE, few),
         state("remainder near 2^64", 1, 7, endless),
     ]
 }
@@ -232,15 +252,16 @@ fn case(state: &State, kind: u8, code: u8, length: u64, shown: Shown) -> Event {
 fn probes(state: &State) -> Vec<Event> {
     vec![
         deliver(state.connection, header(3, 0, 0, 0)),
-        deliver(0, message(7, 1, 8, b"probe")),
-        deliver(2, message(6, 0, 8, b"probe")),
+        deliver(0, message(7, 1, ONE, b"probe")),
+        deliver(0, message(7, 0, TWO, b"probe")),
+        deliver(2, message(6, 0, ONE, b"probe")),
         deliver(1, header(21, 0, 0xffff_ff00, 0)),
         deliver(3, header(24, 0, 0, 0)),
         answer(1, b"1234567890", 1),
         answer(1, b"", 1),
         clock(7),
-        release_after(1, 8),
-        release_after(3, 8),
+        release_after(1, TWO),
+        release_after(3, ONE),
         release(3),
         deliver(1, header(19, 0, 0, 0)),
         cut(state.connection),

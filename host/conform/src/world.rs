@@ -30,6 +30,8 @@ pub struct Known {
     pub asynchronous: Option<u32>,
     /// MessageID of the program's next message.
     pub next: u32,
+    /// MessageID that the server expects.
+    pub expected: u32,
     /// MessageID of its last message that acted.
     pub last: u32,
     /// A question has gone to the instrument.
@@ -98,17 +100,24 @@ impl World {
         self.sessions.iter().filter(one).copied().collect()
     }
 
-    /// The next MessageID of a session, and the one after it for the next time.
-    pub fn next_number(&mut self, number: u16) -> u32 {
-        let known = self
-            .sessions
-            .iter_mut()
-            .find(|known| known.number == number);
+    /// A program whose bytes are all taken begins again where the server is.
+    pub fn fall_in(&mut self, number: u16) -> u32 {
+        let wires = &self.wires;
+        let mut sessions = self.sessions.iter_mut();
+        let known = sessions.find(|known| known.number == number);
         known.map_or(0, |known| {
-            let next = known.next;
-            known.next = next.wrapping_add(2);
-            next
+            if wires[known.synchronous as usize].unread.is_empty() {
+                known.next = known.expected;
+            }
+            known.next
         })
+    }
+
+    /// A session's program has sent the message of this number.
+    pub fn sent(&mut self, number: u16, message_id: u32) {
+        if let Some(known) = self.known(number.into()) {
+            known.next = message_id.wrapping_add(2);
+        }
     }
 
     /// What an event did, by its answer. `own` says that the bytes shown were the unread ones.
@@ -125,6 +134,9 @@ impl World {
             } => {
                 if own {
                     self.took(*connection, reply.taken as usize);
+                }
+                if matches!(reply.outcome, Reply::ACTED_ON | Reply::ERROR_SENT) {
+                    self.count(*connection, bytes);
                 }
                 match (reply.outcome, bytes.get(2)) {
                     (Reply::CLOSED, _) => self.close(*connection),
@@ -148,6 +160,19 @@ impl World {
     fn known(&mut self, number: u32) -> Option<&mut Known> {
         let mut sessions = self.sessions.iter_mut();
         sessions.find(|known| u32::from(known.number) == number)
+    }
+
+    /// Data, DataEND or Trigger was taken: the count moves on if it is in step.
+    fn count(&mut self, connection: u32, bytes: &[u8]) {
+        let &[_, _, 6 | 7 | 12, _, p0, p1, p2, p3, ..] = bytes else {
+            return;
+        };
+        let number = u32::from_be_bytes([p0, p1, p2, p3]);
+        let mut sessions = self.sessions.iter_mut();
+        let known = sessions.find(|known| known.synchronous == connection);
+        if let Some(known) = known.filter(|known| !known.in_clear && known.expected == number) {
+            known.expected = number.wrapping_add(2);
+        }
     }
 
     fn acted_on(&mut self, number: u16, bytes: &[u8]) {
@@ -175,6 +200,7 @@ impl World {
                 known.in_clear = true;
                 known.rmt_expected = false;
                 (known.next, known.last, known.count) = (FIRST, BEFORE_FIRST, FIRST);
+                known.expected = FIRST;
             }
             _ => {}
         }
@@ -199,6 +225,7 @@ impl World {
             synchronous: connection,
             asynchronous: None,
             next: FIRST,
+            expected: FIRST,
             last: BEFORE_FIRST,
             asked: false,
             wants: false,

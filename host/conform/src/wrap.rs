@@ -5,7 +5,9 @@ use reference::Event;
 
 use crate::bout::{Bout, Difference, Failed, Pair, BENCH};
 use crate::hostile::{play, Author};
-use crate::messages::{answer, clock, cut, deliver, half_open, lock, message, release, session};
+use crate::messages::{
+    answer, clock, cut, deliver, half_open, lock, message, message_id, release, session,
+};
 
 /// Random lists that begin just before the end of the numbers.
 const LISTS: u64 = 60;
@@ -30,7 +32,7 @@ fn around_the_end() -> Vec<Event> {
     let numbers = (65_531..=65_535).chain(4..=8);
     for (connection, number) in (0..).zip(numbers) {
         list.extend(session(connection, connection + 10, number));
-        list.push(deliver(connection, message(7, 0, number, b"?")));
+        list.push(deliver(connection, message(7, 0, message_id(0), b"?")));
         list.push(lock(connection + 10, b"wrap", 100));
     }
     for number in [65_530, 65_531, 65_535, 65_536, 0, 1, 2, 3, 4, 8, 9] {

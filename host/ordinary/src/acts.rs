@@ -121,6 +121,7 @@ impl Server {
         session.last = None;
         (session.count, session.sent) = (FIRST, None);
         session.rmt_expected = false;
+        session.expected = FIRST;
         let released = self.end_standing(message.slot, frames);
         let prefers = self.prefers as u8;
         let acknowledged = kind::DEVICE_CLEAR_ACKNOWLEDGE;

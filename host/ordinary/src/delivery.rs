@@ -86,6 +86,10 @@ impl Server {
         // The length may be near 2^64: nothing is added to it before it is compared.
         if length > PAYLOAD as u64 {
             here.skip = length;
+            if role == Role::Synchronous && is_counted(kind) {
+                let session = &mut self.sessions[usize::from(slot)];
+                let _ = !session.in_clear && session.in_step(parameter);
+            }
             return send_error(connection, error::TOO_LARGE, HEADER, out);
         }
         let Some(payload) = rest.get(..length as usize) else {
@@ -126,6 +130,9 @@ impl Server {
             kind::DATA | kind::DATA_END | kind::TRIGGER => {
                 if !self.locks.access(message.slot) {
                     return held();
+                }
+                if !session.in_step(message.parameter) {
+                    return message.error(error::UNIDENTIFIED, out);
                 }
                 if message.code > 1 {
                     return message.error(error::CONTROL_CODE, out);
@@ -254,6 +261,11 @@ impl Session {
         self.last = Some(message.parameter);
         matches!(self.standing, Some(named) if named.number == message.parameter)
     }
+}
+
+/// Messages that carry a program's count.
+fn is_counted(kind: u8) -> bool {
+    matches!(kind, kind::DATA | kind::DATA_END | kind::TRIGGER)
 }
 
 #[cold]

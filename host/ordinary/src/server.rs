@@ -62,6 +62,8 @@ pub struct Session {
     pub sent: Option<u32>,
     /// Synchronized mode: an END was sent, and no message has told yet that it was delivered.
     pub rmt_expected: bool,
+    /// MessageID that the next Data, DataEND or Trigger must carry.
+    pub expected: u32,
     pub client_size: u64,
 }
 
@@ -81,6 +83,7 @@ const NOBODY: Session = Session {
     count: FIRST,
     sent: None,
     rmt_expected: false,
+    expected: FIRST,
     client_size: PAYLOAD as u64,
 };
 
@@ -101,6 +104,15 @@ impl Session {
             Mode::Overlap if self.asynchronous.is_none() || self.in_clear => None,
             Mode::Overlap => Some(self.count),
         }
+    }
+
+    /// Moves on if this is the number expected; otherwise false.
+    pub fn in_step(&mut self, number: u32) -> bool {
+        let right = number == self.expected;
+        if right {
+            self.expected = number.wrapping_add(2);
+        }
+        right
     }
 
     /// An answer of this number is sent, with END or without.

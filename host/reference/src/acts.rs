@@ -22,7 +22,7 @@ impl Server {
             .expect("a connection's slot is live")
     }
 
-    fn session_mut(&mut self, slot: u8) -> &mut Session {
+    pub(crate) fn session_mut(&mut self, slot: u8) -> &mut Session {
         self.sessions[usize::from(slot)]
             .as_mut()
             .expect("a connection's slot is live")
@@ -52,6 +52,7 @@ impl Server {
             count: FIRST,
             sent: None,
             rmt_expected: false,
+            expected: FIRST,
         });
         self.connections[usize::from(connection)].role = Role::Synchronous(slot);
         let version = VERSION.min((parameter >> 16) as u16);
@@ -211,6 +212,7 @@ impl Server {
         session.count = FIRST;
         session.sent = None;
         session.rmt_expected = false;
+        session.expected = FIRST;
         let standing = session.standing.take();
         if let Some(standing) = standing {
             self.release(message.slot, standing.lock, frames);

@@ -102,7 +102,7 @@ impl Server {
         }
     }
 
-    /// Checks 4 to 6, then the rest by channel.
+    /// Checks 4 to 6, then the rest by channel. A too large message moves the count too, if it is in step.
     fn check_established(
         &mut self,
         channel: Channel,
@@ -116,6 +116,10 @@ impl Server {
             // Compared before anything is added to it: the length may be near 2^64.
             self.connections[usize::from(connection)].skip = header.length;
             frames.send(connection, kind::ERROR, error::TOO_LARGE, 0);
+            let session = self.session_mut(slot);
+            if channel == Channel::Synchronous && is_counted(header.kind) && !session.in_clear {
+                session.in_step(header.parameter);
+            }
             return Delivery::of(Outcome::ErrorSent, 0, HEADER);
         }
         let Some(payload) = bytes.get(HEADER..HEADER + header.length as usize) else {
@@ -137,7 +141,7 @@ impl Server {
         }
     }
 
-    /// Checks 7 to 11 on the synchronous channel.
+    /// Checks 7 to 11 on the synchronous channel, with Q-10's between 9 and 10.
     fn check_synchronous(&mut self, message: &Message, frames: &mut Frames) -> Delivery {
         let (kind, code) = (message.header.kind, message.header.code);
         let in_clear = self.session(message.slot).in_clear;
@@ -160,6 +164,9 @@ impl Server {
             _ => {
                 if !self.locks.access(message.slot) {
                     return Delivery::HELD;
+                }
+                if !self.in_step(message) {
+                    return error_sent(message, error::UNIDENTIFIED, frames);
                 }
                 if code > 1 {
                     return error_sent(message, error::CONTROL_CODE, frames);
@@ -200,6 +207,12 @@ impl Server {
         }
         self.act_asynchronous(message, frames);
         self.acted_on(message)
+    }
+
+    /// the number is the one expected, which then moves on.
+    fn in_step(&mut self, message: &Message) -> bool {
+        let session = self.session_mut(message.slot);
+        session.in_step(message.header.parameter)
     }
 
     fn acted_on(&self, message: &Message) -> Delivery {
@@ -243,6 +256,11 @@ impl Server {
             .ok_or(fatal::TOO_MANY_CLIENTS)?;
         Ok(self.start_session(connection, slot as u8, parameter, frames))
     }
+}
+
+/// Messages that carry a program's count.
+fn is_counted(kind: u8) -> bool {
+    matches!(kind, kind::DATA | kind::DATA_END | kind::TRIGGER)
 }
 
 fn class_error(channel: Channel, kind: u8) -> Option<u8> {

@@ -57,6 +57,8 @@ pub(crate) struct Session {
     pub sent: Option<u32>,
     /// Synchronized mode: an END was sent, and no message has told yet that it was delivered.
     pub rmt_expected: bool,
+    /// MessageID that the next Data, DataEND or Trigger must carry.
+    pub expected: u32,
 }
 
 impl Session {
@@ -84,6 +86,15 @@ impl Session {
                 self.count = self.count.wrapping_add(2);
             }
         }
+    }
+
+    /// Moves on if this is the number expected; otherwise false.
+    pub fn in_step(&mut self, number: u32) -> bool {
+        let right = number == self.expected;
+        if right {
+            self.expected = self.expected.wrapping_add(2);
+        }
+        right
     }
 
     /// The interrupted error: what was asked is forgotten, and the client is told on both channels which

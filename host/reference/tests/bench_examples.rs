@@ -52,7 +52,7 @@ fn wrong_prologue() {
 #[test]
 fn length_1024_is_accepted_and_1025_is_error_4() {
     let (mut bench, [a]) = Bench::with();
-    let longest = message(DATA_END, 0, 0, &[7; 1024]);
+    let longest = message(DATA_END, 0, 0xffff_ff00, &[7; 1024]);
     assert_eq!(bench.deliver(a.sync, &longest), acted(a, 1040, &[]));
     let longer = message(DATA_END, 0, 0, &[7; 1025]);
     assert_eq!(bench.deliver(a.sync, &longer), error(a.sync, 4, 16));
@@ -95,7 +95,7 @@ fn status_41_with_an_answer_sent_is_51() {
     let (mut bench, [a]) = Bench::with();
     bench.server.status(0x41);
     assert_eq!(bench.status_of(a, 0), 0x41);
-    bench.ask(a, 0xffff_ff00);
+    bench.ask(a);
     bench.answer(1, b"1.0", true).expect("asked");
     assert_eq!(bench.status_of(a, 0), 0x51);
 }

@@ -46,7 +46,7 @@ fn item_02_common_prefix_of_all_deliveries() {
 fn item_02_bytes_after_the_remainder_are_not_read_in_the_same_call() {
     let (mut bench, [a]) = Bench::with();
     bench.deliver(a.sync, &header(DATA, 0, 0, 1025));
-    let rest = [vec![0; 1025], message(DATA, 0, 0, b"")].concat();
+    let rest = [vec![0; 1025], message(DATA, 0, FIRST, b"")].concat();
     assert_eq!(bench.deliver(a.sync, &rest), skipped(1025));
     assert_eq!(bench.deliver(a.sync, &rest[1025..]), acted(a, 16, &[]));
 }
@@ -503,7 +503,7 @@ fn item_31_cutting_a_half_open_session_frees_its_place() {
 fn item_32_which_messages_carry_rmt_delivered() {
     let (mut bench, [a, b]) = Bench::with();
     let mut available_after = |kind: u8, code: u8, payload: &[u8]| {
-        bench.ask(a, 2);
+        bench.ask(a);
         bench.answer(1, b"", false).expect("asked");
         let to = if matches!(kind, 6 | 7 | 12) {
             a.sync
@@ -524,7 +524,9 @@ fn item_32_which_messages_carry_rmt_delivered() {
     bench.deliver(a.sync, &header(6, 1, 0, 1025));
     assert_eq!(bench.status_of(a, 0), 16, "too large");
     bench.deliver(a.sync, &[0; 1025]);
-    bench.release_after(a, 2);
+    // The last message that acted: a Trigger with payload came after it.
+    let last = bench.next(a).wrapping_sub(4);
+    bench.release_after(a, last);
     bench.lock(b, b"", 0);
     assert_eq!(bench.send(a.sync, 6, 1, b""), held());
     assert_eq!(bench.status_of(a, 0), 16, "held");
@@ -547,9 +549,9 @@ fn item_34_the_clears_acknowledgements_and_their_channels() {
         bench.send(a.sync, 8, 0, b""),
         acted(a, 16, &[sent(a.sync, 9, 0, 0)])
     );
-    bench.ask(a, 6);
+    let number = bench.ask(a);
     let answer = bench.answer(1, b"", true).expect("asked");
-    assert_eq!(answer, [sent(a.sync, 7, 0, 6)]);
+    assert_eq!(answer, [sent(a.sync, 7, 0, number)]);
 }
 
 #[test]

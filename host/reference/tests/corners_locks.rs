@@ -116,7 +116,7 @@ fn item_52_events_that_free_no_lock_grant_nothing() {
     let (mut bench, [a, b]) = Bench::with();
     bench.lock(a, b"", 0);
     bench.lock(b, b"", 100);
-    bench.ask(a, 4);
+    bench.ask(a);
     bench.open(9);
     assert_eq!(bench.clock(99), []);
     assert_eq!(bench.answer(1, b"", true).map(|frames| frames.len()), Ok(1));
@@ -219,7 +219,7 @@ fn item_63_the_longest_outputs() {
     assert_eq!(length(&bench.cut(clients[0].sync)), 31 * 17);
     let (mut bench, clients) = storm();
     assert_eq!(length(&bench.clock(100)), 31 * 17);
-    bench.ask(clients[0], 2);
+    bench.ask(clients[0]);
     let answer = bench.answer(1, &[1; 1024], true).expect("asked");
     assert_eq!(length(&answer), 1041);
 }

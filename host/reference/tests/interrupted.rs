@@ -6,7 +6,6 @@ use common::*;
 use reference::compose::header;
 use reference::{Mode, Refusal};
 
-const FIRST: u32 = 0xffff_ff00;
 const SECOND: u32 = 0xffff_ff02;
 const AVAILABLE: u8 = 16;
 
@@ -21,7 +20,7 @@ fn interrupted(client: Client, number: u32) -> [Sent; 2] {
 /// A session that has asked with its first message.
 fn asked() -> (Bench, Client) {
     let (mut bench, [a]) = Bench::with();
-    bench.ask(a, FIRST);
+    bench.ask(a);
     (bench, a)
 }
 
@@ -108,7 +107,7 @@ fn refusals_come_first() {
 #[test]
 fn a_held_message_that_interrupts_stays_held() {
     let (mut bench, [a, b]) = Bench::with();
-    bench.ask(a, FIRST);
+    bench.ask(a);
     bench.lock(b, b"", 0);
     let data = message(DATA_END, 0, SECOND, b"?");
     assert_eq!(bench.deliver(a.sync, &data), held());
@@ -163,7 +162,7 @@ fn the_test_clears_the_expectation_in_every_case() {
     for code in [0, 1] {
         let (mut bench, a) = answered();
         deliver(&mut bench, a, DATA, code, SECOND);
-        assert_eq!(deliver(&mut bench, a, DATA, 0, SECOND), []);
+        assert_eq!(deliver(&mut bench, a, DATA, 0, SECOND + 2), []);
     }
 }
 
@@ -181,25 +180,26 @@ fn a_clear_and_a_status_query_with_rmt_delivered_clear_it() {
     let (mut bench, a) = answered();
     bench.send(a.asynchronous, CLEAR, 0, b"");
     bench.send(a.sync, CLEARED, 0, b"");
-    assert_eq!(deliver(&mut bench, a, DATA, 0, SECOND), []);
+    assert_eq!(deliver(&mut bench, a, DATA, 0, FIRST), []);
 }
 
 #[test]
 fn what_does_not_pass_all_checks_is_not_tested() {
     let (mut bench, [a, b]) = Bench::with();
-    bench.ask(a, FIRST);
+    bench.ask(a);
     bench.answer(1, b"1", true).expect("asked");
-    let code = message(DATA, 2, SECOND, b"");
-    assert_eq!(bench.deliver(a.sync, &code), error(a.sync, 2, 16));
-    let payload = message(TRIGGER, 0, SECOND, b"x");
-    assert_eq!(bench.deliver(a.sync, &payload), error(a.sync, 0, 17));
-    let too_large = header(DATA, 0, SECOND, 1025);
+    let out_of_step = message(DATA, 0, FIRST, b"");
+    assert_eq!(bench.deliver(a.sync, &out_of_step), error(a.sync, 0, 16));
+    assert_eq!(bench.send(a.sync, DATA, 2, b""), error(a.sync, 2, 16));
+    assert_eq!(bench.send(a.sync, TRIGGER, 0, b"x"), error(a.sync, 0, 17));
+    let too_large = header(DATA, 0, bench.next(a), 1025);
     assert_eq!(bench.deliver(a.sync, &too_large), error(a.sync, 4, 16));
     bench.deliver(a.sync, &[0; 1025]);
     bench.lock(b, b"", 0);
     assert_eq!(bench.send(a.sync, DATA, 0, b""), held());
     bench.release(b);
-    assert_eq!(deliver(&mut bench, a, DATA, 1, SECOND), [], "as expected");
+    let number = bench.next(a);
+    assert_eq!(deliver(&mut bench, a, DATA, 1, number), [], "as expected");
 }
 
 #[test]
@@ -218,7 +218,8 @@ fn in_overlap_mode_nothing_interrupts() {
     let told = bench.answer_beside(1, b"", true, &shown);
     assert_eq!(told, Ok((false, vec![sent(a.sync, DATA_END, 0, FIRST)])));
     for code in [0, 1, 1, 0] {
-        assert_eq!(deliver(&mut bench, a, DATA_END, code, SECOND), []);
+        let number = bench.next(a);
+        assert_eq!(deliver(&mut bench, a, DATA_END, code, number), []);
     }
 }
 

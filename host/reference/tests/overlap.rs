@@ -5,7 +5,6 @@ mod common;
 use common::*;
 use reference::{Mode, Outcome, Refusal};
 
-const FIRST: u32 = 0xffff_ff00;
 const AVAILABLE: u8 = 16;
 
 /// A session of a server that prefers overlap mode.
@@ -74,7 +73,7 @@ fn answers_are_counted_from_ffffff00_by_two_and_wrap() {
 #[test]
 fn nothing_need_be_asked_and_a_question_changes_nothing() {
     let (mut bench, a) = overlap();
-    bench.ask(a, 0x1234);
+    bench.ask(a);
     let expected = [(7, FIRST), (7, FIRST + 2)];
     assert_eq!(numbers(&mut bench, &[true, true]), expected);
 }
@@ -127,14 +126,15 @@ fn a_clear_resets_the_count_and_message_available() {
 #[test]
 fn the_other_mode_begins_with_nothing_asked_or_available() {
     let (mut bench, a) = overlap();
-    bench.ask(a, 4);
+    bench.ask(a);
     numbers(&mut bench, &[true]);
     assert_eq!(clear(&mut bench, a, 0), (1, 0));
     assert_eq!(bench.answer(1, b"", true), Err(Refusal::NothingAsked));
     assert_eq!(status_after(&mut bench, a, 0, 0), 0);
-    bench.ask(a, 6);
-    assert_eq!(numbers(&mut bench, &[true]), [(7, 6)]);
-    assert_eq!(status_after(&mut bench, a, 0, 6), AVAILABLE);
+    bench.send(a.sync, DATA, 0, b"");
+    let number = bench.ask(a);
+    assert_eq!(numbers(&mut bench, &[true]), [(7, number)]);
+    assert_eq!(status_after(&mut bench, a, 0, number), AVAILABLE);
     assert_eq!(clear(&mut bench, a, 1), (1, 1));
     assert_eq!(status_after(&mut bench, a, 0, 0), 0);
     assert_eq!(numbers(&mut bench, &[true]), [(7, FIRST)]);

@@ -6,7 +6,6 @@ use common::*;
 use reference::compose::header;
 use reference::Outcome;
 
-const FIRST: u32 = 0xffff_ff00;
 const SECOND: u32 = 0xffff_ff02;
 
 /// A message of this type and number, acted on.
@@ -98,18 +97,30 @@ fn what_does_not_act_ends_nothing() {
     assert_eq!(bench.deliver(a.sync, &data), held());
     assert_eq!(bench.deliver(a.sync, &data[..15]), more_needed());
     assert_eq!(bench.release(b), (1, vec![]));
-    let too_large = header(DATA, 0, FIRST, 1025);
-    assert_eq!(bench.deliver(a.sync, &too_large), error(a.sync, 4, 16));
-    assert_eq!(bench.deliver(a.sync, &[0; 1025]).outcome, Outcome::Skipped);
-    let code = message(DATA, 2, FIRST, b"");
-    assert_eq!(bench.deliver(a.sync, &code), error(a.sync, 2, 16));
-    let payload = message(TRIGGER, 0, FIRST, b"x");
-    assert_eq!(bench.deliver(a.sync, &payload), error(a.sync, 0, 17));
     assert_eq!(bench.deliver(b.sync, &data), acted(b, 16, &[]));
+    let out_of_step = message(DATA, 0, SECOND, b"");
+    assert_eq!(bench.deliver(a.sync, &out_of_step), error(a.sync, 0, 16));
     assert_eq!(
         bench.deliver(a.sync, &data),
         acted(a, 16, &[released(a, 2)])
     );
+}
+
+#[test]
+fn a_release_of_a_message_answered_with_an_error_stands() {
+    let refused = [
+        (header(DATA, 0, FIRST, 1025), error(0, 4, 16)),
+        (message(DATA, 2, FIRST, b""), error(0, 2, 16)),
+        (message(TRIGGER, 0, FIRST, b"x"), error(0, 0, 17)),
+    ];
+    for (bytes, expected) in refused {
+        let (mut bench, [a]) = Bench::with();
+        bench.lock(a, b"", 0);
+        stands(&mut bench, a, FIRST);
+        assert_eq!(bench.deliver(a.sync, &bytes), expected);
+        assert_eq!(bench.lock(a, b"k", 0), Some(3), "it goes on standing");
+        assert_eq!(clear(&mut bench, a), [released(a, 1), acknowledged(a)]);
+    }
 }
 
 #[test]

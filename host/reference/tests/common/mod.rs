@@ -4,6 +4,7 @@
 
 pub use reference::compose::message;
 use reference::event::frames;
+use reference::limits::CONNECTIONS;
 use reference::{Mode, Outcome, Refusal, Server};
 
 pub const FATAL: u8 = 2;
@@ -99,7 +100,14 @@ pub struct Client {
 pub struct Bench {
     pub server: Server,
     out: Vec<u8>,
+    /// By synchronous connection: the number that its program sends next, in step.
+    next: [u32; CONNECTIONS],
+    /// By asynchronous connection: the session's synchronous one.
+    partner: [u8; CONNECTIONS],
 }
+
+/// A program's first MessageID.
+pub const FIRST: u32 = 0xffff_ff00;
 
 impl Bench {
     /// A fresh server of vendor "AA" that prefers synchronized mode.
@@ -111,6 +119,8 @@ impl Bench {
         Bench {
             server: Server::preferring(u16::from_be_bytes(*b"AA"), mode),
             out: (0..2048).map(|i| (i * 7) as u8).collect(),
+            next: [FIRST; CONNECTIONS],
+            partner: [0; CONNECTIONS],
         }
     }
 
@@ -151,11 +161,34 @@ impl Bench {
     }
 
     pub fn deliver(&mut self, connection: u8, bytes: &[u8]) -> Seen {
-        self.try_deliver(connection.into(), bytes).expect("open")
+        let seen = self.try_deliver(connection.into(), bytes).expect("open");
+        let taken = matches!(seen.outcome, Outcome::ActedOn | Outcome::ErrorSent);
+        if let (true, &[_, _, kind, _, p0, p1, p2, p3, ..]) = (taken, bytes) {
+            let number = u32::from_be_bytes([p0, p1, p2, p3]);
+            let place = usize::from(connection);
+            match kind {
+                DATA | DATA_END | TRIGGER if number == self.next[place] => {
+                    self.next[place] = number.wrapping_add(2);
+                }
+                CLEAR => self.next[usize::from(self.partner[place])] = FIRST,
+                _ => {}
+            }
+        }
+        seen
     }
 
+    /// Data, DataEND and Trigger are in step; other messages have parameter 0.
     pub fn send(&mut self, connection: u8, kind: u8, code: u8, payload: &[u8]) -> Seen {
-        self.deliver(connection, &message(kind, code, 0, payload))
+        let number = match kind {
+            DATA | DATA_END | TRIGGER => self.next[usize::from(connection)],
+            _ => 0,
+        };
+        self.deliver(connection, &message(kind, code, number, payload))
+    }
+
+    /// The number that a program sends next.
+    pub fn next(&self, client: Client) -> u32 {
+        self.next[usize::from(client.sync)]
     }
 
     pub fn try_cut(&mut self, connection: u32) -> Result<Vec<Sent>, Refusal> {
@@ -205,6 +238,7 @@ impl Bench {
     /// Opens the connection and sends Initialize.
     pub fn half_open(&mut self, sync: u8) -> u16 {
         self.open(sync);
+        self.next[usize::from(sync)] = FIRST;
         let opened = self.deliver(sync, &message(0, 0, 0x0100_4141, b""));
         assert_eq!(opened.outcome, Outcome::ActedOn);
         opened.session
@@ -213,6 +247,7 @@ impl Bench {
     pub fn session_on(&mut self, sync: u8, asynchronous: u8) -> Client {
         let number = self.half_open(sync);
         self.open(asynchronous);
+        self.partner[usize::from(asynchronous)] = sync;
         let joined = self.deliver(asynchronous, &message(17, 0, number.into(), b""));
         assert_eq!((joined.outcome, joined.session), (Outcome::ActedOn, number));
         Client {
@@ -276,10 +311,12 @@ impl Bench {
         (seen.frames[0].code, seen.frames[0].parameter)
     }
 
-    /// DataEND with this number, acted on.
-    pub fn ask(&mut self, client: Client, number: u32) {
+    /// DataEND in step, acted on; its number.
+    pub fn ask(&mut self, client: Client) -> u32 {
+        let number = self.next(client);
         let seen = self.deliver(client.sync, &message(DATA_END, 0, number, b"*IDN?"));
         assert_eq!(seen.outcome, Outcome::ActedOn);
+        number
     }
 
     /// Runs what must change nothing.
