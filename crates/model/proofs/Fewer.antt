@@ -1,37 +1,37 @@
 -- H, proved: the granting rule and access never turn against S when others hold less, and the checks of a delivery to S see no more of
 -- the locks of others than these two.
 use mathlib.Core.Path.{_≡_, refl, sym, ap, ap₂, subst, _∙_}
-use mathlib.Core.Bool.{Bool, true, false, not, _&&_, _||_, false≢true, true≢false}
+use mathlib.Core.Bool.{Bool, true, false, not, _&&_, _||_, cond, false≢true, true≢false}
 use mathlib.Core.List.{List, [], _∷_, _++_, map, append-nil}
 use mathlib.Core.Logic.{_⊎_, inl, inr, ⊎-elim}
-use Prim.Native.Nat.{ℕ, suc, _+_}
+use Prim.Native.Nat.{ℕ, zero, suc, _+_}
 use native.Mathlib.Omega.{arith}
 use lib.Dec.{eqb, leb}
-use lib.ListN.{set, length}
+use lib.ListN.{set, drop, length}
 use Rattle.wire.specs.declared.Header.{Header}
 use Rattle.wire.specs.Message.{header}
-use Rattle.wire.specs.Class.{classOf, synchronous}
-use Rattle.model.specs.Sizes.{stringLimit}
-use Rattle.model.specs.MessageTypes.{AsyncLock}
+use Rattle.wire.specs.Class.{one-of, classOf, synchronous}
+use Rattle.model.specs.Sizes.{stringLimit, noConnection}
+use Rattle.model.specs.MessageTypes.{AsyncLock, commands}
 use Rattle.model.specs.Lists.{all, any}
-use Rattle.model.specs.State.{Locks, Entry, Waiting, at, live, Server, Rest, connectionAt, exchangeAt}
-use Rattle.model.specs.Interface.{Event.delivery, Outcome.held, Outcome.acted, Reply.took}
+use Rattle.model.specs.State.{Locks, Entry, Waiting, at, live, blank, Server, Rest, connectionAt, exchangeAt, freshExchange, withConnections, withExchange}
+use Rattle.model.specs.Interface.{Event, Event.delivery, Outcome.held, Outcome.closed, Outcome.acted, Reply.took}
 use Rattle.model.specs.Scan.{Scan, Scan.whole, scan}
 use Rattle.model.specs.Place.{onConnection, slotOf, entryOf, Role, Role.r-none, Role.r-halfOpen, Role.r-synchronous, Role.r-asynchronous, roleIn, roleOf}
 use Rattle.model.specs.Locks
 use Rattle.model.specs.Locks.{noExclusive, noShared, mayGrant, access, holds, elsewhere, change, noPlace}
 use Rattle.model.specs.Checks
-use Rattle.model.specs.Checks.{Verdict.v-acts, first, verdict, judged, either, isUnrecognised}
+use Rattle.model.specs.Checks.{Verdict, Verdict.v-more, Verdict.v-skipped, Verdict.v-held, Verdict.v-ignored, Verdict.v-closed, Verdict.v-acts, Verdict.v-error, Verdict.v-fatal, first, verdict, judged, either, isVendor, isUnrecognised}
 use Rattle.model.specs.Acts
 use Rattle.model.specs.Refusals.{refusal, causes}
-use Rattle.model.specs.Step.{Result, effect, received, plan, answered, finish, step, lockFrame}
+use Rattle.model.specs.Step.{Result, shutAll, closing, effect, received, plan, answered, finish, step, lockFrame}
 use Rattle.model.specs.Granting.{MayShared}
 use Rattle.model.specs.Fewer.{Fewer, NoWorse, FewerLocks, answers1, NoWorseCall, FewerNeverHurts}
 use Rattle.model.specs.Access.{WholeMessage, Command, accessOf}
 use Rattle.model.proofs.Basics.{and-l, and-r, both, not-of, or-of, or-r, or→, contra, same?, all-at}
 use Rattle.model.proofs.GrantingRule.{nil→, nil←, may-exclusive, exclusive-may, may-shared, shared-may}
 use Rattle.model.proofs.Slots.{all-of, at-own}
-use Rattle.model.proofs.Place.{place-role, place-same}
+use Rattle.model.proofs.Place.{place-sound, place-role, place-same, no-role}
 use Rattle.model.proofs.Fits.{opening-passed, sync-passed}
 use Rattle.model.proofs.Replies.{acting, accepted}
 use Rattle.model.proofs.Access.{accessed, whole-read}
@@ -239,8 +239,154 @@ module _ (d d′ : Server) (c : ℕ) (f : FewerLocks (slotOf d c) d d′) (bs : 
       let lacks : accessOf d c ≡ false = contra _ _ (access-fewer (slotOf d c) (d .locks .entries) (d′ .locks .entries) (f .fewer)) (ap (access (d′ .locks .entries)) (sym slot-same) ∙ h .1) in
       ap (λ (x : Result). x .reply) ((accessed d c bs room) .held-without (sym refusal-same ∙ accepted d′ (delivery c bs room) held k n e) before lacks)
 
+-- what is not held is judged alike: only check 9 looks at the locks
+judged-alike : (x₁ x₂ x₃ x₄ x₅ x₆ m a a′ : Bool) (v₁ v₂ v₃ v₄ v₅ v₆ rest : Verdict) → (a ≡ true → a′ ≡ true)
+    → (cond x₁ v₁ (cond x₂ v₂ (cond x₃ v₃ (cond x₄ v₄ (cond x₅ v₅ (cond x₆ v₆ (cond (m && not a) v-held rest)))))) ≡ v-held → ⊥)
+    → cond x₁ v₁ (cond x₂ v₂ (cond x₃ v₃ (cond x₄ v₄ (cond x₅ v₅ (cond x₆ v₆ (cond (m && not a′) v-held rest))))))
+    ≡ cond x₁ v₁ (cond x₂ v₂ (cond x₃ v₃ (cond x₄ v₄ (cond x₅ v₅ (cond x₆ v₆ (cond (m && not a) v-held rest))))))
+judged-alike true x₂ x₃ x₄ x₅ x₆ m a a′ v₁ v₂ v₃ v₄ v₅ v₆ rest f n = refl
+judged-alike false true x₃ x₄ x₅ x₆ m a a′ v₁ v₂ v₃ v₄ v₅ v₆ rest f n = refl
+judged-alike false false true x₄ x₅ x₆ m a a′ v₁ v₂ v₃ v₄ v₅ v₆ rest f n = refl
+judged-alike false false false true x₅ x₆ m a a′ v₁ v₂ v₃ v₄ v₅ v₆ rest f n = refl
+judged-alike false false false false true x₆ m a a′ v₁ v₂ v₃ v₄ v₅ v₆ rest f n = refl
+judged-alike false false false false false true m a a′ v₁ v₂ v₃ v₄ v₅ v₆ rest f n = refl
+judged-alike false false false false false false false a a′ v₁ v₂ v₃ v₄ v₅ v₆ rest f n = refl
+judged-alike false false false false false false true true true v₁ v₂ v₃ v₄ v₅ v₆ rest f n = refl
+judged-alike false false false false false false true true false v₁ v₂ v₃ v₄ v₅ v₆ rest f n = absurd (false≢true (f refl))
+judged-alike false false false false false false true false a′ v₁ v₂ v₃ v₄ v₅ v₆ rest f n = absurd (n refl)
+
+-- two servers with one rest
+module _ (d : Server) (l′ : Locks) (c : ℕ) (f : FewerLocks (slotOf d c) d record { locks = l′; rest = d .rest }) (bs : List ℕ) (room : ℕ) (alive : live (entryOf d c) ≡ true) where
+  abbrev d₁ : Server
+  d₁ = record { locks = l′; rest = d .rest }
+
+  abbrev i₀ : ℕ
+  i₀ = slotOf d c
+
+  abbrev x₀ : Event
+  x₀ = delivery c bs room
+
+  slot₁ : slotOf d₁ c ≡ i₀
+  slot₁ = slot-same d d₁ c f bs room
+
+  entry₁ : entryOf d₁ c ≡ entryOf d c
+  entry₁ = entry-same d d₁ c f bs room
+
+  judged₁ : (r : Role) (h : Header) (p : List ℕ) → (r ≡ r-none → ⊥) → (judged r d i₀ h p ≡ v-held → ⊥) → judged r d₁ i₀ h p ≡ judged r d i₀ h p
+  judged₁ r-none h p e n = absurd (e refl)
+  judged₁ r-halfOpen h p e n = refl
+  judged₁ r-synchronous h p e n =
+      judged-alike
+      (eqb (h .kind) 2)
+      (eqb (h .kind) 3)
+      ((exchangeAt (d .rest) i₀) .inClear && not (eqb (h .kind) 8))
+      (isVendor (classOf synchronous (h .kind)))
+      (isUnrecognised (classOf synchronous (h .kind)))
+      (eqb (h .kind) 0)
+      (one-of commands (h .kind))
+      (access (d .locks .entries) i₀)
+      (access (l′ .entries) i₀)
+      v-closed
+      v-ignored
+      v-ignored
+      (v-error 3)
+      (v-error 1)
+      (v-fatal 3)
+      (first (drop 7 (Checks.synchronousRules d i₀ h p)))
+      (access-fewer i₀ (d .locks .entries) (l′ .entries) (f .fewer))
+      n
+  judged₁ r-asynchronous h p e n = refl
+
+  verdict₁ : (r : Role) (s : Scan) → (r ≡ r-none → ⊥) → (verdict r d i₀ s ≡ v-held → ⊥) → verdict r d₁ i₀ s ≡ verdict r d i₀ s
+  unfolding verdict
+  verdict₁ r Scan.empty e n = refl
+  verdict₁ r Scan.few e n = refl
+  verdict₁ r Scan.wrong e n = refl
+  verdict₁ r (Scan.skipping k) e n = refl
+  verdict₁ r (Scan.long h) e n = refl
+  verdict₁ r (Scan.part h) e n = refl
+  verdict₁ r (Scan.whole h p) e n = judged₁ r h p e n
+
+  abbrev Alike : Acts.Plan → Acts.Plan → Type 0
+  Alike a b = (a .reply ≡ b .reply) × (a .rest ≡ b .rest)
+
+  closing₁ : closing d₁ c ≡ closing d c
+  closing₁ =
+      ap₂ (λ (e : Entry) (i : ℕ). withExchange (withConnections (d .rest) (shutAll (d .rest .connections) (cond (live e) (e .synchronous ∷ cond (eqb (e .asynchronous) noConnection) [] (e .asynchronous ∷ [])) (c ∷ [])))) i freshExchange) entry₁ slot₁
+
+  acts₁ : (r : Role) (h : Header) (p : List ℕ) → (r ≡ r-none → ⊥) → Alike (Acts.acts r d₁ i₀ c h p) (Acts.acts r d i₀ c h p)
+  unfolding Acts.acts
+  acts₁ r-none h p e = absurd (e refl)
+  acts₁ r-halfOpen h p e = (refl, refl)
+  acts₁ r-synchronous h p e = (ap (λ (x : Entry). took acted (16 + h .len) (x .number)) (f .fewer .own), refl)
+  acts₁ r-asynchronous h p e = (ap (λ (x : Entry). took acted (16 + h .len) (x .number)) (f .fewer .own), refl)
+
+  effect₁ : (v : Verdict) (s : Scan) (r : Role) → (r ≡ r-none → ⊥) → Alike (effect v s r d₁ i₀ c) (effect v s r d i₀ c)
+  unfolding effect
+  effect₁ v-more s r e = (refl, refl)
+  effect₁ v-held s r e = (refl, refl)
+  effect₁ v-skipped s r e = (refl, refl)
+  effect₁ v-ignored s r e = (refl, refl)
+  effect₁ (v-error x) s r e = (refl, refl)
+  effect₁ (v-fatal x) s r e = (ap (λ (y : Entry). took closed 0 (y .number)) (f .fewer .own), closing₁)
+  effect₁ v-closed s r e = (ap (λ (y : Entry). took closed 0 (y .number)) (f .fewer .own), closing₁)
+  effect₁ v-acts Scan.empty r e = (refl, refl)
+  effect₁ v-acts Scan.few r e = (refl, refl)
+  effect₁ v-acts Scan.wrong r e = (refl, refl)
+  effect₁ v-acts (Scan.skipping k) r e = (refl, refl)
+  effect₁ v-acts (Scan.long h) r e = (refl, refl)
+  effect₁ v-acts (Scan.part h) r e = (refl, refl)
+  effect₁ v-acts (Scan.whole h p) r e = acts₁ r h p e
+
+  has-role : roleOf (d .locks .entries) c ≡ r-none → ⊥
+  has-role e = no-role (d .locks .entries) c e i₀ (on (place-sound (d .locks .entries) c))
+    where
+      on : (onConnection c (entryOf d c) ≡ true) ⊎ (entryOf d c ≡ blank) → onConnection c (entryOf d c) ≡ true
+      on (inl h) = h
+      on (inr h) = absurd (true≢false (sym alive ∙ ap live h))
+
+  abbrev s₀ : Scan
+  s₀ = scan ((connectionAt (d .rest) c) .remainder) bs
+
+  abbrev r₀ : Role
+  r₀ = roleOf (d .locks .entries) c
+
+  planned : (verdict r₀ d i₀ s₀ ≡ v-held → ⊥) → Alike (plan d₁ x₀) (plan d x₀)
+  unfolding plan received
+  planned n =
+      let same : received d₁ c s₀ ≡ effect (verdict r₀ d₁ i₀ s₀) s₀ r₀ d₁ i₀ c = ap₂ (λ (r : Role) (i : ℕ). effect (verdict r d₁ i s₀) s₀ r d₁ i c) (role-same d d₁ c f bs room) slot₁ in
+      let by = ap (λ (v : Verdict). effect v s₀ r₀ d₁ i₀ c) (verdict₁ r₀ s₀ has-role n) in
+      let x = effect₁ (verdict r₀ d i₀ s₀) s₀ r₀ has-role in
+      (ap (λ (p : Acts.Plan). p .reply) (same ∙ by) ∙ x .0, ap (λ (p : Acts.Plan). p .rest) (same ∙ by) ∙ x .1)
+
+  held-then : verdict r₀ d i₀ s₀ ≡ v-held → refusal d x₀ ≡ 0 → (step d x₀) .reply ≡ took held 0 0
+  unfolding step answered plan received finish effect
+  held-then v z = ap (λ (n : ℕ). (answered n d x₀) .reply) z ∙ ap (λ (w : Verdict). (effect w s₀ r₀ d i₀ c) .reply) v
+
+  pub taken-alike : ((step d x₀) .reply ≡ took held 0 0 → ⊥) → ((step d₁ x₀) .reply ≡ (step d x₀) .reply) × ((step d₁ x₀) .server .rest ≡ (step d x₀) .server .rest)
+  unfolding step answered finish
+  taken-alike n = go (refusal d x₀) refl (refusal-same d d₁ c f bs room)
+    where
+      go : (z : ℕ) → refusal d x₀ ≡ z → refusal d₁ x₀ ≡ refusal d x₀ → ((step d₁ x₀) .reply ≡ (step d x₀) .reply) × ((step d₁ x₀) .server .rest ≡ (step d x₀) .server .rest)
+      go zero e g =
+          let p = planned (λ v. n (held-then v e)) in (
+            ap (λ (k : ℕ). (answered k d₁ x₀) .reply) (g ∙ e) ∙ p .0 ∙ sym (ap (λ (k : ℕ). (answered k d x₀) .reply) e),
+            ap (λ (k : ℕ). (answered k d₁ x₀) .server .rest) (g ∙ e) ∙ p .1 ∙ sym (ap (λ (k : ℕ). (answered k d x₀) .server .rest) e),
+          )
+      go (suc z) e g = (
+        ap (λ (k : ℕ). (answered k d₁ x₀) .reply) (g ∙ e) ∙ sym (ap (λ (k : ℕ). (answered k d x₀) .reply) e),
+        ap (λ (k : ℕ). (answered k d₁ x₀) .server .rest) (g ∙ e) ∙ sym (ap (λ (k : ℕ). (answered k d x₀) .server .rest) e),
+      )
+
+alike-call : (d d′ : Server) (c : ℕ) → FewerLocks (slotOf d c) d d′ → (bs : List ℕ) (room : ℕ) → live (entryOf d c) ≡ true → ((step d (delivery c bs room)) .reply ≡ took held 0 0 → ⊥)
+    → ((step d′ (delivery c bs room)) .reply ≡ (step d (delivery c bs room)) .reply) × ((step d′ (delivery c bs room)) .server .rest ≡ (step d (delivery c bs room)) .server .rest)
+alike-call d d′ c f bs room alive n =
+    subst (λ (y : Server). ((step y (delivery c bs room)) .reply ≡ (step d (delivery c bs room)) .reply) × ((step y (delivery c bs room)) .server .rest ≡ (step d (delivery c bs room)) .server .rest))
+    (λ j. record { locks = d′ .locks; rest = sym (f .rest) j })
+    (taken-alike d (d′ .locks) c record { fewer = f .fewer; numbers = f .numbers; synchronous = f .synchronous; asynchronous = f .asynchronous; clock = f .clock; waiting = f .waiting; rest = refl } bs room alive n)
+
 pub no-worse-call : (d d′ : Server) (c : ℕ) → FewerLocks (slotOf d c) d d′ → (bs : List ℕ) (room : ℕ) → NoWorseCall d d′ c bs room
-no-worse-call d d′ c f bs room = record { granted = granted-same d d′ c f bs room; held = held-same d d′ c f bs room }
+no-worse-call d d′ c f bs room = record { granted = granted-same d d′ c f bs room; held = held-same d d′ c f bs room; alike = alike-call d d′ c f bs room }
 
 pub fewer-never-hurts : FewerNeverHurts
 fewer-never-hurts = record { rules = no-worse; calls = no-worse-call }

@@ -67,4 +67,9 @@ pub mod Missing
 pub mod NextQuestion
 pub mod Numbering
 pub mod InStep
+pub mod WaitingOne
+pub mod AnsweredFrames
+pub mod AnsweredQuiet
+pub mod AnsweredRead
+pub mod AnsweredOnce
 pub mod Asking

@@ -128,7 +128,7 @@ module _ (v : Making) (es : List Event) (n : ℕ) (alive : live (sessionOf (fina
   own-is : (p : Session → Bool) → own (e₁ .number) p ((modelAfter v es) .sessions) ≡ p (asSession e₁)
   own-is p = own-seen ((modelAfter v es) .sessions) ((final (fresh v) es) .locks .entries) ((agreement v es) .locks .sessions) ((inv-run v es) .sound .firm) (slotOfNumber ((final (fresh v) es) .locks .entries) n) alive p
 
-  first-is : synchronousOf v es n ≡ e₁ .synchronous
+  pub first-is : synchronousOf v es n ≡ e₁ .synchronous
   first-is =
       ap (λ (m : ℕ). firstConnection m ((modelAfter v es) .sessions)) (sym (live-found ((final (fresh v) es) .locks .entries) n alive))
       ∙ first-found ((modelAfter v es) .sessions) (e₁ .number) (e₁ .synchronous)

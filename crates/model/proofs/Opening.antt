@@ -135,6 +135,14 @@ module _ (d : Server) (inv : Inv (d .locks)) (v : Making) (made : d .rest .made 
         },
       )
 
+  -- a half-open session, and a connection that no session has
+  pub pairing : (k n : ℕ) → R .reply ≡ took acted k n → (header bs) .kind ≡ AsyncInitialize → Pairs (d .locks .entries) (slotOfNumber (d .locks .entries) ((header bs) .param)) c
+  pairing k n e t =
+      let s = shows d c bs room k n e in
+      let r = join-role d c (header bs) (payloadOf (header bs) bs) (roleOf (d .locks .entries) c) t (s .passes) in
+      let b : eqb ((header bs) .kind) 0 ≡ false = rw t in
+      opens-fit d c (header bs) (payloadOf (header bs) bs) false b (real k n e) inv r (opening-passed d (header bs) (payloadOf (header bs) bs) (ap (λ x. judged x d (slotOf d c) (header bs) (payloadOf (header bs) bs)) (sym r) ∙ s .passes))
+
   joins : (k n : ℕ) → R .reply ≡ took acted k n → (header bs) .kind ≡ AsyncInitialize → JoinsTo n R
   unfolding finish
   joins k n e t =

@@ -45,7 +45,7 @@ use Rattle.model.proofs.Forms.{_also_}
 use Rattle.model.proofs.Permitted.{shows}
 
 -- a type that one channel alone acts on
-abbrev OnlyOn : ℕ → ℕ → Type 0
+abbrev pub OnlyOn : ℕ → ℕ → Type 0
 OnlyOn other t = (either 0 17 t ≡ false) × (isUnrecognised (classOf other t) ≡ true)
 
 module _ (d : Server) (c : ℕ) (h : Header) (p : List ℕ) where
@@ -60,6 +60,13 @@ module _ (d : Server) (c : ℕ) (h : Header) (p : List ℕ) where
   async-alone r-halfOpen t q = absurd (let y : _≡_ {A = ℕ} 0 1 = cc in omega arith)
   async-alone r-synchronous t q = absurd (true≢false (sym (t .1) ∙ (sync-passed d (slotOf d c) h p q) .1 .1 .1 .1 .0))
   async-alone r-asynchronous t q = refl
+
+-- a type that one channel alone acts on came on it
+pub role-of-async : (d : Server) (c : ℕ) (bs : List ℕ) (room t k n : ℕ) → (step d (delivery c bs room)) .reply ≡ took acted k n → (header bs) .kind ≡ t → OnlyOn synchronous t → roleOf (d .locks .entries) c ≡ r-asynchronous
+role-of-async d c bs room t k n e q o = async-alone d c (header bs) (payloadOf (header bs) bs) (roleOf (d .locks .entries) c) (rw q o) ((shows d c bs room k n e) .passes)
+
+pub role-of-sync : (d : Server) (c : ℕ) (bs : List ℕ) (room t k n : ℕ) → (step d (delivery c bs room)) .reply ≡ took acted k n → (header bs) .kind ≡ t → OnlyOn asynchronous t → roleOf (d .locks .entries) c ≡ r-synchronous
+role-of-sync d c bs room t k n e q o = sync-alone d c (header bs) (payloadOf (header bs) bs) (roleOf (d .locks .entries) c) (rw q o) ((shows d c bs room k n e) .passes)
 
 -- at most one request of slot i waits
 one-refused : (es : List Entry) (i : ℕ) (ws : List Waiting) → Good es ws → refuse es (elsewhere i) ws ≡ cond (all (elsewhere i) ws) [] (tell es i 0 true ∷ [])

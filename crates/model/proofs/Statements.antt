@@ -31,6 +31,7 @@ use Rattle.model.proofs.IsolationRun.{isolation-run}
 use Rattle.model.proofs.Locality.{local-run}
 use Rattle.model.proofs.LocalityTable.{nothing-free}
 use Rattle.model.proofs.Fewer.{fewer-never-hurts}
+use Rattle.model.proofs.AnsweredOnce.{answered-once}
 use Rattle.model.proofs.Fits.{found-run, inv-run}
 use Rattle.model.proofs.OneString.{one-string}
 use Rattle.model.proofs.AlwaysRoom.{always-room}
@@ -77,6 +78,7 @@ statements =
         locality = local-run;
         nothing-free = nothing-free;
         fewer-locks = fewer-never-hurts;
+        answered-once = answered-once;
         found = found-run;
         one-string = one-string;
         always-room = always-room;

@@ -19,8 +19,10 @@ use Rattle.model.specs.Exchange.{controlled, flags, mayAnswer, answerNum
 use Rattle.model.specs.Checks.{verdict}
 use Rattle.model.specs.Acts.{acts, synchronousExchange, synchronousSaid, asynchronousRest, asynchronousSaid, asynchronousEvent}
 use Rattle.model.specs.Refusals.{refusal, causes}
-use Rattle.model.specs.Step.{final, log, step, answered, plan, finish, received, effect}
+use Rattle.model.specs.Step.{final, log, step, answered, plan, finish, received, effect, Line}
 use Rattle.model.specs.InStep.{countUp, numbering, numberingOf}
+use Rattle.model.specs.Locality.{atCall}
+use Rattle.model.specs.AnsweredOnce.{Release, Release.none-stands, releaseAfter, happening, answeredTo}
 use Rattle.model.specs.Table.{benchMaking, Corner, corner, found, foundOn, sought, message, send, request, release, releaseOf, cal, Cal, eightZeros, initialize, asyncInitialize, three}
 
 -- a message without payload and with parameter 0, to a connection
@@ -418,6 +420,42 @@ counting =
 pub counting-holds : (numbering benchMaking counting 2) .taken ≡ countUp 4
 unfolding numberingOf log final step refusal causes answered plan finish received effect verdict placeOf acts synchronousExchange synchronousSaid asynchronousRest asynchronousSaid asynchronousEvent controlled mayAnswer answerNumber availableAt scan freshScan header field encode headerBytes frameBytes bytesOf classOf mayGrant access passOver grantPass change
 counting-holds = refl
+
+-- 02, Q-14: of the frames of a call, the codes that answer the request that waits of the session with connections c (asynchronous) and s
+abbrev standsAfter : ℕ → ℕ → List Line → Release → Release
+standsAfter c s [] p = p
+standsAfter c s (l ∷ ls) p = standsAfter c s ls (releaseAfter c s (happening l) p)
+
+abbrev toldBy : ℕ → ℕ → List Event → Event → List ℕ
+toldBy c s es e = let d = final (fresh benchMaking) es in answeredTo c s (standsAfter c s (log (fresh benchMaking) es) none-stands) (atCall d e) ((step d e) .frames)
+
+-- A exclusive, B waits until 90 ms; A and B share, A is exclusive too, B waits and its release stands
+abbrev waitingFor : List Event
+waitingFor = exclusive ++ (request 3 90 [] ∷ [])
+
+abbrev waitingBoth : List Event
+waitingBoth = shared ++ (request 1 0 [] ∷ request 3 90 [] ∷ releaseOf 3 8 ∷ [])
+
+pub told-waiting : List (List ℕ)
+told-waiting =
+    -- by a release, a closing, the deadline and not before it, its own device clear and not another's, a further request's 3 is not its answer
+    toldBy 3 2 waitingFor (release 1)
+    ∷ toldBy 3 2 waitingFor (cut 1 2048)
+    ∷ toldBy 3 2 waitingFor (clock 89 2048)
+    ∷ toldBy 3 2 waitingFor (clock 90 2048)
+    ∷ toldBy 3 2 waitingFor (send 3 (message 19 0 0 []))
+    ∷ toldBy 3 2 waitingFor (send 1 (message 19 0 0 []))
+    ∷ toldBy 3 2 waitingFor (request 3 9 cal)
+    ∷ toldBy 3 2 waitingFor (cut 2 2048)
+    -- the answer to a release is not one: B's own at its device clear, A's that its message ends, which grants B
+    ∷ toldBy 3 2 waitingBoth (send 3 (message 19 0 0 []))
+    ∷ toldBy 1 0 (stood ++ (request 3 90 [] ∷ [])) (send 0 (message 6 0 0xffffff02 []))
+    ∷ toldBy 3 2 (stood ++ (request 3 90 [] ∷ [])) (send 0 (message 6 0 0xffffff02 []))
+    ∷ []
+
+pub told-waiting-holds : told-waiting ≡ (1 ∷ []) ∷ (1 ∷ []) ∷ [] ∷ (0 ∷ []) ∷ (0 ∷ []) ∷ [] ∷ [] ∷ [] ∷ (0 ∷ []) ∷ [] ∷ (1 ∷ []) ∷ []
+unfolding told-waiting log final step refusal causes answered plan finish received effect verdict placeOf acts synchronousExchange synchronousSaid asynchronousRest asynchronousSaid asynchronousEvent controlled mayAnswer answerNumber availableAt scan freshScan header field encode headerBytes frameBytes bytesOf classOf mayGrant access passOver grantPass change
+told-waiting-holds = refl
 
 -- clear, status, remote, sizes, answers
 pub exchanges : List Corner

@@ -56,4 +56,5 @@ pub mod Outcomes
 pub mod Missing
 pub mod NextQuestion
 pub mod InStep
+pub mod AnsweredOnce
 pub mod Asking

@@ -42,6 +42,7 @@ use Rattle.model.specs.NextQuestion.{NextQuestion}
 use Rattle.model.specs.Isolation.{Isolated}
 use Rattle.model.specs.IsolationRun.{IsolationRun}
 use Rattle.model.specs.Fewer.{FewerNeverHurts}
+use Rattle.model.specs.AnsweredOnce.{AnsweredOnce}
 use Rattle.model.specs.Locality.{LocalRun, NothingFree}
 use Rattle.model.specs.OneString.{OneStringRun}
 use Rattle.model.specs.AlwaysRoom.{AlwaysRoom}
@@ -123,6 +124,8 @@ pub record Beyond : Type 0 where
   pub nothing-free : NothingFree
   -- where others hold fewer locks nobody is worse off
   pub fewer-locks : FewerNeverHurts
+  -- 02, Q-14: a request that waits is answered exactly once, by a grant, its session's device clear or its deadline, unless its session closes
+  pub answered-once : (v : Making) (es : List Event) → AnsweredOnce v es
   -- the session that has a connection is the one that is found
   pub found : (v : Making) (es : List Event) (c j : ℕ) → (c ≡ noConnection → ⊥) → onConnection c (at ((final (fresh v) es) .locks .entries) j) ≡ true → j ≡ slotOf (final (fresh v) es) c
   pub one-string : (v : Making) (es : List Event) → OneStringRun v es

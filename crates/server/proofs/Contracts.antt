@@ -93,4 +93,6 @@ about-the-code =
       in-step = λ v m m′ ss f g. program .in-step v m m′ ss (fresh f) (runs g);
       standing = λ v m m′ ss f g. program .standing v m m′ ss (fresh f) (runs g);
       isolation = λ v m m′ m″ ss rs f g j h g′. program .isolation v m m′ m″ ss rs (fresh f) (runs g) j h (runs g′);
+      fewer-locks = λ m m′ n n′ a b g g′. program .fewer-locks m m′ n n′ a b (runs g) (runs g′);
+      answered-once = λ v m m′ m″ m‴ ss s rs l f g g′ g″. program .answered-once v m m′ m″ m‴ ss s rs l (fresh f) (runs g) (runs g′) (runs g″);
     }

@@ -2,17 +2,20 @@
 -- that each meet `Post`. The statement is specs/Program.antt.
 use mathlib.Core.Path.{_≡_, refl, sym, ap, ap₂, subst, _∙_}
 use mathlib.Core.Bool.{Bool, true, false, not, cond}
-use mathlib.Core.List.{List, [], _∷_, map}
-use Prim.Native.Nat.{ℕ, zero, suc, _+_}
+use mathlib.Core.List.{List, [], _∷_, map, _++_}
+use Prim.Native.Nat.{ℕ, zero, suc, _+_, _<_, _^_}
 use lib.Dec.{eqb}
-use lib.ListN.{length, take}
+use native.Mathlib.Omega.{arith}
+use lib.ListN.{getD, length, take}
 use lib.Seq.{take-nil}
 use Rattle.wire.specs.declared.Header.{Header}
 use Rattle.wire.specs.Class.{one-of}
-use Rattle.wire.specs.Message.{header}
-use Rattle.wire.specs.Frame.{bytesOf, bytes-one, frameBytes, frameOf}
+use Rattle.wire.specs.Message.{header, encode, headerBytes}
+use Rattle.wire.specs.Frame.{bytesOf, bytes-one, frameBytes, frameOf, Frame}
 use Rattle.model.specs.Sizes.{noConnection}
-use Rattle.model.specs.State.{Making, Server, at, exchangeAt, fresh, live, slotOfNumber}
+use Rattle.model.specs.State.{Making, Server, at, exchangeAt, fresh, live, slotOfNumber, Entry, Rest}
+use Rattle.wire.proofs.ReadFrames.{read-frames}
+use Rattle.model.specs.Lists.{any}
 use Rattle.model.specs.Interface.{Event, Event.opening, Event.delivery, Event.cut, Event.clock, Event.answer, Event.status, Outcome, Outcome.more-needed, Outcome.skipped, Outcome.held, Outcome.ignored, Outcome.error-sent, Outcome.closed, Outcome.acted, Reply, Reply.refused, Reply.done, Reply.withheld, Reply.took, outcomeNumber, DeliveryAnswer, deliveryAnswer, DoneAnswer, doneAnswer, AnsweredAnswer, answeredAnswer}
 use Rattle.model.specs.Scan.{Scan, Scan.empty, Scan.few, Scan.wrong, Scan.skipping, Scan.long, Scan.part, Scan.whole}
 use Rattle.model.specs.Place.{slotOf, Role, Role.r-none, Role.r-halfOpen, Role.r-synchronous, Role.r-asynchronous}
@@ -41,11 +44,17 @@ use Rattle.model.proofs.Standing.{stands-on}
 use Rattle.model.proofs.Tied.{tie}
 use Rattle.model.proofs.NextQuestion.{next-question}
 use Rattle.model.specs.NextQuestion.{questionUnread, synchronousOf, asynchronousOf, owes}
-use Rattle.model.specs.MessageTypes.{Interrupted, AsyncInterrupted, commands}
+use Rattle.model.specs.MessageTypes.{Interrupted, AsyncInterrupted, commands, AsyncLock, AsyncLockResponse}
 use Rattle.model.specs.Access.{Command, accessOf}
 use Rattle.model.specs.InStep.{Numbering, Knows, opened, expected, error-0, numbering}
 use Rattle.model.proofs.InStep.{in-steps, out}
 use Rattle.model.specs.Possible.{AllPossible}
+use Rattle.model.specs.SentFits.{LinesFit}
+use Rattle.model.proofs.SentFits.{sent-fits}
+use Rattle.model.specs.Fewer.{FewerLocks, answers1}
+use Rattle.model.proofs.Fewer.{fewer-never-hurts}
+use Rattle.model.specs.AnsweredOnce.{Release.none-stands, Once, clockIn}
+use Rattle.model.proofs.AnsweredOnce.{answered-once}
 use Rattle.model.proofs.IsolationRun.{isolation-run}
 use Rattle.state.specs.View.{Memory, view}
 use Rattle.effects.specs.declared.Delivery.{Delivery}
@@ -54,7 +63,7 @@ use Rattle.server.specs.declared.Answered.{Answered}
 use Rattle.server.specs.declared.Done.{Done}
 use Rattle.server.specs.Calls.{Delivered}
 use Rattle.server.specs.Events.{Called, Fresh, Replied, doneNumbers, answeredNumbers}
-use Rattle.server.specs.Program.{outcomeOf, refusedOr, deliveryReply, doneReply, answeredReply, Run, Run.stop, Run.hislip-open, Run.hislip-deliver, Run.hislip-cut, Run.hislip-clock, Run.hislip-answer, Run.hislip-status, trackIn, shownOf, Tied, takenOf, CountsIn, NeverOutIn, OnlyOf, Program}
+use Rattle.server.specs.Program.{outcomeOf, refusedOr, deliveryReply, doneReply, answeredReply, Run, Run.stop, Run.hislip-open, Run.hislip-deliver, Run.hislip-cut, Run.hislip-clock, Run.hislip-answer, Run.hislip-status, trackIn, shownOf, Tied, takenOf, CountsIn, NeverOutIn, OnlyOf, Program, NoWorseSeen, lineSeen}
 use Rattle.server.proofs.Numbering.{noted-seen, counts-seen, never-seen}
 
 -- was the call done?
@@ -332,6 +341,125 @@ isolated v m m′ m″ ss rs f g j h g′ u =
 left : (v : Making) (m m′ : Memory) (ss : List Seen) → Fresh v m → Run m ss m′ → view m′ ≡ final (fresh v) (seenEvents ss)
 left v m m′ ss f g = made view (calls g) .1 ∙ ap (λ (x : Server). final x (seenEvents ss)) (f .shows)
 
+-- one call, from any memory
+first-of : List Seen → Seen → Seen
+first-of [] s = s
+first-of (a ∷ rest) s = a
+
+one-call : (m m′ : Memory) (s : Seen) → Run m (s ∷ []) m′ → (e : Event) → s .event ≡ e
+    → (s ≡ seen record { event = e; reply = (step (view m) e) .reply; frames = (step (view m) e) .frames }) × (view m′ ≡ (step (view m) e) .server)
+unfolding log final first-of
+one-call m m′ s g e x =
+    let h = made view (calls g) in
+    (ap (λ (ss : List Seen). first-of ss s) (h .0) ∙ ap (λ (y : Event). seen record { event = y; reply = (step (view m) y) .reply; frames = (step (view m) y) .frames }) x, h .1 ∙ ap (λ (y : Event). (step (view m) y) .server) x)
+
+abbrev some-byte : List ℕ → ℕ
+some-byte [] = 0
+some-byte (x ∷ xs) = 1
+
+-- an output that begins with AsyncLockResponse 1
+granted-in : (c : ℕ) (fs : List Frame) → bytesOf fs ≡ frameBytes (frameOf c AsyncLockResponse 1 0 []) → any answers1 fs ≡ true
+unfolding bytesOf frameBytes encode headerBytes
+granted-in c [] e = absurd (let z : _≡_ {A = ℕ} 0 1 = ap some-byte e in omega arith)
+granted-in c (f ∷ fs) e =
+    let t : f .message .kind ≡ AsyncLockResponse = ap (λ (bs : List ℕ). getD bs 3 0) e in
+    let k : f .message .code ≡ 1 = ap (λ (bs : List ℕ). getD bs 4 0) e in
+    rw (t, k)
+
+-- one delivery to each of two memories
+module _ (m m′ n n′ : Memory) (a b : Seen) (g : Run m (a ∷ []) m′) (g′ : Run n (b ∷ []) n′) (c : ℕ) (bs : List ℕ) (room : ℕ) (x : a .event ≡ delivery c bs room) (y : b .event ≡ delivery c bs room) (f : FewerLocks (slotOf (view m) c) (view m) (view n)) where
+  at-first : (a ≡ seen record { event = delivery c bs room; reply = (step (view m) (delivery c bs room)) .reply; frames = (step (view m) (delivery c bs room)) .frames }) × (view m′ ≡ (step (view m) (delivery c bs room)) .server)
+  at-first = one-call m m′ a g (delivery c bs room) x
+
+  at-second : (b ≡ seen record { event = delivery c bs room; reply = (step (view n) (delivery c bs room)) .reply; frames = (step (view n) (delivery c bs room)) .frames }) × (view n′ ≡ (step (view n) (delivery c bs room)) .server)
+  at-second = one-call n n′ b g′ (delivery c bs room) y
+
+  reply-one : a .reply ≡ (step (view m) (delivery c bs room)) .reply
+  reply-one = ap (λ (s : Seen). s .reply) (at-first .0)
+
+  reply-two : b .reply ≡ (step (view n) (delivery c bs room)) .reply
+  reply-two = ap (λ (s : Seen). s .reply) (at-second .0)
+
+  no-worse : NoWorseSeen (view m) c bs a b m′ n′
+  no-worse =
+      let h = fewer-never-hurts .calls (view m) (view n) c f bs room in
+      record {
+        granted = λ k z e t o w.
+            let r = h .granted k z (sym reply-one ∙ e) t o (granted-in c _ (sym (ap (λ (s : Seen). s .output) (at-first .0)) ∙ w)) in (
+              reply-two ∙ r .0,
+              ap (λ (s : Seen). s .output) (at-second .0) ∙ ap bytesOf (r .1) ∙ sym (ap (λ (s : Seen). s .output) (at-first .0)) ∙ w,
+              ap (λ (d : Server). at (d .locks .entries) (slotOf (view m) c)) (at-second .1) ∙ r .2 ∙ sym (ap (λ (d : Server). at (d .locks .entries) (slotOf (view m) c)) (at-first .1)),
+            );
+        alike = λ alive no.
+            let r = h .alike alive (λ e. no (reply-one ∙ e)) in
+            (reply-two ∙ r .0 ∙ sym reply-one, ap (λ (d : Server). d .rest) (at-second .1) ∙ r .1 ∙ sym (ap (λ (d : Server). d .rest) (at-first .1)));
+        held = λ k z e. reply-one ∙ h .held k z (sym reply-two ∙ e);
+      }
+
+-- the lines that the host reads are those of the definitions
+read-lines : (ls : List Line) → LinesFit ls → map lineSeen (map seen ls) ≡ ls
+read-lines [] f = refl
+read-lines (l ∷ ls) f = ap₂ (λ (x : List Frame) (xs : List Line). record { event = l .event; reply = l .reply; frames = x } ∷ xs) (read-frames (l .frames) (f .0)) (read-lines ls (f .1))
+
+fit-behind : (es fs : List Event) (d : Server) → LinesFit (log d (es ++ fs)) → LinesFit (log (final d es) fs)
+unfolding log final
+fit-behind [] fs d f = f
+fit-behind (e ∷ es) fs d f = fit-behind es fs ((step d e) .server) (f .1)
+
+possible-both : (es fs : List Event) → AllPossible es → AllPossible fs → AllPossible (es ++ fs)
+possible-both [] fs p q = q
+possible-both (e ∷ es) fs p q = (p .0, possible-both es fs (p .1) q)
+
+nothing-in : (fs : List Frame) → bytesOf fs ≡ [] → fs ≡ []
+unfolding bytesOf frameBytes
+nothing-in [] e = refl
+nothing-in (f ∷ fs) e = absurd (let z : _≡_ {A = ℕ} 0 1 = sym (ap some-byte e) in omega arith)
+
+-- a request that waits, and the calls behind it
+module _ (v : Making) (m m′ m″ m‴ : Memory) (ss : List Seen) (s : Seen) (rs : List Seen) (small : v .vendor < 2 ^ 16) (f : Fresh v m) (g : Run m ss m′) (g′ : Run m′ (s ∷ []) m″) (g″ : Run m″ rs m‴)
+    (p : AllPossible (seenEvents ss)) (p′ : AllPossible (seenEvents (s ∷ []))) (p″ : AllPossible (seenEvents rs)) (c : ℕ) (bs : List ℕ) (room : ℕ) (x : s .event ≡ delivery c bs room) where
+  abbrev before : List Event
+  before = seenEvents ss
+
+  abbrev behind : List Event
+  behind = seenEvents rs
+
+  abbrev e₀ : Event
+  e₀ = delivery c bs room
+
+  abbrev d₀ : Server
+  d₀ = final (fresh v) before
+
+  at-call : (s ≡ seen record { event = e₀; reply = (step d₀ e₀) .reply; frames = (step d₀ e₀) .frames }) × (view m″ ≡ (step d₀ e₀) .server)
+  at-call =
+      let h = one-call m′ m″ s g′ e₀ x in
+      let l : view m′ ≡ d₀ = left v m m′ ss f g in
+      (h .0 ∙ ap (λ (d : Server). seen record { event = e₀; reply = (step d e₀) .reply; frames = (step d e₀) .frames }) l, h .1 ∙ ap (λ (d : Server). (step d e₀) .server) l)
+
+  lines-before : map lineSeen ss ≡ log (fresh v) before
+  lines-before =
+      ap (map lineSeen) (made view (calls g) .0 ∙ ap (λ (d : Server). map seen (log d before)) (f .shows))
+      ∙ read-lines (log (fresh v) before) (sent-fits .any-run v before small p)
+
+  fit-rest : LinesFit (log ((step d₀ e₀) .server) behind)
+  unfolding log
+  fit-rest =
+      (fit-behind before (e₀ ∷ behind) (fresh v) (sent-fits .any-run v (before ++ (e₀ ∷ behind)) small
+      (possible-both before (e₀ ∷ behind) p (subst (λ (e : Event). AllPossible (e ∷ [])) x p′ .0, p″)))) .1
+
+  lines-behind : map lineSeen rs ≡ log ((step d₀ e₀) .server) behind
+  lines-behind =
+      ap (map lineSeen) (made view (calls g″) .0 ∙ ap (λ (d : Server). map seen (log d behind)) (at-call .1))
+      ∙ read-lines (log ((step d₀ e₀) .server) behind) fit-rest
+
+  once-seen : (k n : ℕ) → s .reply ≡ took acted k n → (header bs) .kind ≡ AsyncLock → (header bs) .code ≡ 1 → s .output ≡ []
+      → Once c (synchronousOf v before n) (clockIn (map lineSeen ss) + (header bs) .param) none-stands (map lineSeen rs)
+  once-seen k n e t o w =
+      let r = answered-once v before .once c bs room k n (sym (ap (λ (a : Seen). a .reply) (at-call .0)) ∙ e) t o (nothing-in _ (sym (ap (λ (a : Seen). a .output) (at-call .0)) ∙ w)) behind in
+      let u : Once c (synchronousOf v before n) (clockIn (map lineSeen ss) + (header bs) .param) none-stands (log ((step d₀ e₀) .server) behind) =
+      subst (λ (ls : List Line). Once c (synchronousOf v before n) (clockIn ls + (header bs) .param) none-stands (log ((step d₀ e₀) .server) behind)) (sym lines-before) r in
+      subst (λ (ls : List Line). Once c (synchronousOf v before n) (clockIn (map lineSeen ss) + (header bs) .param) none-stands ls) (sym lines-behind) u
+
 pub program : Program Fresh Run
 program =
     record {
@@ -357,4 +485,6 @@ program =
       in-step = in-step;
       standing = λ v m m′ ss f g j k n. subst (λ (d : Server). StandsOn d j k n) (sym (left v m m′ ss f g)) (stands-on v (seenEvents ss) j k n);
       isolation = isolated;
+      fewer-locks = λ m m′ n n′ a b g g′ c bs room x y f. no-worse m m′ n n′ a b g g′ c bs room x y f;
+      answered-once = λ v m m′ m″ m‴ ss s rs small f g g′ g″ p p′ p″ c bs room k n x e t o w. once-seen v m m′ m″ m‴ ss s rs small f g g′ g″ p p′ p″ c bs room x k n e t o w;
     }

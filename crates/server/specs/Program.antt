@@ -12,11 +12,11 @@ use Rattle.wire.specs.Frame.{frameOf, frameBytes, bytesOf}
 use Rattle.wire.specs.Message.{header}
 use Rattle.model.specs.Interface.{Event.opening, Event.delivery, Event.cut, Event.clock, Event.answer, Event.status, Outcome, Outcome.more-needed, Outcome.skipped, Outcome.held, Outcome.ignored, Outcome.error-sent, Outcome.closed, Outcome.acted, Reply, Reply.refused, Reply.done, Reply.withheld, Reply.took}
 use Rattle.model.specs.Sizes.{noConnection}
-use Rattle.model.specs.State.{Asked.some, Kind, Making, at, exchangeAt, fresh, live, slotOfNumber}
-use Rattle.model.specs.Step.{final, log, answerType}
+use Rattle.model.specs.State.{Asked.some, Kind, Making, at, exchangeAt, fresh, live, slotOfNumber, Server}
+use Rattle.model.specs.Step.{final, log, answerType, Line}
 use Rattle.model.specs.Post.{Post}
-use Rattle.model.specs.MessageTypes.{Trigger, Interrupted, AsyncInterrupted, commands}
-use Rattle.model.specs.Place.{slotOf}
+use Rattle.model.specs.MessageTypes.{Trigger, Interrupted, AsyncInterrupted, commands, AsyncLock, AsyncLockResponse}
+use Rattle.model.specs.Place.{slotOf, entryOf}
 use Rattle.model.specs.Access.{Command, accessOf}
 use Rattle.model.specs.Happening.{happened}
 use Rattle.model.specs.InStep.{Numbering, Knows, opened, expected, noted, countUp, error-0}
@@ -28,12 +28,14 @@ use Rattle.model.specs.Deciding.{EachDecides}
 use Rattle.model.specs.Canonical.{kept}
 use Rattle.model.specs.OnlyWhole.{OnlyWhole}
 use Rattle.model.specs.Possible.{AllPossible}
-use Rattle.model.specs.ReadBack.{ReadBack}
+use Rattle.model.specs.ReadBack.{ReadBack, framesSeen}
 use Rattle.model.specs.SessionId.{lastInLog}
 use Rattle.model.specs.Permitted.{ActsExactly}
 use Rattle.model.specs.Opening.{Opens}
 use Rattle.model.specs.Locality.{LocalRun}
 use Rattle.model.specs.NextQuestion.{questionUnread, synchronousOf, asynchronousOf, owes}
+use Rattle.model.specs.Fewer.{FewerLocks}
+use Rattle.model.specs.AnsweredOnce.{Release.none-stands, Once, clockIn}
 use Rattle.model.specs.Refusals.{refusal}
 use Rattle.model.specs.Standing.{StandsOn}
 use Rattle.state.specs.View.{Memory, view}
@@ -137,6 +139,19 @@ OnlyOf n (s ∷ ss) =
     ((c : ℕ) (bs : List ℕ) (room k m : ℕ) → s .event ≡ delivery c bs room → s .reply ≡ took acted k m → one-of commands ((header bs) .kind) ≡ true → m ≡ n)
     × OnlyOf n ss
 
+-- 02, Q-14: a server like view m, but that other sessions hold fewer locks; a and b are what the host saw of one delivery to each, of the same
+-- bytes on the same connection c. A request (AsyncLock with code 1) granted at once in the first is granted so in the second; a message that was
+-- not held in the first is not held in the second, and gets the same reply
+pub record NoWorseSeen (d : Server) (c : ℕ) (bs : List ℕ) (a b : Seen) (m n : Memory) : Type 0 where
+  pub granted : (k x : ℕ) → a .reply ≡ took acted k x → (header bs) .kind ≡ AsyncLock → (header bs) .code ≡ 1 → a .output ≡ frameBytes (frameOf c AsyncLockResponse 1 0 [])
+      → (b .reply ≡ took acted k x) × (b .output ≡ frameBytes (frameOf c AsyncLockResponse 1 0 [])) × (at (view n .locks .entries) (slotOf d c) ≡ at (view m .locks .entries) (slotOf d c))
+  pub alike : live (entryOf d c) ≡ true → (a .reply ≡ took held 0 0 → ⊥) → (b .reply ≡ a .reply) × (view n .rest ≡ view m .rest)
+  pub held : (k x : ℕ) → b .reply ≡ took held k x → a .reply ≡ took held 0 0
+
+-- what the host saw of a call, its output read as a row of frames
+abbrev pub lineSeen : Seen → Line
+lineSeen s = record { event = s .event; reply = s .reply; frames = framesSeen s }
+
 -- the claims, for memory that is new (made as v says) and for runs, in whatever way the two are told: by the words of the contracts
 -- (`Fresh`, `Run`), or by what the toolchain reads off the functions themselves (proofs/Contracts.antt)
 pub record Program (New : Making → Memory → Type 0) (Ran : Memory → List Seen → Memory → Type 0) : Type 0 where
@@ -189,3 +204,13 @@ pub record Program (New : Making → Memory → Type 0) (Ran : Memory → List S
   pub isolation : (v : Making) (m m′ m″ : Memory) (ss rs : List Seen) → New v m → Ran m ss m′
       → (j : ℕ) → (at (view m′ .locks .entries) j) .exclusive ≡ true → Ran m′ rs m″ → Undisturbed j (view m′) (seenEvents rs)
       → OnlyOf ((at (view m′ .locks .entries) j) .number) rs
+  -- H about the program, from any memories: where other sessions hold fewer locks nobody is worse off, one delivery to each
+  pub fewer-locks : (m m′ n n′ : Memory) (a b : Seen) → Ran m (a ∷ []) m′ → Ran n (b ∷ []) n′
+      → (c : ℕ) (bs : List ℕ) (room : ℕ) → a .event ≡ delivery c bs room → b .event ≡ delivery c bs room
+      → FewerLocks (slotOf (view m) c) (view m) (view n) → NoWorseSeen (view m) c bs a b m′ n′
+  -- 02, Q-14: a request that acted and was not answered, in the calls that follow: answered just once, 1 by a grant, 0 by its session's
+  -- AsyncDeviceClear or the first accepted reading at or past its deadline, unless its session closes before
+  pub answered-once : (v : Making) (m m′ m″ m‴ : Memory) (ss : List Seen) (s : Seen) (rs : List Seen) → v .vendor < 2 ^ 16 → New v m → Ran m ss m′ → Ran m′ (s ∷ []) m″ → Ran m″ rs m‴
+      → AllPossible (seenEvents ss) → AllPossible (seenEvents (s ∷ [])) → AllPossible (seenEvents rs)
+      → (c : ℕ) (bs : List ℕ) (room k n : ℕ) → s .event ≡ delivery c bs room → s .reply ≡ took acted k n → (header bs) .kind ≡ AsyncLock → (header bs) .code ≡ 1 → s .output ≡ []
+      → Once c (synchronousOf v (seenEvents ss) n) (clockIn (map lineSeen ss) + (header bs) .param) none-stands (map lineSeen rs)
