@@ -4,7 +4,9 @@ use mathlib.Core.Path.{_≡_, sym, ap, ap₂, _∙_}
 use mathlib.Core.Bool.{Bool, true, false}
 use mathlib.Core.List.{List, _∷_, _++_, append-nil}
 use Prim.Native.Nat.{ℕ, _+_, _≤_, _<_}
+use native.Mathlib.Omega.{arith}
 use lib.ListN.{length, getD, set, take, drop, drop-of-length-le}
+use lib.Seq.{take-all}
 use Rattle.wire.specs.Frame.{frameBytes}
 use Rattle.wire.specs.Splice.{splice}
 use Rattle.model.specs.State.{Entry, Waiting, Server}
@@ -86,6 +88,10 @@ pass-end d d′ j k out at h m =
     ap (λ (l : List Waiting). behind d (take k (d .locks .waiting)) (passOver l (d .locks .entries)) out at) (drop-of-length-le (d .locks .waiting) h)
     ∙ ap₂ (stand d (d .locks .entries)) (append-nil (take k (d .locks .waiting))) (ends-nil out at)
     ∙ ap (λ (x : Server). record { server = x; spot = spot out at }) (sym m)
+
+-- where nobody waits nothing is done
+pub pass-none : (d : Server) (out : List ℕ) (at : ℕ) → length (d .locks .waiting) ≡ 0 → passed 0 0 d out at ≡ record { server = d; spot = spot out at }
+pass-none d out at h = pass-end d d 0 0 out at (omega arith) (ap (λ (l : List Waiting). onWaiting d (λ (ws : List Waiting). l)) (sym (take-all 0 (d .locks .waiting) (omega arith))))
 
 -- the whole pass
 pub pass-met : (m m′ : Memory) (out out′ : List ℕ) (at r : ℕ) → passed 0 0 (view m) out at ≡ record { server = view m′; spot = spot out′ r }

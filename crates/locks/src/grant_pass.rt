@@ -11,7 +11,7 @@ use state::sizes::Strings;
 use state::sizes::Words;
 
 // Oldest first, each that may be granted is, and is told; the others go on waiting.
-pub fn grant_waiting(w: &mut Words, strings: &mut Strings, out: &mut [u8], start: usize) -> usize
+fn pass_waiting(w: &mut Words, strings: &mut Strings, out: &mut [u8], start: usize) -> usize
     requires { ⌜ start + answersRoom ≤ length (now out) ⌝ }
     ensures { λ r. ⌜ Met (grantPass (locksOf (now (w .entry)) (now (strings .entry)))) (memory (now (w .entry)) (now (strings .entry))) (memory (now (w .exit)) (now (strings .exit))) (now (out .entry)) (now (out .exit)) start r ⌝ }
 {
@@ -31,4 +31,15 @@ pub fn grant_waiting(w: &mut Words, strings: &mut Strings, out: &mut [u8], start
     }
     requests::keep_first(w, k);
     at
+}
+
+// The same; mostly nobody waits, and nothing is done.
+pub fn grant_waiting(w: &mut Words, strings: &mut Strings, out: &mut [u8], start: usize) -> usize
+    requires { ⌜ start + answersRoom ≤ length (now out) ⌝ }
+    ensures { λ r. ⌜ Met (grantPass (locksOf (now (w .entry)) (now (strings .entry)))) (memory (now (w .entry)) (now (strings .entry))) (memory (now (w .exit)) (now (strings .exit))) (now (out .entry)) (now (out .exit)) start r ⌝ }
+{
+    if requests::waiting_count(w) == 0 {
+        return start;
+    }
+    pass_waiting(w, strings, out, start)
 }
