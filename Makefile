@@ -17,6 +17,7 @@ help:
 	@echo 'make bench          speed beside an ordinary Rust server, to target/speed.md; make bench-docs to docs/SPEED.md'
 	@echo 'make instructions   the same in instructions of a call, counted by valgrind'
 	@echo "make timeline       a gateway's log, or a list of events, as a picture, one lane a session (LIST=, PICTURE=, FROM=, TO=)"
+	@echo "make journal        a journal's entries, or its readings with what led to each: make journal ARGS='readings FILE'"
 	@echo 'make believe        the definitions that a reader must believe, with their lines'
 	@echo 'make evidence       one page of what was built, proved, run and measured, and what was not: target/evidence.md'
 

@@ -8,6 +8,7 @@ pub mod message;
 pub mod names;
 pub mod steps;
 mod trouble;
+pub mod words;
 
 pub use arguments::arguments;
 pub use client::{Client, Settings, BEFORE_FIRST, FIRST};

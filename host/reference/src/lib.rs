@@ -3,7 +3,8 @@
 //! Written from the papers alone, so that it can disagree with the proved library. The server that the
 //! library's speed is compared with is `ordinary`.
 //!
-//! `lock_model` is 01's ledger and shares no rule with `server`; `history` is 01's shortened list.
+//! `lock_model` is 01's ledger and shares no rule with `server`; `history` is 01's shortened list; `journal`
+//! is 02's day book and `verifier` its judge.
 
 #![forbid(unsafe_code)]
 
@@ -12,6 +13,7 @@ pub mod compose;
 pub mod delivery;
 pub mod event;
 pub mod history;
+pub mod journal;
 pub mod limits;
 pub mod lock_model;
 pub mod lock_view;
@@ -20,6 +22,7 @@ pub mod mode;
 pub mod reply;
 pub mod server;
 pub mod subject;
+pub mod verifier;
 pub mod wire;
 
 pub use event::{Deadline, Event, Reply, Size};

@@ -1,0 +1,80 @@
+//! Between the server's events and those of the layout.
+
+use crate::compose::ROOM;
+use crate::event::Event;
+use crate::journal::layout::{Recorded, MOST_DELIVERED, MOST_SHOWN};
+
+/// With a journal kept, the server sees no more than is recorded: the first 1,040 bytes of a delivery, the
+/// first 16 shown with an answer.
+pub fn recorded(event: &Event) -> Recorded {
+    match event {
+        Event::Open { connection } => Recorded::Open {
+            connection: *connection,
+        },
+        Event::Deliver {
+            connection, bytes, ..
+        } => Recorded::Deliver {
+            connection: *connection,
+            shown: first(bytes, MOST_DELIVERED),
+        },
+        Event::Cut { connection, .. } => Recorded::Cut {
+            connection: *connection,
+        },
+        Event::Clock { milliseconds, .. } => Recorded::Clock {
+            milliseconds: *milliseconds,
+        },
+        Event::Answer {
+            session,
+            payload,
+            end,
+            shown,
+            ..
+        } => Recorded::Answer {
+            session: *session,
+            end: *end != 0,
+            payload: payload.clone(),
+            shown: first(shown, MOST_SHOWN),
+        },
+        Event::Status { status } => Recorded::Status { status: *status },
+    }
+}
+
+fn first(bytes: &[u8], most: usize) -> Vec<u8> {
+    bytes.iter().take(most).copied().collect()
+}
+
+/// The server's event for a recorded one, with room enough for any output; None if the server has no such
+/// event yet, and to a verifier that is one that the server refuses.
+///
+/// Watches and patterns are no events of this server yet: their requests give them their rows
+/// here and in `recorded`, and nothing else of the journal changes.
+pub fn replayable(recorded: Recorded) -> Option<Event> {
+    let room = ROOM;
+    Some(match recorded {
+        Recorded::Open { connection } => Event::Open { connection },
+        Recorded::Deliver { connection, shown } => Event::Deliver {
+            connection,
+            bytes: shown,
+            room,
+        },
+        Recorded::Cut { connection } => Event::Cut { connection, room },
+        Recorded::Clock { milliseconds } => Event::Clock { milliseconds, room },
+        Recorded::Answer {
+            session,
+            end,
+            payload,
+            shown,
+        } => Event::Answer {
+            session,
+            payload,
+            end: u8::from(end),
+            shown,
+            room,
+        },
+        Recorded::Status { status } => Event::Status { status },
+        Recorded::WatchOff { .. }
+        | Recorded::WatchAbove { .. }
+        | Recorded::WatchOutside { .. }
+        | Recorded::Patterns { .. } => return None,
+    })
+}
