@@ -23,7 +23,7 @@ use Rattle.model.specs.LocalityRows.{kindOf, slotActed, inSlot, asynchro
 use Rattle.model.specs.LocalityReplies.{answerTo}
 use Rattle.model.specs.Locality.{atCall, Local}
 use Rattle.model.specs.NextQuestion.{synchronousOf}
-use Rattle.model.specs.AnsweredOnce.{codesTo, Release, Release.none-stands, answeredTo, releaseAfter, Call, Call.closes, Call.expires, Call.clears, Call.other, callOf, NoMore, Meets, Once, clockIn, AnsweredOnce}
+use Rattle.model.specs.AnsweredOnce.{codesTo, Release, Release.none-stands, answeredTo, releaseAfter, Call, Call.closes, Call.expires, Call.clears, Call.other, callOf, joins, NoMore, Meets, Once, clockIn, AnsweredOnce}
 use Rattle.model.proofs.Basics.{and-l, and-r, both, or-of, or-r, or→, not-of, inside, all-keep}
 use Rattle.model.proofs.Invariant.{Inv, Good}
 use Rattle.model.proofs.Place.{place-sound, place-unique, async-live}
@@ -37,7 +37,7 @@ use Rattle.model.proofs.NextQuestion.{first-is}
 use Rattle.model.proofs.Locality.{local-call, local-run, exchange-slots}
 use Rattle.model.proofs.WaitingOne.{One, None, all-imp, all-and, keep-one, keep-gone, look-all, look-one, snoc-one, new-one, good-none, one-none, away, codes-none, codes-one}
 use Rattle.model.proofs.AnsweredFrames.{toWaiting, taken}
-use Rattle.model.proofs.AnsweredQuiet.{ActedFacts, Facts, acted-facts, facts, joins, codes, away-due, away-after, quiet-after, is-lock, lefts, newest, comes, sized-call}
+use Rattle.model.proofs.AnsweredQuiet.{ActedFacts, Facts, acted-facts, facts, codes, away-due, away-after, quiet-after, is-lock, lefts, newest, comes, sized-call, second-call, second-run}
 use Rattle.model.proofs.AnsweredRead.{releaseOf, Known, codes-read, known-after, quiet-list}
 
 -- the request of the session in slot j, with connections c and s and standing release p, waits until t
@@ -49,6 +49,7 @@ pub record Waits (c s t j : ℕ) (p : Release) (d : Server) : Type 0 where
   pub first : (at (d .locks .entries) j) .synchronous ≡ s
   pub one : One j t (d .locks .waiting)
   pub known : Known c s p (d .locks .entries)
+  pub seconds : all (away noConnection 0 (d .locks .entries)) (d .locks .waiting) ≡ true
 
 module _ (c : ℕ) (real : c ≡ noConnection → ⊥) (s t j : ℕ) (p : Release) (d : Server) (k : Waits c s t j p d) where
   abbrev E : List Entry
@@ -365,6 +366,9 @@ once-list c real s t j p (e ∷ es) d k = go (callOf c s t h₀) (met c real s t
     known′ : Known c s q ((step d e) .server .locks .entries)
     known′ = known-after c real s p d (k .inv) (k .known) h₀ (step d e) l₀ f₀ (unjoined c real s t j p d k h₀ (step d e) l₀ f₀ v′)
 
+    seconds′ : all (away noConnection 0 ((step d e) .server .locks .entries)) ((step d e) .server .locks .waiting) ≡ true
+    seconds′ = second-call d e (k .inv) (k .sized) (k .seconds)
+
     A : List ℕ
     A = answeredTo c s p h₀ ((step d e) .frames)
 
@@ -372,7 +376,7 @@ once-list c real s t j p (e ∷ es) d k = go (callOf c s t h₀) (met c real s t
     read = codes-read c s p d h₀ (step d e) l₀ f₀ (k .known) (λ i n a x far. absurd (alone c real s t j p d k i n a x far))
 
     no-more : all (away c 0 ((step d e) .server .locks .entries)) ((step d e) .server .locks .waiting) ≡ true → NoMore c s q (log ((step d e) .server) es)
-    no-more a = quiet-list c real s q es ((step d e) .server) record { inv = v′; sized = z′; none = a } known′
+    no-more a = quiet-list c real s q es ((step d e) .server) record { inv = v′; sized = z′; none = a; second = seconds′ } known′
 
     go : (x : Call) → Met c real s t j p d k h₀ (step d e) x → (Waits c s t j q ((step d e) .server) → Once c s t q (log ((step d e) .server) es)) → Meets x A (Once c s t q (log ((step d e) .server) es)) (NoMore c s q (log ((step d e) .server) es))
     go closes m rest = (read ∙ m .0, no-more (m .1))
@@ -383,7 +387,7 @@ once-list c real s t j p (e ∷ es) d k = go (callOf c s t h₀) (met c real s t
         by : ((codesTo c (toWaiting h₀ ((step d e) .frames)) ≡ []) × One j t ((step d e) .server .locks .waiting)) ⊎ ((codesTo c (toWaiting h₀ ((step d e) .frames)) ≡ 1 ∷ []) × (all (away c 0 ((step d e) .server .locks .entries)) ((step d e) .server .locks .waiting) ≡ true))
             → ((A ≡ []) × Once c s t q (log ((step d e) .server) es)) ⊎ ((A ≡ 1 ∷ []) × NoMore c s q (log ((step d e) .server) es))
         by (inl x) =
-            inl (read ∙ x .0, rest record { inv = v′; sized = z′; alive = ap (λ (i : ℕ). not (eqb i 0)) (m .1) ∙ k .alive; second = m .3 ∙ k .second; first = m .2 ∙ k .first; one = x .1; known = known′ })
+            inl (read ∙ x .0, rest record { inv = v′; sized = z′; alive = ap (λ (i : ℕ). not (eqb i 0)) (m .1) ∙ k .alive; second = m .3 ∙ k .second; first = m .2 ∙ k .first; one = x .1; known = known′; seconds = seconds′ })
         by (inr x) = inr (read ∙ x .0, no-more (x .1))
 
 -- a request that is not answered: no release of its session stands
@@ -485,6 +489,7 @@ module _ (v : Making) (es : List Event) (c : ℕ) (bs : List ℕ) (room k n : �
         first = first-now;
         one = subst (One (slotOf D c) (clockIn (log (fresh v) es) + (header bs) .param)) (sym (comes D act R local₀ facts₀ waits₀)) (new-one (slotOf D c) (clockIn (log (fresh v) es) + (header bs) .param) (newest D act R local₀ facts₀ waits₀) slot₀ (ap (λ (i : ℕ). i + (header bs) .param) ((local-run (fresh v) es) .clock)) (D .locks .waiting) none-before);
         known = known-now;
+        seconds = second-call D (delivery c bs room) inv₀ sized₀ (second-run v es);
       }
     where
       kept : (b z : Bool) (x y : ℕ) → z ≡ false → cond b (cond z x y) y ≡ y

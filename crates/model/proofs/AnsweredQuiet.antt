@@ -1,9 +1,9 @@
 -- A call on a server where no request waits of the session with a connection answers none, until one comes: what is known of a call beside the table
--- of locality, and who may come to have the connection.
+-- of locality, who may come to have the connection, and that every request that waits is of a session with both connections.
 use mathlib.Core.Path.{_≡_, refl, sym, ap, ap₂, subst, _∙_}
 use mathlib.Core.Bool.{Bool, true, false, not, _&&_, _||_, cond, false≢true, true≢false}
 use mathlib.Core.List.{List, [], _∷_, _++_, map}
-use Prim.Native.Nat.{ℕ, zero, suc, _+_, _≤_}
+use Prim.Native.Nat.{ℕ, zero, suc, _+_, _≤_, _<_}
 use native.Mathlib.Omega.{arith}
 use lib.Dec.{eqb, ltb}
 use lib.ListN.{length}
@@ -13,20 +13,20 @@ use Rattle.wire.specs.Class.{one-of, classOf, synchronous, asynchronous}
 use Rattle.wire.specs.Frame.{Frame}
 use Rattle.model.specs.Sizes.{noConnection}
 use Rattle.model.specs.Lists.{all, keep}
-use Rattle.model.specs.State.{Server, Entry, Waiting, at, live, blank, slotOfNumber}
+use Rattle.model.specs.State.{Server, Entry, Waiting, Making, at, live, blank, slotOfNumber, fresh}
 use Rattle.model.specs.Interface.{Event, Event.opening, Event.delivery, Event.cut, Event.clock, Event.answer, Event.status, Outcome, Outcome.more-needed, Outcome.skipped, Outcome.held, Outcome.ignored, Outcome.error-sent, Outcome.closed, Outcome.acted, Reply, Reply.refused, Reply.done, Reply.withheld, Reply.took}
 use Rattle.model.specs.Place.{slotIn, slotOf, Role.r-synchronous, Role.r-asynchronous, roleBy, roleOf}
 use Rattle.model.specs.Refusals.{refusal}
-use Rattle.model.specs.Step.{Result, answered, step, log}
+use Rattle.model.specs.Step.{Result, answered, step, final}
 use Rattle.model.specs.Happening.{Heard, Heard.silence, Action, Happening, Happening.unmoved, Happening.connected, Happening.disconnected, Happening.skipped-over, Happening.errored, Happening.message-acted, Happening.clock-read, Happening.status-set, Happening.answer-sent, Happening.answer-withheld, heard, happened}
 use Rattle.model.specs.LocalityRows.{kindOf, slotActed, inSlot, asynchronous-row, isSilence, waits, requestsOf, reachedBy, requestsLeft, looksAfter}
 use Rattle.model.specs.LocalityReplies.{answerTo}
 use Rattle.model.specs.Locality.{atCall, Local}
-use Rattle.model.specs.AnsweredOnce.{codesTo, nothingSent, begins}
-use Rattle.model.proofs.Basics.{and-l, and-r, not-of, all-keep, all-snoc}
-use Rattle.model.proofs.Invariant.{Inv}
+use Rattle.model.specs.AnsweredOnce.{codesTo, nothingSent, begins, joins}
+use Rattle.model.proofs.Basics.{and-l, and-r, both, not-of, inside, all-keep, all-snoc}
+use Rattle.model.proofs.Invariant.{Inv, Good}
 use Rattle.model.proofs.Events.{Pairs}
-use Rattle.model.proofs.Fits.{real-delivery, real-cut, inv-call}
+use Rattle.model.proofs.Fits.{real-delivery, real-cut, inv-call, inv-run}
 use Rattle.model.proofs.Replies.{accepted}
 use Rattle.model.proofs.Place.{place-role, sync-live, async-live}
 use Rattle.model.proofs.Opening.{entering, pairing}
@@ -34,7 +34,7 @@ use Rattle.model.proofs.Deciding.{async-own}
 use Rattle.model.proofs.ReadOff.{each-of}
 use Rattle.model.proofs.Sending.{OnlyOn, role-of-async, role-of-sync}
 use Rattle.model.proofs.Locality.{local-call, exchange-slots}
-use Rattle.model.proofs.WaitingOne.{all-imp, look-all, away, codes-none, codes-append}
+use Rattle.model.proofs.WaitingOne.{all-imp, all-and, look-all, away, codes-none, codes-append}
 use Rattle.model.proofs.AnsweredFrames.{toWaiting, taken, unanswered, Told, frames-told}
 
 -- what is known of a call, beside the table
@@ -182,19 +182,6 @@ past [] i l = refl
 past (x ∷ es) zero l = absurd (omega arith)
 past (x ∷ es) (suc i) l = past es i (omega arith)
 
--- connection c is taken by a session as its second
-abbrev pub joins : ℕ → Happening → Bool
-joins c (message-acted a) = eqb (kindOf a) 17 && eqb (a .connection) c
-joins c unmoved = false
-joins c (connected x) = false
-joins c (disconnected x k) = false
-joins c (skipped-over x k) = false
-joins c (errored x h k) = false
-joins c (clock-read t) = false
-joins c (status-set b) = false
-joins c (answer-sent n p end) = false
-joins c (answer-withheld n m) = false
-
 row-away : (c : ℕ) → (c ≡ noConnection → ⊥) → (es : List Entry) (i : ℕ) (h : Happening) (x : ℕ) → joins c h ≡ false → eqb x c ≡ false → eqb (inSlot asynchronous-row es i h x) c ≡ false
 row-away c real es i unmoved x n e = e
 row-away c real es i (connected y) x n e = e
@@ -278,6 +265,7 @@ pub record Quiet (c : ℕ) (d : Server) : Type 0 where
   pub inv : Inv (d .locks)
   pub sized : length (d .rest .exchanges) ≡ length (d .locks .entries)
   pub none : all (away c 0 (d .locks .entries)) (d .locks .waiting) ≡ true
+  pub second : all (away noConnection 0 (d .locks .entries)) (d .locks .waiting) ≡ true
 
 silent-told : (x : Heard) → isSilence x ≡ true → x ≡ silence
 silent-told silence e = refl
@@ -312,25 +300,20 @@ module _ (d : Server) (a : Action) (r : Result) (l : Local d (message-acted a) r
 -- no request waits on connection c: one call
 module _ (c : ℕ) (real : c ≡ noConnection → ⊥) (d : Server) (q : Quiet c d) where
   abbrev Stays : Happening → Result → Type 0
-  Stays h r = (codesTo c (toWaiting h (r .frames)) ≡ []) × (all (away c 0 (r .server .locks .entries)) (r .server .locks .waiting) ≡ true) × (joins c h ≡ false)
+  Stays h r = (codesTo c (toWaiting h (r .frames)) ≡ []) × (all (away c 0 (r .server .locks .entries)) (r .server .locks .waiting) ≡ true)
 
   module _ (h : Happening) (r : Result) (l : Local d h r) (f : Facts d h (r .frames)) (v′ : Inv (r .server .locks)) where
     stays : joins c h ≡ false → all (away c 0 (d .locks .entries)) (taken d h) ≡ true → all (away c 0 (d .locks .entries)) (requestsLeft (d .locks .entries) (d .locks .clock) h (d .locks .waiting)) ≡ true → Stays h r
     stays n a b =
         let x = quiet-after c real d h r l f (q .inv) v′ n b in
-        (codes c real d h r l f (q .inv) v′ ∙ ap₂ _++_ (codes-none c 0 (d .locks .entries) (taken d h) a) (x .0), x .1, n)
+        (codes c real d h r l f (q .inv) v′ ∙ ap₂ _++_ (codes-none c 0 (d .locks .entries) (taken d h) a) (x .0), x .1)
 
   kept : (p : Waiting → Bool) → all (away c 0 (d .locks .entries)) (keep p (d .locks .waiting)) ≡ true
   kept p = all-keep (away c 0 (d .locks .entries)) p (d .locks .waiting) (q .none)
 
-  acted-quiet : (a : Action) (r : Result) (l : Local d (message-acted a) r) (f : ActedFacts d a (r .frames)) → Inv (r .server .locks) → begins c (message-acted a) (r .frames) ≡ false → Stays (message-acted a) r
-  acted-quiet a r l f v′ n = stays (message-acted a) r l f v′ (not-join (eqb (kindOf a) 17) (eqb (a .connection) c) n) (taken-away (eqb (kindOf a) 19)) (left-away (waits a) refl (eqb (kindOf a) 19))
+  acted-quiet : (a : Action) (r : Result) (l : Local d (message-acted a) r) (f : ActedFacts d a (r .frames)) → Inv (r .server .locks) → begins c (message-acted a) (r .frames) ≡ false → joins c (message-acted a) ≡ false → Stays (message-acted a) r
+  acted-quiet a r l f v′ n not-join = stays (message-acted a) r l f v′ not-join (taken-away (eqb (kindOf a) 19)) (left-away (waits a) refl (eqb (kindOf a) 19))
     where
-      not-join : (x y : Bool) → (y && (x || (eqb (kindOf a) 4 && (not (eqb (a .message .code) 0) && nothingSent (r .frames))))) ≡ false → (x && y) ≡ false
-      not-join true true e = absurd (true≢false e)
-      not-join true false e = refl
-      not-join false y e = refl
-
       taken-away : (b : Bool) → all (away c 0 (d .locks .entries)) (cond b (keep (requestsOf (slotActed (d .locks .entries) a)) (d .locks .waiting)) []) ≡ true
       taken-away true = kept (requestsOf (slotActed (d .locks .entries) a))
       taken-away false = refl
@@ -338,9 +321,9 @@ module _ (c : ℕ) (real : c ≡ noConnection → ⊥) (d : Server) (q : Quiet c
       elsewhere-asked : waits a ≡ true → eqb ((at (d .locks .entries) (slotActed (d .locks .entries) a)) .asynchronous) c ≡ false
       elsewhere-asked w =
           ap (λ (x : ℕ). eqb x c) (f .second (ap (one-of (4 ∷ 19 ∷ [])) (is-lock d a r l f w)))
-          ∙ go (eqb (a .connection) c) (ap₂ (λ (x : ℕ) (fs : List Frame). eqb (a .connection) c && (eqb x 17 || (eqb x 4 && (not (eqb (a .message .code) 0) && nothingSent fs)))) (sym (is-lock d a r l f w)) (sym (says-nothing d a r l f w)) ∙ n)
+          ∙ go (eqb (a .connection) c) (ap₂ (λ (x : ℕ) (fs : List Frame). (eqb (a .connection) c && eqb x 4) && (not (eqb (a .message .code) 0) && nothingSent fs)) (sym (is-lock d a r l f w)) (sym (says-nothing d a r l f w)) ∙ n)
         where
-          go : (b : Bool) → (b && (not (eqb (a .message .code) 0) && true)) ≡ false → b ≡ false
+          go : (b : Bool) → ((b && true) && (not (eqb (a .message .code) 0) && true)) ≡ false → b ≡ false
           go true e = absurd (true≢false (ap (λ (x : Bool). not x && true) (sym (asks d a r l f w)) ∙ e))
           go false e = refl
 
@@ -349,18 +332,156 @@ module _ (c : ℕ) (real : c ≡ noConnection → ⊥) (d : Server) (q : Quiet c
       left-away false w true = kept (λ w. not (requestsOf (slotActed (d .locks .entries) a) w))
       left-away false w false = q .none
 
-  pub quiet-at : (h : Happening) (r : Result) → Local d h r → Facts d h (r .frames) → Inv (r .server .locks) → begins c h (r .frames) ≡ false → Stays h r
-  quiet-at unmoved r l f v′ n = stays unmoved r l f v′ refl refl (q .none)
-  quiet-at (connected x) r l f v′ n = stays (connected x) r l f v′ refl refl (q .none)
-  quiet-at (disconnected x k) r l f v′ n = stays (disconnected x k) r l f v′ refl refl (kept (λ w. not (requestsOf (slotIn (d .locks .entries) x) w)))
-  quiet-at (skipped-over x k) r l f v′ n = stays (skipped-over x k) r l f v′ refl refl (q .none)
-  quiet-at (errored x g k) r l f v′ n = stays (errored x g k) r l f v′ refl refl (q .none)
-  quiet-at (message-acted a) r l f v′ n = acted-quiet a r l f v′ n
-  quiet-at (clock-read t) r l f v′ n = stays (clock-read t) r l f v′ refl (kept (reachedBy t)) (kept (λ w. not (reachedBy t w)))
-  quiet-at (status-set b) r l f v′ n = stays (status-set b) r l f v′ refl refl (q .none)
-  quiet-at (answer-sent m p end) r l f v′ n = stays (answer-sent m p end) r l f v′ refl refl (q .none)
-  quiet-at (answer-withheld m k) r l f v′ n = stays (answer-withheld m k) r l f v′ refl refl (q .none)
+  pub quiet-at : (h : Happening) (r : Result) → Local d h r → Facts d h (r .frames) → Inv (r .server .locks) → begins c h (r .frames) ≡ false → joins c h ≡ false → Stays h r
+  quiet-at unmoved r l f v′ n m = stays unmoved r l f v′ refl refl (q .none)
+  quiet-at (connected x) r l f v′ n m = stays (connected x) r l f v′ refl refl (q .none)
+  quiet-at (disconnected x k) r l f v′ n m = stays (disconnected x k) r l f v′ refl refl (kept (λ w. not (requestsOf (slotIn (d .locks .entries) x) w)))
+  quiet-at (skipped-over x k) r l f v′ n m = stays (skipped-over x k) r l f v′ refl refl (q .none)
+  quiet-at (errored x g k) r l f v′ n m = stays (errored x g k) r l f v′ refl refl (q .none)
+  quiet-at (message-acted a) r l f v′ n m = acted-quiet a r l f v′ n m
+  quiet-at (clock-read t) r l f v′ n m = stays (clock-read t) r l f v′ refl (kept (reachedBy t)) (kept (λ w. not (reachedBy t w)))
+  quiet-at (status-set b) r l f v′ n m = stays (status-set b) r l f v′ refl refl (q .none)
+  quiet-at (answer-sent k p end) r l f v′ n m = stays (answer-sent k p end) r l f v′ refl refl (q .none)
+  quiet-at (answer-withheld j k) r l f v′ n m = stays (answer-withheld j k) r l f v′ refl refl (q .none)
 
 -- the two counts of slots stay
 pub sized-call : (d : Server) (e : Event) → length (d .rest .exchanges) ≡ length (d .locks .entries) → length ((step d e) .server .rest .exchanges) ≡ length ((step d e) .server .locks .entries)
 sized-call d e z = let l = local-call d e in l .exchange-slots ∙ z ∙ sym (l .slots)
+
+-- every request that waits is of a session with both connections
+module _ (d : Server) (h : Happening) (r : Result) (l : Local d h r) (f : Facts d h (r .frames)) (v : Inv (d .locks)) where
+  abbrev es₂ : List Entry
+  es₂ = d .locks .entries
+
+  abbrev es₃ : List Entry
+  es₃ = r .server .locks .entries
+
+  abbrev both₂ : Waiting → Bool
+  both₂ w = live (at es₂ (w .slot)) && away noConnection 0 es₂ w
+
+  goods : (ws : List Waiting) → Good es₂ ws → all (away noConnection 0 es₂) ws ≡ true → all both₂ ws ≡ true
+  goods [] g a = refl
+  goods (w ∷ ws) g a = both _ _ (both _ _ (and-l (live (at es₂ (w .slot))) _ (g .0)) (and-l (away noConnection 0 es₂ w) _ a)) (goods ws (g .2) (and-r (away noConnection 0 es₂ w) _ a))
+
+  -- as the row of its slot leaves it
+  pub kept-row : (w : Waiting) → both₂ w ≡ true → inSlot asynchronous-row es₂ (w .slot) h ((at es₂ (w .slot)) .asynchronous) ≡ (at es₂ (w .slot)) .asynchronous → away noConnection 0 es₃ w ≡ true
+  kept-row w b e =
+      let within = inside live es₂ (w .slot) refl (and-l (live (at es₂ (w .slot))) _ b) in
+      ap (λ (x : ℕ). not (eqb x noConnection)) (l .asynchronous (w .slot) within ∙ e) ∙ and-r (live (at es₂ (w .slot))) _ b
+
+  looked-second : all (away noConnection 0 es₃) (requestsLeft es₂ (d .locks .clock) h (d .locks .waiting)) ≡ true → all (away noConnection 0 es₃) (r .server .locks .waiting) ≡ true
+  looked-second a = (look-all (away noConnection 0 es₃) (looksAfter es₂ h) (l .due) (requestsLeft es₂ (d .locks .clock) h (d .locks .waiting)) es₃ (r .server .locks .waiting) (l .granted) (l .waiting) a) .0
+
+all-kept : (p : Waiting → Bool) (ws : List Waiting) → all p (keep p ws) ≡ true
+all-kept p [] = refl
+all-kept p (w ∷ ws) = go (p w) refl (all-kept p ws)
+  where
+    go : (b : Bool) → p w ≡ b → all p (keep p ws) ≡ true → all p (cond b (w ∷ keep p ws) (keep p ws)) ≡ true
+    go true e a = both _ _ e a
+    go false e a = a
+
+module _ (d : Server) (v : Inv (d .locks)) (s : all (away noConnection 0 (d .locks .entries)) (d .locks .waiting) ≡ true) where
+  abbrev Seconded : Happening → Type 0
+  Seconded h = (r : Result) → Local d h r → Facts d h (r .frames) → all (away noConnection 0 (r .server .locks .entries)) (r .server .locks .waiting) ≡ true
+
+  abbrev E₂ : List Entry
+  E₂ = d .locks .entries
+
+  abbrev W₂ : List Waiting
+  W₂ = d .locks .waiting
+
+  abbrev held₂ : Waiting → Bool
+  held₂ w = live (at E₂ (w .slot)) && away noConnection 0 E₂ w
+
+  calm-second : (h : Happening) → requestsLeft E₂ (d .locks .clock) h W₂ ≡ W₂ → ((i : ℕ) → inSlot asynchronous-row E₂ i h ((at E₂ i) .asynchronous) ≡ (at E₂ i) .asynchronous) → Seconded h
+  calm-second h left same r l f =
+      looked-second d h r l f v (rw left (all-imp held₂ (away noConnection 0 (r .server .locks .entries)) (λ w b. kept-row d h r l f v w b (same (w .slot))) W₂ (goods d h r l f v W₂ (v .sound .good) s)))
+
+  same-both₂ : (b : Bool) (x : ℕ) → cond b x x ≡ x
+  same-both₂ true x = refl
+  same-both₂ false x = refl
+
+  closed-second : (x : ℕ) (q : Heard) → Seconded (disconnected x q)
+  closed-second x q r l f =
+      let p : Waiting → Bool = λ w. not (requestsOf (slotIn E₂ x) w) in
+      looked-second d (disconnected x q) r l f v
+      (all-imp (λ w. held₂ w && p w) (away noConnection 0 (r .server .locks .entries)) (λ w b. kept-row d (disconnected x q) r l f v w (and-l (held₂ w) _ b) (far w (and-r (held₂ w) _ b))) (keep p W₂)
+      (all-and held₂ p (keep p W₂) (all-keep held₂ p W₂ (goods d (disconnected x q) r l f v W₂ (v .sound .good) s)) (all-kept p W₂)))
+    where
+      far : (w : Waiting) → not (eqb (w .slot) (slotIn E₂ x)) ≡ true → cond (eqb (w .slot) (slotIn E₂ x)) noConnection ((at E₂ (w .slot)) .asynchronous) ≡ (at E₂ (w .slot)) .asynchronous
+      far w n = ap (λ (b : Bool). cond b noConnection ((at E₂ (w .slot)) .asynchronous)) (not-of (eqb (w .slot) (slotIn E₂ x)) n)
+
+  acted-second : (a : Action) → Seconded (message-acted a)
+  acted-second a r l f = looked-second d (message-acted a) r l f v (go (waits a) refl (eqb (kindOf a) 19))
+    where
+      es′ : List Entry
+      es′ = r .server .locks .entries
+
+      j : ℕ
+      j = slotActed E₂ a
+
+      all-held : all held₂ W₂ ≡ true
+      all-held = goods d (message-acted a) r l f v W₂ (v .sound .good) s
+
+      row : (w : Waiting) → held₂ w ≡ true → away noConnection 0 es′ w ≡ true
+      row w b = by (eqb (w .slot) j) refl
+        where
+          alive : live (at E₂ (w .slot)) ≡ true
+          alive = and-l (live (at E₂ (w .slot))) _ b
+
+          within : w .slot < length E₂
+          within = inside live E₂ (w .slot) refl alive
+
+          own : (y z : Bool) → eqb (kindOf a) 17 ≡ y → eqb (kindOf a) 0 ≡ z → w .slot ≡ j → not (eqb (cond y (a .connection) (cond z noConnection ((at E₂ (w .slot)) .asynchronous))) noConnection) ≡ true
+          own true z ey ez n = ap not (ne-eqb (a .connection) noConnection (f .real))
+          own false true ey ez n = absurd (true≢false (sym alive ∙ ap (λ (i : ℕ). live (at E₂ i)) n ∙ f .vacant (eqb-true _ _ ez)))
+          own false false ey ez n = and-r (live (at E₂ (w .slot))) _ b
+
+          cell : (x : Bool) → eqb (w .slot) j ≡ x → not (eqb (cond x (cond (eqb (kindOf a) 17) (a .connection) (cond (eqb (kindOf a) 0) noConnection ((at E₂ (w .slot)) .asynchronous))) ((at E₂ (w .slot)) .asynchronous)) noConnection) ≡ true
+          cell true n = own (eqb (kindOf a) 17) (eqb (kindOf a) 0) refl refl (eqb-true _ _ n)
+          cell false n = and-r (live (at E₂ (w .slot))) _ b
+
+          by : (x : Bool) → eqb (w .slot) j ≡ x → away noConnection 0 es′ w ≡ true
+          by x n = ap (λ (y : ℕ). not (eqb y noConnection)) (l .asynchronous (w .slot) within) ∙ cell (eqb (w .slot) j) refl
+
+      newcomer : waits a ≡ true → held₂ (record { slot = j; deadline = d .locks .clock + a .message .param; string = a .message .payload }) ≡ true
+      newcomer w =
+          let o : one-of (4 ∷ 19 ∷ []) (kindOf a) ≡ true = ap (one-of (4 ∷ 19 ∷ [])) (is-lock d a r l f w) in
+          both _ _ (f .second-live o) (ap (λ (x : ℕ). not (eqb x noConnection)) (f .second o) ∙ ap not (ne-eqb _ _ (f .real)))
+
+      go : (b : Bool) → waits a ≡ b → (y : Bool) → all (away noConnection 0 es′) (cond b (W₂ ++ record { slot = j; deadline = d .locks .clock + a .message .param; string = a .message .payload } ∷ []) (cond y (keep (λ w. not (requestsOf j w)) W₂) W₂)) ≡ true
+      go true w y = all-imp held₂ (away noConnection 0 es′) row (W₂ ++ record { slot = j; deadline = d .locks .clock + a .message .param; string = a .message .payload } ∷ []) (all-snoc held₂ W₂ _ all-held (newcomer w))
+      go false w true = all-imp held₂ (away noConnection 0 es′) row (keep (λ w. not (requestsOf j w)) W₂) (all-keep held₂ (λ w. not (requestsOf j w)) W₂ all-held)
+      go false w false = all-imp held₂ (away noConnection 0 es′) row W₂ all-held
+
+  reading-second : (t : ℕ) → Seconded (clock-read t)
+  reading-second t r l f =
+      looked-second d (clock-read t) r l f v
+      (all-imp held₂ (away noConnection 0 (r .server .locks .entries)) (λ w b. kept-row d (clock-read t) r l f v w b refl) (keep (λ w. not (reachedBy t w)) W₂)
+      (all-keep held₂ (λ w. not (reachedBy t w)) W₂ (goods d (clock-read t) r l f v W₂ (v .sound .good) s)))
+
+  pub second-after : (h : Happening) → Seconded h
+  second-after (message-acted a) = acted-second a
+  second-after (disconnected x q) = closed-second x q
+  second-after (clock-read t) = reading-second t
+  second-after unmoved = calm-second unmoved refl (λ i. refl)
+  second-after (connected x) = calm-second (connected x) refl (λ i. refl)
+  second-after (skipped-over x k) = calm-second (skipped-over x k) refl (λ i. refl)
+  second-after (errored x g k) = calm-second (errored x g k) refl (λ i. same-both₂ (eqb i (slotIn E₂ x) && eqb ((at E₂ i) .synchronous) x) ((at E₂ i) .asynchronous))
+  second-after (status-set b) = calm-second (status-set b) refl (λ i. refl)
+  second-after (answer-sent k p end) = calm-second (answer-sent k p end) refl (λ i. same-both₂ (eqb i (slotOfNumber E₂ k)) ((at E₂ i) .asynchronous))
+  second-after (answer-withheld j k) = calm-second (answer-withheld j k) refl (λ i. same-both₂ (eqb i (slotOfNumber E₂ j)) ((at E₂ i) .asynchronous))
+
+pub second-call : (d : Server) (e : Event) → Inv (d .locks) → length (d .rest .exchanges) ≡ length (d .locks .entries) → all (away noConnection 0 (d .locks .entries)) (d .locks .waiting) ≡ true
+    → all (away noConnection 0 ((step d e) .server .locks .entries)) ((step d e) .server .locks .waiting) ≡ true
+second-call d e v z s = second-after d v s (atCall d e) (step d e) (local-call d e) (facts d v z e ((step d e) .reply) refl)
+
+second-list : (es : List Event) (d : Server) → Inv (d .locks) → length (d .rest .exchanges) ≡ length (d .locks .entries) → all (away noConnection 0 (d .locks .entries)) (d .locks .waiting) ≡ true
+    → all (away noConnection 0 ((final d es) .locks .entries)) ((final d es) .locks .waiting) ≡ true
+unfolding final
+second-list [] d v z s = s
+second-list (e ∷ es) d v z s = second-list es ((step d e) .server) (inv-call d e v) (sized-call d e z) (second-call d e v z s)
+
+pub second-run : (v : Making) (es : List Event) → all (away noConnection 0 ((final (fresh v) es) .locks .entries)) ((final (fresh v) es) .locks .waiting) ≡ true
+unfolding final
+second-run v es = let i = inv-run v [] in second-list es (fresh v) i (exchange-slots [] (fresh v) ∙ sym (i .sound .firm .slots)) refl

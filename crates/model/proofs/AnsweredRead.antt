@@ -12,7 +12,7 @@ use Rattle.wire.specs.Class.{one-of}
 use Rattle.wire.specs.Frame.{Frame}
 use Rattle.model.specs.Sizes.{noConnection}
 use Rattle.model.specs.Lists.{all, keep}
-use Rattle.model.specs.State.{Server, Entry, Waiting, Standing, Standing.no-release, Standing.release-of, Kind.exclusive-lock, Kind.shared-lock, at, live, slotOfNumber}
+use Rattle.model.specs.State.{Server, Entry, Waiting, Standing, Standing.no-release, Standing.release-of, Kind.exclusive-lock, Kind.shared-lock, at, live, blank, slotOfNumber}
 use Rattle.model.specs.Interface.{Event}
 use Rattle.model.specs.Place.{onConnection, slotIn}
 use Rattle.model.specs.Step.{Result, step, log}
@@ -20,7 +20,7 @@ use Rattle.model.specs.Happening.{Heard, Heard.silence, Heard.with-code,
 use Rattle.model.specs.LocalityRows.{kindOf, slotActed, inSlot, number-row, synchronous-row, asynchronous-row, standing-row, isSilence, codeWhere, endedWith, requestsOf, looksAfter}
 use Rattle.model.specs.LocalityReplies.{saidTo, answerTo}
 use Rattle.model.specs.Locality.{atCall, Local}
-use Rattle.model.specs.AnsweredOnce.{lockOnly, codesTo, Release, Release.none-stands, Release.stands-for, isStanding, waitsFor, asksLock, clearsAll, endsRelease, releaseAfter, lessRelease, lessOwn, begins, NoMore, NoMore.ended, NoMore.anew, NoMore.silent}
+use Rattle.model.specs.AnsweredOnce.{lockOnly, codesTo, Release, Release.none-stands, Release.stands-for, isStanding, waitsFor, asksLock, clearsAll, endsRelease, releaseAfter, lessRelease, lessOwn, begins, joins, lessAny, NoneWaits, NoneWaits.last, NoneWaits.own-request, NoneWaits.still, NoMore, NoMore.ended, NoMore.anew, NoMore.taken-over, NoMore.silent}
 use Rattle.model.proofs.Basics.{and-l, and-r, both, or-of, or-r, or→}
 use Rattle.model.proofs.Invariant.{Inv}
 use Rattle.model.proofs.Place.{place-unique}
@@ -28,7 +28,7 @@ use Rattle.model.proofs.Fits.{inv-call}
 use Rattle.model.proofs.Locality.{local-call}
 use Rattle.model.proofs.WaitingOne.{codes-append, away}
 use Rattle.model.proofs.AnsweredFrames.{toWaiting, taken, lock-append, lock-to, lock-own, first-is, unanswered, acted-frames}
-use Rattle.model.proofs.AnsweredQuiet.{ActedFacts, Facts, facts, joins, past, Quiet, quiet-at, sized-call}
+use Rattle.model.proofs.AnsweredQuiet.{ActedFacts, Facts, facts, past, Quiet, quiet-at, sized-call, second-call}
 
 -- the release that stands of a session, by its number
 abbrev pub releaseOf : Standing → Release
@@ -75,8 +75,7 @@ abbrev less : Bool → Bool → Bool → Bool → List ℕ → List ℕ
 less asks ends clears stands xs = cond (asks || ends) (drop 1 xs) (cond (clears && stands) (lessRelease xs) xs)
 
 -- a message that acted
-module _ (c s : ℕ) (p : Release) (d : Server) (a : Action) (r : Result) (l : Local d (message-acted a) r) (f : ActedFacts d a (r .frames)) (k : Known c s p (d .locks .entries))
-    (alone : (i : ℕ) → (s ≡ noConnection → ⊥) → live (at (d .locks .entries) i) ≡ true → (at (d .locks .entries) i) .synchronous ≡ s → eqb ((at (d .locks .entries) i) .asynchronous) c ≡ false → codesTo c (toWaiting (message-acted a) (r .frames)) ≡ []) where
+module _ (c s : ℕ) (p : Release) (d : Server) (a : Action) (r : Result) (l : Local d (message-acted a) r) (f : ActedFacts d a (r .frames)) where
   abbrev es : List Entry
   es = d .locks .entries
 
@@ -106,6 +105,13 @@ module _ (c s : ℕ) (p : Release) (d : Server) (a : Action) (r : Result) (l : L
 
   nobody : looksAfter es (message-acted a) ≡ false → l .granted ≡ []
   nobody e = (rw e at (l .waiting)) .2
+
+  -- what the host knows; and where another session has connection s
+  abbrev Knows : Type 0
+  Knows = Known c s p es
+
+  abbrev Alone : Type 0
+  Alone = (i : ℕ) → (s ≡ noConnection → ⊥) → live (at es i) ≡ true → (at es i) .synchronous ≡ s → eqb ((at es i) .asynchronous) c ≡ false → codesTo c (toWaiting (message-acted a) (r .frames)) ≡ []
 
   -- what is to be read
   abbrev Reads : Bool → Bool → Bool → Type 0
@@ -167,8 +173,8 @@ module _ (c s : ℕ) (p : Release) (d : Server) (a : Action) (r : Result) (l : L
         (ap (λ (t : ℕ). cond (one-of (6 ∷ 7 ∷ 12 ∷ []) t) (codeWhere (λ n. eqb n (a .message .param)) (e₀ .standing)) (cond (eqb t 19) (codeWhere (λ n. true) (e₀ .standing)) silence)) q)
         (f .second (ap (one-of (4 ∷ 19 ∷ [])) q))
 
-    clear-own-read : eqb (a .connection) c ≡ true → Reads false false true
-    clear-own-read e = rw clear-codes (ap (λ ys. cond (isStanding p) (lessRelease ((zs ++ ys) ++ g)) ((zs ++ ys) ++ g)) (said-here c (codeWhere (λ n. true) (e₀ .standing)) (a .connection) e) ∙ by (e₀ .standing) known) ∙ sym (waiting-clear (eq-eqb _ _ q))
+    clear-own-read : Knows → eqb (a .connection) c ≡ true → Reads false false true
+    clear-own-read k e = rw clear-codes (ap (λ ys. cond (isStanding p) (lessRelease ((zs ++ ys) ++ g)) ((zs ++ ys) ++ g)) (said-here c (codeWhere (λ n. true) (e₀ .standing)) (a .connection) e) ∙ by (e₀ .standing) known) ∙ sym (waiting-clear (eq-eqb _ _ q))
       where
         known : releaseOf (e₀ .standing) ≡ p
         known = (k s₀ (f .second-live (ap (one-of (4 ∷ 19 ∷ [])) q)) (f .second (ap (one-of (4 ∷ 19 ∷ [])) q) ∙ eqb-true _ _ e)) .1
@@ -179,6 +185,21 @@ module _ (c s : ℕ) (p : Release) (d : Server) (a : Action) (r : Result) (l : L
             ap (λ (v : Release). cond (isStanding v) (lessRelease ((zs ++ 1 ∷ []) ++ g)) ((zs ++ 1 ∷ []) ++ g)) (sym z) ∙ ap lessRelease (append₃ zs (1 ∷ []) g) ∙ less-zeros c 1 es ws₀ g refl
         by (release-of shared-lock n) z =
             ap (λ (v : Release). cond (isStanding v) (lessRelease ((zs ++ 2 ∷ []) ++ g)) ((zs ++ 2 ∷ []) ++ g)) (sym z) ∙ ap lessRelease (append₃ zs (2 ∷ []) g) ∙ less-zeros c 2 es ws₀ g refl
+
+    clear-any : codesTo c (toWaiting (message-acted a) (r .frames)) ≡ [] → lessRelease xs ≡ []
+    clear-any none = ap lessRelease clear-codes ∙ go (eqb (a .connection) c) refl
+      where
+        z : zs ++ g ≡ []
+        z = sym (waiting-clear (eq-eqb _ _ q)) ∙ none
+
+        by : (x : Standing) → lessRelease ((zs ++ codeIn (codeWhere (λ n. true) x)) ++ g) ≡ []
+        by no-release = ap lessRelease (append₃ zs [] g ∙ z)
+        by (release-of exclusive-lock n) = ap lessRelease (append₃ zs (1 ∷ []) g) ∙ less-zeros c 1 es ws₀ g refl ∙ z
+        by (release-of shared-lock n) = ap lessRelease (append₃ zs (2 ∷ []) g) ∙ less-zeros c 2 es ws₀ g refl ∙ z
+
+        go : (b : Bool) → eqb (a .connection) c ≡ b → lessRelease ((zs ++ codesTo c (saidTo (codeWhere (λ n. true) (e₀ .standing)) 5 (a .connection ∷ []))) ++ g) ≡ []
+        go true e = ap (λ ys. lessRelease ((zs ++ ys) ++ g)) (said-here c (codeWhere (λ n. true) (e₀ .standing)) (a .connection) e) ∙ by (e₀ .standing)
+        go false e = ap (λ ys. lessRelease ((zs ++ ys) ++ g)) (said-away c (codeWhere (λ n. true) (e₀ .standing)) (a .connection) e) ∙ ap lessRelease (append₃ zs [] g ∙ z)
 
     clear-other-read : eqb (a .connection) c ≡ false → Reads false false false
     clear-other-read e =
@@ -198,8 +219,8 @@ module _ (c s : ℕ) (p : Release) (d : Server) (a : Action) (r : Result) (l : L
     abbrev ends : Bool
     ends = eqb (a .connection) s && (true && waitsFor p (a .message .param))
 
-    command-own : eqb (e₀ .asynchronous) c ≡ true → Reads false ends false
-    command-own e = rw (command-codes, said-here c (hit (e₀ .standing)) (e₀ .asynchronous) e, on-s) (by (e₀ .standing) (known .1)) ∙ sym (waiting-grants q19)
+    command-own : Knows → eqb (e₀ .asynchronous) c ≡ true → Reads false ends false
+    command-own k e = rw (command-codes, said-here c (hit (e₀ .standing)) (e₀ .asynchronous) e, on-s) (by (e₀ .standing) (known .1)) ∙ sym (waiting-grants q19)
       where
         known : (e₀ .synchronous ≡ s) × (releaseOf (e₀ .standing) ≡ p)
         known = k s₀ (f .first-live o) (eqb-true _ _ e)
@@ -220,23 +241,61 @@ module _ (c s : ℕ) (p : Release) (d : Server) (a : Action) (r : Result) (l : L
             ap (λ (v : Release). cond (waitsFor v (a .message .param)) (drop 1 (codeIn (hit (release-of shared-lock n)) ++ g)) (codeIn (hit (release-of shared-lock n)) ++ g)) (sym z)
             ∙ tested 2 n (eqb n (a .message .param)) refl
 
-    command-other : eqb (e₀ .asynchronous) c ≡ false → (y : Bool) → ends ≡ y → Reads false y false
-    command-other e false z = command-codes ∙ ap (λ ys. ys ++ g) (said-away c (hit (e₀ .standing)) (e₀ .asynchronous) e) ∙ sym (waiting-grants q19)
-    command-other e true z =
+    command-other : Alone → eqb (e₀ .asynchronous) c ≡ false → (y : Bool) → ends ≡ y → Reads false y false
+    command-other alone e false z = command-codes ∙ ap (λ ys. ys ++ g) (said-away c (hit (e₀ .standing)) (e₀ .asynchronous) e) ∙ sym (waiting-grants q19)
+    command-other alone e true z =
         let here : a .connection ≡ s = eqb-true _ _ (and-l (eqb (a .connection) s) _ z) in
         let none : codesTo c (toWaiting (message-acted a) (r .frames)) ≡ [] = alone s₀ (λ n. f .real (here ∙ n)) (f .first-live o) (f .first o ∙ here) e in
         ap (drop 1) (command-codes ∙ ap (λ ys. ys ++ g) (said-away c (hit (e₀ .standing)) (e₀ .asynchronous) e) ∙ sym (waiting-grants q19) ∙ none) ∙ sym none
 
-    command-read : (b : Bool) → eqb (e₀ .asynchronous) c ≡ b → Reads false ends false
-    command-read true e = command-own e
-    command-read false e = command-other e ends refl
+    command-read : Knows → Alone → (b : Bool) → eqb (e₀ .asynchronous) c ≡ b → Reads false ends false
+    command-read k alone true e = command-own k e
+    command-read k alone false e = command-other alone e ends refl
+
+    -- at most one of the codes is a release's
+    command-any : codesTo c (toWaiting (message-acted a) (r .frames)) ≡ [] → drop 1 xs ≡ []
+    command-any none = ap (drop 1) (command-codes ∙ ap (λ ys. codesTo c (saidTo (hit (e₀ .standing)) 5 (e₀ .asynchronous ∷ [])) ++ ys) (sym (waiting-grants q19) ∙ none)) ∙ by (hit (e₀ .standing))
+      where
+        cell : (b : Bool) (m : ℕ) → drop 1 (cond b (m ∷ []) [] ++ []) ≡ []
+        cell true m = refl
+        cell false m = refl
+
+        by : (h : Heard) → drop 1 (codesTo c (saidTo h 5 (e₀ .asynchronous ∷ [])) ++ []) ≡ []
+        by silence = refl
+        by (with-code m) = cell (eqb (e₀ .asynchronous) c) m
 
   -- any other
   other-read : eqb t₀ 4 ≡ false → eqb t₀ 19 ≡ false → one-of (6 ∷ 7 ∷ 12 ∷ []) t₀ ≡ false → Reads false false false
   other-read q4 q19 o = rw (q4, q19, o)
 
-  acted-read : lessOwn c s p (message-acted a) xs ≡ codesTo c (toWaiting (message-acted a) (r .frames))
-  acted-read = go (eqb t₀ 4) (eqb t₀ 19) (one-of (6 ∷ 7 ∷ 12 ∷ []) t₀) (eqb (a .connection) c) refl refl refl refl
+  abbrev rest : Bool → Bool → Bool → List ℕ
+  rest u v w = cond (u || v) (drop 1 xs) (cond w (lessRelease xs) xs)
+
+  acted-any : codesTo c (toWaiting (message-acted a) (r .frames)) ≡ [] → lessAny c (message-acted a) xs ≡ []
+  acted-any none = go (eqb t₀ 4) (eqb t₀ 19) (one-of (6 ∷ 7 ∷ 12 ∷ []) t₀) (eqb (a .connection) c) refl refl refl refl
+    where
+      go : (x y z b : Bool) → eqb t₀ 4 ≡ x → eqb t₀ 19 ≡ y → one-of (6 ∷ 7 ∷ 12 ∷ []) t₀ ≡ z → eqb (a .connection) c ≡ b
+          → rest (eqb (a .connection) c && eqb t₀ 4) (one-of (6 ∷ 7 ∷ 12 ∷ []) t₀) (eqb (a .connection) c && eqb t₀ 19) ≡ []
+      go true y z true ex ey ez eb =
+          ap₂ (λ (u v : Bool). rest (u && v) (one-of (6 ∷ 7 ∷ 12 ∷ []) t₀) (eqb (a .connection) c && eqb t₀ 19)) eb ex
+          ∙ lock-own-read (eqb-true _ _ ex) eb false false ∙ none
+      go true y z false ex ey ez eb =
+          let no : one-of (6 ∷ 7 ∷ 12 ∷ []) t₀ ≡ false = ap (one-of (6 ∷ 7 ∷ 12 ∷ [])) (eqb-true t₀ 4 ex) in
+          ap₂ (λ (u v : Bool). rest (u && eqb t₀ 4) v (u && eqb t₀ 19)) eb no ∙ lock-other-read (eqb-true _ _ ex) eb ∙ none
+      go false true z true ex ey ez eb =
+          let no : one-of (6 ∷ 7 ∷ 12 ∷ []) t₀ ≡ false = ap (one-of (6 ∷ 7 ∷ 12 ∷ [])) (eqb-true t₀ 19 ey) in
+          ap₂ (λ (u v : Bool). rest (u && eqb t₀ 4) v (u && eqb t₀ 19)) eb no ∙ ap₂ (λ (u v : Bool). rest u false v) ex ey ∙ clear-any (eqb-true _ _ ey) none
+      go false true z false ex ey ez eb =
+          let no : one-of (6 ∷ 7 ∷ 12 ∷ []) t₀ ≡ false = ap (one-of (6 ∷ 7 ∷ 12 ∷ [])) (eqb-true t₀ 19 ey) in
+          ap₂ (λ (u v : Bool). rest (u && eqb t₀ 4) v (u && eqb t₀ 19)) eb no ∙ clear-other-read (eqb-true _ _ ey) eb ∙ none
+      go false false true b ex ey ez eb =
+          ap₂ (λ (u v : Bool). rest u v (eqb (a .connection) c && eqb t₀ 19)) (and-false (eqb (a .connection) c) _ ex) ez ∙ command-any ex ey ez none
+      go false false false b ex ey ez eb =
+          ap₂ (λ (u v : Bool). rest u v (eqb (a .connection) c && eqb t₀ 19)) (and-false (eqb (a .connection) c) _ ex) ez
+          ∙ ap (λ (u : Bool). rest false false u) (and-false (eqb (a .connection) c) _ ey) ∙ other-read ex ey ez ∙ none
+
+  acted-read : Knows → Alone → lessOwn c s p (message-acted a) xs ≡ codesTo c (toWaiting (message-acted a) (r .frames))
+  acted-read k alone = go (eqb t₀ 4) (eqb t₀ 19) (one-of (6 ∷ 7 ∷ 12 ∷ []) t₀) (eqb (a .connection) c) refl refl refl refl
     where
       go : (x y z b : Bool) → eqb t₀ 4 ≡ x → eqb t₀ 19 ≡ y → one-of (6 ∷ 7 ∷ 12 ∷ []) t₀ ≡ z → eqb (a .connection) c ≡ b
           → less (eqb (a .connection) c && eqb t₀ 4) (eqb (a .connection) s && (one-of (6 ∷ 7 ∷ 12 ∷ []) t₀ && waitsFor p (a .message .param))) (eqb (a .connection) c && eqb t₀ 19) (isStanding p) xs
@@ -252,7 +311,7 @@ module _ (c s : ℕ) (p : Release) (d : Server) (a : Action) (r : Result) (l : L
       go false true z true ex ey ez eb =
           let q : t₀ ≡ 19 = eqb-true _ _ ey in
           let no : (eqb (a .connection) s && (one-of (6 ∷ 7 ∷ 12 ∷ []) t₀ && waitsFor p (a .message .param))) ≡ false = and-false (eqb (a .connection) s) _ (ap (λ (t : ℕ). one-of (6 ∷ 7 ∷ 12 ∷ []) t && waitsFor p (a .message .param)) q) in
-          ap₂ (λ (u v : Bool). less (u && eqb t₀ 4) v (u && eqb t₀ 19) (isStanding p) xs) eb no ∙ ap₂ (λ (u v : Bool). less u false v (isStanding p) xs) ex ey ∙ clear-own-read q eb
+          ap₂ (λ (u v : Bool). less (u && eqb t₀ 4) v (u && eqb t₀ 19) (isStanding p) xs) eb no ∙ ap₂ (λ (u v : Bool). less u false v (isStanding p) xs) ex ey ∙ clear-own-read q k eb
       go false true z false ex ey ez eb =
           let q : t₀ ≡ 19 = eqb-true _ _ ey in
           let no : (eqb (a .connection) s && (one-of (6 ∷ 7 ∷ 12 ∷ []) t₀ && waitsFor p (a .message .param))) ≡ false = and-false (eqb (a .connection) s) _ (ap (λ (t : ℕ). one-of (6 ∷ 7 ∷ 12 ∷ []) t && waitsFor p (a .message .param)) q) in
@@ -260,7 +319,7 @@ module _ (c s : ℕ) (p : Release) (d : Server) (a : Action) (r : Result) (l : L
       go false false true b ex ey ez eb =
           ap₂ (λ (u v : Bool). less u (eqb (a .connection) s && (one-of (6 ∷ 7 ∷ 12 ∷ []) t₀ && waitsFor p (a .message .param))) v (isStanding p) xs) (and-false (eqb (a .connection) c) _ ex) (and-false (eqb (a .connection) c) _ ey)
           ∙ ap (λ (u : Bool). less false (eqb (a .connection) s && (u && waitsFor p (a .message .param))) false (isStanding p) xs) ez
-          ∙ command-read ex ey ez (eqb (e₀ .asynchronous) c) refl
+          ∙ command-read ex ey ez k alone (eqb (e₀ .asynchronous) c) refl
       go false false false b ex ey ez eb =
           ap₂ (λ (u v : Bool). less u (eqb (a .connection) s && (one-of (6 ∷ 7 ∷ 12 ∷ []) t₀ && waitsFor p (a .message .param))) v (isStanding p) xs) (and-false (eqb (a .connection) c) _ ex) (and-false (eqb (a .connection) c) _ ey)
           ∙ ap (λ (u : Bool). less false u false (isStanding p) xs) (and-false (eqb (a .connection) s) _ (ap (λ (u : Bool). u && waitsFor p (a .message .param)) ez))
@@ -486,11 +545,115 @@ module _ (c : ℕ) (real : c ≡ noConnection → ⊥) (s : ℕ) (p : Release) (
           built (releaseAfter c s h p) (rowed h i) (at (r .server .locks .entries) i) (l .number i w) (l .synchronous i w) (l .asynchronous i w) (l .standing i w) (row-known h (r .frames) f n i)
       go false q = λ alive e. absurd (true≢false (sym alive ∙ ap live (past (r .server .locks .entries) i (omega (arith, ltb-false i (length E) q, l .slots)))))
 
+-- the same where the session is not known
+any-read : (c : ℕ) (d : Server) (h : Happening) (r : Result) → Local d h r → Facts d h (r .frames) → codesTo c (toWaiting h (r .frames)) ≡ [] → lessAny c h (codesTo c (lockOnly (r .frames))) ≡ []
+any-read c d (message-acted a) r l f none = acted-any c 0 none-stands d a r l f none
+any-read c d unmoved r l f none = none
+any-read c d (connected x) r l f none = none
+any-read c d (disconnected x q) r l f none = none
+any-read c d (skipped-over x q) r l f none = none
+any-read c d (errored x n q) r l f none = none
+any-read c d (clock-read t) r l f none = none
+any-read c d (status-set b) r l f none = none
+any-read c d (answer-sent n x end) r l f none = none
+any-read c d (answer-withheld n m) r l f none = none
+
+-- another session takes connection c: it has no request, and nothing is answered
+module _ (c : ℕ) (d : Server) (q : Quiet c d) where
+  abbrev Taken : Happening → Result → Type 0
+  Taken h r = (codesTo c (lockOnly (r .frames)) ≡ []) × (lessAny c h (codesTo c (lockOnly (r .frames))) ≡ []) × (all (away c 0 (r .server .locks .entries)) (r .server .locks .waiting) ≡ true)
+
+  acted-joins : (a : Action) (r : Result) → Local d (message-acted a) r → ActedFacts d a (r .frames) → joins c (message-acted a) ≡ true → Taken (message-acted a) r
+  acted-joins a r l f n = (no-codes, any-read c d (message-acted a) r l f (waiting-grants c 0 none-stands d a r l f (rw t) ∙ no-grants), rw waiting-same (free (d .locks .waiting) (q .none) (q .second)))
+    where
+      E₀ : List Entry
+      E₀ = d .locks .entries
+
+      t : kindOf a ≡ 17
+      t = eqb-true _ _ (and-l (eqb (kindOf a) 17) _ n)
+
+      unlooked : looksAfter E₀ (message-acted a) ≡ false
+      unlooked = rw t
+
+      looked : (r .server .locks .waiting ≡ d .locks .waiting) × (l .granted ≡ [])
+      looked = let x = rw unlooked at (l .waiting) in (x .1 ∙ rw t, x .2)
+
+      waiting-same : r .server .locks .waiting ≡ d .locks .waiting
+      waiting-same = looked .0
+
+      no-grants : codesTo c (map (answerTo 1 (l .due)) (l .granted)) ≡ []
+      no-grants = ap (λ (ws : List Waiting). codesTo c (map (answerTo 1 (l .due)) ws)) (looked .1)
+
+      no-codes : codesTo c (lockOnly (r .frames)) ≡ []
+      no-codes = other-read c 0 none-stands d a r l f (rw t) (rw t) (rw t) ∙ waiting-grants c 0 none-stands d a r l f (rw t) ∙ no-grants
+
+      -- the session that joins was half-open, so no request waits of it
+      half : (at E₀ (slotActed E₀ a)) .asynchronous ≡ noConnection
+      half = (f .pairs t) .half
+
+      cell : (w : Waiting) → away c 0 E₀ w ≡ true → away noConnection 0 E₀ w ≡ true → away c 0 (r .server .locks .entries) w ≡ true
+      cell w x y = go (ltb (w .slot) (length E₀)) refl
+        where
+          far : eqb (w .slot) (slotActed E₀ a) ≡ false
+          far = ne-eqb _ _ (λ e. true≢false (sym y ∙ ap not (eq-eqb _ _ (ap (λ (i : ℕ). (at E₀ i) .asynchronous) e ∙ half))))
+
+          go : (b : Bool) → ltb (w .slot) (length E₀) ≡ b → not (eqb ((at (r .server .locks .entries) (w .slot)) .asynchronous) c) ≡ true
+          go true z =
+              ap (λ (i : ℕ). not (eqb i c)) (l .asynchronous (w .slot) (ltb-true _ _ z) ∙ ap (λ (b : Bool). cond b (cond (eqb (kindOf a) 17) (a .connection) (cond (eqb (kindOf a) 0) noConnection ((at E₀ (w .slot)) .asynchronous))) ((at E₀ (w .slot)) .asynchronous)) far)
+              ∙ x
+          go false z =
+              let out : at E₀ (w .slot) ≡ blank = past E₀ (w .slot) (omega (arith, ltb-false (w .slot) (length E₀) z)) in
+              absurd (true≢false (sym y ∙ ap (λ (e : Entry). not (eqb (e .asynchronous) noConnection)) out))
+
+      free : (ws : List Waiting) → all (away c 0 E₀) ws ≡ true → all (away noConnection 0 E₀) ws ≡ true → all (away c 0 (r .server .locks .entries)) ws ≡ true
+      free [] x y = refl
+      free (w ∷ ws) x y = both _ _ (cell w (and-l (away c 0 E₀ w) _ x) (and-l (away noConnection 0 E₀ w) _ y)) (free ws (and-r (away c 0 E₀ w) _ x) (and-r (away noConnection 0 E₀ w) _ y))
+
+  joins-at : (h : Happening) (r : Result) → Local d h r → Facts d h (r .frames) → joins c h ≡ true → Taken h r
+  joins-at (message-acted a) r l f n = acted-joins a r l f n
+  joins-at unmoved r l f n = absurd (true≢false (sym n))
+  joins-at (connected x) r l f n = absurd (true≢false (sym n))
+  joins-at (disconnected x k) r l f n = absurd (true≢false (sym n))
+  joins-at (skipped-over x k) r l f n = absurd (true≢false (sym n))
+  joins-at (errored x g k) r l f n = absurd (true≢false (sym n))
+  joins-at (clock-read t) r l f n = absurd (true≢false (sym n))
+  joins-at (status-set b) r l f n = absurd (true≢false (sym n))
+  joins-at (answer-sent m x end) r l f n = absurd (true≢false (sym n))
+  joins-at (answer-withheld m k) r l f n = absurd (true≢false (sym n))
+
 -- where no request waits on connection c, none is answered, until one comes
+module _ (c : ℕ) (real : c ≡ noConnection → ⊥) (e : Event) (d : Server) (q : Quiet c d) where
+  abbrev now : Happening
+  now = atCall d e
+
+  abbrev here : Local d now (step d e)
+  here = local-call d e
+
+  abbrev known-of : Facts d now ((step d e) .frames)
+  known-of = facts d (q .inv) (q .sized) e ((step d e) .reply) refl
+
+  next-quiet : all (away c 0 ((step d e) .server .locks .entries)) ((step d e) .server .locks .waiting) ≡ true → Quiet c ((step d e) .server)
+  next-quiet a = record { inv = inv-call d e (q .inv); sized = sized-call d e (q .sized); none = a; second = second-call d e (q .inv) (q .sized) (q .second) }
+
+  still-quiet : begins c now ((step d e) .frames) ≡ false → (b : Bool) → joins c now ≡ b → (lessAny c now (codesTo c (lockOnly ((step d e) .frames))) ≡ []) × Quiet c ((step d e) .server)
+  still-quiet w true j = let x = joins-at c d q now (step d e) here known-of j in (x .1, next-quiet (x .2))
+  still-quiet w false j =
+      let x = quiet-at c real d q now (step d e) here known-of (inv-call d e (q .inv)) w j in
+      (any-read c d now (step d e) here known-of (x .0), next-quiet (x .1))
+
+none-list : (c : ℕ) → (c ≡ noConnection → ⊥) → (es : List Event) (d : Server) → Quiet c d → NoneWaits c (log d es)
+unfolding log
+none-list c real [] d q = NoneWaits.last
+none-list c real (e ∷ es) d q = go (begins c (atCall d e) ((step d e) .frames)) refl (λ z. none-list c real es ((step d e) .server) z)
+  where
+    go : (b : Bool) → begins c (atCall d e) ((step d e) .frames) ≡ b → (Quiet c ((step d e) .server) → NoneWaits c (log ((step d e) .server) es)) → NoneWaits c (record { event = e; reply = (step d e) .reply; frames = (step d e) .frames } ∷ log ((step d e) .server) es)
+    go true w rest = NoneWaits.own-request _ _ w
+    go false w rest = let x = still-quiet c real e d q w (joins c (atCall d e)) refl in NoneWaits.still _ _ (x .0) (rest (x .1))
+
 pub quiet-list : (c : ℕ) → (c ≡ noConnection → ⊥) → (s : ℕ) (p : Release) (es : List Event) (d : Server) → Quiet c d → Known c s p (d .locks .entries) → NoMore c s p (log d es)
 unfolding log
 quiet-list c real s p [] d q k = NoMore.ended p
-quiet-list c real s p (e ∷ es) d q k = go (begins c h₀ ((step d e) .frames)) refl (λ z y. quiet-list c real s (releaseAfter c s h₀ p) es ((step d e) .server) z y)
+quiet-list c real s p (e ∷ es) d q k = go (begins c h₀ ((step d e) .frames)) (joins c h₀) refl refl (λ z y. quiet-list c real s (releaseAfter c s h₀ p) es ((step d e) .server) z y)
   where
     h₀ : Happening
     h₀ = atCall d e
@@ -501,10 +664,12 @@ quiet-list c real s p (e ∷ es) d q k = go (begins c h₀ ((step d e) .frames))
     f₀ : Facts d h₀ ((step d e) .frames)
     f₀ = facts d (q .inv) (q .sized) e ((step d e) .reply) refl
 
-    go : (b : Bool) → begins c h₀ ((step d e) .frames) ≡ b → (Quiet c ((step d e) .server) → Known c s (releaseAfter c s h₀ p) ((step d e) .server .locks .entries) → NoMore c s (releaseAfter c s h₀ p) (log ((step d e) .server) es))
+    go : (b j : Bool) → begins c h₀ ((step d e) .frames) ≡ b → joins c h₀ ≡ j → (Quiet c ((step d e) .server) → Known c s (releaseAfter c s h₀ p) ((step d e) .server .locks .entries) → NoMore c s (releaseAfter c s h₀ p) (log ((step d e) .server) es))
         → NoMore c s p (record { event = e; reply = (step d e) .reply; frames = (step d e) .frames } ∷ log ((step d e) .server) es)
-    go true w rest = NoMore.anew p _ _ w
-    go false w rest =
-        let x = quiet-at c real d q h₀ (step d e) l₀ f₀ (inv-call d e (q .inv)) w in
-        NoMore.silent p _ _ (codes-read c s p d h₀ (step d e) l₀ f₀ k (λ i a b f g. x .0) ∙ x .0)
-        (rest record { inv = inv-call d e (q .inv); sized = sized-call d e (q .sized); none = x .1 } (known-after c real s p d (q .inv) k h₀ (step d e) l₀ f₀ (x .2)))
+    go true j w n rest = NoMore.anew p _ _ w
+    go false true w n rest =
+        let x = joins-at c d q h₀ (step d e) l₀ f₀ n in
+        NoMore.taken-over p _ _ n (x .0) (none-list c real es ((step d e) .server) (next-quiet c real e d q (x .2)))
+    go false false w n rest =
+        let x = quiet-at c real d q h₀ (step d e) l₀ f₀ (inv-call d e (q .inv)) w n in
+        NoMore.silent p _ _ (codes-read c s p d h₀ (step d e) l₀ f₀ k (λ i a b f g. x .0) ∙ x .0) (rest (next-quiet c real e d q (x .1)) (known-after c real s p d (q .inv) k h₀ (step d e) l₀ f₀ n))

@@ -114,9 +114,9 @@ abbrev pub nothingSent : List Frame → Bool
 nothingSent [] = true
 nothingSent (f ∷ fs) = false
 
--- connection c becomes another session's, or another request comes to wait on it
+-- a request comes to wait on connection c
 abbrev pub begins : ℕ → Happening → List Frame → Bool
-begins c (message-acted a) fs = eqb (a .connection) c && (eqb (kindOf a) AsyncInitialize || (eqb (kindOf a) AsyncLock && (not (eqb (a .message .code) 0) && nothingSent fs)))
+begins c (message-acted a) fs = asksLock c a && (not (eqb (a .message .code) 0) && nothingSent fs)
 begins c unmoved fs = false
 begins c (connected x) fs = false
 begins c (disconnected x k) fs = false
@@ -127,10 +127,43 @@ begins c (status-set b) fs = false
 begins c (answer-sent n p end) fs = false
 begins c (answer-withheld n m) fs = false
 
--- it is answered no more: none, until another request comes to wait on its connection or another session has it
+-- another session takes connection c
+abbrev pub joins : ℕ → Happening → Bool
+joins c (message-acted a) = eqb (kindOf a) AsyncInitialize && eqb (a .connection) c
+joins c unmoved = false
+joins c (connected x) = false
+joins c (disconnected x k) = false
+joins c (skipped-over x k) = false
+joins c (errored x h k) = false
+joins c (clock-read t) = false
+joins c (status-set b) = false
+joins c (answer-sent n p end) = false
+joins c (answer-withheld n m) = false
+
+-- the same of a session whose other connection and release are not known: a Data, DataEND or Trigger of anyone may end its release
+abbrev pub lessAny : ℕ → Happening → List ℕ → List ℕ
+lessAny c (message-acted a) xs = cond (asksLock c a || one-of commands (kindOf a)) (drop 1 xs) (cond (clearsAll c a) (lessRelease xs) xs)
+lessAny c unmoved xs = xs
+lessAny c (connected x) xs = xs
+lessAny c (disconnected x k) xs = xs
+lessAny c (skipped-over x k) xs = xs
+lessAny c (errored x h k) xs = xs
+lessAny c (clock-read t) xs = xs
+lessAny c (status-set b) xs = xs
+lessAny c (answer-sent n x end) xs = xs
+lessAny c (answer-withheld n m) xs = xs
+
+-- another session has connection c: nothing is answered there, until a request of its own comes to wait
+pub data NoneWaits (c : ℕ) : List Line → Type 0 where
+  last : NoneWaits c []
+  own-request : (l : Line) (ls : List Line) → begins c (happening l) (l .frames) ≡ true → NoneWaits c (l ∷ ls)
+  still : (l : Line) (ls : List Line) → lessAny c (happening l) (codesTo c (lockOnly (l .frames))) ≡ [] → NoneWaits c ls → NoneWaits c (l ∷ ls)
+
+-- it is answered no more: nothing is, until another request comes to wait on its connection, also where another session takes it
 pub data NoMore (c s : ℕ) : Release → List Line → Type 0 where
   ended : (p : Release) → NoMore c s p []
   anew : (p : Release) (l : Line) (ls : List Line) → begins c (happening l) (l .frames) ≡ true → NoMore c s p (l ∷ ls)
+  taken-over : (p : Release) (l : Line) (ls : List Line) → joins c (happening l) ≡ true → codesTo c (lockOnly (l .frames)) ≡ [] → NoneWaits c ls → NoMore c s p (l ∷ ls)
   silent : (p : Release) (l : Line) (ls : List Line) → answeredTo c s p (happening l) (l .frames) ≡ [] → NoMore c s (releaseAfter c s (happening l) p) ls → NoMore c s p (l ∷ ls)
 
 -- a call that answers the request with codes xs meets it while it waits: its closing answers nothing, a reading at or past the deadline and a

@@ -210,7 +210,8 @@ pub record Program (New : Making → Memory → Type 0) (Ran : Memory → List S
       → FewerLocks (slotOf (view m) c) (view m) (view n) → NoWorseSeen (view m) c bs a b m′ n′
   -- 02, Q-14: a request that acted and was not answered, in the calls that follow: answered just once, 1 by a grant, 0 by its session's
   -- AsyncDeviceClear or the first accepted reading at or past its deadline, unless its session closes before
-  pub answered-once : (v : Making) (m m′ m″ m‴ : Memory) (ss : List Seen) (s : Seen) (rs : List Seen) → v .vendor < 2 ^ 16 → New v m → Ran m ss m′ → Ran m′ (s ∷ []) m″ → Ran m″ rs m‴
+  pub answered-once : (v : Making) (m m′ m″ m‴ : Memory) (ss : List Seen) (s : Seen) (rs : List Seen) → v .vendor < 2 ^ 16
+      → New v m → Ran m ss m′ → Ran m′ (s ∷ []) m″ → Ran m″ rs m‴
       → AllPossible (seenEvents ss) → AllPossible (seenEvents (s ∷ [])) → AllPossible (seenEvents rs)
       → (c : ℕ) (bs : List ℕ) (room k n : ℕ) → s .event ≡ delivery c bs room → s .reply ≡ took acted k n → (header bs) .kind ≡ AsyncLock → (header bs) .code ≡ 1 → s .output ≡ []
       → Once c (synchronousOf v (seenEvents ss) n) (clockIn (map lineSeen ss) + (header bs) .param) none-stands (map lineSeen rs)
