@@ -1,6 +1,7 @@
 //! The rules of document 01, and of 02's requests that have landed, a second time, in ordinary Rust.
 //!
-//! Written from the papers alone, so that it can disagree with the proved library. The server that the
+//! Written from the papers alone, so that it can disagree with the proved library; `journal` and `verifier` less
+//! strictly so, as they say themselves. The server that the
 //! library's speed is compared with is `ordinary`.
 //!
 //! `lock_model` is 01's ledger and shares no rule with `server`; `history` is 01's shortened list; `journal`

@@ -159,6 +159,14 @@ fn neither_reader_passes_a_wrong_distance_sum_or_length() {
 }
 
 #[test]
+fn the_backward_reader_wants_an_entry_that_reaches_to_where_it_came_from() {
+    let behind = [[0; 7].as_slice(), &22_u32.to_be_bytes(), &[0; 4]].concat();
+    let book = [entry(b"abc"), behind, trailer(0, 1)].concat();
+    assert_eq!(entries(&book).count(), 1);
+    assert_eq!(entries_backward(&book).count(), 0);
+}
+
+#[test]
 fn the_backward_reader_needs_neither_offset_nor_count() {
     let book = [entry(b"abc"), trailer(77, 88)].concat();
     assert_eq!(entries_backward(&book).count(), 1);

@@ -1,5 +1,5 @@
-//! The journal (02: day book), from 02's Q-7 and docs/JOURNAL.md alone: entries in lent bytes, the layout of
-//! an entry's body, and events that are kept as they happen.
+//! The journal (02: day book), after 02's Q-7 and docs/JOURNAL.md: entries in lent bytes, the layout of an
+//! entry's body, and events that are kept as they happen. Its author had seen the proved definitions.
 
 pub mod crc;
 pub mod events;

@@ -1,5 +1,5 @@
-//! The verifier (02: judge), from 02's Q-8 and docs/JOURNAL.md alone: whether a stranger's closed journal is
-//! what a fresh server, given each event in turn, would have sent. `judge` is the verdict over a whole book,
+//! The verifier (02: judge), after 02's Q-8 and docs/JOURNAL.md: whether a stranger's closed journal is what a
+//! fresh server, given each event in turn, would have sent. Its author had seen the proved definitions. `judge` is the verdict over a whole book,
 //! from place to place; `Verifier` takes the book in pieces.
 
 mod pieces;
