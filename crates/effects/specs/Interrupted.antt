@@ -3,7 +3,7 @@
 use mathlib.Core.Path.{_≡_, refl, sym, ap, ap₂, subst, _∙_}
 use mathlib.Core.Bool.{Bool, true, false, not, _&&_, _||_, cond, true≢false}
 use mathlib.Core.List.{List, [], _∷_, _++_, map, map-append}
-use Prim.Native.Nat.{ℕ, _+_, _≤_, _<_}
+use Prim.Native.Nat.{ℕ, zero, suc, _+_, _≤_, _<_}
 use native.Mathlib.Nat.{zero-add}
 use lib.Dec.{eqb, leb}
 use lib.ListN.{length, length-append, List·getD-eq-default}
@@ -20,7 +20,8 @@ use Rattle.model.specs.Locks.{LockEvent, LockResult, change, frees, settle}
 use Rattle.model.specs.Exchange.{afterRmt, noteRmt, queried, interrupted, interrupts, differs, outOfTurn, stepped, tested, withExpectation}
 use Rattle.model.specs.Acts.{interruptions}
 use Rattle.model.specs.Step.{finish, lockFrame}
-use Rattle.state.specs.Change.{onRest, onExchange, exchangeWith, connectionWith, entryWith}
+use Rattle.state.specs.Grid.{upd}
+use Rattle.state.specs.Change.{onRest, onEntry, onExchange, exchangeWith, connectionWith, entryWith, orderWith}
 use Rattle.state.specs.View.{Memory, restOf, view}
 use Rattle.locks.specs.Outcome.{Met}
 use Rattle.locks.specs.Settled.{settled}
@@ -29,7 +30,7 @@ use Rattle.effects.specs.Did.{Did, numbersOf}
 use Rattle.effects.specs.Asynchronous.{delivered, planFirst}
 use Rattle.effects.specs.Closing.{connections-held}
 use Rattle.effects.specs.Replies.{two-frames}
-use Rattle.effects.specs.Synchronous.{withSlot, slot-changed, slot-twice, slot-then, slot-both, isCommand}
+use Rattle.effects.specs.Synchronous.{withSlot, slot-changed, slot-twice, slot-then, isCommand, commandNotes}
 use Rattle.effects.specs.LockMessages.{behind, behind-length}
 
 -- slot i's exchange changed by g, and these frames at the beginning of the buffer; r is the place behind them
@@ -222,27 +223,75 @@ expectation-kept d d₁ i code a v x e q d₂ p =
     q ∙ slot-changed d i (exchangeWith 7 v) ∙ ap (λ (b : Bool). onRest d (withSlot i (withExpectation b))) (e ∙ ap (λ (z : Exchange). not (eqb code 1) && z .rmtExpected) x) in
     slot-twice d d₁ d₂ i (still code) (noteRmt code) (t ∙ sym (slot-changed d i (still code))) p
 
--- a command: what is said first, what it notes, the number expected behind it, then the answers of the lock event behind that
-pub did-tested : (m m₂ m′ : Memory) (d₁ d₂ : Server) (out out₁ out′ : List ℕ) (i n len a r : ℕ) (f g : Exchange → Exchange) (fs : List Frame) (v : LockEvent) (told : Delivery) → told ≡ delivered n len r
-    → entryWith 0 n (at (view m .locks .entries) i) ≡ at (view m .locks .entries) i → a ≤ length out → Noted (view m) i f fs d₁ out out₁ a
-    → d₂ ≡ onRest d₁ (withSlot i g) → view m₂ ≡ onRest d₂ (withSlot i stepped) → Met (settled (view m₂ .locks) v) m₂ m′ out₁ out′ a r
-    → Did (finish (view m) (planFirst (view m) i len (withSlot i (λ (x : Exchange). stepped (g (f x))) (view m .rest)) fs v)) told m m′ out out′
+-- a command just before it acts: tested, then what it notes, then the number expected moves
+pub noted-then : (d d₁ d₂ : Server) (i : ℕ) (f g : Exchange → Exchange) (fs : List Frame) (out out₁ : List ℕ) (a : ℕ) → Noted d i f fs d₁ out out₁ a → d₂ ≡ onRest d₁ (withSlot i g)
+    → Noted d i (λ (x : Exchange). g (f x)) fs d₂ out out₁ a
+noted-then d d₁ d₂ i f g fs out out₁ a p q = record { server = slot-twice d d₁ d₂ i f g (p .server ∙ sym (slot-changed d i f)) q; buffer = p .buffer; place = p .place }
+
+abbrev pub Turned : Server → ℕ → ℕ → ℕ → ℕ → Server → List ℕ → List ℕ → ℕ → Type 0
+Turned d i kind code n d′ out out′ r =
+    Noted d i (λ (x : Exchange). stepped (commandNotes kind code n (tested code x))) (cond (outOfTurn code (exchangeAt (d .rest) i)) (interruptions (at (d .locks .entries) i) n) []) d′ out out′ r
+
+-- what is done by a message that says fs first and leaves this rest: the answers of its lock event stand behind that
+did-frames : (m m′ : Memory) (out out₁ out′ : List ℕ) (i n len a r : ℕ) (left : Rest) (fs : List Frame) (v : LockEvent) (told : Delivery) → told ≡ delivered n len r
+    → entryWith 0 n (at (view m .locks .entries) i) ≡ at (view m .locks .entries) i → a ≤ length out → out₁ ≡ written out fs → a ≡ length (bytesOf fs)
+    → view m′ .locks ≡ (settled (view m .locks) v) .locks → view m′ .rest ≡ left
+    → out′ ≡ splice out₁ a (bytesOf (map lockFrame ((settled (view m .locks) v) .answers))) → r ≡ a + length (bytesOf (map lockFrame ((settled (view m .locks) v) .answers)))
+    → Did (finish (view m) (planFirst (view m) i len left fs v)) told m m′ out out′
 unfolding finish
-did-tested m m₂ m′ d₁ d₂ out out₁ out′ i n len a r f g fs v told t e fits p q o x =
+did-frames m m′ out out₁ out′ i n len a r left fs v told t e fits o l ls rs ys zs =
     let d : Server = view m in
-    let u : view m₂ ≡ onRest d (withSlot i (λ (x : Exchange). stepped (g (f x)))) =
-    slot-both d d₂ (view m₂) i (λ (x : Exchange). g (f x)) stepped (slot-both d d₁ d₂ i f g (p .server) q) o in
-    let y : Met (settled (d .locks) v) m₂ m′ out₁ out′ a r = subst (λ (l : Locks). Met (settled l v) m₂ m′ out₁ out′ a r) (ap (λ (k : Server). k .locks) u) x in
-    let xs : LockResult = change (d .locks) v in
-    let ys : LockResult = settle (frees (d .locks) v) (xs .locks) in
-    let gs : List Frame = map lockFrame (xs .answers ++ ys .answers) in
-    let s : fs ++ (map lockFrame (xs .answers) ++ map lockFrame (ys .answers)) ≡ fs ++ gs = ap (λ (l : List Frame). fs ++ l) (sym (map-append lockFrame (xs .answers) (ys .answers))) in
-    let c : a ≡ 0 + length (bytesOf fs) = p .place ∙ sym (zero-add _) in
-    let z : r ≡ length (bytesOf (fs ++ gs)) = behind-length fs gs a c r (y .place) in
+    let x : LockResult = change (d .locks) v in
+    let y : LockResult = settle (frees (d .locks) v) (x .locks) in
+    let gs : List Frame = map lockFrame (x .answers ++ y .answers) in
+    let s : fs ++ (map lockFrame (x .answers) ++ map lockFrame (y .answers)) ≡ fs ++ gs = ap (λ (l : List Frame). fs ++ l) (sym (map-append lockFrame (x .answers) (y .answers))) in
+    let c : a ≡ 0 + length (bytesOf fs) = l ∙ sym (zero-add _) in
+    let z : r ≡ length (bytesOf (fs ++ gs)) = behind-length fs gs a c r zs in
     record {
       numbers = ap numbersOf t ∙ (λ j. record { refusal = 0; outcome = 6; session = ap (λ (x : Entry). x .number) e j; taken = 16 + len; output = (z ∙ ap (λ (l : List Frame). length (bytesOf l)) (sym s)) j; missing = 0 });
-      server = (λ j. record { locks = y .locks j; rest = (y .rest ∙ ap (λ (k : Server). k .rest) u) j });
-      buffer = behind fs gs a c out out₁ out′ fits (p .buffer) (y .buffer) ∙ ap (written out) (sym s);
+      server = (λ j. record { locks = ls j; rest = rs j });
+      buffer = behind fs gs a c out out₁ out′ fits o ys ∙ ap (written out) (sym s);
       same-memory = λ y. absurd (true≢false (sym y));
       same-buffer = λ y. absurd (true≢false (sym y));
     }
+
+-- a command: what is said first and noted, then the lock event
+pub did-noted : (m m₂ m′ : Memory) (out out₁ out′ : List ℕ) (i n len a r : ℕ) (g : Exchange → Exchange) (fs : List Frame) (v : LockEvent) (told : Delivery) → told ≡ delivered n len r
+    → entryWith 0 n (at (view m .locks .entries) i) ≡ at (view m .locks .entries) i → a ≤ length out → Noted (view m) i g fs (view m₂) out out₁ a
+    → Met (settled (view m₂ .locks) v) m₂ m′ out₁ out′ a r
+    → Did (finish (view m) (planFirst (view m) i len (withSlot i g (view m .rest)) fs v)) told m m′ out out′
+did-noted m m₂ m′ out out₁ out′ i n len a r g fs v told t e fits p x =
+    let y : Met (settled (view m .locks) v) m₂ m′ out₁ out′ a r = subst (λ (l : Locks). Met (settled l v) m₂ m′ out₁ out′ a r) (ap (λ (k : Server). k .locks) (p .server)) x in
+    did-frames m m′ out out₁ out′ i n len a r (withSlot i g (view m .rest)) fs v told t e fits (p .buffer) (p .place) (y .locks) (y .rest ∙ ap (λ (k : Server). k .rest) (p .server)) (y .buffer) (y .place)
+
+-- the number of a slot's last message says nothing of its connections
+module _ {B : Type 0} (f : Entry → B) (g : Entry → Entry) (h : (x : Entry) → f (g x) ≡ f x) where
+  kept : (l : List Entry) (i j : ℕ) → f (at (upd l i g) j) ≡ f (at l j)
+  unfolding upd
+  kept [] i j = refl
+  kept (x ∷ xs) zero zero = h x
+  kept (x ∷ xs) zero (suc j) = refl
+  kept (x ∷ xs) (suc i) zero = refl
+  kept (x ∷ xs) (suc i) (suc j) = kept xs i j
+
+same-pair : (d d₁ : Server) (i k n : ℕ) → d₁ ≡ onEntry d i (orderWith 0 k) → interruptions (at (d₁ .locks .entries) i) n ≡ interruptions (at (d .locks .entries) i) n
+same-pair d d₁ i k n e =
+    let es : List Entry = d .locks .entries in
+    ap (λ (x : Server). interruptions (at (x .locks .entries) i) n) e
+    ∙ ap₂ (λ (a b : ℕ). frameOf a AsyncInterrupted 0 n [] ∷ frameOf b Interrupted 0 n [] ∷ [])
+    (kept (λ (x : Entry). x .asynchronous) (orderWith 0 k) (λ x. refl) es i i) (kept (λ (x : Entry). x .synchronous) (orderWith 0 k) (λ x. refl) es i i)
+
+-- the same with the lock event first: it notes the number, and nobody is told
+pub did-after : (m m₁ m′ : Memory) (out out′ : List ℕ) (i n len a kind code k : ℕ) (v : LockEvent) (told : Delivery) → told ≡ delivered n len a
+    → entryWith 0 n (at (view m .locks .entries) i) ≡ at (view m .locks .entries) i → a ≤ length out → view m₁ ≡ onEntry (view m) i (orderWith 0 k)
+    → Met (settled (view m .locks) v) m m₁ out′ out′ a a → Turned (view m₁) i kind code k (view m′) out out′ a
+    → Did (finish (view m) (planFirst (view m) i len (withSlot i (λ (x : Exchange). stepped (commandNotes kind code k (tested code x))) (view m .rest)) (cond (outOfTurn code (exchangeAt (view m .rest) i)) (interruptions (at (view m .locks .entries) i) k) []) v)) told m m′ out out′
+did-after m m₁ m′ out out′ i n len a kind code k v told t e fits o y q =
+    let d : Server = view m in
+    let g : Exchange → Exchange = λ x. stepped (commandNotes kind code k (tested code x)) in
+    let fs : List Frame = cond (outOfTurn code (exchangeAt (d .rest) i)) (interruptions (at (d .locks .entries) i) k) [] in
+    let same : cond (outOfTurn code (exchangeAt (view m₁ .rest) i)) (interruptions (at (view m₁ .locks .entries) i) k) [] ≡ fs =
+    ap₂ (λ (x : Exchange) (l : List Frame). cond (outOfTurn code x) l []) (ap (λ (r : Rest). exchangeAt r i) (y .rest)) (same-pair d (view m₁) i k k o) in
+    let p : Noted (view m₁) i g fs (view m′) out out′ a = subst (λ (l : List Frame). Noted (view m₁) i g l (view m′) out out′ a) same q in
+    did-frames m m′ out out′ out′ i n len a a (withSlot i g (d .rest)) fs v told t e fits (p .buffer) (p .place)
+    (ap (λ (x : Server). x .locks) (p .server) ∙ y .locks) (ap (λ (x : Server). x .rest) (p .server) ∙ ap (withSlot i g) (y .rest)) (y .buffer) (y .place)

@@ -1,7 +1,7 @@
 // 02, Q-5: interrupted queries, in synchronized mode. An answer that ends while the next question is unread is withheld; and each Data,
 // DataEND and Trigger is tested just before it acts: one whose RMT-delivered differs from what is expected interrupts.
 ghost use Prim.Native.Nat.{ℕ, _<_, _≤_};
-ghost use Rattle.effects.specs.Interrupted.{Noted, OutOfTurn, Tested, withheldAt};
+ghost use Rattle.effects.specs.Interrupted.{Noted, OutOfTurn, withheldAt};
 ghost use Rattle.effects.specs.Synchronous.{withSlot};
 ghost use Rattle.model.specs.Acts.{interruptions};
 ghost use Rattle.model.specs.Exchange.{differs, queried};
@@ -62,7 +62,7 @@ fn interrupt(w: &mut Words, out: &mut [u8], i: usize, id: u32) -> usize
 }
 
 // A message whose RMT-delivered differs from what is expected: in synchronized mode it interrupts.
-fn out_of_turn(w: &mut Words, out: &mut [u8], i: usize, id: u32) -> usize
+pub fn out_of_turn(w: &mut Words, out: &mut [u8], i: usize, id: u32) -> usize
     requires { ⌜ (i < sessionLimit) × (outputMinimum ≤ length (now out)) ⌝ }
     ensures { λ r. ⌜ (r ≤ 34) × ((s : List ℕ) → OutOfTurn (view (memory (now (w .entry)) s)) i id (view (memory (now (w .exit)) s)) (now (out .entry)) (now (out .exit)) r) ⌝ }
 {
@@ -82,19 +82,6 @@ pub fn in_turn(w: &Words, i: usize, code: u8) -> bool
 {
     let expected = same_number(tables::exchange(w, i, tables::RMT_EXPECTED), 1);
     same_number(wide(code), 1) == expected
-}
-
-// A Data, DataEND or Trigger just before it acts: RMT-delivered is tested against the expectation, which is cleared; how many bytes of
-// the output say that it interrupts.
-pub fn take_turn(w: &mut Words, out: &mut [u8], i: usize, code: u8, id: u32) -> usize
-    requires { ⌜ (i < sessionLimit) × (outputMinimum ≤ length (now out)) ⌝ }
-    ensures { λ r. ⌜ (r ≤ 34) × ((s : List ℕ) → Tested (view (memory (now (w .entry)) s)) i id code (view (memory (now (w .exit)) s)) (now (out .entry)) (now (out .exit)) r) ⌝ }
-{
-    if in_turn(w, i, code) {
-        tables::set_exchange(w, i, tables::RMT_EXPECTED, 0);
-        return 0;
-    }
-    out_of_turn(w, out, i, id)
 }
 
 // A status query: RMT-delivered (code 1) clears the expectation and turns message available off.

@@ -1,6 +1,7 @@
 // Messages that act on the synchronous channel: Data, DataEND, Trigger, DeviceClearComplete.
 ghost use Prim.Native.Nat.{ℕ, _+_, _<_, _≤_};
 ghost use Rattle.effects.specs.Did.{Did};
+ghost use Rattle.effects.specs.Interrupted.{Turned};
 ghost use Rattle.effects.specs.Synchronous.{commandNotes, isCommand, withSlot};
 ghost use Rattle.model.specs.Acts.{acts};
 ghost use Rattle.model.specs.Exchange.{ask, differs, leaveClear, noteRmt};
@@ -18,7 +19,8 @@ ghost use mathlib.Core.Path.{_≡_};
 ghost use Rattle.model.specs.Sizes.{connectionLimit, outputMinimum, payloadLimit, sessionLimit};
 use crate::Delivery;
 use crate::answer;
-use crate::interrupted::take_turn;
+use crate::interrupted::in_turn;
+use crate::interrupted::out_of_turn;
 use crate::numbering::step_number;
 use locks::complete;
 use state::sizes::Strings;
@@ -105,6 +107,48 @@ fn note_command(w: &mut Words, i: usize, kind: u8, code: u8, param: u32)
     note_asked(w, i, code, MessageId::new(param));
 }
 
+// A command in turn, just before it acts: the expectation is cleared, what it says is noted, and the number expected moves.
+fn note_in_turn(w: &mut Words, i: usize, kind: u8, code: u8, param: u32)
+    requires { ⌜ (i < sessionLimit) × (differs (eqb code 1) ((exchangeAt (restOf (now w)) i) .rmtExpected) ≡ false) ⌝ }
+    ensures { λ _. ⌜ ((s out : List ℕ) → Turned (view (memory (now (w .entry)) s)) i kind code param (view (memory (now (w .exit)) s)) out out 0) ⌝ }
+{
+    tables::set_exchange(w, i, tables::RMT_EXPECTED, 0);
+    note_command(w, i, kind, code, param);
+    step_number(w, i);
+}
+
+// The same out of turn: first it interrupts; how many bytes of the output say so. This has two callers, so that it is a call of its own and
+// the way of what is in turn stays small.
+fn note_out_of_turn(
+    w: &mut Words,
+    out: &mut [u8],
+    i: usize,
+    kind: u8,
+    code: u8,
+    param: u32,
+) -> usize
+    requires { ⌜ (i < sessionLimit) × (outputMinimum ≤ length (now out)) × (differs (eqb code 1) ((exchangeAt (restOf (now w)) i) .rmtExpected) ≡ true) ⌝ }
+    ensures { λ r. ⌜ (r ≤ 34) × ((s : List ℕ) → Turned (view (memory (now (w .entry)) s)) i kind code param (view (memory (now (w .exit)) s)) (now (out .entry)) (now (out .exit)) r) ⌝ }
+{
+    let end = out_of_turn(w, out, i, param);
+    note_command(w, i, kind, code, param);
+    step_number(w, i);
+    end
+}
+
+// A Data, DataEND or Trigger just before it acts: RMT-delivered is tested against the expectation, which is cleared; how many bytes of
+// the output say that it interrupts.
+fn take_turn(w: &mut Words, out: &mut [u8], i: usize, kind: u8, code: u8, param: u32) -> usize
+    requires { ⌜ (i < sessionLimit) × (outputMinimum ≤ length (now out)) ⌝ }
+    ensures { λ r. ⌜ (r ≤ 34) × ((s : List ℕ) → Turned (view (memory (now (w .entry)) s)) i kind code param (view (memory (now (w .exit)) s)) (now (out .entry)) (now (out .exit)) r) ⌝ }
+{
+    if in_turn(w, i, code) {
+        note_in_turn(w, i, kind, code, param);
+        return 0;
+    }
+    note_out_of_turn(w, out, i, kind, code, param)
+}
+
 // A message of a kind that passed all checks acts: a command that is out of turn interrupts first, moves the number expected, and a release
 // that waits for it takes effect behind it.
 pub fn act_synchronous(
@@ -123,9 +167,7 @@ pub fn act_synchronous(
 {
     let session = tables::entry(w, i, tables::NUMBER);
     if is_command(kind) {
-        let at = take_turn(w, out, i, code, param);
-        note_command(w, i, kind, code, param);
-        step_number(w, i);
+        let at = take_turn(w, out, i, kind, code, param);
         let end = complete::at_message(w, strings, out, at, i, param);
         return answer::acted(session, len, end as u64);
     }
@@ -141,15 +183,25 @@ pub fn act_synchronous(
     answer::acted(session, len, 17)
 }
 
-// A Data, DataEND or Trigger in turn acts while no release of its session stands: there is nothing to send.
-pub fn act_plainly(w: &mut Words, i: usize, kind: u8, code: u8, param: u32, len: u64) -> Delivery
-    requires { ⌜ (i < sessionLimit) × (len ≤ payloadLimit) × (isCommand kind ≡ true) × ((s : List ℕ) → stands ((at (locksOf (now w) s .entries) i) .standing) ≡ false) × (differs (eqb code 1) ((exchangeAt (restOf (now w)) i) .rmtExpected) ≡ false) ⌝ }
-    ensures { λ r. ⌜ ((s p out : List ℕ) (c : ℕ) → Did (finish (view (memory (now (w .entry)) s)) (acts r-synchronous (view (memory (now (w .entry)) s)) i c (record { kind = kind; code = code; param = param; len = len }) p)) r (memory (now (w .entry)) s) (memory (now (w .exit)) s) out out) ⌝ }
+// A Data, DataEND or Trigger acts while no release of its session stands: there is nothing to send but that it interrupts.
+pub fn act_plainly(
+    w: &mut Words,
+    out: &mut [u8],
+    i: usize,
+    kind: u8,
+    code: u8,
+    param: u32,
+    len: u64,
+) -> Delivery
+    requires { ⌜ (i < sessionLimit) × (len ≤ payloadLimit) × (outputMinimum ≤ length (now out)) × (isCommand kind ≡ true) × ((s : List ℕ) → stands ((at (locksOf (now w) s .entries) i) .standing) ≡ false) ⌝ }
+    ensures { λ r. ⌜ ((s p : List ℕ) (c : ℕ) → Did (finish (view (memory (now (w .entry)) s)) (acts r-synchronous (view (memory (now (w .entry)) s)) i c (record { kind = kind; code = code; param = param; len = len }) p)) r (memory (now (w .entry)) s) (memory (now (w .exit)) s) (now (out .entry)) (now (out .exit))) ⌝ }
 {
     let session = tables::entry(w, i, tables::NUMBER);
-    tables::set_exchange(w, i, tables::RMT_EXPECTED, 0);
-    note_command(w, i, kind, code, param);
-    step_number(w, i);
     complete::note_message(w, i, param);
-    answer::acted(session, len, 0)
+    if in_turn(w, i, code) {
+        note_in_turn(w, i, kind, code, param);
+        return answer::acted(session, len, 0);
+    }
+    let end = note_out_of_turn(w, out, i, kind, code, param);
+    answer::acted(session, len, end as u64)
 }

@@ -9,7 +9,8 @@ ghost use Rattle.model.specs.Locks.LockEvent.{clear, command};
 ghost use Rattle.model.specs.Locks.{change, completed, dueAny, releaseCode, stands};
 ghost use Rattle.model.specs.Sizes.{beforeFirst, sessionLimit};
 ghost use Rattle.model.specs.State;
-ghost use Rattle.state.specs.View.{locksOf, memory};
+ghost use Rattle.state.specs.Change.{onEntry, orderWith};
+ghost use Rattle.state.specs.View.{locksOf, memory, view};
 ghost use lib.ListN.{length};
 ghost use mathlib.Core.Bool.{false};
 ghost use mathlib.Core.List.{List};
@@ -62,10 +63,10 @@ pub fn at_message(
     grant_pass::grant_waiting(w, strings, out, r)
 }
 
-// The same where no release of slot i stands: the number is noted, and nothing is told.
+// The same where no release of slot i stands: the number is noted, nothing else is changed, and nothing is told.
 pub fn note_message(w: &mut Words, i: usize, n: u32)
     requires { ⌜ (i < sessionLimit) × ((s : List ℕ) → stands ((Rattle.model.specs.State.at (locksOf (now w) s .entries) i) .standing) ≡ false) ⌝ }
-    ensures { λ _. ⌜ ((s out : List ℕ) → Met (settled (locksOf (now (w .entry)) s) (command i n)) (memory (now (w .entry)) s) (memory (now (w .exit)) s) out out 0 0) ⌝ }
+    ensures { λ _. ⌜ ((s out : List ℕ) (r : ℕ) → Met (settled (locksOf (now (w .entry)) s) (command i n)) (memory (now (w .entry)) s) (memory (now (w .exit)) s) out out r r) × ((s : List ℕ) → view (memory (now (w .exit)) s) ≡ onEntry (view (memory (now (w .entry)) s)) i (orderWith 0 n)) ⌝ }
 {
     tables::set_order(w, i, tables::LAST_NUMBER, n as u64);
 }

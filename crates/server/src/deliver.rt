@@ -10,7 +10,6 @@ ghost use Rattle.model.specs.Locks.{stands};
 ghost use Rattle.model.specs.Place.{Role, Role.r-asynchronous, Role.r-synchronous, roleOf, slotIn};
 ghost use Rattle.model.specs.Missing.{ifMore, lacking};
 ghost use Rattle.model.specs.Scan.{Scan, Scan.whole, freshScan, leftover, scan, size};
-ghost use Rattle.model.specs.Exchange.{differs};
 ghost use Rattle.model.specs.State.{at, connectionAt, exchangeAt};
 ghost use Rattle.server.specs.Numbering.{movesOn};
 ghost use Rattle.server.specs.Scanning.{DidOn};
@@ -18,7 +17,6 @@ ghost use Rattle.model.specs.Step.{effect, finish, numberTaken, received};
 ghost use Rattle.state.specs.Channels.{Unshown};
 ghost use Rattle.state.specs.Search.{roleNumber};
 ghost use Rattle.state.specs.View.{locksOf, memory, restOf, view};
-ghost use lib.Dec.{eqb};
 ghost use lib.ListN.{length};
 ghost use mathlib.Core.Bool.{false, true};
 ghost use mathlib.Core.List.{List};
@@ -37,7 +35,6 @@ use checks::whole;
 use effects::Delivery;
 use effects::answer;
 use effects::asynchronous;
-use effects::interrupted;
 use effects::numbering;
 use effects::opening;
 use effects::outcome;
@@ -180,7 +177,7 @@ fn deliver_kind(
     told
 }
 
-// A whole Data or DataEND in turn, of a session of which no release stands.
+// A whole Data or DataEND of a session of which no release stands.
 fn deliver_plain(
     w: &mut Words,
     strings: &mut Strings,
@@ -193,12 +190,12 @@ fn deliver_plain(
     len: u64,
     payload: &[u8],
 ) -> Delivery
-    requires { ⌜ (c < connectionLimit) × (len ≤ payloadLimit) × (length (now payload) ≡ len) × (outputMinimum ≤ length (now out)) × ((s : List ℕ) → slotIn (locksOf (now w) s .entries) c ≡ i) × (i < sessionLimit) × (isCommand kind ≡ true) × ((s : List ℕ) → stands ((at (locksOf (now w) s .entries) i) .standing) ≡ false) × (differs (eqb code 1) ((exchangeAt (restOf (now w)) i) .rmtExpected) ≡ false) ⌝ }
+    requires { ⌜ (c < connectionLimit) × (len ≤ payloadLimit) × (length (now payload) ≡ len) × (outputMinimum ≤ length (now out)) × ((s : List ℕ) → slotIn (locksOf (now w) s .entries) c ≡ i) × (i < sessionLimit) × (isCommand kind ≡ true) × ((s : List ℕ) → stands ((at (locksOf (now w) s .entries) i) .standing) ≡ false) ⌝ }
     ensures { λ r. ⌜ Did (finish (view (memory (now (w .entry)) (now (strings .entry)))) (effect (judged r-synchronous (view (memory (now (w .entry)) (now (strings .entry)))) i (message kind code param len) (now (payload .entry))) (whole (message kind code param len) (now (payload .entry))) r-synchronous (view (memory (now (w .entry)) (now (strings .entry)))) i c)) r (memory (now (w .entry)) (now (strings .entry))) (memory (now (w .exit)) (now (strings .exit))) (now (out .entry)) (now (out .exit)) ⌝ }
 {
     let v = on_synchronous::synchronous_verdict(w, i, kind, code, param, len);
     if v == ACTS {
-        return synchronous::act_plainly(w, i, kind, code, param, len);
+        return synchronous::act_plainly(w, out, i, kind, code, param, len);
     }
     if v == HELD {
         return answer::quiet(outcome::HELD, 0); // none of it is taken
@@ -284,19 +281,21 @@ fn deliver_status(
     told
 }
 
-// May a message with this control code do more than it says: complete a release that stands, or interrupt?
-fn is_eventful(w: &Words, i: usize, code: u8) -> bool
-    requires { ⌜ i < sessionLimit ⌝ }
-    ensures { λ r. ⌜ (r ≡ false → ((s : List ℕ) → stands ((at (locksOf (now (w .entry)) s .entries) i) .standing) ≡ false) × (differs (eqb code 1) ((exchangeAt (restOf (now (w .entry))) i) .rmtExpected) ≡ false)) ⌝ }
+// Is this a Data or DataEND?
+fn is_data(kind: u8) -> bool
+    ensures { λ r. ⌜ (r ≡ true → isCommand kind ≡ true) ⌝ }
 {
-    if standing::stands(w, i) {
+    if kind == DATA {
         return true;
     }
-    !interrupted::in_turn(w, i, code)
+    if kind == DATA_END {
+        return true;
+    }
+    false
 }
 
-// A whole message on a session's synchronous channel. Data and DataEND, unless they may complete a release or interrupt, are told as constants:
-// checks and effect are then compiled for the one kind. All else is a call, whose answer goes through a local as that of `apply` does.
+// A whole message on a session's synchronous channel. Data and DataEND, unless they may complete a release, have their way: it has one caller,
+// so that checks and effect are compiled for these two kinds. All else is a call, whose answer goes through a local as that of `apply` does.
 fn deliver_synchronous(
     w: &mut Words,
     strings: &mut Strings,
@@ -312,7 +311,7 @@ fn deliver_synchronous(
     requires { ⌜ (c < connectionLimit) × (len ≤ payloadLimit) × (length (now payload) ≡ len) × (outputMinimum ≤ length (now out)) × ((s : List ℕ) → slotIn (locksOf (now w) s .entries) c ≡ i) × (i < sessionLimit) ⌝ }
     ensures { λ r. ⌜ Did (finish (view (memory (now (w .entry)) (now (strings .entry)))) (effect (judged r-synchronous (view (memory (now (w .entry)) (now (strings .entry)))) i (message kind code param len) (now (payload .entry))) (whole (message kind code param len) (now (payload .entry))) r-synchronous (view (memory (now (w .entry)) (now (strings .entry)))) i c)) r (memory (now (w .entry)) (now (strings .entry))) (memory (now (w .exit)) (now (strings .exit))) (now (out .entry)) (now (out .exit)) ⌝ }
 {
-    if is_eventful(w, i, code) {
+    if standing::stands(w, i) {
         let told = deliver_kind(
             w,
             strings,
@@ -328,11 +327,8 @@ fn deliver_synchronous(
         );
         return told;
     }
-    if kind == DATA {
-        return deliver_plain(w, strings, out, c, i, DATA, code, param, len, payload);
-    }
-    if kind == DATA_END {
-        return deliver_plain(w, strings, out, c, i, DATA_END, code, param, len, payload);
+    if is_data(kind) {
+        return deliver_plain(w, strings, out, c, i, kind, code, param, len, payload);
     }
     let told = deliver_kind(
         w,

@@ -8,33 +8,31 @@ use Rattle.model.specs.Sizes.{outputMinimum}
 use Rattle.wire.specs.declared.Header.{Header}
 use Rattle.wire.specs.Frame.{frameOf}
 use Rattle.model.specs.Acts.{acts}
-use Rattle.model.specs.Exchange.{bit0, leaveClear, tested}
+use Rattle.model.specs.Exchange.{bit0, leaveClear}
 use Rattle.model.specs.Locks.{LockEvent.command}
 use Rattle.model.specs.MessageTypes.{DeviceClearAcknowledge}
 use Rattle.model.specs.Place.{Role.r-synchronous}
 use Rattle.model.specs.State.{Server}
 use Rattle.effects.specs.Asynchronous.{did-one}
-use Rattle.effects.specs.Interrupted.{did-tested}
-use Rattle.effects.specs.Synchronous.{commandNotes, did-plan, plan-command, plan-complete, withSlot}
+use Rattle.effects.specs.Interrupted.{did-noted}
+use Rattle.effects.specs.Synchronous.{did-plan, plan-command, plan-complete, withSlot}
 use Rattle.state.specs.View.{memory, view}
 use borrow.Author.Needs.{needs}
 use Rattle.effects.proofs.synchronous.act_synchronous.Statement.{statement}
 use Rattle.effects.proofs.synchronous.act_synchronous.Tie as tie
 
 returns : tie.Need-returns
-returns c = let q = c .before .before .before .before .before .before .before .before .before .before .before .before .before .before .before .before .before .before .before .before .before in
-    let a = q .args in
+returns c = let a = c .before .before .before .before .before .before .before .before .before .before .before .before .before .before .before .before .before .args in
     let h : Header = record { kind = a .kind; code = a .code; param = a .param; len = a .len } in
     let s = a .strings .now in
     let d : Server = view (memory (a .w .now) s) in
-    let n = c .before .before .before .before .before .before .before .before .before .before .before .before .before .before .before .before .before .before .entry in
-    let t = c .before .before .before .before .before .before .before .before .before .before .before .before .before .take-turn in
+    let t = c .before .before .before .before .before .before .before .before .before .take-turn in
     let l : t .result ≤ 34 = t .ensures .0 in
-    let o : outputMinimum ≤ length (a .out .now) = q .pre .3 in
+    let o : outputMinimum ≤ length (a .out .now) = c .before .before .before .before .before .before .before .before .before .before .before .before .before .before .before .before .before .pre .3 in
     let fits : t .result ≤ length (a .out .now) = omega arith in
-    λ p. did-plan d (acts r-synchronous d (a .i) (a .c) h p) _ _ _ _ _ _ (plan-command d (a .i) (a .c) h p (c .before .before .before .before .before .before .before .before .before .before .before .before .before .before .before .before .before .is-command .ensures ∙ c .before .before .before .before .before .before .before .before .before .before .before .before .before .before .before .before .if1 .taken))
-    (did-tested (memory (a .w .now) s) _ _ _ _ (a .out .now) _ _ (a .i) (n .result) (a .len) (t .result) (c .before .before .before .at-message .result) (tested (a .code)) (commandNotes (a .kind) (a .code) (a .param)) _ (command (a .i) (a .param)) _
-    (c .acted .ensures) (n .ensures .0 s) fits (t .ensures .1 s) (c .before .before .before .before .before .before .before .before .before .note-command .ensures s) (c .before .before .before .before .before .before .before .step-number .ensures s) (c .before .before .before .at-message .ensures))
+    λ p. did-plan d (acts r-synchronous d (a .i) (a .c) h p) _ _ _ _ _ _ (plan-command d (a .i) (a .c) h p (c .before .before .before .before .before .before .before .before .before .before .before .before .before .is-command .ensures ∙ c .before .before .before .before .before .before .before .before .before .before .before .before .if1 .taken))
+    (did-noted (memory (a .w .now) s) _ _ (a .out .now) _ _ (a .i) (c .before .before .before .before .before .before .before .before .before .before .before .before .before .before .entry .result) (a .len) (t .result) (c .before .before .before .at-message .result) _ _ (command (a .i) (a .param)) _
+    (c .acted .ensures) (c .before .before .before .before .before .before .before .before .before .before .before .before .before .before .entry .ensures .0 s) fits (t .ensures .1 s) (c .before .before .before .at-message .ensures))
 
 returns-2 : tie.Need-returns-2
 returns-2 c = let a = c .before .before .before .before .before .before .before .before .before .before .before .before .args in
@@ -49,8 +47,6 @@ pub act-synchronous-spec : {M : Type 1} → statement M
 act-synchronous-spec =
     tie.close
     (tie.spec
-    (λ c κs. search needs)
-    (λ c κs. search needs)
     (λ c κs. search needs)
     (λ c κs. search needs)
     (λ c κs. search needs)

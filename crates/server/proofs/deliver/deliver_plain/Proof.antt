@@ -18,13 +18,13 @@ use Rattle.server.proofs.deliver.deliver_plain.Tie as tie
 
 returns : tie.Need-returns
 returns c =
-    let a = c .before .before .before .before .before .before .before .args in
-    let v = c .before .before .before .synchronous-verdict in
+    let a = c .before .before .before .before .before .before .before .before .before .before .args in
+    let v = c .before .before .before .before .before .before .synchronous-verdict in
     let d = view (memory (a .w .now) (a .strings .now)) in
     let h = message (a .kind) (a .code) (a .param) (a .len) in
     let e : judged r-synchronous d (a .i) h (a .payload .now) ≡ verdictOf (v .result) = judged-synchronous d (a .i) h (a .payload .now) r-synchronous refl ∙ v .ensures (a .strings .now) (a .payload .now) .case in
     acts-done d (a .c) (a .i) h (a .payload .now) r-synchronous _ _ _ _ _ (judged r-synchronous d (a .i) h (a .payload .now))
-    (e ∙ ap verdictOf (c .before .before .if1 .taken)) (c .act-plainly .ensures (a .strings .now) (a .payload .now) (a .out .now) (a .c))
+    (e ∙ ap verdictOf (c .before .before .before .before .before .if1 .taken)) (c .before .before .act-plainly .ensures (a .strings .now) (a .payload .now) (a .c))
 
 returns-2 : tie.Need-returns-2
 returns-2 c =
@@ -56,6 +56,7 @@ deliver-plain-spec =
     (tie.spec
     (λ c κs. search needs)
     (λ c κs. search needs)
+    (λ c. search needs)
     returns
     (λ c κs. search needs)
     returns-2

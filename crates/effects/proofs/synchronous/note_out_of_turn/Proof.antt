@@ -1,0 +1,23 @@
+-- `synchronous::note_out_of_turn` meets its contract: the interruption, what the command notes, then the number expected.
+use Rattle.model.specs.Exchange.{stepped, tested}
+use Rattle.effects.specs.Interrupted.{noted-then, tested-out-of-turn}
+use Rattle.effects.specs.Synchronous.{commandNotes}
+use Rattle.state.specs.View.{memory, view}
+use borrow.Author.Needs.{needs}
+use Rattle.effects.proofs.synchronous.note_out_of_turn.Statement.{statement}
+use Rattle.effects.proofs.synchronous.note_out_of_turn.Tie as tie
+
+returns : tie.Need-returns
+returns c = let p = c .before .before .before .before .before .before .before .before .before .before in
+    let a = p .args in
+    let x = c .before .before .before .before .before .before .out-of-turn in (
+      x .ensures .0,
+      λ s. let d = view (memory (a .w .now) s) in
+      noted-then d _ _ (a .i) (λ x. commandNotes (a .kind) (a .code) (a .param) (tested (a .code) x)) stepped _ _ _ _
+      (noted-then d _ _ (a .i) (tested (a .code)) (commandNotes (a .kind) (a .code) (a .param)) _ _ _ _
+      (tested-out-of-turn d (a .i) (a .param) (a .code) _ _ _ _ (p .pre .2) (x .ensures .1 s)) (c .before .before .note-command .ensures s))
+      (c .step-number .ensures s),
+    )
+
+pub note-out-of-turn-spec : {M : Type 1} → statement M
+note-out-of-turn-spec = tie.close (tie.spec (λ c κs. search needs) (λ c κs. search needs) (λ c κs. search needs) (λ c. search needs) returns)
