@@ -1,6 +1,6 @@
 //! Two servers, one list.
 
-use reference::{Event, Fresh, Reply};
+use reference::{Event, Fresh, Reply, Row};
 
 use crate::asking::Roll;
 use crate::demand3::Trial;
@@ -123,6 +123,7 @@ impl Bout {
         self.roll.after(&self.left.model);
         let (one, other) = (&mut self.left.watch, &mut self.right.watch);
         let asked = self.roll.ask(one.subject.as_ref(), other.subject.as_ref());
+        let asked = asked.and(same_rows(&self.left.rows, &self.right.rows));
         asked.map_err(|[what, first, second]| {
             format!("{what}, {}: {first}; {}: {second}", left.name, right.name)
         })?;
@@ -145,6 +146,17 @@ impl Bout {
         }
         let place = list.len().saturating_sub(1);
         self.end().map_err(|what| Difference { place, what })
+    }
+}
+
+/// The rows of the holders that two servers told.
+fn same_rows(left: &Option<Vec<Row>>, right: &Option<Vec<Row>>) -> Result<(), [Complaint; 3]> {
+    match (left, right) {
+        (Some(first), Some(second)) if first != second => {
+            let [first, second] = [first, second].map(|told| format!("{told:?}"));
+            Err(["the holders".into(), first, second])
+        }
+        _ => Ok(()),
     }
 }
 
