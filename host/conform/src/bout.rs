@@ -150,14 +150,12 @@ impl Bout {
 }
 
 /// The rows of the holders that two servers told.
-fn same_rows(left: &Option<Vec<Row>>, right: &Option<Vec<Row>>) -> Result<(), [Complaint; 3]> {
-    match (left, right) {
-        (Some(first), Some(second)) if first != second => {
-            let [first, second] = [first, second].map(|told| format!("{told:?}"));
-            Err(["the holders".into(), first, second])
-        }
-        _ => Ok(()),
+fn same_rows(left: &[Row], right: &[Row]) -> Result<(), [Complaint; 3]> {
+    if left == right {
+        return Ok(());
     }
+    let [left, right] = [left, right].map(|told| format!("{told:?}"));
+    Err(["the holders".into(), left, right])
 }
 
 /// Runs a list that is not random; returns the events run.

@@ -24,8 +24,8 @@ pub struct Trial {
     pub model: LockModel,
     /// What the lock model answers to the last event.
     answers: Vec<LockAnswer>,
-    /// The rows of the holders after the last event, if the server can tell.
-    pub rows: Option<Vec<Row>>,
+    /// The rows of the holders after the last event.
+    pub rows: Vec<Row>,
 }
 
 impl Trial {
@@ -35,7 +35,7 @@ impl Trial {
             again: Watch::new(side, fresh),
             model: LockModel::new(),
             answers: Vec::new(),
-            rows: None,
+            rows: Vec::new(),
         }
     }
 
@@ -107,15 +107,12 @@ impl Trial {
     /// Who holds what, since when, is what the lock model says.
     fn compare_holders(&mut self) -> Result<(), Complaint> {
         self.rows = self.watch.holders()?;
-        let count = self.rows.as_ref().map(Vec::len);
-        self.watch.log.holders.extend(count);
-        match &self.rows {
-            Some(told) if !told.iter().copied().eq(self.model.holders()) => {
-                let model: Vec<Row> = self.model.holders().collect();
-                Err(format!("holders {told:?}, by the lock model {model:?}"))
-            }
-            _ => Ok(()),
+        self.watch.log.holders.push(self.rows.len());
+        if self.rows.iter().copied().eq(self.model.holders()) {
+            return Ok(());
         }
+        let (told, model) = (&self.rows, self.model.holders().collect::<Vec<_>>());
+        Err(format!("holders {told:?}, by the lock model {model:?}"))
     }
 
     /// Access and AsyncLockInfo go by the lock model's holders.

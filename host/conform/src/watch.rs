@@ -42,7 +42,7 @@ pub struct Log {
     pub replies: Vec<Reply>,
     output: Vec<u8>,
     ends: Vec<usize>,
-    /// How many sessions held a lock after each event, as far as somebody asked.
+    /// How many sessions held a lock after each event, if somebody asked.
     pub holders: Vec<usize>,
 }
 
@@ -178,43 +178,38 @@ impl Watch {
         Ok(reply)
     }
 
-    /// The rows of the holders; every list that is shorter by one, just long enough or longer by some is
-    /// answered alike. None if the server cannot tell.
-    pub fn holders(&mut self) -> Result<Option<Vec<Row>>, Complaint> {
-        let Some(told) = self.rows_in(ROWS)? else {
-            return Ok(None);
-        };
-        let Some(rows) = told else {
+    /// The rows of the holders. A list that is just long enough gets the same, and one that is shorter by
+    /// one is refused.
+    pub fn holders(&mut self) -> Result<Vec<Row>, Complaint> {
+        let Some(rows) = self.rows_in(ROWS)? else {
             return Err(format!("{ROWS} rows are too few for the holders"));
         };
-        if self.rows_in(rows.len())?.flatten().as_ref() != Some(&rows) {
+        if self.rows_in(rows.len())?.as_ref() != Some(&rows) {
             return Err("other rows in a list that is just long enough".into());
         }
-        let short = rows.len().checked_sub(1);
-        if let Some(Some(Some(_))) = short.map(|short| self.rows_in(short)).transpose()? {
-            return Err("fewer rows fit into a list that is too short".into());
+        match rows.len().checked_sub(1) {
+            Some(short) if self.rows_in(short)?.is_some() => {
+                Err("fewer rows fit into a list that is too short".into())
+            }
+            _ => Ok(rows),
         }
-        Ok(Some(rows))
     }
 
-    /// One question with a list of so many rows. The inner None: the list is too short.
-    fn rows_in(&mut self, room: usize) -> Result<Option<Option<Vec<Row>>>, Complaint> {
+    /// One question with a list of so many rows. None: the list is too short.
+    fn rows_in(&mut self, room: usize) -> Result<Option<Vec<Row>>, Complaint> {
         self.questions += 1;
         let question = self.questions;
         let lent = 1..1 + room;
         for (place, row) in self.rows[..room + 2].iter_mut().enumerate() {
             *row = blank(question, place);
         }
-        let Some(told) = self.subject.holders(&mut self.rows[lent]) else {
-            return Ok(None);
-        };
+        let told = self.subject.holders(&mut self.rows[lent]);
         let count = check_counted(told, room)?;
         let mut beside = (0..room + 2).filter(|place| !(1..1 + count).contains(place));
         if beside.any(|place| self.rows[place] != blank(question, place)) {
             return Err(format!("{told:?}, and other rows were changed"));
         }
-        let rows = (told.refusal == 0).then(|| self.rows[1..1 + count].to_vec());
-        Ok(Some(rows))
+        Ok((told.refusal == 0).then(|| self.rows[1..1 + count].to_vec()))
     }
 
     /// Sees that the server holds what it held after the last event, after questions.

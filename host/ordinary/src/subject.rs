@@ -65,8 +65,8 @@ impl Subject for Server {
         }
     }
 
-    fn holders(&self, rows: &mut [Row]) -> Option<Counted> {
-        Some(Server::holders(self, rows))
+    fn holders(&self, rows: &mut [Row]) -> Counted {
+        Server::holders(self, rows)
     }
 
     fn fork(&self) -> Box<dyn Subject> {

@@ -110,7 +110,8 @@ pub struct Size {
 }
 
 /// A row of the front panel: a session that holds a lock. `exclusive` and `shared` are 1 if that lock
-/// is held, else 0.
+/// is held, else 0. It lies as in the C interface, so that a list of rows can be lent as it is.
+#[repr(C)]
 #[derive(Clone, Copy, Debug, Default, PartialEq, Eq)]
 pub struct Row {
     pub session: u64,

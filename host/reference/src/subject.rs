@@ -28,10 +28,8 @@ pub trait Subject {
     /// Questions, which change nothing.
     fn deadline(&self) -> Deadline;
     fn client_size(&self, session: u32) -> Size;
-    /// The rows of the holders, into the front of a list; None if this server cannot tell.
-    fn holders(&self, _rows: &mut [Row]) -> Option<Counted> {
-        None
-    }
+    /// The rows of the holders, into the front of a list.
+    fn holders(&self, rows: &mut [Row]) -> Counted;
 
     /// A second server in the same state.
     fn fork(&self) -> Box<dyn Subject>;
@@ -174,8 +172,8 @@ macro_rules! subject_of {
                 }
             }
 
-            fn holders(&self, rows: &mut [$crate::Row]) -> Option<$crate::Counted> {
-                Some(match <$server>::holders(self, rows) {
+            fn holders(&self, rows: &mut [$crate::Row]) -> $crate::Counted {
+                match <$server>::holders(self, rows) {
                     Ok(rows) => $crate::Counted {
                         refusal: 0,
                         rows: rows as u64,
@@ -184,7 +182,7 @@ macro_rules! subject_of {
                         refusal: refusal as u64,
                         rows: 0,
                     },
-                })
+                }
             }
 
             fn fork(&self) -> Box<dyn $crate::Subject> {
