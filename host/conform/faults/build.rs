@@ -8,8 +8,8 @@ use std::collections::BTreeMap;
 use std::path::{Path, PathBuf};
 use std::{env, fmt::Write, fs};
 
-const MODULES: [&str; 7] = [
-    "acts", "delivery", "limits", "locks", "reply", "server", "wire",
+const MODULES: [&str; 9] = [
+    "acts", "delivery", "limits", "locks", "readings", "reply", "server", "watching", "wire",
 ];
 
 type Entry<'a> = BTreeMap<&'a str, &'a str>;
@@ -71,7 +71,7 @@ fn changed(source: &str, entry: &Entry) -> String {
 fn module(code: &mut String, out: &Path, entry: &Entry) {
     let name = entry["name"];
     writeln!(code, "#[allow(warnings)]\nmod {name} {{").expect("string");
-    writeln!(code, "    pub use reference::{{lock_view, mode}};").expect("string");
+    writeln!(code, "    pub use reference::{{lock_view, mode, watch}};").expect("string");
     for module in MODULES {
         let path = out.join(name).join(module).with_extension("rs");
         writeln!(code, "    #[path = {path:?}]\n    pub mod {module};").expect("string");

@@ -83,7 +83,10 @@ impl LockModel {
                 }
                 _ => {}
             },
-            Event::Open { .. } | Event::Answer { .. } | Event::Status { .. } => {}
+            Event::Open { .. }
+            | Event::Answer { .. }
+            | Event::Status { .. }
+            | Event::Watch { .. } => {}
         }
         self.look(answers);
     }

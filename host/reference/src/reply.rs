@@ -11,6 +11,8 @@ pub enum Refusal {
     AnswerTooLong = 6,
     ShortBuffer = 7,
     NoSession = 8,
+    /// A watch's limit is not a number, or low is above high.
+    BadLimits = 10,
 }
 
 /// What became of a delivery.

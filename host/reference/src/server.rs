@@ -4,7 +4,9 @@ use crate::limits::{CLOCK, CONNECTIONS, OUTPUT, PAYLOAD, SESSIONS};
 use crate::lock_view::{LockView, SessionView, StandingView, WaitingView};
 use crate::locks::{Locks, Released, Request};
 use crate::mode::Mode;
+use crate::readings::Record;
 use crate::reply::{Answered, Refusal};
+use crate::watch::Watch;
 use crate::wire::{kind, Frames, Header};
 
 #[derive(Clone, Copy, Debug, PartialEq, Eq, Hash)]
@@ -59,6 +61,11 @@ pub(crate) struct Session {
     pub rmt_expected: bool,
     /// MessageID that the next Data, DataEND or Trigger must carry.
     pub expected: u32,
+    pub watch: Watch,
+    /// A reading has tripped the watch since it was set.
+    pub tripped: bool,
+    /// None while no numeric reading was sent.
+    pub record: Option<Record>,
 }
 
 impl Session {
@@ -238,6 +245,7 @@ impl Server {
         session.answered(end);
         let kind = if end { kind::DATA_END } else { kind::DATA };
         frames.send_with(session.synchronous, kind, 0, number, payload);
+        session.read(payload, self.status, &mut frames);
         Ok(Answered {
             withheld: false,
             output: frames.used(),
