@@ -8,8 +8,9 @@ use std::collections::BTreeMap;
 use std::path::{Path, PathBuf};
 use std::{env, fmt::Write, fs};
 
-const MODULES: [&str; 9] = [
-    "acts", "delivery", "limits", "locks", "readings", "reply", "server", "watching", "wire",
+const MODULES: [&str; 12] = [
+    "acts", "commands", "delivery", "grammar", "limits", "locks", "readings", "reply", "server",
+    "spelling", "watching", "wire",
 ];
 
 type Entry<'a> = BTreeMap<&'a str, &'a str>;

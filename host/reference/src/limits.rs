@@ -10,6 +10,12 @@ pub const PAYLOAD: usize = 1024;
 pub const LOCK_STRING: usize = 256;
 /// Highest clock reading.
 pub const CLOCK: u64 = 1 << 62;
+/// Command patterns in a list.
+pub const PATTERNS: usize = 32;
+/// Bytes of a command pattern.
+pub const PATTERN: usize = 128;
+/// Brackets of a pattern inside one another.
+pub const BRACKETS: usize = 8;
 /// Smallest output buffer.
 pub const OUTPUT: usize = 2048;
 

@@ -31,6 +31,11 @@ pub trait Subject {
         unimplemented!("watches")
     }
 
+    /// A server that has no list of allowed commands yet is given none.
+    fn patterns(&mut self, _text: &[u8]) -> Reply {
+        unimplemented!("allowed commands")
+    }
+
     /// Questions, which change nothing.
     fn deadline(&self) -> Deadline;
     fn client_size(&self, session: u32) -> Size;
@@ -74,6 +79,7 @@ pub trait Subject {
                 Reply::default()
             }
             Event::Watch { session, watch } => self.watch(*session, *watch),
+            Event::Patterns { text } => self.patterns(text),
         }
     }
 }
@@ -121,7 +127,7 @@ macro_rules! subject_of {
                         taken: delivery.taken as u64,
                         output: delivery.output as u64,
                         missing: delivery.missing,
-                        withheld: 0,
+                        ..$crate::Reply::default()
                     },
                     Err(refusal) => $crate::Reply::refused(refusal as u64),
                 }
@@ -166,6 +172,17 @@ macro_rules! subject_of {
                 match <$server>::watch(self, session, watch) {
                     Ok(()) => $crate::Reply::default(),
                     Err(refusal) => $crate::Reply::refused(refusal as u64),
+                }
+            }
+
+            fn patterns(&mut self, text: &[u8]) -> $crate::Reply {
+                match <$server>::patterns(self, text) {
+                    Ok(()) => $crate::Reply::default(),
+                    Err(told) => $crate::Reply {
+                        pattern: told.pattern as u64,
+                        place: told.place as u64,
+                        ..$crate::Reply::refused(told.refusal as u64)
+                    },
                 }
             }
 
