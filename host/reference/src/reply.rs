@@ -37,6 +37,15 @@ pub struct Answered {
     pub output: usize,
 }
 
+impl Answered {
+    pub const fn sent(output: usize) -> Answered {
+        Answered {
+            withheld: false,
+            output,
+        }
+    }
+}
+
 /// Why a list of patterns was refused. A bad pattern is told by its number and the place in it, both from 0;
 /// otherwise they are 0.
 #[derive(Clone, Copy, Debug, PartialEq, Eq)]

@@ -250,10 +250,7 @@ impl Server {
         let kind = if end { kind::DATA_END } else { kind::DATA };
         frames.send_with(session.synchronous, kind, 0, number, payload);
         session.read(payload, self.status, &mut frames);
-        Ok(Answered {
-            withheld: false,
-            output: frames.used(),
-        })
+        Ok(Answered::sent(frames.used()))
     }
 
     pub fn status(&mut self, status: u8) {

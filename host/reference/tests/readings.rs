@@ -62,7 +62,7 @@ fn recorded(last: f32, lowest: f32, highest: f32) -> Option<Record> {
 }
 
 #[test]
-fn a_reading_sent_trips_strictly_beyond_a_limit_or_if_not_a_number() {
+fn above_is_strictly_beyond_the_limit_or_not_a_number() {
     let (up, down) = (f32::next_up, f32::next_down);
     let infinity = f32::INFINITY;
     let above = [
@@ -82,6 +82,12 @@ fn a_reading_sent_trips_strictly_beyond_a_limit_or_if_not_a_number() {
     for (limit, within, beyond) in above {
         check_trips(Watch::above(limit), &within, &beyond);
     }
+}
+
+#[test]
+fn outside_is_below_the_low_limit_or_above_the_high_one() {
+    let (up, down) = (f32::next_up, f32::next_down);
+    let infinity = f32::INFINITY;
     let outside = [
         (
             (-1.0, 2.0),
@@ -203,6 +209,12 @@ fn refused_as_8_then_10_and_then_nothing_changes() {
         (Refusal::NoSession as u8, Refusal::BadLimits as u8),
         (8, 10)
     );
+}
+
+#[test]
+fn equal_limits_and_infinities_are_fine() {
+    let (mut bench, _) = asking();
+    let infinity = f32::INFINITY;
     for good in [
         Watch::above(infinity),
         Watch::above(-infinity),

@@ -156,17 +156,24 @@ fn event(text: &str) -> Result<Event, String> {
         "status" => Event::Status {
             status: status(words.next("a status byte")?)?,
         },
-        "patterns" => Event::Patterns {
-            text: bytes(words.next("bytes")?)?,
-        },
-        "watch" => Event::Watch {
-            session: number(words.next("a session")?)?,
-            watch: watch(&mut words)?,
-        },
-        other => return Err(format!("no event `{other}`")),
+        other => setting(other, &mut words)?,
     };
     words.end()?;
     Ok(event)
+}
+
+/// A watch or a list of patterns.
+fn setting(word: &str, words: &mut Reader) -> Result<Event, String> {
+    match word {
+        "watch" => Ok(Event::Watch {
+            session: number(words.next("a session")?)?,
+            watch: watch(words)?,
+        }),
+        "patterns" => Ok(Event::Patterns {
+            text: bytes(words.next("bytes")?)?,
+        }),
+        other => Err(format!("no event `{other}`")),
+    }
 }
 
 fn watch(words: &mut Reader) -> Result<Watch, String> {
