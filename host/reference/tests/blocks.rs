@@ -78,5 +78,6 @@ fn indefinite_length_signs_and_spaces_are_none() {
         "#0", "#", "", "#2+4", "#2 4", "#24 ", "##14", "#:4", "#3-04", "#20x",
     ] {
         assert_eq!(readings(&payload(head, 4)), None, "{head}");
+        assert_eq!(readings(head.as_bytes()), None, "{head}");
     }
 }
