@@ -75,9 +75,8 @@ fn carries(w: &Words, role: u8, i: usize, kind: u8, param: u32) -> bool
 }
 
 // What a verdict other than "acts" and "held" does: so many bytes are taken, and so many are left to skip; an Error moves the number expected
-// where its message carries it. Callers take the answer into a
-// local: it is written to memory by this call, and a delivery that acts keeps its own in registers. (Held, and more needed with what is
-// missing, the callers tell themselves.)
+// where its message carries it. Callers take the answer into a local: it is written to memory by this call, and a delivery that acts keeps
+// its own in registers. (Held, and more needed with what is missing, the callers tell themselves.)
 fn apply(
     w: &mut Words,
     strings: &mut Strings,
