@@ -15,6 +15,7 @@ use Rattle.model.specs.Locks.{LockEvent, LockEvent.nothing, change}
 use Rattle.model.specs.Acts.{Plan, AsynchronousKind, AsynchronousKind.k-lockInfo, asynchronousKind, asynchronousRest, asynchronousSaid, asynchronousEvent, acts}
 use Rattle.model.specs.Step.{finish}
 use Rattle.state.specs.Change.{entryWith}
+use Rattle.state.specs.Tidy.{Tidy}
 use Rattle.state.specs.View.{Memory, view}
 use Rattle.effects.specs.declared.Delivery.{Delivery}
 use Rattle.effects.specs.Did.{Did, numbersOf}
@@ -64,16 +65,17 @@ planFirst d i len q fs v = record { reply = took acted (16 + len) ((at (d .locks
 pub did-with : (d : Server) (i n len size : ℕ) (q : Rest) (fs : List Frame) (v : LockEvent) (told : Delivery) (m m′ : Memory) (out out′ : List ℕ) (xs : List Frame)
     → told ≡ delivered n len size → entryWith 0 n (at (d .locks .entries) i) ≡ at (d .locks .entries) i
     → (finish d (planWith d i len q fs v)) .frames ≡ xs
-    → view m′ ≡ (finish d (planWith d i len q fs v)) .server → out′ ≡ written out xs → size ≡ length (bytesOf xs)
+    → view m′ ≡ (finish d (planWith d i len q fs v)) .server → out′ ≡ written out xs → size ≡ length (bytesOf xs) → (Tidy m → Tidy m′)
     → Did (finish d (planWith d i len q fs v)) told m m′ out out′
 unfolding finish
-did-with d i n len size q fs v told m m′ out out′ xs t e f y b z =
+did-with d i n len size q fs v told m m′ out out′ xs t e f y b z u =
     record {
       numbers = ap numbersOf t ∙ (λ j. record { refusal = 0; outcome = 6; session = ap (λ (x : Entry). x .number) e j; taken = 16 + len; output = (z ∙ ap (λ (x : List Frame). length (bytesOf x)) (sym f)) j; missing = 0 });
       server = y;
       buffer = b ∙ ap (written out) (sym f);
       same-memory = λ y. absurd (true≢false (sym y));
       same-buffer = λ y. absurd (true≢false (sym y));
+      tidy = u;
     }
 
 pub one-length : (f : Frame) (n : ℕ) → length (f .message .payload) ≡ n → 17 + n ≡ length (bytesOf (f ∷ []))
@@ -82,8 +84,8 @@ one-length f n e = ap (λ (x : ℕ). 17 + x) (sym e) ∙ sym (length-frame f) �
 -- a plan that says one frame and is no lock event
 pub did-one : (d : Server) (i n len z : ℕ) (q : Rest) (f g : Frame) (told : Delivery) (m m′ : Memory) (out out′ : List ℕ)
     → told ≡ delivered n len (17 + z) → entryWith 0 n (at (d .locks .entries) i) ≡ at (d .locks .entries) i
-    → f ≡ g → length (g .message .payload) ≡ z → view m′ ≡ record { locks = d .locks; rest = q } → out′ ≡ splice out 0 (frameBytes g)
+    → f ≡ g → length (g .message .payload) ≡ z → view m′ ≡ record { locks = d .locks; rest = q } → out′ ≡ splice out 0 (frameBytes g) → (Tidy m → Tidy m′)
     → Did (finish d (planWith d i len q (f ∷ []) nothing)) told m m′ out out′
 unfolding finish change
-did-one d i n len z q f g told m m′ out out′ t e p l v o =
-    did-with d i n len (17 + z) q (f ∷ []) nothing told m m′ out out′ (g ∷ []) t e (ap (λ (x : Frame). x ∷ []) p) v (o ∙ ap (splice out 0) (sym (bytes-one g))) (one-length g z l)
+did-one d i n len z q f g told m m′ out out′ t e p l v o u =
+    did-with d i n len (17 + z) q (f ∷ []) nothing told m m′ out out′ (g ∷ []) t e (ap (λ (x : Frame). x ∷ []) p) v (o ∙ ap (splice out 0) (sym (bytes-one g))) (one-length g z l) u

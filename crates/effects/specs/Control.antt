@@ -2,7 +2,8 @@
 use mathlib.Core.Path.{_≡_, refl, sym, ap, ap₂, _∙_}
 use mathlib.Core.Bool.{Bool, true, false, cond}
 use mathlib.Core.List.{List, [], _∷_}
-use Prim.Native.Nat.{ℕ}
+use Prim.Native.Nat.{ℕ, _≤_}
+use native.Mathlib.Omega.{arith}
 use lib.ListN.{length, take}
 use lib.Seq.{take-length}
 use Rattle.wire.specs.Field.{number, numberAt, field}
@@ -14,6 +15,7 @@ use Rattle.model.specs.Locks.{noExclusive}
 use Rattle.model.specs.Lists.{all, tally}
 use Rattle.model.specs.Acts.{holder, AsynchronousKind.k-remoteLocal, AsynchronousKind.k-maximumSize, AsynchronousKind.k-lockInfo, asynchronousRest, asynchronousSaid, asynchronousEvent}
 use Rattle.state.specs.Change.{onRest, onExchange, exchangeWith, entryWith, singleWith}
+use Rattle.state.specs.Tidy.{Tidy}
 use Rattle.state.specs.View.{flag, memory, view, restOf, locksOf}
 use Rattle.effects.specs.declared.Delivery.{Delivery}
 use Rattle.effects.specs.Asynchronous.{DidKind, delivered, did-one}
@@ -35,6 +37,10 @@ flag-word : (b : Bool) (v : ℕ) → v ≡ cond b 1 0 → flag v ≡ b
 flag-word true v e = ap flag e
 flag-word false v e = ap flag e
 
+pub flag-small : (b : Bool) (v : ℕ) → v ≡ cond b 1 0 → v ≤ 1
+flag-small true v e = omega arith
+flag-small false v e = omega arith
+
 module _ (d : Server) where
   -- the three words, stored one after the other
   pub flagged : (d₁ d₂ d₃ : Server) (x : RemoteLocal) (e l m : ℕ) → e ≡ cond (x .enable) 1 0 → l ≡ cond (x .lockout) 1 0 → m ≡ cond (x .remote) 1 0
@@ -49,23 +55,23 @@ module _ (d : Server) where
 
 module _ (w s w′ out out′ : List ℕ) (i c n : ℕ) (e : entryWith 0 n (at (locksOf w s .entries) i) ≡ at (locksOf w s .entries) i) (told : Delivery) where
   pub control-told : (code param len : ℕ) (p : List ℕ) → told ≡ delivered n len 17 → view (memory w′ s) ≡ onRest (view (memory w s)) (controlling code)
-      → out′ ≡ splice out 0 (frameBytes (frameOf c 11 0 0 []))
+      → out′ ≡ splice out 0 (frameBytes (frameOf c 11 0 0 [])) → (Tidy (memory w s) → Tidy (memory w′ s))
       → DidKind k-remoteLocal i c code param len p told (memory w s) (memory w′ s) out out′
   unfolding asynchronousRest asynchronousSaid asynchronousEvent
-  control-told code param len p q v o t =
-      did-one (view (memory w s)) i n len 0 (controlling code (restOf w)) (frameOf c 11 0 0 []) (frameOf c 11 0 0 []) told (memory w s) (memory w′ s) out out′ q e refl refl v o
+  control-told code param len p q v o u t =
+      did-one (view (memory w s)) i n len 0 (controlling code (restOf w)) (frameOf c 11 0 0 []) (frameOf c 11 0 0 []) told (memory w s) (memory w′ s) out out′ q e refl refl v o u
 
   -- 1,024 in 8 bytes
   pub size-told : (code param len size : ℕ) (p : List ℕ) → told ≡ delivered n len 25 → length p ≡ 8 → size ≡ numberAt p 0 8 → view (memory w′ s) ≡ onExchange (view (memory w s)) i (exchangeWith 3 size)
-      → out′ ≡ splice out 0 (frameBytes (frameOf c 16 0 0 (0 ∷ 0 ∷ 0 ∷ 0 ∷ 0 ∷ 0 ∷ 4 ∷ 0 ∷ [])))
+      → out′ ≡ splice out 0 (frameBytes (frameOf c 16 0 0 (0 ∷ 0 ∷ 0 ∷ 0 ∷ 0 ∷ 0 ∷ 4 ∷ 0 ∷ []))) → (Tidy (memory w s) → Tidy (memory w′ s))
       → DidKind k-maximumSize i c code param len p told (memory w s) (memory w′ s) out out′
   unfolding asynchronousRest asynchronousSaid asynchronousEvent field
-  size-told code param len size p r l q v o t =
+  size-told code param len size p r l q v o u t =
       let d : Server = view (memory w s) in
       let f : Frame = frameOf c 16 0 0 (0 ∷ 0 ∷ 0 ∷ 0 ∷ 0 ∷ 0 ∷ 4 ∷ 0 ∷ []) in
       let z : size ≡ number p = q ∙ ap (λ (x : ℕ). number (take x p)) (sym l) ∙ ap number (take-length p) in
       did-one d i n len 8 (withExchange (d .rest) i (withClientSize (number p) (exchangeAt (d .rest) i))) f f told (memory w s) (memory w′ s) out out′ r e refl refl
-      (v ∙ ap (λ (x : ℕ). onExchange d i (exchangeWith 3 x)) z ∙ slot-changed d i (withClientSize (number p))) o
+      (v ∙ ap (λ (x : ℕ). onExchange d i (exchangeWith 3 x)) z ∙ slot-changed d i (withClientSize (number p))) o u
 
   pub info-told : (code param len x y : ℕ) (p : List ℕ) → told ≡ delivered n len 17 → cond (all noExclusive (locksOf w s .entries)) 0 1 ≡ x → tally holder (locksOf w s .entries) ≡ y
       → out′ ≡ splice out 0 (frameBytes (frameOf c 25 x y []))
@@ -73,4 +79,4 @@ module _ (w s w′ out out′ : List ℕ) (i c n : ℕ) (e : entryWith 0 n (at (
   unfolding asynchronousRest asynchronousSaid asynchronousEvent
   info-told code param len x y p z q r o t =
       did-one (view (memory w s)) i n len 0 (restOf w) (frameOf c 25 (cond (all noExclusive (locksOf w s .entries)) 0 1) (tally holder (locksOf w s .entries)) []) (frameOf c 25 x y []) told
-      (memory w s) (memory w s) out out′ z e (ap₂ (λ (a b : ℕ). frameOf c 25 a b []) q r) refl refl o
+      (memory w s) (memory w s) out out′ z e (ap₂ (λ (a b : ℕ). frameOf c 25 a b []) q r) refl refl o (λ u. u)

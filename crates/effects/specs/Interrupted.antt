@@ -22,6 +22,7 @@ use Rattle.model.specs.Acts.{interruptions}
 use Rattle.model.specs.Step.{finish, lockFrame}
 use Rattle.state.specs.Grid.{upd}
 use Rattle.state.specs.Change.{onRest, onEntry, onExchange, exchangeWith, connectionWith, entryWith, orderWith}
+use Rattle.state.specs.Tidy.{Tidy}
 use Rattle.state.specs.View.{Memory, restOf, view}
 use Rattle.locks.specs.Outcome.{Met}
 use Rattle.locks.specs.Settled.{settled}
@@ -236,10 +237,10 @@ Turned d i kind code n d′ out out′ r =
 did-frames : (m m′ : Memory) (out out₁ out′ : List ℕ) (i n len a r : ℕ) (left : Rest) (fs : List Frame) (v : LockEvent) (told : Delivery) → told ≡ delivered n len r
     → entryWith 0 n (at (view m .locks .entries) i) ≡ at (view m .locks .entries) i → a ≤ length out → out₁ ≡ written out fs → a ≡ length (bytesOf fs)
     → view m′ .locks ≡ (settled (view m .locks) v) .locks → view m′ .rest ≡ left
-    → out′ ≡ splice out₁ a (bytesOf (map lockFrame ((settled (view m .locks) v) .answers))) → r ≡ a + length (bytesOf (map lockFrame ((settled (view m .locks) v) .answers)))
+    → out′ ≡ splice out₁ a (bytesOf (map lockFrame ((settled (view m .locks) v) .answers))) → r ≡ a + length (bytesOf (map lockFrame ((settled (view m .locks) v) .answers))) → (Tidy m → Tidy m′)
     → Did (finish (view m) (planFirst (view m) i len left fs v)) told m m′ out out′
 unfolding finish
-did-frames m m′ out out₁ out′ i n len a r left fs v told t e fits o l ls rs ys zs =
+did-frames m m′ out out₁ out′ i n len a r left fs v told t e fits o l ls rs ys zs u =
     let d : Server = view m in
     let x : LockResult = change (d .locks) v in
     let y : LockResult = settle (frees (d .locks) v) (x .locks) in
@@ -253,16 +254,17 @@ did-frames m m′ out out₁ out′ i n len a r left fs v told t e fits o l ls r
       buffer = behind fs gs a c out out₁ out′ fits o ys ∙ ap (written out) (sym s);
       same-memory = λ y. absurd (true≢false (sym y));
       same-buffer = λ y. absurd (true≢false (sym y));
+      tidy = u;
     }
 
 -- a command: what is said first and noted, then the lock event
 pub did-noted : (m m₂ m′ : Memory) (out out₁ out′ : List ℕ) (i n len a r : ℕ) (g : Exchange → Exchange) (fs : List Frame) (v : LockEvent) (told : Delivery) → told ≡ delivered n len r
     → entryWith 0 n (at (view m .locks .entries) i) ≡ at (view m .locks .entries) i → a ≤ length out → Noted (view m) i g fs (view m₂) out out₁ a
-    → Met (settled (view m₂ .locks) v) m₂ m′ out₁ out′ a r
+    → (Tidy m → Tidy m₂) → Met (settled (view m₂ .locks) v) m₂ m′ out₁ out′ a r
     → Did (finish (view m) (planFirst (view m) i len (withSlot i g (view m .rest)) fs v)) told m m′ out out′
-did-noted m m₂ m′ out out₁ out′ i n len a r g fs v told t e fits p x =
+did-noted m m₂ m′ out out₁ out′ i n len a r g fs v told t e fits p u x =
     let y : Met (settled (view m .locks) v) m₂ m′ out₁ out′ a r = subst (λ (l : Locks). Met (settled l v) m₂ m′ out₁ out′ a r) (ap (λ (k : Server). k .locks) (p .server)) x in
-    did-frames m m′ out out₁ out′ i n len a r (withSlot i g (view m .rest)) fs v told t e fits (p .buffer) (p .place) (y .locks) (y .rest ∙ ap (λ (k : Server). k .rest) (p .server)) (y .buffer) (y .place)
+    did-frames m m′ out out₁ out′ i n len a r (withSlot i g (view m .rest)) fs v told t e fits (p .buffer) (p .place) (y .locks) (y .rest ∙ ap (λ (k : Server). k .rest) (p .server)) (y .buffer) (y .place) (λ z. y .tidy (u z))
 
 -- the number of a slot's last message says nothing of its connections
 module _ {B : Type 0} (f : Entry → B) (g : Entry → Entry) (h : (x : Entry) → f (g x) ≡ f x) where
@@ -284,9 +286,9 @@ same-pair d d₁ i k n e =
 -- the same with the lock event first: it notes the number, and nobody is told
 pub did-after : (m m₁ m′ : Memory) (out out′ : List ℕ) (i n len a kind code k : ℕ) (v : LockEvent) (told : Delivery) → told ≡ delivered n len a
     → entryWith 0 n (at (view m .locks .entries) i) ≡ at (view m .locks .entries) i → a ≤ length out → view m₁ ≡ onEntry (view m) i (orderWith 0 k)
-    → Met (settled (view m .locks) v) m m₁ out′ out′ a a → Turned (view m₁) i kind code k (view m′) out out′ a
+    → Met (settled (view m .locks) v) m m₁ out′ out′ a a → Turned (view m₁) i kind code k (view m′) out out′ a → (Tidy m₁ → Tidy m′)
     → Did (finish (view m) (planFirst (view m) i len (withSlot i (λ (x : Exchange). stepped (commandNotes kind code k (tested code x))) (view m .rest)) (cond (outOfTurn code (exchangeAt (view m .rest) i)) (interruptions (at (view m .locks .entries) i) k) []) v)) told m m′ out out′
-did-after m m₁ m′ out out′ i n len a kind code k v told t e fits o y q =
+did-after m m₁ m′ out out′ i n len a kind code k v told t e fits o y q u =
     let d : Server = view m in
     let g : Exchange → Exchange = λ x. stepped (commandNotes kind code k (tested code x)) in
     let fs : List Frame = cond (outOfTurn code (exchangeAt (d .rest) i)) (interruptions (at (d .locks .entries) i) k) [] in
@@ -294,4 +296,4 @@ did-after m m₁ m′ out out′ i n len a kind code k v told t e fits o y q =
     ap₂ (λ (x : Exchange) (l : List Frame). cond (outOfTurn code x) l []) (ap (λ (r : Rest). exchangeAt r i) (y .rest)) (same-pair d (view m₁) i k k o) in
     let p : Noted (view m₁) i g fs (view m′) out out′ a = subst (λ (l : List Frame). Noted (view m₁) i g l (view m′) out out′ a) same q in
     did-frames m m′ out out′ out′ i n len a a (withSlot i g (d .rest)) fs v told t e fits (p .buffer) (p .place)
-    (ap (λ (x : Server). x .locks) (p .server) ∙ y .locks) (ap (λ (x : Server). x .rest) (p .server) ∙ ap (withSlot i g) (y .rest)) (y .buffer) (y .place)
+    (ap (λ (x : Server). x .locks) (p .server) ∙ y .locks) (ap (λ (x : Server). x .rest) (p .server) ∙ ap (withSlot i g) (y .rest)) (y .buffer) (y .place) (λ z. u (y .tidy z))

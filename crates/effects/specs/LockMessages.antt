@@ -18,6 +18,7 @@ use Rattle.model.specs.Acts.{preference, AsynchronousKind.k-lock, AsynchronousK
 use Rattle.model.specs.Step.{Result, finish, lockFrame}
 use Rattle.state.specs.Grid.{upd-upd}
 use Rattle.state.specs.Change.{onExchange, exchangeWith, entryWith}
+use Rattle.state.specs.Tidy.{Tidy}
 use Rattle.state.specs.View.{Memory, memory, view, restOf, locksOf}
 use Rattle.effects.specs.Did.{Did}
 use Rattle.effects.specs.declared.Delivery.{Delivery}
@@ -43,26 +44,26 @@ clear-entered i d d₁ d₂ d₃ d₄ d₅ d₆ e₁ e₂ e₃ e₄ e₅ e₆ = 
 
 -- an event that says nothing but its answers, with the pass behind it; other stores came first
 pub did-settled : (m m₁ m′ : Memory) (out out′ : List ℕ) (i n len r : ℕ) (q : Rest) (v : LockEvent) (told : Delivery) → told ≡ delivered n len r
-    → entryWith 0 n (at (view m .locks .entries) i) ≡ at (view m .locks .entries) i → view m₁ ≡ record { locks = view m .locks; rest = q }
+    → entryWith 0 n (at (view m .locks .entries) i) ≡ at (view m .locks .entries) i → view m₁ ≡ record { locks = view m .locks; rest = q } → (Tidy m → Tidy m₁)
     → Met (settled (view m₁ .locks) v) m₁ m′ out out′ 0 r → Did (finish (view m) (planWith (view m) i len q [] v)) told m m′ out out′
 unfolding finish
-did-settled m m₁ m′ out out′ i n len r q v told z e f x =
+did-settled m m₁ m′ out out′ i n len r q v told z e f u x =
     let d : Server = view m in
     let y : Met (settled (d .locks) v) m₁ m′ out out′ 0 r = subst (λ (l : Locks). Met (settled l v) m₁ m′ out out′ 0 r) (ap (λ (k : Server). k .locks) f) x in
     let xs : LockResult = change (d .locks) v in
     let ys : LockResult = settle (frees (d .locks) v) (xs .locks) in
     did-with d i n len r q [] v told m m′ out out′ (map lockFrame (xs .answers ++ ys .answers)) z e (sym (map-append lockFrame (xs .answers) (ys .answers)))
-    (λ j. record { locks = y .locks j; rest = (y .rest ∙ ap (λ (k : Server). k .rest) f) j }) (y .buffer) (y .place ∙ zero-add _)
+    (λ j. record { locks = y .locks j; rest = (y .rest ∙ ap (λ (k : Server). k .rest) f) j }) (y .buffer) (y .place ∙ zero-add _) (λ t. y .tidy (u t))
 
 -- a release of slot i stands: one is due at a device clear
 stood-due : (x : Standing) (b : Bool) → stands x ≡ b → isDue (dueAny x) ≡ b
 stood-due no-release b e = e
 stood-due (release-of k n) b e = e
 
-module _ (w s w₁ w₂ out out₁ out₂ : List ℕ) (i c n a k len : ℕ) (e : entryWith 0 n (at (locksOf w s .entries) i) ≡ at (locksOf w s .entries) i) (fits : a + 17 ≤ length out)
-    (told : Delivery) (x : Met (change (locksOf w s) (clear i)) (memory w s) (memory w₁ s) out out₁ 0 a)
-    (v : view (memory w₂ s) ≡ onExchange (view (memory w₁ s)) i enterClear)
-    (prefers : preference (view (memory w s)) ≡ k) (o : out₂ ≡ splice out₁ a (frameBytes (frameOf c 23 k 0 []))) where
+module _ (w s w₁ s₁ w₂ out out₁ out₂ : List ℕ) (i c n a k len : ℕ) (e : entryWith 0 n (at (locksOf w s .entries) i) ≡ at (locksOf w s .entries) i) (fits : a + 17 ≤ length out)
+    (told : Delivery) (x : Met (change (locksOf w s) (clear i)) (memory w s) (memory w₁ s₁) out out₁ 0 a)
+    (v : view (memory w₂ s₁) ≡ onExchange (view (memory w₁ s₁)) i enterClear)
+    (prefers : preference (view (memory w s)) ≡ k) (o : out₂ ≡ splice out₁ a (frameBytes (frameOf c 23 k 0 []))) (stay : Tidy (memory w₁ s₁) → Tidy (memory w₂ s₁)) where
   abbrev d : Server
   d = view (memory w s)
 
@@ -78,8 +79,8 @@ module _ (w s w₁ w₂ out out₁ out₂ : List ℕ) (i c n a k len : ℕ) (e :
   abbrev xs : List Frame
   xs = map lockFrame (left .answers)
 
-  entered : view (memory w₂ s) ≡ record { locks = left .locks; rest = q }
-  entered = v ∙ slot-changed (view (memory w₁ s)) i enterClear ∙ (λ j. record { locks = x .locks j; rest = ap (λ (r : Rest). withExchange r i (enterClear (exchangeAt r i))) (x .rest) j })
+  entered : view (memory w₂ s₁) ≡ record { locks = left .locks; rest = q }
+  entered = v ∙ slot-changed (view (memory w₁ s₁)) i enterClear ∙ (λ j. record { locks = x .locks j; rest = ap (λ (r : Rest). withExchange r i (enterClear (exchangeAt r i))) (x .rest) j })
 
   -- the plan's result, by whether a release stood
   result : (b : Bool) → stands ((at (locksOf w s .entries) i) .standing) ≡ b
@@ -98,18 +99,18 @@ module _ (w s w₁ w₂ out out₁ out₂ : List ℕ) (i c n a k len : ℕ) (e :
   acknowledged-length = behind-length xs (f ∷ []) a (x .place) (a + 17) (ap (λ (y : ℕ). a + y) (one-length f 0 refl))
 
   pub clear-told : (code param : ℕ) (p : List ℕ) → told ≡ delivered n len (a + 17) → stands ((at (locksOf w s .entries) i) .standing) ≡ false
-      → DidKind k-deviceClear i c code param len p told (memory w s) (memory w₂ s) out out₂
+      → DidKind k-deviceClear i c code param len p told (memory w s) (memory w₂ s₁) out out₂
   unfolding asynchronousRest asynchronousSaid asynchronousEvent
   clear-told code param p z h t =
-      did-with d i n len (a + 17) q (f ∷ []) (clear i) told (memory w s) (memory w₂ s) out out₂ (xs ++ (f ∷ [])) z e (ap (λ (y : Result). y .frames) (result false h))
-      (entered ∙ sym (ap (λ (y : Result). y .server) (result false h))) acknowledged acknowledged-length
+      did-with d i n len (a + 17) q (f ∷ []) (clear i) told (memory w s) (memory w₂ s₁) out out₂ (xs ++ (f ∷ [])) z e (ap (λ (y : Result). y .frames) (result false h))
+      (entered ∙ sym (ap (λ (y : Result). y .server) (result false h))) acknowledged acknowledged-length (λ u. stay (x .tidy u))
 
   pub clear-granted : (w′ s′ out′ : List ℕ) (r code param : ℕ) (p : List ℕ) → told ≡ delivered n len r → stands ((at (locksOf w s .entries) i) .standing) ≡ true
-      → Met (grantPass (locksOf w₂ s)) (memory w₂ s) (memory w′ s′) out₂ out′ (a + 17) r → DidKind k-deviceClear i c code param len p told (memory w s) (memory w′ s′) out out′
+      → Met (grantPass (locksOf w₂ s₁)) (memory w₂ s₁) (memory w′ s′) out₂ out′ (a + 17) r → DidKind k-deviceClear i c code param len p told (memory w s) (memory w′ s′) out out′
   unfolding asynchronousRest asynchronousSaid asynchronousEvent
   clear-granted w′ s′ out′ r code param p z h y t =
-      let g : locksOf w₂ s ≡ left .locks = ap (λ (k : Server). k .locks) entered in
-      let y′ : Met (grantPass (left .locks)) (memory w₂ s) (memory w′ s′) out₂ out′ (a + 17) r = subst (λ (l : Locks). Met (grantPass l) (memory w₂ s) (memory w′ s′) out₂ out′ (a + 17) r) g y in
+      let g : locksOf w₂ s₁ ≡ left .locks = ap (λ (k : Server). k .locks) entered in
+      let y′ : Met (grantPass (left .locks)) (memory w₂ s₁) (memory w′ s′) out₂ out′ (a + 17) r = subst (λ (l : Locks). Met (grantPass l) (memory w₂ s₁) (memory w′ s′) out₂ out′ (a + 17) r) g y in
       let ys : List Frame = map lockFrame ((grantPass (left .locks)) .answers) in
       let u : view (memory w′ s′) ≡ record { locks = (grantPass (left .locks)) .locks; rest = q } = (λ j. record { locks = y′ .locks j; rest = (y′ .rest ∙ ap (λ (k : Server). k .rest) entered) j }) in
       did-with d i n len r q (f ∷ []) (clear i) told (memory w s) (memory w′ s′) out out′ ((xs ++ (f ∷ [])) ++ ys) z e
@@ -117,6 +118,7 @@ module _ (w s w₁ w₂ out out₁ out₂ : List ℕ) (i c n a k len : ℕ) (e :
       (u ∙ sym (ap (λ (k : Result). k .server) (result true h)))
       (behind (xs ++ (f ∷ [])) ys (a + 17) (acknowledged-length ∙ sym (zero-add _)) out out₂ out′ fits acknowledged (y′ .buffer))
       (behind-length (xs ++ (f ∷ [])) ys (a + 17) (acknowledged-length ∙ sym (zero-add _)) r (y′ .place))
+      (λ u. y′ .tidy (stay (x .tidy u)))
 
 pub release-told : (w s w′ s′ out out′ : List ℕ) (i c n code param len r : ℕ) (p : List ℕ) (told : Delivery) → told ≡ delivered n len r → entryWith 0 n (at (locksOf w s .entries) i) ≡ at (locksOf w s .entries) i
     → code ≡ 0 → Met (settled (locksOf w s) (release i param)) (memory w s) (memory w′ s′) out out′ 0 r
@@ -124,7 +126,7 @@ pub release-told : (w s w′ s′ out out′ : List ℕ) (i c n code param len r
 unfolding asynchronousRest asynchronousSaid asynchronousEvent
 release-told w s w′ s′ out out′ i c n code param len r p told q e z x t =
     let g : Did (finish (view (memory w s)) (planWith (view (memory w s)) i len (restOf w) [] (release i param))) told (memory w s) (memory w′ s′) out out′ =
-    did-settled (memory w s) (memory w s) (memory w′ s′) out out′ i n len r (restOf w) (release i param) told q e refl x in
+    did-settled (memory w s) (memory w s) (memory w′ s′) out out′ i n len r (restOf w) (release i param) told q e refl (λ t. t) x in
     rw (eq-eqb code 0 z) g
 
 pub request-told : (w s w′ s′ out out′ : List ℕ) (i c n code param len r : ℕ) (p : List ℕ) (told : Delivery) → told ≡ delivered n len r → entryWith 0 n (at (locksOf w s .entries) i) ≡ at (locksOf w s .entries) i
@@ -136,5 +138,5 @@ request-told w s w′ s′ out out′ i c n code param len r p told q e z x t =
     let xs : List Frame = map lockFrame ((change (locksOf w s) (request i param p)) .answers) in
     let g : Did (finish d (planWith d i len (restOf w) [] (request i param p))) told (memory w s) (memory w′ s′) out out′ =
     did-with d i n len r (restOf w) [] (request i param p) told (memory w s) (memory w′ s′) out out′ xs q e (append-nil xs)
-    (λ j. record { locks = x .locks j; rest = x .rest j }) (x .buffer) (x .place ∙ omega arith) in
+    (λ j. record { locks = x .locks j; rest = x .rest j }) (x .buffer) (x .place ∙ omega arith) (x .tidy) in
     rw (ne-eqb code 0 z) g

@@ -19,6 +19,7 @@ use Rattle.model.specs.Acts.{Plan, say}
 use Rattle.model.specs.Step.{Result, finish, closing, channels, lockFrame}
 use Rattle.state.specs.Grid.{upd, upd-upd, upd-set}
 use Rattle.state.specs.Change.{onRest, onConnection, connectionWith}
+use Rattle.state.specs.Tidy.{Tidy}
 use Rattle.state.specs.View.{Memory, memory, view, flag, locksOf}
 use Rattle.effects.specs.declared.Delivery.{Delivery}
 use Rattle.effects.specs.Did.{Did, numbersOf, plainly}
@@ -65,10 +66,10 @@ one-frame out out′ f e = e ∙ ap (splice out 0) (sym (bytes-one f))
 -- a closing: what is said first, then the answers of the grant pass
 pub did-closing : (d : Server) (c i : ℕ) (fs : List Frame) (r : Delivery) (m m′ : Memory) (out out₁ out′ : List ℕ) (at′ end : ℕ)
     → out₁ ≡ splice out 0 (bytesOf fs) → at′ ≡ length (bytesOf fs) → length (bytesOf fs) ≤ length out → Closes d c i m′ out₁ out′ at′ end
-    → numbersOf r ≡ deliveryAnswer (took closed 0 ((at (d .locks .entries) i) .number)) end 0
+    → numbersOf r ≡ deliveryAnswer (took closed 0 ((at (d .locks .entries) i) .number)) end 0 → (Tidy m → Tidy m′)
     → Did (finish d (closePlan d c i fs)) r m m′ out out′
 unfolding finish change
-did-closing d c i fs r m m′ out out₁ out′ at′ end b a room p n =
+did-closing d c i fs r m m′ out out₁ out′ at′ end b a room p n t =
     let gs : List Frame = map lockFrame ((grantPass ((closedServer d c i) .locks)) .answers) in
     let e : bytesOf (fs ++ gs) ≡ bytesOf fs ++ bytesOf gs = bytes-append fs gs in
     let z : 0 + length (bytesOf fs) ≡ length (bytesOf fs) = zero-add (length (bytesOf fs)) in
@@ -80,6 +81,7 @@ did-closing d c i fs r m m′ out out₁ out′ at′ end b a room p n =
       buffer = p .buffer ∙ ap₂ (λ (x : List ℕ) (y : ℕ). splice x y (bytesOf gs)) b (a ∙ sym z) ∙ splice-splice out 0 (bytesOf fs) q (bytesOf gs) ∙ ap (splice out 0) (sym e);
       same-memory = λ y. absurd (true≢false (sym y));
       same-buffer = λ y. absurd (true≢false (sym y));
+      tidy = t;
     }
 
 -- past the table there is no number

@@ -18,6 +18,7 @@ use Rattle.model.specs.MessageTypes.{AsyncStatusQuery}
 use Rattle.model.specs.Exchange.{queried, availableIn, availableAt, statusByte}
 use Rattle.model.specs.Acts.{AsynchronousKind.k-statusQuery, asynchronousRest, asynchronousSaid, asynchronousEvent}
 use Rattle.state.specs.Change.{onRest, exchangeWith, entryWith, singleWith}
+use Rattle.state.specs.Tidy.{Tidy}
 use Rattle.state.specs.View.{memory, view, restOf, locksOf}
 use Rattle.effects.specs.Closing.{exchanges-held}
 use Rattle.effects.specs.declared.Delivery.{Delivery}
@@ -77,10 +78,10 @@ available-behind h x = by (x .overlap)
 module _ (w s w′ out out′ : List ℕ) (i c n : ℕ) (few : i < sessionLimit) (e : entryWith 0 n (at (locksOf w s .entries) i) ≡ at (locksOf w s .entries) i) (told : Delivery) where
   pub status-told : (code param len b : ℕ) (p : List ℕ) → told ≡ delivered n len 17 → view (memory w′ s) ≡ onRest (view (memory w s)) (withSlot i (queried code))
       → b ≡ statusByte (restOf w′ .status) (availableNow param (exchangeAt (restOf w′) i))
-      → out′ ≡ splice out 0 (frameBytes (frameOf c 22 b 0 []))
+      → out′ ≡ splice out 0 (frameBytes (frameOf c 22 b 0 [])) → (Tidy (memory w s) → Tidy (memory w′ s))
       → DidKind k-statusQuery i c code param len p told (memory w s) (memory w′ s) out out′
   unfolding asynchronousRest asynchronousSaid asynchronousEvent
-  status-told code param len b p r v q o t =
+  status-told code param len b p r v q o u t =
       let d : Server = view (memory w s) in
       let h : Header = heading t code param len in
       let x : Exchange = exchangeAt (d .rest) i in
@@ -90,4 +91,4 @@ module _ (w s w′ out out′ : List ℕ) (i c n : ℕ) (few : i < sessionLimit)
       ∙ ap (λ (y : Exchange). statusByte (d .rest .status) (availableNow param y)) (getD-set-same (d .rest .exchanges) i (queried code x) freshExchange l)
       ∙ ap (statusByte (d .rest .status)) (sym (available-behind h x)) in
       did-one d i n len 0 (withExchange (d .rest) i (queried code x)) (frameOf c 22 (statusByte (d .rest .status) (availableAt h x)) 0 []) (frameOf c 22 b 0 []) told
-      (memory w s) (memory w′ s) out out′ r e (ap (λ (y : ℕ). frameOf c 22 y 0 []) (sym g)) refl v o
+      (memory w s) (memory w′ s) out out′ r e (ap (λ (y : ℕ). frameOf c 22 y 0 []) (sym g)) refl v o u

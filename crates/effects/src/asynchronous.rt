@@ -12,6 +12,7 @@ ghost use Rattle.model.specs.State.{exchangeAt};
 ghost use Rattle.model.specs.Step.{finish};
 ghost use Rattle.remote.specs.Shown.{shown};
 ghost use Rattle.state.specs.Change.{onExchange, onRest};
+ghost use Rattle.state.specs.Tidy.{Tidy};
 ghost use Rattle.state.specs.View.{memory, restOf, view};
 ghost use lib.ListN.{length};
 ghost use mathlib.Core.Bool.{cond};
@@ -123,7 +124,7 @@ fn flags_of(w: &Words) -> RemoteLocal
 
 // The three flags, stored.
 fn set_flags(w: &mut Words, f: RemoteLocal)
-    ensures { λ _. ⌜ ((s : List ℕ) → view (memory (now (w .exit)) s) ≡ onRest (view (memory (now (w .entry)) s)) (flagging (shown f))) ⌝ }
+    ensures { λ _. ⌜ ((s : List ℕ) → view (memory (now (w .exit)) s) ≡ onRest (view (memory (now (w .entry)) s)) (flagging (shown f))) × ((s : List ℕ) → Tidy (memory (now (w .entry)) s) → Tidy (memory (now (w .exit)) s)) ⌝ }
 {
     tables::set_single(w, tables::ENABLE, tables::word_of(f.enable));
     tables::set_single(w, tables::LOCKOUT, tables::word_of(f.lockout));
@@ -132,7 +133,7 @@ fn set_flags(w: &mut Words, f: RemoteLocal)
 
 // What the code makes of the three flags: read, changed in place, stored.
 fn set_control(w: &mut Words, code: u8)
-    ensures { λ _. ⌜ ((s : List ℕ) → view (memory (now (w .exit)) s) ≡ onRest (view (memory (now (w .entry)) s)) (controlling code)) ⌝ }
+    ensures { λ _. ⌜ ((s : List ℕ) → view (memory (now (w .exit)) s) ≡ onRest (view (memory (now (w .entry)) s)) (controlling code)) × ((s : List ℕ) → Tidy (memory (now (w .entry)) s) → Tidy (memory (now (w .exit)) s)) ⌝ }
 {
     let f = flags_of(w);
     set_flags(w, commanded(f, code));
@@ -173,7 +174,7 @@ fn note_size(w: &mut Words, out: &mut [u8], c: u64, i: usize, len: u64, payload:
 // In device clear, with nothing asked, no message available, no answer counted, and the first number expected.
 fn enter_clear(w: &mut Words, i: usize)
     requires { ⌜ i < sessionLimit ⌝ }
-    ensures { λ _. ⌜ ((s : List ℕ) → view (memory (now (w .exit)) s) ≡ onExchange (view (memory (now (w .entry)) s)) i enterClear) ⌝ }
+    ensures { λ _. ⌜ ((s : List ℕ) → view (memory (now (w .exit)) s) ≡ onExchange (view (memory (now (w .entry)) s)) i enterClear) × ((s : List ℕ) → Tidy (memory (now (w .entry)) s) → Tidy (memory (now (w .exit)) s)) ⌝ }
 {
     tables::set_exchange(w, i, tables::IN_CLEAR, 1);
     tables::set_exchange(w, i, tables::ASKED, 0);
@@ -199,7 +200,7 @@ fn clear(
     let n = tables::entry(w, i, tables::NUMBER);
     let mode = mode::preference(w);
     let stood = standing::stands(w, i);
-    let at = complete::at_clear(w, out, 0, i);
+    let at = complete::at_clear(w, strings, out, 0, i);
     enter_clear(w, i);
     frame::put_frame(
         out,

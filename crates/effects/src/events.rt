@@ -5,6 +5,7 @@ ghost use Rattle.model.specs.Exchange.{answerNumber, answeredWith};
 ghost use Rattle.model.specs.State.{exchangeAt, openConnection, withConnection, withExchange, withStatus};
 ghost use Rattle.model.specs.Step.{answerType};
 ghost use Rattle.state.specs.Change.{onRest};
+ghost use Rattle.state.specs.Tidy.{Tidy};
 ghost use Rattle.state.specs.View.{memory, restOf, view};
 ghost use lib.ListN.{length};
 ghost use mathlib.Core.List.{List};
@@ -22,14 +23,14 @@ use wire::types;
 // Connection c opens, with nothing to skip.
 pub fn open_connection(w: &mut Words, c: u64)
     requires { ⌜ c < connectionLimit ⌝ }
-    ensures { λ _. ⌜ ((s : List ℕ) → view (memory (now (w .exit)) s) ≡ onRest (view (memory (now (w .entry)) s)) (λ r. withConnection r c (openConnection 0))) ⌝ }
+    ensures { λ _. ⌜ ((s : List ℕ) → view (memory (now (w .exit)) s) ≡ onRest (view (memory (now (w .entry)) s)) (λ r. withConnection r c (openConnection 0))) × ((s : List ℕ) → Tidy (memory (now (w .entry)) s) → Tidy (memory (now (w .exit)) s)) ⌝ }
 {
     keep_open(w, c, 0);
 }
 
 // The instrument's status byte changes.
 pub fn set_status(w: &mut Words, b: u8)
-    ensures { λ _. ⌜ ((s : List ℕ) → view (memory (now (w .exit)) s) ≡ onRest (view (memory (now (w .entry)) s)) (λ r. withStatus r b)) ⌝ }
+    ensures { λ _. ⌜ ((s : List ℕ) → view (memory (now (w .exit)) s) ≡ onRest (view (memory (now (w .entry)) s)) (λ r. withStatus r b)) × ((s : List ℕ) → Tidy (memory (now (w .entry)) s) → Tidy (memory (now (w .exit)) s)) ⌝ }
 {
     tables::set_single(w, tables::STATUS, b as u64);
 }
@@ -52,7 +53,7 @@ fn answer_number(w: &Words, i: usize) -> MessageId
 // Slot i was sent an answer: message available goes on, it is counted, and with END nothing is asked any more and an RMT is expected.
 fn note_answer(w: &mut Words, i: usize, end: bool)
     requires { ⌜ i < sessionLimit ⌝ }
-    ensures { λ _. ⌜ ((s : List ℕ) → view (memory (now (w .exit)) s) ≡ onRest (view (memory (now (w .entry)) s)) (λ r. withExchange r i (answeredWith end (exchangeAt r i)))) ⌝ }
+    ensures { λ _. ⌜ ((s : List ℕ) → view (memory (now (w .exit)) s) ≡ onRest (view (memory (now (w .entry)) s)) (λ r. withExchange r i (answeredWith end (exchangeAt r i)))) × ((s : List ℕ) → Tidy (memory (now (w .entry)) s) → Tidy (memory (now (w .exit)) s)) ⌝ }
 {
     tables::set_exchange(w, i, tables::AVAILABLE, 1);
     mode::count_answer(w, i);
@@ -76,7 +77,7 @@ fn answer_kind(end: bool) -> u8
 // The instrument's answer to slot i goes to its synchronous connection; how many bytes of the output hold it.
 pub fn send_answer(w: &mut Words, out: &mut [u8], i: usize, end: bool, payload: &[u8]) -> usize
     requires { ⌜ (i < sessionLimit) × (length (now payload) ≤ payloadLimit) × (outputMinimum ≤ length (now out)) ⌝ }
-    ensures { λ r. ⌜ ((s : List ℕ) → Answers (view (memory (now (w .entry)) s)) i end (now (payload .entry)) (view (memory (now (w .exit)) s)) (now (out .entry)) (now (out .exit)) r) ⌝ }
+    ensures { λ r. ⌜ ((s : List ℕ) → Answers (view (memory (now (w .entry)) s)) i end (now (payload .entry)) (view (memory (now (w .exit)) s)) (now (out .entry)) (now (out .exit)) r) × ((s : List ℕ) → Tidy (memory (now (w .entry)) s) → Tidy (memory (now (w .exit)) s)) ⌝ }
 {
     let c = (tables::entry(w, i, tables::SYNCHRONOUS) % 256) as u8;
     let id = answer_number(w, i);

@@ -9,6 +9,7 @@ ghost use Rattle.model.specs.Exchange;
 ghost use Rattle.model.specs.Sizes.{outputMinimum, sessionLimit};
 ghost use Rattle.model.specs.State.{at, connectionAt, exchangeAt};
 ghost use Rattle.state.specs.Change.{onRest};
+ghost use Rattle.state.specs.Tidy.{Tidy};
 ghost use Rattle.state.specs.View.{locksOf, memory, restOf, view};
 ghost use Rattle.wire.specs.Frame.{bytesOf};
 ghost use Rattle.wire.specs.Message.{header};
@@ -45,7 +46,7 @@ fn put_pair(w: &Words, out: &mut [u8], i: usize, id: u32)
 // Nothing is asked any more, and message available goes off.
 fn note_interrupted(w: &mut Words, i: usize)
     requires { ⌜ i < sessionLimit ⌝ }
-    ensures { λ _. ⌜ ((s : List ℕ) → view (memory (now (w .exit)) s) ≡ onRest (view (memory (now (w .entry)) s)) (withSlot i Rattle.model.specs.Exchange.interrupted)) ⌝ }
+    ensures { λ _. ⌜ ((s : List ℕ) → view (memory (now (w .exit)) s) ≡ onRest (view (memory (now (w .entry)) s)) (withSlot i Rattle.model.specs.Exchange.interrupted)) × ((s : List ℕ) → Tidy (memory (now (w .entry)) s) → Tidy (memory (now (w .exit)) s)) ⌝ }
 {
     tables::set_exchange(w, i, tables::ASKED, 0);
     tables::set_exchange(w, i, tables::AVAILABLE, 0);
@@ -54,7 +55,7 @@ fn note_interrupted(w: &mut Words, i: usize)
 // The session of slot i is interrupted by the message of this number; how many bytes of the output say so.
 fn interrupt(w: &mut Words, out: &mut [u8], i: usize, id: u32) -> usize
     requires { ⌜ (i < sessionLimit) × (outputMinimum ≤ length (now out)) ⌝ }
-    ensures { λ r. ⌜ (r ≤ 34) × ((s : List ℕ) → Noted (view (memory (now (w .entry)) s)) i Rattle.model.specs.Exchange.interrupted (interruptions (at (locksOf (now (w .entry)) s .entries) i) id) (view (memory (now (w .exit)) s)) (now (out .entry)) (now (out .exit)) r) ⌝ }
+    ensures { λ r. ⌜ (r ≤ 34) × ((s : List ℕ) → Noted (view (memory (now (w .entry)) s)) i Rattle.model.specs.Exchange.interrupted (interruptions (at (locksOf (now (w .entry)) s .entries) i) id) (view (memory (now (w .exit)) s)) (now (out .entry)) (now (out .exit)) r) × ((s : List ℕ) → Tidy (memory (now (w .entry)) s) → Tidy (memory (now (w .exit)) s)) ⌝ }
 {
     put_pair(w, out, i, id);
     note_interrupted(w, i);
@@ -64,7 +65,7 @@ fn interrupt(w: &mut Words, out: &mut [u8], i: usize, id: u32) -> usize
 // A message whose RMT-delivered differs from what is expected: in synchronized mode it interrupts.
 pub fn out_of_turn(w: &mut Words, out: &mut [u8], i: usize, id: u32) -> usize
     requires { ⌜ (i < sessionLimit) × (outputMinimum ≤ length (now out)) ⌝ }
-    ensures { λ r. ⌜ (r ≤ 34) × ((s : List ℕ) → OutOfTurn (view (memory (now (w .entry)) s)) i id (view (memory (now (w .exit)) s)) (now (out .entry)) (now (out .exit)) r) ⌝ }
+    ensures { λ r. ⌜ (r ≤ 34) × ((s : List ℕ) → OutOfTurn (view (memory (now (w .entry)) s)) i id (view (memory (now (w .exit)) s)) (now (out .entry)) (now (out .exit)) r) × ((s : List ℕ) → Tidy (memory (now (w .entry)) s) → Tidy (memory (now (w .exit)) s)) ⌝ }
 {
     if is_overlap(w, i) {
         tables::set_exchange(w, i, tables::RMT_EXPECTED, 0);
@@ -87,7 +88,7 @@ pub fn in_turn(w: &Words, i: usize, code: u8) -> bool
 // A status query: RMT-delivered (code 1) clears the expectation and turns message available off.
 pub fn note_query(w: &mut Words, i: usize, code: u8)
     requires { ⌜ i < sessionLimit ⌝ }
-    ensures { λ _. ⌜ ((s : List ℕ) → view (memory (now (w .exit)) s) ≡ onRest (view (memory (now (w .entry)) s)) (withSlot i (queried code))) ⌝ }
+    ensures { λ _. ⌜ ((s : List ℕ) → view (memory (now (w .exit)) s) ≡ onRest (view (memory (now (w .entry)) s)) (withSlot i (queried code))) × ((s : List ℕ) → Tidy (memory (now (w .entry)) s) → Tidy (memory (now (w .exit)) s)) ⌝ }
 {
     let expected = tables::exchange(w, i, tables::RMT_EXPECTED);
     tables::set_exchange(w, i, tables::RMT_EXPECTED, left_by(expected, code));
@@ -140,7 +141,7 @@ pub fn withholds(w: &Words, i: usize, end: bool, shown: &[u8]) -> bool
 // The answer to slot i is withheld: the unread header interrupts it; how many bytes of the output say so.
 pub fn withhold(w: &mut Words, out: &mut [u8], i: usize, shown: &[u8]) -> usize
     requires { ⌜ (i < sessionLimit) × (16 ≤ length (now shown)) × (outputMinimum ≤ length (now out)) ⌝ }
-    ensures { λ r. ⌜ ((s : List ℕ) → Noted (view (memory (now (w .entry)) s)) i Rattle.model.specs.Exchange.interrupted (interruptions (at (locksOf (now (w .entry)) s .entries) i) ((header (now (shown .entry))) .param)) (view (memory (now (w .exit)) s)) (now (out .entry)) (now (out .exit)) r) ⌝ }
+    ensures { λ r. ⌜ ((s : List ℕ) → Noted (view (memory (now (w .entry)) s)) i Rattle.model.specs.Exchange.interrupted (interruptions (at (locksOf (now (w .entry)) s .entries) i) ((header (now (shown .entry))) .param)) (view (memory (now (w .exit)) s)) (now (out .entry)) (now (out .exit)) r) × ((s : List ℕ) → Tidy (memory (now (w .entry)) s) → Tidy (memory (now (w .exit)) s)) ⌝ }
 {
     let h = reading::header_at(shown);
     interrupt(w, out, i, h.param)

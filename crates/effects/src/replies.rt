@@ -6,6 +6,7 @@ ghost use Rattle.model.specs.Place.{slotIn};
 ghost use Rattle.model.specs.State.{at, connectionAt, openConnection, withConnection};
 ghost use Rattle.model.specs.Step.{channels, finish};
 ghost use Rattle.state.specs.Change.{onRest};
+ghost use Rattle.state.specs.Tidy.{Tidy};
 ghost use Rattle.state.specs.View.{locksOf, memory, restOf, view};
 ghost use Rattle.wire.specs.Frame.{bytesOf};
 ghost use Rattle.wire.specs.Splice.{splice};
@@ -28,7 +29,7 @@ use wire::types;
 // Connection c is open, with so many bytes to skip.
 pub fn keep_open(w: &mut Words, c: u64, left: u64)
     requires { ⌜ c < connectionLimit ⌝ }
-    ensures { λ _. ⌜ ((s : List ℕ) → view (memory (now (w .exit)) s) ≡ onRest (view (memory (now (w .entry)) s)) (λ r. withConnection r c (openConnection left))) ⌝ }
+    ensures { λ _. ⌜ ((s : List ℕ) → view (memory (now (w .exit)) s) ≡ onRest (view (memory (now (w .entry)) s)) (λ r. withConnection r c (openConnection left))) × ((s : List ℕ) → Tidy (memory (now (w .entry)) s) → Tidy (memory (now (w .exit)) s)) ⌝ }
 {
     tables::set_connection(w, c as usize, tables::IS_OPEN, 1);
     tables::set_connection(w, c as usize, tables::REMAINDER, left);

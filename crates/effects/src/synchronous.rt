@@ -10,6 +10,7 @@ ghost use Rattle.model.specs.Place.{Role.r-synchronous};
 ghost use Rattle.model.specs.State.{at, exchangeAt};
 ghost use Rattle.model.specs.Step.{finish};
 ghost use Rattle.state.specs.Change.{onRest};
+ghost use Rattle.state.specs.Tidy.{Tidy};
 ghost use Rattle.state.specs.View.{locksOf, memory, restOf, view};
 ghost use lib.Dec.{eqb};
 ghost use lib.ListN.{length};
@@ -48,7 +49,7 @@ pub fn wide(b: u8) -> u64
 
 // The word of message available, or of the expectation, behind a message with this control code: a product, for no processor foresees the code.
 pub fn left_by(word: u64, code: u8) -> u64
-    ensures { λ r. ⌜ eqb r 1 ≡ (not (eqb code 1) && eqb word 1) ⌝ }
+    ensures { λ r. ⌜ (eqb r 1 ≡ (not (eqb code 1) && eqb word 1)) × (r ≤ 1) ⌝ }
 {
     let available = same_number(word, 1);
     let delivered = same_number(wide(code), 1);
@@ -58,7 +59,7 @@ pub fn left_by(word: u64, code: u8) -> u64
 // RMT-delivered (code 1) turns message available off.
 pub fn note_rmt(w: &mut Words, i: usize, code: u8)
     requires { ⌜ i < sessionLimit ⌝ }
-    ensures { λ _. ⌜ ((s : List ℕ) → view (memory (now (w .exit)) s) ≡ onRest (view (memory (now (w .entry)) s)) (withSlot i (noteRmt code))) ⌝ }
+    ensures { λ _. ⌜ ((s : List ℕ) → view (memory (now (w .exit)) s) ≡ onRest (view (memory (now (w .entry)) s)) (withSlot i (noteRmt code))) × ((s : List ℕ) → Tidy (memory (now (w .entry)) s) → Tidy (memory (now (w .exit)) s)) ⌝ }
 {
     let available = tables::exchange(w, i, tables::AVAILABLE);
     tables::set_exchange(w, i, tables::AVAILABLE, left_by(available, code));
@@ -67,7 +68,7 @@ pub fn note_rmt(w: &mut Words, i: usize, code: u8)
 // What is asked is this message. The word kept is its number plus 1; 0 is nothing asked.
 fn note_asked(w: &mut Words, i: usize, code: u8, id: MessageId)
     requires { ⌜ i < sessionLimit ⌝ }
-    ensures { λ _. ⌜ ((s : List ℕ) → view (memory (now (w .exit)) s) ≡ onRest (view (memory (now (w .entry)) s)) (withSlot i (ask code (id .number)))) ⌝ }
+    ensures { λ _. ⌜ ((s : List ℕ) → view (memory (now (w .exit)) s) ≡ onRest (view (memory (now (w .entry)) s)) (withSlot i (ask code (id .number)))) × ((s : List ℕ) → Tidy (memory (now (w .entry)) s) → Tidy (memory (now (w .exit)) s)) ⌝ }
 {
     tables::set_exchange(w, i, tables::ASKED, id.number as u64 + 1);
     note_rmt(w, i, code);
@@ -76,7 +77,7 @@ fn note_asked(w: &mut Words, i: usize, code: u8, id: MessageId)
 // The device clear ends, and the session is in the mode that bit 0 of the code asks for.
 fn leave_clear(w: &mut Words, i: usize, code: u8)
     requires { ⌜ i < sessionLimit ⌝ }
-    ensures { λ _. ⌜ ((s : List ℕ) → view (memory (now (w .exit)) s) ≡ onRest (view (memory (now (w .entry)) s)) (withSlot i (leaveClear code))) ⌝ }
+    ensures { λ _. ⌜ ((s : List ℕ) → view (memory (now (w .exit)) s) ≡ onRest (view (memory (now (w .entry)) s)) (withSlot i (leaveClear code))) × ((s : List ℕ) → Tidy (memory (now (w .entry)) s) → Tidy (memory (now (w .exit)) s)) ⌝ }
 {
     tables::set_exchange(w, i, tables::IN_CLEAR, 0);
     tables::set_exchange(w, i, tables::OVERLAP, (code % 2) as u64);
@@ -98,7 +99,7 @@ pub fn is_command(kind: u8) -> bool
 // What a Data notes, and what a DataEND or Trigger does.
 fn note_command(w: &mut Words, i: usize, kind: u8, code: u8, param: u32)
     requires { ⌜ i < sessionLimit ⌝ }
-    ensures { λ _. ⌜ ((s : List ℕ) → view (memory (now (w .exit)) s) ≡ onRest (view (memory (now (w .entry)) s)) (withSlot i (commandNotes kind code param))) ⌝ }
+    ensures { λ _. ⌜ ((s : List ℕ) → view (memory (now (w .exit)) s) ≡ onRest (view (memory (now (w .entry)) s)) (withSlot i (commandNotes kind code param))) × ((s : List ℕ) → Tidy (memory (now (w .entry)) s) → Tidy (memory (now (w .exit)) s)) ⌝ }
 {
     if kind == types::DATA {
         note_rmt(w, i, code);
@@ -110,7 +111,7 @@ fn note_command(w: &mut Words, i: usize, kind: u8, code: u8, param: u32)
 // A command in turn, just before it acts: the expectation is cleared, what it says is noted, and the number expected moves.
 fn note_in_turn(w: &mut Words, i: usize, kind: u8, code: u8, param: u32)
     requires { ⌜ (i < sessionLimit) × (differs (eqb code 1) ((exchangeAt (restOf (now w)) i) .rmtExpected) ≡ false) ⌝ }
-    ensures { λ _. ⌜ ((s out : List ℕ) → Turned (view (memory (now (w .entry)) s)) i kind code param (view (memory (now (w .exit)) s)) out out 0) ⌝ }
+    ensures { λ _. ⌜ ((s out : List ℕ) → Turned (view (memory (now (w .entry)) s)) i kind code param (view (memory (now (w .exit)) s)) out out 0) × ((s : List ℕ) → Tidy (memory (now (w .entry)) s) → Tidy (memory (now (w .exit)) s)) ⌝ }
 {
     tables::set_exchange(w, i, tables::RMT_EXPECTED, 0);
     note_command(w, i, kind, code, param);
@@ -128,7 +129,7 @@ fn note_out_of_turn(
     param: u32,
 ) -> usize
     requires { ⌜ (i < sessionLimit) × (outputMinimum ≤ length (now out)) × (differs (eqb code 1) ((exchangeAt (restOf (now w)) i) .rmtExpected) ≡ true) ⌝ }
-    ensures { λ r. ⌜ (r ≤ 34) × ((s : List ℕ) → Turned (view (memory (now (w .entry)) s)) i kind code param (view (memory (now (w .exit)) s)) (now (out .entry)) (now (out .exit)) r) ⌝ }
+    ensures { λ r. ⌜ (r ≤ 34) × ((s : List ℕ) → Turned (view (memory (now (w .entry)) s)) i kind code param (view (memory (now (w .exit)) s)) (now (out .entry)) (now (out .exit)) r) × ((s : List ℕ) → Tidy (memory (now (w .entry)) s) → Tidy (memory (now (w .exit)) s)) ⌝ }
 {
     let end = out_of_turn(w, out, i, param);
     note_command(w, i, kind, code, param);
@@ -140,7 +141,7 @@ fn note_out_of_turn(
 // the output say that it interrupts.
 fn take_turn(w: &mut Words, out: &mut [u8], i: usize, kind: u8, code: u8, param: u32) -> usize
     requires { ⌜ (i < sessionLimit) × (outputMinimum ≤ length (now out)) ⌝ }
-    ensures { λ r. ⌜ (r ≤ 34) × ((s : List ℕ) → Turned (view (memory (now (w .entry)) s)) i kind code param (view (memory (now (w .exit)) s)) (now (out .entry)) (now (out .exit)) r) ⌝ }
+    ensures { λ r. ⌜ (r ≤ 34) × ((s : List ℕ) → Turned (view (memory (now (w .entry)) s)) i kind code param (view (memory (now (w .exit)) s)) (now (out .entry)) (now (out .exit)) r) × ((s : List ℕ) → Tidy (memory (now (w .entry)) s) → Tidy (memory (now (w .exit)) s)) ⌝ }
 {
     if in_turn(w, i, code) {
         note_in_turn(w, i, kind, code, param);

@@ -14,6 +14,7 @@ use Rattle.model.specs.Locks.{LockResult, LockEvent.request, noShared, mayGrant
 use Rattle.state.specs.Grid.{upd, upd-set}
 use Rattle.state.specs.Queue.{noRequest, onWaiting, count-is}
 use Rattle.state.specs.Requests.{countOf}
+use Rattle.state.specs.Tidy.{Tidy}
 use Rattle.state.specs.View.{Memory, memory, locksOf, view}
 use Rattle.locks.specs.Outcome.{Met, ends, ends-nil, met, told}
 use Rattle.locks.specs.Waiting.{next}
@@ -152,21 +153,19 @@ has-place t ws e = leb-false sessionLimit (length ws) (by (eqb t 0) (leb session
 
 -- no answer
 pub met-none : (x : LockResult) (l : Locks) (m m′ : Memory) (out : List ℕ) (at : ℕ) → x ≡ unanswered l → view m′ ≡ record { locks = l; rest = view m .rest }
-    → Met x m m′ out out at at
-met-none x l m m′ out at e v =
+    → (Tidy m → Tidy m′) → Met x m m′ out out at at
+met-none x l m m′ out at e v t =
     met x m m′ out out at at
     (ap (λ (d : Server). d .locks) v ∙ sym (ap (λ (y : LockResult). y .locks) e))
     (ap (λ (d : Server). d .rest) v)
     (sym (ap (λ (y : LockResult). ends (y .answers) out at) e ∙ ends-nil out at))
+    t
 
--- a request that waits, its string laid before it is queued: there is still a place
-pub room-laid : (w s w₁ s₁ : List ℕ) → view (memory w₁ s₁) ≡ view (memory w s) → length (locksOf w s .waiting) < sessionLimit → countOf w₁ < sessionLimit
-room-laid w s w₁ s₁ v h = omega (arith, h, ap (λ (d : Server). length (d .locks .waiting)) v, count-is w₁ s₁)
+-- a request that waits: there is a place for it, and its deadline is the clock and the timeout
+pub room-left : (w s : List ℕ) → length (locksOf w s .waiting) < sessionLimit → countOf w < sessionLimit
+room-left w s h = omega (arith, h, count-is w s)
 
-pub waits-laid : (m m₁ : Memory) (d′ : Server) (i t n : ℕ) (k k₁ : List ℕ) → view m₁ ≡ view m → k₁ ≡ k → n ≡ view m₁ .locks .clock
-    → d′ ≡ onWaiting (view m₁) (λ (x : List Waiting). x ++ (record { slot = i; deadline = n + t; string = k₁ } ∷ []))
+pub waits-until : (m : Memory) (d′ : Server) (i t n : ℕ) (k : List ℕ) → n ≡ view m .locks .clock
+    → d′ ≡ onWaiting (view m) (λ (x : List Waiting). x ++ (record { slot = i; deadline = n + t; string = k } ∷ []))
     → d′ ≡ onWaiting (view m) (λ (x : List Waiting). x ++ (record { slot = i; deadline = view m .locks .clock + t; string = k } ∷ []))
-waits-laid m m₁ d′ i t n k k₁ v e c q =
-    q
-    ∙ ap₂ (λ (y : ℕ) (z : List ℕ). onWaiting (view m₁) (λ (x : List Waiting). x ++ (record { slot = i; deadline = y + t; string = z } ∷ []))) c e
-    ∙ ap (λ (d : Server). onWaiting d (λ (x : List Waiting). x ++ (record { slot = i; deadline = d .locks .clock + t; string = k } ∷ []))) v
+waits-until m d′ i t n k c q = q ∙ ap (λ (y : ℕ). onWaiting (view m) (λ (x : List Waiting). x ++ (record { slot = i; deadline = y + t; string = k } ∷ []))) c

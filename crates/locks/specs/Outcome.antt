@@ -1,5 +1,5 @@
 -- What a function of this crate ensures that does what the model says of one lock event: the locks in memory, the rest of the server,
--- the frames in the lent buffer, and the place behind them. Assumes nothing.
+-- the frames in the lent buffer, and the place behind them; and that memory in order stays so. Assumes nothing.
 use mathlib.Core.Path.{_≡_, refl, sym, ap, subst, _∙_}
 use mathlib.Core.Bool.{true}
 use mathlib.Core.List.{List, [], _∷_, _++_, map}
@@ -12,6 +12,7 @@ use Rattle.wire.specs.Splice.{splice, splice-nil, splice-then}
 use Rattle.model.specs.State.{Entry, Locks, Server}
 use Rattle.model.specs.Locks.{Answer, LockResult, tell}
 use Rattle.model.specs.Step.{lockFrame}
+use Rattle.state.specs.Tidy.{Tidy}
 use Rattle.state.specs.View.{Memory, memory, view}
 
 -- x is the model's answer, m and m′ the memory before and after, r the place behind the frames that were written from `at` on
@@ -20,12 +21,14 @@ pub record Met (x : LockResult) (m m′ : Memory) (out out′ : List ℕ) (at r 
   pub rest : view m′ .rest ≡ view m .rest
   pub buffer : out′ ≡ splice out at (bytesOf (map lockFrame (x .answers)))
   pub place : r ≡ at + length (bytesOf (map lockFrame (x .answers)))
+  pub tidy : Tidy m → Tidy m′
 
 -- the same of an event that is never answered
 pub record Quiet (x : LockResult) (m m′ : Memory) : Type 0 where
   pub locks : view m′ .locks ≡ x .locks
   pub rest : view m′ .rest ≡ view m .rest
   pub silent : x .answers ≡ []
+  pub tidy : Tidy m → Tidy m′
 
 -- an answer to slot i, as a frame; whether it answers a request or a release is not seen
 abbrev pub answerFrame : List Entry → ℕ → ℕ → Frame
@@ -58,10 +61,10 @@ ends-cons a xs out at h =
 
 -- the contract, from where the writing ends
 pub met : (x : LockResult) (m m′ : Memory) (out out′ : List ℕ) (at r : ℕ) → view m′ .locks ≡ x .locks → view m′ .rest ≡ view m .rest
-    → spot out′ r ≡ ends (x .answers) out at → Met x m m′ out out′ at r
+    → spot out′ r ≡ ends (x .answers) out at → (Tidy m → Tidy m′) → Met x m m′ out out′ at r
 unfolding ends
-met x m m′ out out′ at r l q e =
-    record { locks = l; rest = q; buffer = ap (λ (p : Spot). p .out) e; place = ap (λ (p : Spot). p .place) e }
+met x m m′ out out′ at r l q e t =
+    record { locks = l; rest = q; buffer = ap (λ (p : Spot). p .out) e; place = ap (λ (p : Spot). p .place) e; tidy = t }
 
 -- one answer and no more
 pub ends-one : (a : Answer) (out : List ℕ) (at : ℕ) → at + 17 ≤ length out → ends (a ∷ []) out at ≡ spot (splice out at (frameBytes (lockFrame a))) (at + 17)
@@ -73,12 +76,13 @@ told l a = record { locks = l; answers = a ∷ [] }
 
 pub met-one : (x : LockResult) (l : Locks) (a : Answer) (m m′ : Memory) (out out′ : List ℕ) (at r : ℕ) → x ≡ told l a
     → view m′ ≡ record { locks = l; rest = view m .rest } → out′ ≡ splice out at (frameBytes (lockFrame a)) → r ≡ at + 17 → at + 17 ≤ length out
-    → Met x m m′ out out′ at r
-met-one x l a m m′ out out′ at r e v o p h =
+    → (Tidy m → Tidy m′) → Met x m m′ out out′ at r
+met-one x l a m m′ out out′ at r e v o p h t =
     met x m m′ out out′ at r
     (ap (λ (d : Server). d .locks) v ∙ sym (ap (λ (y : LockResult). y .locks) e))
     (ap (λ (d : Server). d .rest) v)
     ((λ k. record { out = o k; place = p k }) ∙ sym (ends-one a out at h) ∙ ap (λ (y : LockResult). ends (y .answers) out at) (sym e))
+    t
 
 -- what does x does y, where the two are one
 pub met-is : (x y : LockResult) (m m′ : Memory) (out out′ : List ℕ) (at r : ℕ) → x ≡ y → Met x m m′ out out′ at r → Met y m m′ out out′ at r

@@ -14,16 +14,18 @@ use Rattle.model.specs.Locks.{Passed, tell, mayGrant, give, grant, after, put, 
 use Rattle.state.specs.Change.{onEntry}
 use Rattle.state.specs.Queue.{noRequest, onWaiting, count-is}
 use Rattle.state.specs.Requests.{countOf, stringAt}
+use Rattle.state.specs.Tidy.{Tidy}
 use Rattle.state.specs.View.{Memory, memory, locksOf, view}
 use Rattle.locks.specs.Outcome.{Met, Spot, spot, ends, ends-nil, ends-cons, answerFrame, met}
 use Rattle.locks.specs.Granting.{grant-upd}
-use Rattle.locks.specs.Waiting.{next, moved-on, kept-more}
+use Rattle.locks.specs.Waiting.{swapped, next, moved-on, kept-more}
 
 -- slot i has got what its request asked for, and its frame is written
 pub record Granted (i : ℕ) (w w′ s s′ out out′ : List ℕ) (at r : ℕ) : Type 0 where
   pub server : view (memory w′ s′) ≡ onEntry (view (memory w s)) i (give (stringAt w s i))
   pub buffer : out′ ≡ splice out at (frameBytes (answerFrame (locksOf w s .entries) i 1))
   pub place : r ≡ at + 17
+  pub tidy : Tidy (memory w s) → Tidy (memory w′ s′)
 
 -- where a pass ends
 pub record Stand : Type 0 where
@@ -53,7 +55,7 @@ module _ (d : Server) (j k : ℕ) (r : Waiting) (x : ℕ) (out : List ℕ) (at :
       ∙ ap (λ (b : Bool). put b r es (passOver (drop (j + 1) (d .locks .waiting)) (after b r es))) (ap (λ (n : ℕ). mayGrant es n (r .string)) y ∙ q)
 
   -- a request that may not be granted goes on waiting
-  pub pass-keep : (d′ : Server) → d′ ≡ onWaiting d (λ (ws : List Waiting). set ws k (getD ws j noRequest)) → k ≤ j
+  pub pass-keep : (d′ : Server) → d′ ≡ onWaiting d (λ (ws : List Waiting). swapped ws j k) → k ≤ j
       → mayGrant (d .locks .entries) x (r .string) ≡ false → passed j k d out at ≡ passed (j + 1) (k + 1) d′ out at
   unfolding passed
   pass-keep d′ m l q =
@@ -62,8 +64,8 @@ module _ (d : Server) (j k : ℕ) (r : Waiting) (x : ℕ) (out : List ℕ) (at :
       let t : Passed = passOver (drop (j + 1) ws) es in
       ap (λ (p : Passed). behind d (take k ws) p out at) (over false q)
       ∙ ap (λ (l : List Waiting). stand d (t .entries) l (ends (t .answers) out at)) (sym (kept-more ws j r h e k l (t .waiting)))
-      ∙ ap (λ (l : List Waiting). behind d (take (k + 1) (set ws k r)) (passOver l es) out at) (sym (moved-on ws j r h e k l))
-      ∙ ap (λ (d : Server). passed (j + 1) (k + 1) d out at) (sym (m ∙ ap (λ (y : Waiting). onWaiting d (λ (l : List Waiting). set ws k y)) e))
+      ∙ ap (λ (l : List Waiting). behind d (take (k + 1) (swapped ws j k)) (passOver l es) out at) (sym (moved-on ws j r h e k l))
+      ∙ ap (λ (d : Server). passed (j + 1) (k + 1) d out at) (sym m)
 
   -- a request that may be granted is, and is told
   pub pass-grant : (d′ : Server) → d′ ≡ onEntry d x (give (r .string)) → mayGrant (d .locks .entries) x (r .string) ≡ true → at + 17 ≤ length out
@@ -94,14 +96,15 @@ pub pass-none : (d : Server) (out : List ℕ) (at : ℕ) → length (d .locks .w
 pass-none d out at h = pass-end d d 0 0 out at (omega arith) (ap (λ (l : List Waiting). onWaiting d (λ (ws : List Waiting). l)) (sym (take-all 0 (d .locks .waiting) (omega arith))))
 
 -- the whole pass
-pub pass-met : (m m′ : Memory) (out out′ : List ℕ) (at r : ℕ) → passed 0 0 (view m) out at ≡ record { server = view m′; spot = spot out′ r }
+pub pass-met : (m m′ : Memory) (out out′ : List ℕ) (at r : ℕ) → passed 0 0 (view m) out at ≡ record { server = view m′; spot = spot out′ r } → (Tidy m → Tidy m′)
     → Met (grantPass (view m .locks)) m m′ out out′ at r
 unfolding passed grantPass
-pass-met m m′ out out′ at r e =
+pass-met m m′ out out′ at r e t =
     met (grantPass (view m .locks)) m m′ out out′ at r
     (sym (ap (λ (x : Stand). x .server .locks) e))
     (sym (ap (λ (x : Stand). x .server .rest) e))
     (sym (ap (λ (x : Stand). x .spot) e))
+    t
 
 -- as many wait as before
 pub count-granted : (i : ℕ) (w w′ s s′ out out′ : List ℕ) (at r : ℕ) → Granted i w w′ s s′ out out′ at r → countOf w′ ≡ countOf w

@@ -45,6 +45,7 @@ module _ (x y : LockResult) (m m₁ m′ : Memory) (out out₁ out′ : List ℕ
             ∙ splice-splice out at xs f ys
             ∙ ap (splice out at) (sym (answers-append (x .answers) (y .answers)));
         place = omega (arith, p .place, q .place, ap length (answers-append (x .answers) (y .answers)), length-append xs ys);
+        tidy = λ t. q .tidy (p .tidy t);
       }
 
 -- the pass over the locks that an event left

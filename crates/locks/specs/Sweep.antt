@@ -16,6 +16,7 @@ use Rattle.model.specs.Step.{lockFrame}
 use Rattle.state.specs.Change.{withClock}
 use Rattle.state.specs.Queue.{onWaiting, count-is}
 use Rattle.state.specs.Requests.{countOf}
+use Rattle.state.specs.Tidy.{Tidy}
 use Rattle.state.specs.View.{Memory, locksOf, view}
 use Rattle.locks.specs.Outcome.{Met, spot, ends, met, met-is, no-answers}
 use Rattle.locks.specs.Waiting.{stays, stays-else, swept}
@@ -39,8 +40,9 @@ module _ (m : Memory) (i t : ℕ) (out out′ : List ℕ) (at r : ℕ)
       (ap (withWaiting (view m .locks)) (sym (refuse-none (view m .locks .entries) (stays i t) (view m .locks .waiting) n)))
       refl
       (sym e)
+      (λ t. t)
 
-  pub swept-some : (m′ : Memory) → view m′ ≡ onWaiting (view m) (keep (stays i t)) → Met (swept (view m .locks) i t) m m′ out out′ at r
+  pub swept-some : (m′ : Memory) → view m′ ≡ onWaiting (view m) (keep (stays i t)) → (Tidy m → Tidy m′) → Met (swept (view m .locks) i t) m m′ out out′ at r
   unfolding swept
   swept-some m′ v = met (swept (view m .locks) i t) m m′ out out′ at r (ap (λ (d : Server). d .locks) v) (ap (λ (d : Server). d .rest) v) (sym e)
 
@@ -53,13 +55,13 @@ unfolding swept
 cleared l i t h = ap (λ (p : Waiting → Bool). record { locks = withWaiting l (keep p (l .waiting)); answers = refuse (l .entries) p (l .waiting) }) (stays-else i t h)
 
 -- a clock reading
-pub expired : (m m₁ m′ : Memory) (t : ℕ) (out out′ : List ℕ) (at r : ℕ) → view m₁ ≡ withClock (view m) t → Met (swept (view m₁ .locks) sessionLimit t) m₁ m′ out out′ at r
+pub expired : (m m₁ m′ : Memory) (t : ℕ) (out out′ : List ℕ) (at r : ℕ) → view m₁ ≡ withClock (view m) t → (Tidy m → Tidy m₁) → Met (swept (view m₁ .locks) sessionLimit t) m₁ m′ out out′ at r
     → Met (change (view m .locks) (reading t)) m m′ out out′ at r
 unfolding swept change stays
-expired m m₁ m′ t out out′ at r e p =
+expired m m₁ m′ t out out′ at r e u p =
     let x : swept (view m₁ .locks) sessionLimit t ≡ change (view m .locks) (reading t) = ap (λ (d : Server). swept (d .locks) sessionLimit t) e in
     let q : Met (change (view m .locks) (reading t)) m₁ m′ out out′ at r = met-is (swept (view m₁ .locks) sessionLimit t) (change (view m .locks) (reading t)) m₁ m′ out out′ at r x p in
-    record { locks = q .locks; rest = q .rest ∙ ap (λ (d : Server). d .rest) e; buffer = q .buffer; place = q .place }
+    record { locks = q .locks; rest = q .rest ∙ ap (λ (d : Server). d .rest) e; buffer = q .buffer; place = q .place; tidy = λ x. q .tidy (u x) }
 
 -- a closing drops the request of its slot
 pub dropped : (m m′ : Memory) (i t : ℕ) → i < sessionLimit → view m′ ≡ onWaiting (view m) (keep (stays i t)) → view m′ ≡ onWaiting (view m) (keep (elsewhere i))

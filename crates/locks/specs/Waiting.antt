@@ -8,8 +8,8 @@ use native.Mathlib.Numerals.{add-one}
 use native.Mathlib.Omega.{arith}
 use lib.Dec.{eqb, leb, ltb}
 use lib.ListN.{length, getD, set, take, drop, length-set, drop-of-length-le}
-use lib.Seq.{drop-cons, drop-set-lt, take-suc-set, append-snoc}
-use borrow.Author.Tests.{lt-ltb, le-ltb, leb-true, leb-false}
+use lib.Seq.{drop-cons, drop-set-lt, set-set, take-set-le, take-suc-set, append-snoc}
+use borrow.Author.Tests.{eqb-true, eqb-false, lt-ltb, le-ltb, leb-true, leb-false}
 use Rattle.wire.specs.Frame.{frameBytes}
 use Rattle.wire.specs.Splice.{splice}
 use Rattle.model.specs.Sizes.{sessionLimit}
@@ -56,18 +56,37 @@ pub slot-is : (w s : List ℕ) (i : ℕ) → (requestAt w s i) .slot ≡ i
 unfolding requestAt
 slot-is w s i = refl
 
+-- two requests that change places
+abbrev pub swapped : List Waiting → ℕ → ℕ → List Waiting
+swapped ws j k = set (set ws k (getD ws j noRequest)) j (getD ws k noRequest)
+
 -- the queue from place j on
 module _ (ws : List Waiting) (j : ℕ) (r : Waiting) (h : j < length ws) (e : getD ws j noRequest ≡ r) where
   pub next : drop j ws ≡ r ∷ drop (j + 1) ws
   next = drop-cons ws j noRequest h ∙ ap₂ (λ (x : Waiting) (n : ℕ). x ∷ drop n ws) e (sym (add-one j))
 
-  -- the request at j is put at place k, behind those that are kept
+  -- the request at j changes places with that at k, behind those that are kept
   module _ (k : ℕ) (l : k ≤ j) where
-    pub moved-on : drop (j + 1) (set ws k r) ≡ drop (j + 1) ws
-    moved-on = drop-set-lt (j + 1) ws k r (omega arith)
+    pub moved-on : drop (j + 1) (swapped ws j k) ≡ drop (j + 1) ws
+    moved-on = drop-set-lt (j + 1) (set ws k (getD ws j noRequest)) j (getD ws k noRequest) (omega arith) ∙ drop-set-lt (j + 1) ws k (getD ws j noRequest) (omega arith)
 
-    pub kept-more : (xs : List Waiting) → take (k + 1) (set ws k r) ++ xs ≡ take k ws ++ r ∷ xs
-    kept-more xs = ap (λ (n : ℕ). take n (set ws k r) ++ xs) (add-one k) ∙ ap (λ (l : List Waiting). l ++ xs) (take-suc-set ws k r (omega arith)) ∙ append-snoc (take k ws) r xs
+    front : take (k + 1) (swapped ws j k) ≡ take (k + 1) (set ws k r)
+    front = by (eqb j k) refl ∙ ap (λ (x : Waiting). take (k + 1) (set ws k x)) e
+      where
+        by : (b : Bool) → eqb j k ≡ b → take (k + 1) (swapped ws j k) ≡ take (k + 1) (set ws k (getD ws j noRequest))
+        by true q =
+            let z : j ≡ k = eqb-true j k q in
+            ap (λ (x : ℕ). take (k + 1) (swapped ws x k)) z
+            ∙ ap (take (k + 1)) (set-set ws k (getD ws k noRequest) (getD ws k noRequest))
+            ∙ ap (λ (x : ℕ). take (k + 1) (set ws k (getD ws x noRequest))) (sym z)
+        by false q = take-set-le (k + 1) (set ws k (getD ws j noRequest)) j (getD ws k noRequest) (let o : j ≡ k → ⊥ = eqb-false j k q in omega arith)
+
+    pub kept-more : (xs : List Waiting) → take (k + 1) (swapped ws j k) ++ xs ≡ take k ws ++ r ∷ xs
+    kept-more xs =
+        ap (λ (l : List Waiting). l ++ xs) front
+        ∙ ap (λ (n : ℕ). take n (set ws k r) ++ xs) (add-one k)
+        ∙ ap (λ (l : List Waiting). l ++ xs) (take-suc-set ws k r (omega arith))
+        ∙ append-snoc (take k ws) r xs
 
 -- answering those that do not stay, oldest first: a turn of the walk
 module _ (es : List Entry) (p : Waiting → Bool) (ws : List Waiting) (j : ℕ) (r : Waiting) (h : j < length ws) (e : getD ws j noRequest ≡ r) where
@@ -97,9 +116,9 @@ module _ (es : List Entry) (p : Waiting → Bool) (ws : List Waiting) (j : ℕ) 
       ap (keep p) (next ws j r h e) ∙ ap (λ (b : Bool). cond b (r ∷ keep p (drop (j + 1) ws)) (keep p (drop (j + 1) ws))) q
 
   pub keep-moved : (k : ℕ) → k ≤ j → p r ≡ true
-      → take (k + 1) (set ws k r) ++ keep p (drop (j + 1) (set ws k r)) ≡ take k ws ++ keep p (drop j ws)
+      → take (k + 1) (swapped ws j k) ++ keep p (drop (j + 1) (swapped ws j k)) ≡ take k ws ++ keep p (drop j ws)
   keep-moved k l q =
-      ap (λ (xs : List Waiting). take (k + 1) (set ws k r) ++ keep p xs) (moved-on ws j r h e k l)
+      ap (λ (xs : List Waiting). take (k + 1) (swapped ws j k) ++ keep p xs) (moved-on ws j r h e k l)
       ∙ kept-more ws j r h e k l (keep p (drop (j + 1) ws))
       ∙ ap (λ (xs : List Waiting). take k ws ++ xs) (sym (keep-stay q))
 
@@ -115,10 +134,10 @@ abbrev pub halfway : (Waiting → Bool) → ℕ → ℕ → Server → Server
 halfway p j k d = onWaiting d (λ (x : List Waiting). take k x ++ keep p (drop j x))
 
 module _ (p : Waiting → Bool) (d : Server) (j k : ℕ) (r : Waiting) (h : j < length (d .locks .waiting)) (e : getD (d .locks .waiting) j noRequest ≡ r) where
-  pub halfway-stay : (d′ : Server) → d′ ≡ onWaiting d (λ (x : List Waiting). set x k (getD x j noRequest)) → k ≤ j → p r ≡ true
+  pub halfway-stay : (d′ : Server) → d′ ≡ onWaiting d (λ (x : List Waiting). swapped x j k) → k ≤ j → p r ≡ true
       → halfway p (j + 1) (k + 1) d′ ≡ halfway p j k d
   halfway-stay d′ m l q =
-      ap (halfway p (j + 1) (k + 1)) (m ∙ ap (λ (y : Waiting). onWaiting d (λ (x : List Waiting). set (d .locks .waiting) k y)) e)
+      ap (halfway p (j + 1) (k + 1)) m
       ∙ ap (λ (ws : List Waiting). onWaiting d (λ (x : List Waiting). ws)) (keep-moved (d .locks .entries) p (d .locks .waiting) j r h e k l q)
 
   pub halfway-leave : p r ≡ false → halfway p (j + 1) k d ≡ halfway p j k d
@@ -129,9 +148,10 @@ pub halfway-end : (p : Waiting → Bool) (d d′ : Server) (j k : ℕ) → lengt
 halfway-end p d d′ j k h m = m ∙ ap (λ (ws : List Waiting). onWaiting d (λ (x : List Waiting). ws)) (sym (keep-end p (d .locks .waiting) j k h))
 
 -- as many wait as before where one was only moved
-pub count-moved : (w w′ : List ℕ) (j k : ℕ) → view (memory w′ []) ≡ onWaiting (view (memory w [])) (λ (x : List Waiting). set x k (getD x j noRequest)) → countOf w′ ≡ countOf w
+pub count-moved : (w w′ : List ℕ) (j k : ℕ) → view (memory w′ []) ≡ onWaiting (view (memory w [])) (λ (x : List Waiting). swapped x j k) → countOf w′ ≡ countOf w
 count-moved w w′ j k m =
     count-is w′ []
     ∙ ap (λ (d : Server). length (d .locks .waiting)) m
+    ∙ length-set (set (locksOf w [] .waiting) k (getD (locksOf w [] .waiting) j noRequest)) j (getD (locksOf w [] .waiting) k noRequest)
     ∙ length-set (locksOf w [] .waiting) k (getD (locksOf w [] .waiting) j noRequest)
     ∙ sym (count-is w [])

@@ -26,12 +26,20 @@ use state::sizes::Words;
 use state::tables;
 
 // The release of slot i is answered, its lock is free, and the last message's number becomes n.
-fn complete(w: &mut Words, out: &mut [u8], at: usize, i: usize, kind: u8, n: u64) -> usize
+fn complete(
+    w: &mut Words,
+    strings: &mut Strings,
+    out: &mut [u8],
+    at: usize,
+    i: usize,
+    kind: u8,
+    n: u64,
+) -> usize
     requires { ⌜ (i < sessionLimit) × (at + 17 ≤ length (now out)) × (n < 2 ^ 32) × (releaseCode (kindOf kind) ≡ kind) ⌝ }
-    ensures { λ r. ⌜ (r ≡ at + 17) × ((s : List ℕ) → Met (completed (due-now (kindOf kind)) (locksOf (now (w .entry)) s) i n) (memory (now (w .entry)) s) (memory (now (w .exit)) s) (now (out .entry)) (now (out .exit)) at r) ⌝ }
+    ensures { λ r. ⌜ (r ≡ at + 17) × Met (completed (due-now (kindOf kind)) (locksOf (now (w .entry)) (now (strings .entry))) i n) (memory (now (w .entry)) (now (strings .entry))) (memory (now (w .exit)) (now (strings .exit))) (now (out .entry)) (now (out .exit)) at r ⌝ }
 {
     let r = put_answer(w, out, at, i, kind);
-    standing::free_lock(w, i, kind);
+    standing::free_lock(w, strings, i, kind);
     tables::set_order(w, i, tables::LAST_NUMBER, n);
     tables::set_order(w, i, tables::STANDING, 0);
     r
@@ -59,7 +67,7 @@ pub fn at_message(
         tables::set_order(w, i, tables::LAST_NUMBER, number);
         return at;
     }
-    let r = complete(w, out, at, i, standing::kind_in(word), number);
+    let r = complete(w, strings, out, at, i, standing::kind_in(word), number);
     grant_pass::grant_waiting(w, strings, out, r)
 }
 
@@ -72,23 +80,31 @@ pub fn note_message(w: &mut Words, i: usize, n: u32)
 }
 
 // Whatever release of slot i stands takes effect, and no message has acted since.
-fn complete_any(w: &mut Words, out: &mut [u8], at: usize, i: usize) -> usize
+fn complete_any(w: &mut Words, strings: &mut Strings, out: &mut [u8], at: usize, i: usize) -> usize
     requires { ⌜ (i < sessionLimit) × (at + 17 ≤ length (now out)) ⌝ }
-    ensures { λ r. ⌜ (r ≤ at + 17) × ((s : List ℕ) → Met (completed (dueAny ((Rattle.model.specs.State.at (locksOf (now (w .entry)) s .entries) i) .standing)) (locksOf (now (w .entry)) s) i beforeFirst) (memory (now (w .entry)) s) (memory (now (w .exit)) s) (now (out .entry)) (now (out .exit)) at r) ⌝ }
+    ensures { λ r. ⌜ (r ≤ at + 17) × Met (completed (dueAny ((Rattle.model.specs.State.at (locksOf (now (w .entry)) (now (strings .entry)) .entries) i) .standing)) (locksOf (now (w .entry)) (now (strings .entry))) i beforeFirst) (memory (now (w .entry)) (now (strings .entry))) (memory (now (w .exit)) (now (strings .exit))) (now (out .entry)) (now (out .exit)) at r ⌝ }
 {
     let word = tables::order(w, i, tables::STANDING);
     if word == 0 {
         tables::set_order(w, i, tables::LAST_NUMBER, BEFORE_FIRST);
         return at;
     }
-    complete(w, out, at, i, standing::kind_in(word), BEFORE_FIRST)
+    complete(
+        w,
+        strings,
+        out,
+        at,
+        i,
+        standing::kind_in(word),
+        BEFORE_FIRST,
+    )
 }
 
 // A device clear: the request of slot i is answered 0, then a release that stands takes effect.
-pub fn at_clear(w: &mut Words, out: &mut [u8], at: usize, i: usize) -> usize
+pub fn at_clear(w: &mut Words, strings: &mut Strings, out: &mut [u8], at: usize, i: usize) -> usize
     requires { ⌜ (i < sessionLimit) × (at + 17 + answersRoom ≤ length (now out)) ⌝ }
-    ensures { λ r. ⌜ (r ≤ at + 17 + answersRoom) × ((s : List ℕ) → Met (change (locksOf (now (w .entry)) s) (clear i)) (memory (now (w .entry)) s) (memory (now (w .exit)) s) (now (out .entry)) (now (out .exit)) at r) ⌝ }
+    ensures { λ r. ⌜ (r ≤ at + 17 + answersRoom) × Met (change (locksOf (now (w .entry)) (now (strings .entry))) (clear i)) (memory (now (w .entry)) (now (strings .entry))) (memory (now (w .exit)) (now (strings .exit))) (now (out .entry)) (now (out .exit)) at r ⌝ }
 {
-    let r = waiting::clear_request(w, out, at, i);
-    complete_any(w, out, r, i)
+    let r = waiting::clear_request(w, strings, out, at, i);
+    complete_any(w, strings, out, r, i)
 }

@@ -6,6 +6,7 @@ ghost use Rattle.model.specs.Locks.{grantPass};
 ghost use Rattle.state.specs.View.{locksOf, memory};
 ghost use lib.ListN.{length};
 use crate::granting;
+use state::leaving;
 use state::requests;
 use state::sizes::Strings;
 use state::sizes::Words;
@@ -24,12 +25,12 @@ fn pass_waiting(w: &mut Words, strings: &mut Strings, out: &mut [u8], start: usi
         if granting::may_grant(w, strings, x) {
             at = granting::grant_and_answer(w, strings, out, at, x);
         } else {
-            requests::move_waiting(w, j, k);
+            requests::swap_waiting(w, j, k);
             k += 1;
         }
         j += 1;
     }
-    requests::keep_first(w, k);
+    leaving::keep_first(w, strings, k);
     at
 }
 

@@ -4,6 +4,7 @@ ghost use Rattle.locks.specs.Pass.{Granted};
 ghost use Rattle.model.specs.Locks.{give, mayGrant};
 ghost use Rattle.state.specs.Change.{onEntry};
 ghost use Rattle.state.specs.Requests.{stringAt};
+ghost use Rattle.state.specs.Tidy.{Tidy};
 ghost use Rattle.state.specs.View.{locksOf, memory, view};
 ghost use lib.ListN.{length};
 ghost use mathlib.Core.Bool.{true};
@@ -68,7 +69,7 @@ pub fn may_give(w: &Words, strings: &Strings, i: usize, string: &[u8]) -> bool
 // Slot i gets what the string asks for.
 pub fn give_asked(w: &mut Words, strings: &mut Strings, i: usize, string: &[u8])
     requires { ⌜ (i < sessionLimit) × (length (now string) ≤ stringLimit) × (mayGrant (locksOf (now w) (now strings) .entries) i (now string) ≡ true) ⌝ }
-    ensures { λ _. ⌜ view (memory (now (w .exit)) (now (strings .exit))) ≡ onEntry (view (memory (now (w .entry)) (now (strings .entry)))) i (give (now (string .entry))) ⌝ }
+    ensures { λ _. ⌜ (view (memory (now (w .exit)) (now (strings .exit))) ≡ onEntry (view (memory (now (w .entry)) (now (strings .entry)))) i (give (now (string .entry)))) × (Tidy (memory (now (w .entry)) (now (strings .entry))) → Tidy (memory (now (w .exit)) (now (strings .exit)))) ⌝ }
 {
     if string.len() == 0 {
         holders::give_exclusive(w, i);
@@ -80,7 +81,7 @@ pub fn give_asked(w: &mut Words, strings: &mut Strings, i: usize, string: &[u8])
 // Slot i gets the lock that its request asks for.
 pub fn grant(w: &mut Words, strings: &mut Strings, i: usize)
     requires { ⌜ (i < sessionLimit) × (mayGrant (locksOf (now w) (now strings) .entries) i (stringAt (now w) (now strings) i) ≡ true) ⌝ }
-    ensures { λ _. ⌜ view (memory (now (w .exit)) (now (strings .exit))) ≡ onEntry (view (memory (now (w .entry)) (now (strings .entry)))) i (give (stringAt (now (w .entry)) (now (strings .entry)) i)) ⌝ }
+    ensures { λ _. ⌜ (view (memory (now (w .exit)) (now (strings .exit))) ≡ onEntry (view (memory (now (w .entry)) (now (strings .entry)))) i (give (stringAt (now (w .entry)) (now (strings .entry)) i))) × (Tidy (memory (now (w .entry)) (now (strings .entry))) → Tidy (memory (now (w .exit)) (now (strings .exit)))) ⌝ }
 {
     let n = asked_length(w, strings, i);
     if n == 0 {

@@ -59,7 +59,7 @@ pub fn release_lock(
     }
     if standing::is_last(w, i, n) {
         let r = put_answer(w, out, at, i, kind);
-        standing::free_lock(w, i, kind);
+        standing::free_lock(w, strings, i, kind);
         return grant_pass::grant_waiting(w, strings, out, r);
     }
     let word = standing::standing_word(kind, n);

@@ -7,6 +7,7 @@ ghost use Rattle.model.specs.Locks.LockEvent.{request};
 ghost use Rattle.model.specs.Locks.{change, elsewhere, holds, noPlace};
 ghost use Rattle.model.specs.State.{at};
 ghost use Rattle.state.specs.Queue.{onWaiting};
+ghost use Rattle.state.specs.Tidy.{Tidy};
 ghost use Rattle.state.specs.View.{locksOf, memory, view};
 ghost use lib.Dec.{eqb};
 ghost use lib.ListN.{length};
@@ -81,11 +82,10 @@ fn cannot_wait(w: &Words, timeout: u32) -> bool
 // The request of slot i waits until the clock and the timeout: only now its string is laid into its place.
 fn wait(w: &mut Words, strings: &mut Strings, i: usize, timeout: u32, string: &[u8])
     requires { ⌜ (i < sessionLimit) × (length (now string) ≤ stringLimit) × (length (locksOf (now w) (now strings) .waiting) < sessionLimit) × (all (elsewhere i) (locksOf (now w) (now strings) .waiting) ≡ true) ⌝ }
-    ensures { λ _. ⌜ view (memory (now (w .exit)) (now (strings .exit))) ≡ onWaiting (view (memory (now (w .entry)) (now (strings .entry)))) (λ x. x ++ (record { slot = i; deadline = locksOf (now (w .entry)) (now (strings .entry)) .clock + timeout; string = now (string .entry) } ∷ [])) ⌝ }
+    ensures { λ _. ⌜ (view (memory (now (w .exit)) (now (strings .exit))) ≡ onWaiting (view (memory (now (w .entry)) (now (strings .entry)))) (λ x. x ++ (record { slot = i; deadline = locksOf (now (w .entry)) (now (strings .entry)) .clock + timeout; string = now (string .entry) } ∷ []))) × (Tidy (memory (now (w .entry)) (now (strings .entry))) → Tidy (memory (now (w .exit)) (now (strings .exit)))) ⌝ }
 {
-    requests::lay_request(w, strings, i, string);
     let t = tables::clock(w) + timeout as u64;
-    requests::queue_request(w, i, t);
+    requests::put_request(w, strings, i, t, string);
 }
 
 // The request of slot i, decided as it stands in the input: 1 if it may be granted, 0 if it cannot wait, else it waits.

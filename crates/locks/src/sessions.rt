@@ -6,51 +6,54 @@ ghost use Rattle.model.specs.Locks.LockEvent.{close, enter, join};
 ghost use Rattle.model.specs.Locks.{change};
 ghost use Rattle.state.specs.Change.{onEntry};
 ghost use Rattle.state.specs.Channels.{Unshown};
-ghost use Rattle.state.specs.View.{locksOf, memory, rowWord, view};
+ghost use Rattle.state.specs.Tidy.{Tidy};
+ghost use Rattle.state.specs.View.{fieldOf, locksOf, memory, rowWord, view};
 ghost use mathlib.Core.List.{List};
 ghost use mathlib.Core.Path.{_≡_};
-ghost use Rattle.model.specs.Sizes.{connectionLimit, sessionLimit};
+ghost use Rattle.model.specs.Sizes.{connectionLimit, noConnection, sessionLimit};
 use crate::waiting::drop_request;
 use state::channels;
 use state::holders;
+use state::sharing;
 use state::sizes::BEFORE_FIRST;
+use state::sizes::Strings;
 use state::sizes::Words;
 use state::tables;
 
 // A slot that opens or closes has no locks, no message acted in it, and no release stands.
-fn drop_locks(w: &mut Words, i: usize)
+fn drop_locks(w: &mut Words, strings: &mut Strings, i: usize)
     requires { ⌜ i < sessionLimit ⌝ }
-    ensures { λ _. ⌜ ((s : List ℕ) → view (memory (now (w .exit)) s) ≡ onEntry (view (memory (now (w .entry)) s)) i withoutLocks) ⌝ }
+    ensures { λ _. ⌜ (view (memory (now (w .exit)) (now (strings .exit))) ≡ onEntry (view (memory (now (w .entry)) (now (strings .entry)))) i withoutLocks) × (Tidy (memory (now (w .entry)) (now (strings .entry))) → Tidy (memory (now (w .exit)) (now (strings .exit)))) ⌝ }
 {
     tables::set_order(w, i, tables::LAST_NUMBER, BEFORE_FIRST);
     tables::set_order(w, i, tables::STANDING, 0);
     holders::drop_exclusive(w, i);
-    holders::drop_shared(w, i);
+    sharing::leave_sharers(w, strings, i);
 }
 
-// Session n opens in slot i over connection c, which no session has.
-pub fn enter_slot(w: &mut Words, i: usize, n: u64, c: u64)
-    requires { ⌜ (i < sessionLimit) × (n ≡ 0 → ⊥) × (c < connectionLimit) × Unshown (now w) c ⌝ }
-    ensures { λ _. ⌜ ((s : List ℕ) → Quiet (change (locksOf (now (w .entry)) s) (enter i n c)) (memory (now (w .entry)) s) (memory (now (w .exit)) s)) ⌝ }
+// Session n opens in slot i, which is free, over connection c, which no session has.
+pub fn enter_slot(w: &mut Words, strings: &mut Strings, i: usize, n: u64, c: u64)
+    requires { ⌜ (i < sessionLimit) × (n ≡ 0 → ⊥) × (c < connectionLimit) × Unshown (now w) c × (rowWord (now w) i 0 ≡ 0) ⌝ }
+    ensures { λ _. ⌜ Quiet (change (locksOf (now (w .entry)) (now (strings .entry))) (enter i n c)) (memory (now (w .entry)) (now (strings .entry))) (memory (now (w .exit)) (now (strings .exit))) ⌝ }
 {
     channels::open_session(w, i, n, c);
-    drop_locks(w, i);
+    drop_locks(w, strings, i);
 }
 
-// Connection c, which no session has, is the second of slot i, which is live.
+// Connection c, which no session has, is the second of slot i, which is live and has one alone.
 pub fn join_slot(w: &mut Words, i: usize, c: u64)
-    requires { ⌜ (i < sessionLimit) × (rowWord (now w) i 0 ≡ 0 → ⊥) × (c < connectionLimit) × Unshown (now w) c ⌝ }
+    requires { ⌜ (i < sessionLimit) × (rowWord (now w) i 0 ≡ 0 → ⊥) × (c < connectionLimit) × Unshown (now w) c × (fieldOf (now w) i 2 ≡ noConnection) ⌝ }
     ensures { λ _. ⌜ ((s : List ℕ) → Quiet (change (locksOf (now (w .entry)) s) (join i c)) (memory (now (w .entry)) s) (memory (now (w .exit)) s)) ⌝ }
 {
     channels::join_session(w, i, c);
 }
 
 // The session of slot i closes: its locks, its waiting request and a release that stands go, and nobody is told.
-pub fn close_slot(w: &mut Words, i: usize)
+pub fn close_slot(w: &mut Words, strings: &mut Strings, i: usize)
     requires { ⌜ i < sessionLimit ⌝ }
-    ensures { λ _. ⌜ ((s : List ℕ) → Quiet (change (locksOf (now (w .entry)) s) (close i)) (memory (now (w .entry)) s) (memory (now (w .exit)) s)) ⌝ }
+    ensures { λ _. ⌜ Quiet (change (locksOf (now (w .entry)) (now (strings .entry))) (close i)) (memory (now (w .entry)) (now (strings .entry))) (memory (now (w .exit)) (now (strings .exit))) ⌝ }
 {
     channels::close_session(w, i);
-    drop_locks(w, i);
-    drop_request(w, i);
+    drop_locks(w, strings, i);
+    drop_request(w, strings, i);
 }

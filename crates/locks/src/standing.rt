@@ -1,16 +1,19 @@
 // The release that stands, as a row of the table of sessions keeps it: 0 for none; else, less 1, the number that it waits for, and
 // above 32 bits which lock it frees.
-ghost use Prim.Native.Nat.{ℕ, _-_, _<_, _%_, _^_};
+ghost use Prim.Native.Nat.{ℕ, _-_, _<_, _≤_, _%_, _^_};
 ghost use Rattle.locks.specs.Standing.{kindOf};
 ghost use Rattle.model.specs.Locks.{releaseCode, without};
 ghost use Rattle.model.specs.Sizes.{sessionLimit};
 ghost use Rattle.model.specs.State.{Standing.release-of, at};
 ghost use Rattle.state.specs.Change.{onEntry};
+ghost use Rattle.state.specs.Tidy.{Tidy};
 ghost use Rattle.state.specs.View.{locksOf, memory, standingOf, view};
 ghost use lib.Dec.{eqb};
 ghost use mathlib.Core.List.{List};
 ghost use mathlib.Core.Path.{_≡_};
 use state::holders;
+use state::sharing;
+use state::sizes::Strings;
 use state::sizes::Words;
 use state::tables;
 
@@ -51,7 +54,7 @@ pub fn kind_in(word: u64) -> u8
 
 // The word of a release that waits for message n.
 pub fn standing_word(kind: u8, n: u32) -> u64
-    ensures { λ r. ⌜ standingOf r ≡ release-of (kindOf kind) n ⌝ }
+    ensures { λ r. ⌜ (standingOf r ≡ release-of (kindOf kind) n) × (r ≤ 2 ^ 33) ⌝ }
 {
     let m = n as u64 + 1;
     if kind == EXCLUSIVE {
@@ -61,13 +64,13 @@ pub fn standing_word(kind: u8, n: u32) -> u64
 }
 
 // Slot i holds the lock of a kind no more, if it did.
-pub fn free_lock(w: &mut Words, i: usize, kind: u8)
+pub fn free_lock(w: &mut Words, strings: &mut Strings, i: usize, kind: u8)
     requires { ⌜ i < sessionLimit ⌝ }
-    ensures { λ _. ⌜ ((s : List ℕ) → view (memory (now (w .exit)) s) ≡ onEntry (view (memory (now (w .entry)) s)) i (without (kindOf kind))) ⌝ }
+    ensures { λ _. ⌜ (view (memory (now (w .exit)) (now (strings .exit))) ≡ onEntry (view (memory (now (w .entry)) (now (strings .entry)))) i (without (kindOf kind))) × (Tidy (memory (now (w .entry)) (now (strings .entry))) → Tidy (memory (now (w .exit)) (now (strings .exit)))) ⌝ }
 {
     if kind == EXCLUSIVE {
         holders::drop_exclusive(w, i);
         return;
     }
-    holders::drop_shared(w, i);
+    sharing::leave_sharers(w, strings, i);
 }

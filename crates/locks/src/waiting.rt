@@ -8,14 +8,17 @@ ghost use Rattle.model.specs.Lists.{keep};
 ghost use Rattle.model.specs.Locks.LockEvent.{reading};
 ghost use Rattle.model.specs.Locks.{change, elsewhere, refuse};
 ghost use Rattle.state.specs.Queue.{onWaiting};
+ghost use Rattle.state.specs.Tidy.{Tidy};
 ghost use Rattle.state.specs.View.{locksOf, memory, requestAt, view};
 ghost use lib.ListN.{length};
 ghost use mathlib.Core.List.{List};
 ghost use mathlib.Core.Path.{_≡_};
 ghost use Rattle.model.specs.Sizes.{sessionLimit};
 use crate::answers::put_answer;
+use state::leaving;
 use state::requests;
 use state::sizes::SESSION_LIMIT;
+use state::sizes::Strings;
 use state::sizes::Words;
 use state::tables;
 
@@ -52,8 +55,8 @@ fn answer_leaving(w: &Words, out: &mut [u8], start: usize, i: usize, t: u64) -> 
 }
 
 // Those that stay go on waiting, in their order.
-fn keep_staying(w: &mut Words, i: usize, t: u64)
-    ensures { λ _. ⌜ ((s : List ℕ) → view (memory (now (w .exit)) s) ≡ onWaiting (view (memory (now (w .entry)) s)) (keep (stays i t))) ⌝ }
+fn keep_staying(w: &mut Words, strings: &mut Strings, i: usize, t: u64)
+    ensures { λ _. ⌜ (view (memory (now (w .exit)) (now (strings .exit))) ≡ onWaiting (view (memory (now (w .entry)) (now (strings .entry)))) (keep (stays i t))) × (Tidy (memory (now (w .entry)) (now (strings .entry))) → Tidy (memory (now (w .exit)) (now (strings .exit)))) ⌝ }
 {
     let n = requests::waiting_count(w);
     let mut k = 0;
@@ -61,49 +64,55 @@ fn keep_staying(w: &mut Words, i: usize, t: u64)
     while j < n {
         let x = requests::waiting_slot(w, j);
         if may_stay(w, x, i, t) {
-            requests::move_waiting(w, j, k);
+            requests::swap_waiting(w, j, k);
             k += 1;
         }
         j += 1;
     }
-    requests::keep_first(w, k);
+    leaving::keep_first(w, strings, k);
 }
 
 // What does not stay is answered 0 and leaves the queue.
-fn sweep(w: &mut Words, out: &mut [u8], at: usize, i: usize, t: u64) -> usize
+fn sweep(w: &mut Words, strings: &mut Strings, out: &mut [u8], at: usize, i: usize, t: u64) -> usize
     requires { ⌜ at + answersRoom ≤ length (now out) ⌝ }
-    ensures { λ r. ⌜ ((s : List ℕ) → Met (swept (locksOf (now (w .entry)) s) i t) (memory (now (w .entry)) s) (memory (now (w .exit)) s) (now (out .entry)) (now (out .exit)) at r) ⌝ }
+    ensures { λ r. ⌜ Met (swept (locksOf (now (w .entry)) (now (strings .entry))) i t) (memory (now (w .entry)) (now (strings .entry))) (memory (now (w .exit)) (now (strings .exit))) (now (out .entry)) (now (out .exit)) at r ⌝ }
 {
     let r = answer_leaving(w, out, at, i, t);
     // Nobody was answered, so all stay.
     if r == at {
         return r;
     }
-    keep_staying(w, i, t);
+    keep_staying(w, strings, i, t);
     r
 }
 
 // The request of slot i is answered 0.
-pub fn clear_request(w: &mut Words, out: &mut [u8], at: usize, i: usize) -> usize
+pub fn clear_request(
+    w: &mut Words,
+    strings: &mut Strings,
+    out: &mut [u8],
+    at: usize,
+    i: usize,
+) -> usize
     requires { ⌜ (i < sessionLimit) × (at + answersRoom ≤ length (now out)) ⌝ }
-    ensures { λ r. ⌜ ((s : List ℕ) → Met (turnedAway (locksOf (now (w .entry)) s) i) (memory (now (w .entry)) s) (memory (now (w .exit)) s) (now (out .entry)) (now (out .exit)) at r) ⌝ }
+    ensures { λ r. ⌜ Met (turnedAway (locksOf (now (w .entry)) (now (strings .entry))) i) (memory (now (w .entry)) (now (strings .entry))) (memory (now (w .exit)) (now (strings .exit))) (now (out .entry)) (now (out .exit)) at r ⌝ }
 {
-    sweep(w, out, at, i, 0)
+    sweep(w, strings, out, at, i, 0)
 }
 
 // The clock reads t: a request whose deadline is t or before is answered 0.
-pub fn expire(w: &mut Words, out: &mut [u8], at: usize, t: u64) -> usize
+pub fn expire(w: &mut Words, strings: &mut Strings, out: &mut [u8], at: usize, t: u64) -> usize
     requires { ⌜ (t < 9223372036854775808) × (at + answersRoom ≤ length (now out)) ⌝ }
-    ensures { λ r. ⌜ ((s : List ℕ) → Met (change (locksOf (now (w .entry)) s) (reading t)) (memory (now (w .entry)) s) (memory (now (w .exit)) s) (now (out .entry)) (now (out .exit)) at r) ⌝ }
+    ensures { λ r. ⌜ Met (change (locksOf (now (w .entry)) (now (strings .entry))) (reading t)) (memory (now (w .entry)) (now (strings .entry))) (memory (now (w .exit)) (now (strings .exit))) (now (out .entry)) (now (out .exit)) at r ⌝ }
 {
     tables::set_clock(w, t);
-    sweep(w, out, at, NO_SLOT, t)
+    sweep(w, strings, out, at, NO_SLOT, t)
 }
 
 // The request of slot i leaves the queue unanswered.
-pub fn drop_request(w: &mut Words, i: usize)
+pub fn drop_request(w: &mut Words, strings: &mut Strings, i: usize)
     requires { ⌜ i < sessionLimit ⌝ }
-    ensures { λ _. ⌜ ((s : List ℕ) → view (memory (now (w .exit)) s) ≡ onWaiting (view (memory (now (w .entry)) s)) (keep (elsewhere i))) ⌝ }
+    ensures { λ _. ⌜ (view (memory (now (w .exit)) (now (strings .exit))) ≡ onWaiting (view (memory (now (w .entry)) (now (strings .entry)))) (keep (elsewhere i))) × (Tidy (memory (now (w .entry)) (now (strings .entry))) → Tidy (memory (now (w .exit)) (now (strings .exit)))) ⌝ }
 {
-    keep_staying(w, i, 0);
+    keep_staying(w, strings, i, 0);
 }

@@ -56,7 +56,12 @@ use Rattle.model.proofs.Fewer.{fewer-never-hurts}
 use Rattle.model.specs.AnsweredOnce.{Release.none-stands, Once, clockIn}
 use Rattle.model.proofs.AnsweredOnce.{answered-once}
 use Rattle.model.proofs.IsolationRun.{isolation-run}
-use Rattle.state.specs.View.{Memory, view}
+use Rattle.model.specs.Canonical.{canonical}
+use Rattle.state.specs.Fresh.{freshStrings, freshWords}
+use Rattle.state.specs.FreshTidy.{fresh-tidy}
+use Rattle.state.specs.OneMemory.{one-memory}
+use Rattle.state.specs.Tidy.{Tidy}
+use Rattle.state.specs.View.{Memory, memory, view}
 use Rattle.effects.specs.declared.Delivery.{Delivery}
 use Rattle.effects.specs.Did.{numbersOf}
 use Rattle.server.specs.declared.Answered.{Answered}
@@ -188,7 +193,29 @@ calls {m = m} (hislip-clock {m′ = m′} t out out′ r p g) =
     call (clock t (length out)) out out′ (doneReply r) (r .output) (call-post (clock t (length out)) m m′ out out′ refl r p) (calls g)
 calls {m = m} (hislip-answer {m′ = m′} n q end sh out out′ r p g) =
     call (answer n q (not (eqb end 0)) sh (length out)) out out′ (answeredReply r) (r .output) (answer-post n q (not (eqb end 0)) sh (length out) m m′ out out′ r p) (calls g)
-calls (hislip-status b p g) = call (status b) [] [] done 0 p (calls g)
+calls (hislip-status b p g) = call (status b) [] [] done 0 (p .0) (calls g)
+
+-- memory in order stays so over a run
+tidies : {m m′ : Memory} {ss : List Seen} → Run m ss m′ → Tidy m → Tidy m′
+tidies stop t = t
+tidies (hislip-open c r p g) t = tidies g (p .tidy t)
+tidies (hislip-deliver c bs out out′ r p g) t = tidies g (p .tidy t)
+tidies (hislip-cut c out out′ r p g) t = tidies g (p .tidy t)
+tidies (hislip-clock k out out′ r p g) t = tidies g (p .tidy t)
+tidies (hislip-answer n q end sh out out′ r p g) t = tidies g (p .tidy t)
+tidies (hislip-status b p g) t = tidies g (p .1 t)
+
+orderly : (v : Making) (m m′ : Memory) (ss : List Seen) → v .vendor < 2 ^ 16 → Fresh v m → Run m ss m′ → Tidy m′
+orderly v m m′ ss h f g =
+    let e : m ≡ memory (freshWords v) freshStrings = (λ k. memory (f .words k) (f .strings k)) in
+    tidies g (subst Tidy (sym e) (fresh-tidy v h))
+
+-- two runs with one canonical history
+one-left : (v : Making) (m m′ n n′ : Memory) (ss rs : List Seen) → v .vendor < 2 ^ 16 → Fresh v m → Run m ss m′ → Fresh v n → Run n rs n′
+    → canonical (fresh v) (seenEvents ss) ≡ canonical (fresh v) (seenEvents rs) → m′ ≡ n′
+one-left v m m′ n n′ ss rs h f g f′ g′ e =
+    one-memory m′ n′ (orderly v m m′ ss h f g) (orderly v n n′ rs h f′ g′)
+    (sym (demand3 view v m (f .shows) (calls g) .same-server) ∙ ap (final (fresh v)) e ∙ demand3 view v n (f′ .shows) (calls g′) .same-server)
 
 -- a session's track, by what the host saw and by the log
 track-seen : (w : Bool) (ls : List Line) (n : ℕ) (p : Track) → trackIn w (map seen ls) n p ≡ trackOfLog w ls n p
@@ -466,6 +493,8 @@ program =
       by-definition = λ m m′ ss g. let h = made view (calls g) in record { seen-is = h .0; server-is = h .1 };
       view-decides = decided;
       demand3 = λ v m m′ ss f g. demand3 view v m (f .shows) (calls g);
+      in-order = orderly;
+      one-memory = one-left;
       decides = λ v m m′ ss f g. run-decides v (seenEvents ss);
       taken-whole = λ v m m′ ss f g p. taken-whole .any-run v (seenEvents ss) p;
       reads-back = λ v m m′ ss l f g p. reads-back view .any-calls v m l (f .shows) (calls g) p;

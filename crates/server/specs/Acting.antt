@@ -100,19 +100,23 @@ module _ (w s : List ℕ) (h : Header) (p : List ℕ) (passed : first (openingRu
           by true q = let k : a < b = ltb-true a b q in omega arith
           by false q = let k : b ≤ a = ltb-false a b q in absurd (n (let z : a ≡ b = omega arith in z))
 
-  -- AsyncInitialize: the session that it names is live, and so in the table
-  pub slot-lives : (h .kind ≡ Initialize → ⊥) → live (at (locksOf w s .entries) (slotOfNumber (locksOf w s .entries) (h .param))) ≡ true
-  slot-lives o =
+  -- AsyncInitialize: the session that it names is live with one connection alone, and so in the table
+  pub slot-half : (h .kind ≡ Initialize → ⊥) → halfOpen (at (locksOf w s .entries) (slotOfNumber (locksOf w s .entries) (h .param))) ≡ true
+  slot-half o =
       let q = opening-passed (view (memory w s)) h p passed in
       let e : Entry = at (locksOf w s .entries) (slotOfNumber (locksOf w s .entries) (h .param)) in
       let k : either Initialize AsyncInitialize (h .kind) ≡ true = not-off (either Initialize AsyncInitialize (h .kind)) (q .0) in
       let t : eqb (h .kind) AsyncInitialize ≡ true = or-right (eqb (h .kind) Initialize) (eqb (h .kind) AsyncInitialize) (ne-eqb (h .kind) Initialize o) k in
-      let f : halfOpen e ≡ true = not-off (halfOpen e) (and-off (eqb (h .kind) AsyncInitialize) (not (halfOpen e)) t (q .1 .1 .1 .1 .0)) in
-      and-on (live e) (eqb (e .asynchronous) 255) f
+      not-off (halfOpen e) (and-off (eqb (h .kind) AsyncInitialize) (not (halfOpen e)) t (q .1 .1 .1 .1 .0))
     where
       or-right : (x y : Bool) → x ≡ false → (x || y) ≡ true → y ≡ true
       or-right true y e f = absurd (true≢false e)
       or-right false y e f = f
+
+  slot-lives : (h .kind ≡ Initialize → ⊥) → live (at (locksOf w s .entries) (slotOfNumber (locksOf w s .entries) (h .param))) ≡ true
+  slot-lives o =
+      let e : Entry = at (locksOf w s .entries) (slotOfNumber (locksOf w s .entries) (h .param)) in
+      and-on (live e) (eqb (e .asynchronous) 255) (slot-half o)
 
   pub slot-named : (h .kind ≡ Initialize → ⊥) → slotOfNumber (locksOf w s .entries) (h .param) < sessionLimit
   slot-named o = inside (locksOf w s .entries) (slotOfNumber (locksOf w s .entries) (h .param)) (sessions-held w s) (slot-lives o)
@@ -139,4 +143,4 @@ acts-as d i c h p r m m′ out out′ ro ro′ e q = subst (λ (x : Role). Did (
 pub half-acts : (m : Memory) (i c : ℕ) (h : Header) (p out : List ℕ) (r : Delivery) → r ≡ record { refusal = 0; outcome = 6; session = 0; taken = 16 + h .len; output = 0; missing = 0 }
     → Did (finish (view m) (acts r-halfOpen (view m) i c h p)) r m m out out
 unfolding acts bytesOf
-half-acts m i c h p out r e = did-plainly (view m) (took acted (16 + h .len) 0) (view m .rest) [] r m m out out (ap numbersOf e) refl (nothing-said out) refl
+half-acts m i c h p out r e = did-plainly (view m) (took acted (16 + h .len) 0) (view m .rest) [] r m m out out (ap numbersOf e) refl (nothing-said out) refl (λ t. t)

@@ -16,6 +16,7 @@ use Rattle.model.specs.Acts.{interruptions}
 use Rattle.model.specs.Canonical.{omits}
 use Rattle.model.specs.Refusals.{causes, refusal, firstCause, Cause, smallRoom}
 use Rattle.state.specs.Change.{exchangeWith}
+use Rattle.state.specs.Tidy.{Tidy}
 use Rattle.state.specs.View.{Memory, view, locksOf}
 use Rattle.effects.specs.Closing.{sessions-held}
 use Rattle.effects.specs.Events.{Answers, answeredAs, answer-finishes}
@@ -103,11 +104,11 @@ module _ (d : Server) (i : ℕ) (end : Bool) (p sh : List ℕ) (r : Answered) (d
   gives-sent e a f = gives false e (a .server) (a .buffer) (f ∙ ap (λ (x : ℕ). record { refusal = 0; withheld = 0; output = x }) (a .place))
 
 pub answer-call : (n i : ℕ) (p : List ℕ) (end : Bool) (sh : List ℕ) (room : ℕ) (r : Answered) (m m′ : Memory) (out out′ : List ℕ) → slotOfNumber (view m .locks .entries) n ≡ i → refusal (view m) (answer n p end sh room) ≡ 0
-    → Gives (view m) i end p sh r (view m′) out out′ → Replied (answer n p end sh room) r m m′ out out′
-answer-call n i p end sh room r m m′ out out′ e q a =
+    → Gives (view m) i end p sh r (view m′) out out′ → (Tidy m → Tidy m′) → Replied (answer n p end sh room) r m m′ out out′
+answer-call n i p end sh room r m m′ out out′ e q a t =
     let b : Bool = withheldAt (view m) i end sh in
     taken-answer (answer n p end sh room) (answeredAs (view m) i p end sh b) r m m′ out out′ q (answer-finishes (view m) n i p end sh room e b refl) (kept b) (a .server) (a .buffer)
-    (ap answeredNumbers (a .numbers) ∙ told b (length (bytesOf ((answeredAs (view m) i p end sh b) .frames))))
+    (ap answeredNumbers (a .numbers) ∙ told b (length (bytesOf ((answeredAs (view m) i p end sh b) .frames)))) t
   where
     kept : (b : Bool) → omits (cond b withheld done) ≡ false
     kept true = refl

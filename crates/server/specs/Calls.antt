@@ -1,4 +1,4 @@
--- What an exported function ensures: the model's `Post` for its event, and the numbers that it returns. And how the stages of a call
+-- What an exported function ensures: the model's `Post` for its event, the numbers that it returns, and that memory in order stays so. And how the stages of a call
 -- give it: a refusal, or the plan carried out. Assumes nothing.
 use mathlib.Core.Path.{_≡_, refl, sym, ap, subst}
 use mathlib.Core.List.{List, []}
@@ -13,6 +13,7 @@ use Rattle.model.specs.Refusals.{refusal}
 use Rattle.model.specs.Scan.{scan}
 use Rattle.model.specs.Step.{Result, finish, plan, answered, step, received}
 use Rattle.model.specs.Post.{Post}
+use Rattle.state.specs.Tidy.{Tidy}
 use Rattle.state.specs.View.{Memory, view}
 use Rattle.effects.specs.declared.Delivery.{Delivery}
 use Rattle.effects.specs.Did.{DidWith, numbersOf}
@@ -20,12 +21,14 @@ use Rattle.effects.specs.Did.{DidWith, numbersOf}
 pub record Delivered (e : Event) (r : Delivery) (m m′ : Memory) (out out′ : List ℕ) : Type 0 where
   pub numbers : numbersOf r ≡ deliveryAnswer ((step (view m) e) .reply) (length (bytesOf ((step (view m) e) .frames))) (missing (view m) e)
   pub post : Post view e m m′ out out′ ((step (view m) e) .reply) (length (bytesOf ((step (view m) e) .frames)))
+  pub tidy : Tidy m → Tidy m′
 
 delivered : (e : Event) (r : Delivery) (m m′ : Memory) (out out′ : List ℕ) → DidWith (missing (view m) e) (step (view m) e) r m m′ out out′ → Delivered e r m m′ out out′
 delivered e r m m′ out out′ p =
     record {
       numbers = p .numbers;
       post = record { new-server = p .server; replies = refl; buffer = p .buffer; output-length = refl; same-memory = p .same-memory; same-buffer = p .same-buffer };
+      tidy = p .tidy;
     }
 
 -- a refused call
@@ -43,7 +46,7 @@ unfolding bytesOf
 refused-delivery e n r m out q f =
     delivered e r m m out out
     (subst (λ (x : Result). DidWith (ifMore (x .reply) (lackingIn (view m) e)) x r m m out out) (sym (step-refused (view m) e n q))
-    (record { numbers = ap numbersOf f; server = refl; buffer = sym (splice-nil out 0); same-memory = λ z. refl; same-buffer = λ z. refl }))
+    (record { numbers = ap numbersOf f; server = refl; buffer = sym (splice-nil out 0); same-memory = λ z. refl; same-buffer = λ z. refl; tidy = λ t. t }))
 
 pub taken-delivery : (c : ℕ) (bs : List ℕ) (room : ℕ) (r : Delivery) (m m′ : Memory) (out out′ : List ℕ) → refusal (view m) (delivery c bs room) ≡ 0
     → DidWith (ifMore ((finish (view m) (received (view m) c (scan ((connectionAt (view m .rest) c) .remainder) bs))) .reply) (lackingIn (view m) (delivery c bs room)))

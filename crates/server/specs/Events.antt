@@ -17,6 +17,7 @@ use Rattle.model.specs.Locks.{LockEvent.reading, change, grantPass}
 use Rattle.model.specs.Place.{slotOf}
 use Rattle.model.specs.Step.{Result, finish, plan, answered, step, closing, lockFrame}
 use Rattle.model.specs.Post.{Post}
+use Rattle.state.specs.Tidy.{Tidy}
 use Rattle.state.specs.View.{Memory, view}
 use Rattle.state.specs.Change.{onRest}
 use Rattle.state.specs.Fresh.{freshWords, freshStrings}
@@ -32,6 +33,7 @@ doneNumbers r = record { refusal = r .refusal; output = r .output }
 pub record Called (e : Event) (r : Done) (m m′ : Memory) (out out′ : List ℕ) : Type 0 where
   pub numbers : doneNumbers r ≡ doneAnswer ((step (view m) e) .reply) (length (bytesOf ((step (view m) e) .frames)))
   pub post : Post view e m m′ out out′ ((step (view m) e) .reply) (length (bytesOf ((step (view m) e) .frames)))
+  pub tidy : Tidy m → Tidy m′
 
 -- 02, Q-5: the same of an answer, which may be withheld
 abbrev pub answeredNumbers : Answered → AnsweredAnswer
@@ -40,6 +42,7 @@ answeredNumbers r = record { refusal = r .refusal; withheld = r .withheld; outpu
 pub record Replied (e : Event) (r : Answered) (m m′ : Memory) (out out′ : List ℕ) : Type 0 where
   pub numbers : answeredNumbers r ≡ answeredAnswer ((step (view m) e) .reply) (length (bytesOf ((step (view m) e) .frames)))
   pub post : Post view e m m′ out out′ ((step (view m) e) .reply) (length (bytesOf ((step (view m) e) .frames)))
+  pub tidy : Tidy m → Tidy m′
 
 -- what hislip_new leaves: every word and byte is written, whatever was there, and the memory shows the fresh server
 pub record Fresh (v : Making) (m : Memory) : Type 0 where
@@ -81,17 +84,19 @@ refused-call e n r m out q f =
     record {
       numbers = ap doneNumbers f ∙ ap (λ (y : Result). doneAnswer (y .reply) (length (bytesOf (y .frames)))) (sym x);
       post = refused-post e n m out x;
+      tidy = λ t. t;
     }
 
 -- a call that is taken: the new server, the frames, and the numbers
 pub taken-call : (e : Event) (d′ : Server) (fs : List Frame) (r : Done) (m m′ : Memory) (out out′ : List ℕ) → refusal (view m) e ≡ 0 → finish (view m) (plan (view m) e) ≡ record { server = d′; reply = done; frames = fs }
-    → view m′ ≡ d′ → out′ ≡ written out fs → r ≡ record { refusal = 0; output = length (bytesOf fs) } → Called e r m m′ out out′
+    → view m′ ≡ d′ → out′ ≡ written out fs → r ≡ record { refusal = 0; output = length (bytesOf fs) } → (Tidy m → Tidy m′) → Called e r m m′ out out′
 unfolding step answered
-taken-call e d′ fs r m m′ out out′ q p v b f =
+taken-call e d′ fs r m m′ out out′ q p v b f t =
     let x : step (view m) e ≡ record { server = d′; reply = done; frames = fs } = ap (λ (k : ℕ). answered k (view m) e) q ∙ p in
     record {
       numbers = ap doneNumbers f ∙ ap (λ (y : Result). doneAnswer (y .reply) (length (bytesOf (y .frames)))) (sym x);
       post = taken-post e (record { server = d′; reply = done; frames = fs }) m m′ out out′ x refl v b;
+      tidy = t;
     }
 
 -- an answer, refused and taken
@@ -99,14 +104,14 @@ pub refused-answer : (e : Event) (n : ℕ) (r : Answered) (m : Memory) (out : Li
 unfolding bytesOf step answered
 refused-answer e n r m out q f =
     let x : step (view m) e ≡ record { server = view m; reply = refused (suc n); frames = [] } = ap (λ (k : ℕ). answered k (view m) e) q in
-    record { numbers = ap answeredNumbers f ∙ ap (λ (y : Result). answeredAnswer (y .reply) (length (bytesOf (y .frames)))) (sym x); post = refused-post e n m out x }
+    record { numbers = ap answeredNumbers f ∙ ap (λ (y : Result). answeredAnswer (y .reply) (length (bytesOf (y .frames)))) (sym x); post = refused-post e n m out x; tidy = λ t. t }
 
 pub taken-answer : (e : Event) (x : Result) (r : Answered) (m m′ : Memory) (out out′ : List ℕ) → refusal (view m) e ≡ 0 → finish (view m) (plan (view m) e) ≡ x → omits (x .reply) ≡ false
-    → view m′ ≡ x .server → out′ ≡ written out (x .frames) → answeredNumbers r ≡ answeredAnswer (x .reply) (length (bytesOf (x .frames))) → Replied e r m m′ out out′
+    → view m′ ≡ x .server → out′ ≡ written out (x .frames) → answeredNumbers r ≡ answeredAnswer (x .reply) (length (bytesOf (x .frames))) → (Tidy m → Tidy m′) → Replied e r m m′ out out′
 unfolding step answered
-taken-answer e x r m m′ out out′ q p o v b f =
+taken-answer e x r m m′ out out′ q p o v b f t =
     let s : step (view m) e ≡ x = ap (λ (k : ℕ). answered k (view m) e) q ∙ p in
-    record { numbers = f ∙ ap (λ (y : Result). answeredAnswer (y .reply) (length (bytesOf (y .frames)))) (sym s); post = taken-post e x m m′ out out′ s o v b }
+    record { numbers = f ∙ ap (λ (y : Result). answeredAnswer (y .reply) (length (bytesOf (y .frames)))) (sym s); post = taken-post e x m m′ out out′ s o v b; tidy = t }
 
 -- the refusals
 module _ (d : Server) (c : ℕ) where
@@ -161,15 +166,15 @@ empty-output r e = e
 pub so-much : (r : Done) (end : ℕ) (fs : List Frame) → r ≡ record { refusal = 0; output = end } → end ≡ 0 + length (bytesOf fs) → r ≡ record { refusal = 0; output = length (bytesOf fs) }
 so-much r end fs e p = e ∙ ap (λ (x : ℕ). record { refusal = 0; output = x }) (p ∙ zero-add (length (bytesOf fs)))
 
-pub cut-call : (c i room : ℕ) (r : Done) (m m′ : Memory) (out out′ : List ℕ) (end : ℕ) → refusal (view m) (cut c room) ≡ 0 → slotOf (view m) c ≡ i → Closes (view m) c i m′ out out′ 0 end → r ≡ record { refusal = 0; output = end }
+pub cut-call : (c i room : ℕ) (r : Done) (m m′ : Memory) (out out′ : List ℕ) (end : ℕ) → refusal (view m) (cut c room) ≡ 0 → slotOf (view m) c ≡ i → Closes (view m) c i m′ out out′ 0 end → r ≡ record { refusal = 0; output = end } → (Tidy m → Tidy m′)
     → Called (cut c room) r m m′ out out′
-cut-call c i room r m m′ out out′ end q e p f =
+cut-call c i room r m m′ out out′ end q e p f t =
     let d : Server = view m in
     let gs : List Frame = map lockFrame ((grantPass ((closedServer d c i) .locks)) .answers) in
     taken-call (cut c room) (record { locks = (grantPass ((closedServer d c i) .locks)) .locks; rest = closing d c }) gs r m m′ out out′ q
     (cut-finishes d c room
     ∙ ap (λ (j : ℕ). record { server = record { locks = (grantPass ((closedServer d c j) .locks)) .locks; rest = closing d c }; reply = done; frames = map lockFrame ((grantPass ((closedServer d c j) .locks)) .answers) }) e)
-    (p .server) (p .buffer) (so-much r end gs f (p .place))
+    (p .server) (p .buffer) (so-much r end gs f (p .place)) t
 
 pub clock-call : (t room : ℕ) (r : Done) (m m′ : Memory) (out out′ : List ℕ) (end : ℕ) → refusal (view m) (clock t room) ≡ 0 → Met (change (view m .locks) (reading t)) m m′ out out′ 0 end → r ≡ record { refusal = 0; output = end }
     → Called (clock t room) r m m′ out out′
@@ -177,4 +182,4 @@ clock-call t room r m m′ out out′ end q p f =
     let d : Server = view m in
     let gs : List Frame = map lockFrame ((change (d .locks) (reading t)) .answers) in
     taken-call (clock t room) (record { locks = (change (d .locks) (reading t)) .locks; rest = d .rest }) gs r m m′ out out′ q (clock-finishes d t room)
-    (λ k. record { locks = p .locks k; rest = p .rest k }) (p .buffer) (so-much r end gs f (p .place))
+    (λ k. record { locks = p .locks k; rest = p .rest k }) (p .buffer) (so-much r end gs f (p .place)) (p .tidy)

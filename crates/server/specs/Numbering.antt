@@ -17,6 +17,7 @@ use Rattle.model.specs.Locks.{change}
 use Rattle.model.specs.Acts.{say}
 use Rattle.model.specs.Step.{finish, numberTaken}
 use Rattle.state.specs.Search.{roleNumber}
+use Rattle.state.specs.Tidy.{Tidy}
 use Rattle.state.specs.View.{Memory}
 use Rattle.effects.specs.declared.Delivery.{Delivery}
 use Rattle.effects.specs.Did.{Did, plainly}
@@ -85,14 +86,15 @@ module _ (h : Header) (x : Exchange) where
 
 -- an Error, behind a change of the session's exchange
 pub error-moved : (d d₁ : Server) (q : Rest) (c n k l : ℕ) (r : Delivery) (m m₁ m′ : Memory) (out out′ : List ℕ) → d₁ ≡ record { locks = d .locks; rest = q }
-    → Did (finish d₁ (errorPlan d₁ c n k l)) r m₁ m′ out out′
+    → (Tidy m → Tidy m₁) → Did (finish d₁ (errorPlan d₁ c n k l)) r m₁ m′ out out′
     → Did (finish d (plainly (took error-sent k 0) (withConnection q c (openConnection l)) (say c Error n 0))) r m m′ out out′
 unfolding finish change
-error-moved d d₁ q c n k l r m m₁ m′ out out′ e x =
+error-moved d d₁ q c n k l r m m₁ m′ out out′ e t x =
     record {
       numbers = x .numbers;
       server = x .server ∙ ap (λ (z : Server). record { locks = z .locks; rest = withConnection (z .rest) c (openConnection l) }) e;
       buffer = x .buffer;
       same-memory = λ y. absurd (true≢false (sym y));
       same-buffer = λ y. absurd (true≢false (sym y));
+      tidy = λ z. x .tidy (t z);
     }

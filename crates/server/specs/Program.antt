@@ -25,7 +25,7 @@ use Rattle.model.specs.Tie.{Track, nothingYet, track}
 use Rattle.model.specs.Demand3.{Seen, seen, seenEvents, Demand3}
 use Rattle.model.specs.LockModel.{freshModel}
 use Rattle.model.specs.Deciding.{EachDecides}
-use Rattle.model.specs.Canonical.{kept}
+use Rattle.model.specs.Canonical.{canonical, kept}
 use Rattle.model.specs.OnlyWhole.{OnlyWhole}
 use Rattle.model.specs.Possible.{AllPossible}
 use Rattle.model.specs.ReadBack.{ReadBack, framesSeen}
@@ -38,6 +38,7 @@ use Rattle.model.specs.Fewer.{FewerLocks}
 use Rattle.model.specs.AnsweredOnce.{Release.none-stands, Once, clockIn}
 use Rattle.model.specs.Refusals.{refusal}
 use Rattle.model.specs.Standing.{StandsOn}
+use Rattle.state.specs.Tidy.{Tidy}
 use Rattle.state.specs.View.{Memory, view}
 use Rattle.effects.specs.declared.Delivery.{Delivery}
 use Rattle.server.specs.declared.Answered.{Answered}
@@ -82,7 +83,7 @@ pub data Run : Memory → List Seen → Memory → Type 0 where
       → Run m (record { event = clock t (length out); reply = doneReply r; output = take (r .output) out′ } ∷ ss) m″
   hislip-answer : {m m′ m″ : Memory} {ss : List Seen} (n : ℕ) (payload : List ℕ) (end : ℕ) (shown out out′ : List ℕ) (r : Answered) → Replied (answer n payload (not (eqb end 0)) shown (length out)) r m m′ out out′ → Run m′ ss m″
       → Run m (record { event = answer n payload (not (eqb end 0)) shown (length out); reply = answeredReply r; output = take (r .output) out′ } ∷ ss) m″
-  hislip-status : {m m′ m″ : Memory} {ss : List Seen} (b : ℕ) → Post view (status b) m m′ [] [] done 0 → Run m′ ss m″
+  hislip-status : {m m′ m″ : Memory} {ss : List Seen} (b : ℕ) → (Post view (status b) m m′ [] [] done 0 × (Tidy m → Tidy m′)) → Run m′ ss m″
       → Run m (record { event = status b; reply = done; output = [] } ∷ ss) m″
 
 -- from any memory, whatever bits it holds: a run is the one of the definitions, so what is proved of `log` and `final` is proved of the
@@ -160,6 +161,11 @@ pub record Program (New : Making → Memory → Type 0) (Ran : Memory → List S
   pub view-decides : (m m′ n n′ : Memory) (ss rs : List Seen) → view m ≡ view n → Ran m ss m′ → Ran n rs n′ → seenEvents ss ≡ seenEvents rs
       → (ss ≡ rs) × (view m′ ≡ view n′)
   pub demand3 : (v : Making) (m m′ : Memory) (ss : List Seen) → New v m → Ran m ss m′ → Demand3 view v ss m′
+  -- "After it the desk is the very one": the lent memory is in order, and two runs with one canonical history leave one memory, word for
+  -- word and byte for byte
+  pub in-order : (v : Making) (m m′ : Memory) (ss : List Seen) → v .vendor < 2 ^ 16 → New v m → Ran m ss m′ → Tidy m′
+  pub one-memory : (v : Making) (m m′ n n′ : Memory) (ss rs : List Seen) → v .vendor < 2 ^ 16 → New v m → Ran m ss m′ → New v n → Ran n rs n′
+      → canonical (fresh v) (seenEvents ss) ≡ canonical (fresh v) (seenEvents rs) → m′ ≡ n′
   -- each call of the list decides by the lock model's holders just before it: held or not, granted or not, AsyncLockInfo's frame
   pub decides : (v : Making) (m m′ : Memory) (ss : List Seen) → New v m → Ran m ss m′ → EachDecides (fresh v) freshModel (seenEvents ss)
   -- each kept delivery shows one whole message, the header of one that is too long, or skipped bytes that are owed

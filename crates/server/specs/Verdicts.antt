@@ -16,6 +16,7 @@ use Rattle.model.specs.Exchange.{withNumber}
 use Rattle.model.specs.Acts.{acts, say}
 use Rattle.model.specs.Step.{finish, effect, idle, channels, numberTaken}
 use Rattle.state.specs.Change.{onRest}
+use Rattle.state.specs.Tidy.{Tidy}
 use Rattle.state.specs.View.{Memory}
 use Rattle.checks.specs.Numbers.{message, verdictOf}
 use Rattle.effects.specs.declared.Delivery.{Delivery}
@@ -45,14 +46,14 @@ module _ (d : Server) (c i : ℕ) (x : Scan) (ro : Role) (r : Delivery) (m m′ 
         Did (finish d (plainly (took error-sent k 0) (withConnection (withExchange (d .rest) i (withNumber n (exchangeAt (d .rest) i))) c (openConnection l)) (say c Error (v - 16) 0))) r m m′ out out′
 
     pub error-done : 16 ≤ v → v < 32 → (k l : ℕ) → size x ≡ k → leftover x ≡ l → (b : Bool) → numberTaken ro x (exchangeAt (d .rest) i) ≡ (movedBy b (exchangeAt (d .rest) i)) .numberExpected
-        → (d₁ : Server) (m₁ : Memory) → d₁ ≡ onRest d (withSlot i (movedBy b)) → Did (finish d₁ (errorPlan d₁ c (v - 16) k l)) r m₁ m′ out out′ → Done (verdictOf v)
+        → (d₁ : Server) (m₁ : Memory) → d₁ ≡ onRest d (withSlot i (movedBy b)) → (Tidy m → Tidy m₁) → Did (finish d₁ (errorPlan d₁ c (v - 16) k l)) r m₁ m′ out out′ → Done (verdictOf v)
     unfolding effect
-    error-done h u k l e f b g d₁ m₁ p q =
+    error-done h u k l e f b g d₁ m₁ p t q =
         let n : ℕ = (movedBy b (exchangeAt (d .rest) i)) .numberExpected in
         by-verdict (verdictOf v) (v-error (v - 16)) (rw (le-ltb v 16 h, lt-ltb v 32 u))
         (subst (λ (a : ℕ). Erred (size x) (leftover x) a) (sym g)
         (subst (λ (a : ℕ). Erred (size x) a n) (sym f)
-        (subst (λ (a : ℕ). Erred a l n) (sym e) (error-moved d d₁ (withSlot i (movedBy b) (d .rest)) c (v - 16) k l r m m₁ m′ out out′ p q))))
+        (subst (λ (a : ℕ). Erred a l n) (sym e) (error-moved d d₁ (withSlot i (movedBy b) (d .rest)) c (v - 16) k l r m m₁ m′ out out′ p t q))))
 
     pub closed-done : v ≡ 4 → Did (finish d (closePlan d c i [])) r m m′ out out′ → Done (verdictOf v)
     unfolding effect

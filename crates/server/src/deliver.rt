@@ -142,7 +142,7 @@ fn act(
         );
     }
     if role == search::NO_ROLE {
-        return opening::act_opening(w, out, c, kind, param, len);
+        return opening::act_opening(w, strings, out, c, kind, param, len);
     }
     answer::quiet(outcome::ACTED, 16 + len)
 }

@@ -5,6 +5,7 @@ ghost use Rattle.model.specs.Post.{Post};
 ghost use Rattle.server.specs.Calls.{Delivered};
 ghost use Rattle.server.specs.Answers.{Gives};
 ghost use Rattle.server.specs.Events.{Called, Fresh, Replied};
+ghost use Rattle.state.specs.Tidy.{Tidy};
 ghost use Rattle.state.specs.View.{memory, view};
 ghost use lib.ListN.{length};
 ghost use lib.Dec.{eqb};
@@ -135,14 +136,14 @@ pub extern "C" fn hislip_clock(
     if milliseconds < tables::clock(words) {
         return told(3, 0);
     }
-    let end = waiting::expire(words, out, 0, milliseconds);
+    let end = waiting::expire(words, strings, out, 0, milliseconds);
     told(0, end as u64)
 }
 
 // The instrument's status byte changes.
 #[no_mangle]
 pub extern "C" fn hislip_status(words: &mut Words, strings: &mut Strings, status: u8)
-    ensures { λ _. ⌜ Post view (Event.status status) (memory (now (words .entry)) (now (strings .entry))) (memory (now (words .exit)) (now (strings .exit))) [] [] done 0 ⌝ }
+    ensures { λ _. ⌜ Post view (Event.status status) (memory (now (words .entry)) (now (strings .entry))) (memory (now (words .exit)) (now (strings .exit))) [] [] done 0 × (Tidy (memory (now (words .entry)) (now (strings .entry))) → Tidy (memory (now (words .exit)) (now (strings .exit)))) ⌝ }
 {
     events::set_status(words, status);
 }
@@ -209,7 +210,7 @@ fn give_answer(
     shown: &[u8],
 ) -> Answered
     requires { ⌜ (i < sessionLimit) × (length (now payload) ≤ payloadLimit) × (outputMinimum ≤ length (now out)) ⌝ }
-    ensures { λ r. ⌜ ((s : List ℕ) → Gives (view (memory (now (words .entry)) s)) i end (now (payload .entry)) (now (shown .entry)) r (view (memory (now (words .exit)) s)) (now (out .entry)) (now (out .exit))) ⌝ }
+    ensures { λ r. ⌜ ((s : List ℕ) → Gives (view (memory (now (words .entry)) s)) i end (now (payload .entry)) (now (shown .entry)) r (view (memory (now (words .exit)) s)) (now (out .entry)) (now (out .exit))) × ((s : List ℕ) → Tidy (memory (now (words .entry)) s) → Tidy (memory (now (words .exit)) s)) ⌝ }
 {
     if interrupted::withholds(words, i, end, shown) {
         let n = interrupted::withhold(words, out, i, shown);

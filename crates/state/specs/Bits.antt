@@ -2,12 +2,12 @@
 use mathlib.Core.Path.{_≡_, refl, sym, ap, _∙_}
 use mathlib.Core.Logic.{_⊎_, inl, inr, ⊎-elim}
 use Prim.Native.Nat.{ℕ, zero, suc, _+_, _*_, _-_, _/_, _%_, _^_, _≤_, _<_}
-use native.Mathlib.Nat.{pow-suc, pow-succ', one-le-pow, add-mul-div-left, div-div-eq-div-mul, div-add-mod, mul-div-cancel-left, mul-le-mul-left, mul-one}
+use native.Mathlib.Nat.{mod-eq-of-lt, mod-lt, pow-suc, pow-succ', one-le-pow, add-mul-div-left, div-div-eq-div-mul, div-add-mod, mul-div-cancel-left, mul-le-mul-left, mul-one}
 use native.Mathlib.Omega.{arith}
 use lib.Arith.{mod-mul}
 use lib.Dec.{lit<}
 use lib.Pow.{pow-add}
-use Rattle.state.specs.Table.{apart}
+use Rattle.state.specs.Table.{apart, below}
 
 abbrev pub bit : ℕ → ℕ → ℕ
 bit m i = m / 2 ^ i % 2
@@ -123,6 +123,34 @@ module _ (n m i : ℕ) (h : i < n) where
   pub with-other : (j : ℕ) → j < n → (j ≡ i → ⊥) → bit (with-bit n m i) j ≡ bit m j
   unfolding with-bit
   with-other j l o = added-other (without m i % 2 ^ n) i j gone o ∙ below-bit (without m i) n j l ∙ without-other m i j o
+
+-- a set of members below n stays one with one more, and is not empty
+pub with-small : (n m i : ℕ) → i < n → m < 2 ^ n → with-bit n m i < 2 ^ n
+unfolding with-bit
+with-small n m i h l = ⊎-elim unset set (zero-or-one m i)
+  where
+    unset : bit m i ≡ 0 → without m i % 2 ^ n + 2 ^ i < 2 ^ n
+    unset e =
+        let t : ℕ = 2 ^ (n - suc i) in
+        let q : ℕ = m / 2 ^ i in
+        let p : 2 ^ n ≡ 2 ^ i * (2 * t) = power i n h in
+        let d : 2 ^ i * q + m % 2 ^ i ≡ m = div-add-mod m (2 ^ i) in
+        let r : m % 2 ^ i < 2 ^ i = mod-lt m (positive i) in
+        let few : q < 2 * t = ⊎-elim (λ (x : q < 2 * t). x) (λ (x : 2 * t ≤ q). let y : 2 ^ i * (2 * t) ≤ 2 ^ i * q = mul-le-mul-left (2 ^ i) x in absurd (omega arith)) (below q (2 * t)) in
+        let even : q + 2 ≤ 2 * t = omega arith in
+        let y : 2 ^ i * (q + 2) ≤ 2 ^ i * (2 * t) = mul-le-mul-left (2 ^ i) even in
+        let s : without m i ≡ m = stays m i e in
+        rw (s, mod-eq-of-lt l) (omega arith)
+
+    set : bit m i ≡ 1 → without m i % 2 ^ n + 2 ^ i < 2 ^ n
+    set e =
+        let j : without m i + 2 ^ i ≡ m = joined m i e in
+        let k : without m i < 2 ^ n = omega arith in
+        rw (mod-eq-of-lt k) (omega arith)
+
+pub with-some : (n m i : ℕ) → with-bit n m i ≡ 0 → ⊥
+unfolding with-bit
+with-some n m i e = let p : 0 < 2 ^ i = positive i in omega arith
 
 -- an empty set: no bit below n
 pub empty-bits : (m n j : ℕ) → m % 2 ^ n ≡ 0 → j < n → bit m j ≡ 0

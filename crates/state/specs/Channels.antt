@@ -1,5 +1,5 @@
 -- Which session has a connection: what opening, joining and closing do to the table of sessions, and what one look finds. Assumes nothing.
-use mathlib.Core.Path.{_≡_, refl, sym, ap, _∙_}
+use mathlib.Core.Path.{_≡_, refl, sym, ap, subst, _∙_}
 use mathlib.Core.Logic.{_⊎_, inl, inr, ⊎-elim}
 use mathlib.Core.Bool.{Bool, true, false, _&&_, _||_, cond}
 use mathlib.Core.List.{List, []}
@@ -18,6 +18,8 @@ use Rattle.state.specs.Layout.{CLOCK, VENDOR, PREFERENCE, STATUS, LAST, 
 use Rattle.state.specs.View.{memory, standingOf, word, flag, keyOf, orderWord, rowWord, homeIn, homeAt, homeOf, fieldOf, entryAt, entriesOf, locksOf, exchangeOf, connectionOf, restOf, view}
 use Rattle.state.specs.Confirmed.{field-same, field-else, field-number, field-free, field-past, field-shown, Shows, shows}
 use Rattle.state.specs.Change.{onEntry, off, here, key-off, waiting-off, rest-off, entries-change}
+use Rattle.state.specs.Tidy.{Tidy, TidyHome, Shown}
+use Rattle.state.specs.Keeping.{table-tidy, live-row, same-row}
 
 -- a slot with another SessionID and other connections
 abbrev pub withRow : ℕ → ℕ → ℕ → Entry → Entry
@@ -183,6 +185,53 @@ module _ (w s : List ℕ) (i n c : ℕ) (long : length w ≡ WORDS) (h : i < ses
       (λ x m q. same (homeAt x) (λ f y e. omega arith) (λ e. q (let z : x ≡ c = omega arith in z)))
       (λ f m e. o (let y : homeIn i 1 ≡ homeIn j (suc f) = sym home-here ∙ e in let z : j ≡ i = omega arith in z)))))
 
+  -- memory stays in order where slot i was free
+  others-show : (j g : ℕ) → j < sessionLimit → g < ENTRY → (j ≡ i → ⊥) → fieldOf w₄ j g ≡ fieldOf w j g
+  others-show j g l m o =
+      keeps w w₄ c j few l lone
+      (λ x y. same (ENTRIES + j * ENTRY + x) (λ f z e. o (let z : j ≡ i = omega arith in z)) (omega arith))
+      (λ x y q. same (homeAt x) (λ f z e. omega arith) (λ e. q (let z : x ≡ c = omega arith in z)))
+      (λ f y e. o (let x : homeIn i 1 ≡ homeIn j (suc f) = sym home-here ∙ e in let z : j ≡ i = omega arith in z)) g m
+
+  own-row : (f : ℕ) → 0 < f → f < ENTRY → rowWord w₄ i f ≡ cond (eqb (rowWord w₄ i 0) 0) 0 (fieldOf w₄ i f)
+  own-row zero o l = absurd (omega arith)
+  own-row (suc zero) o l = live-row w₄ i 1 (λ e. some (sym number-here ∙ e)) (first-here ∙ sym first-shown)
+  own-row (suc (suc zero)) o l = live-row w₄ i 2 (λ e. some (sym number-here ∙ e)) (second-here ∙ sym second-none)
+  own-row (suc (suc (suc f))) o l = absurd (omega arith)
+
+  pub opened-tidy : rowWord w i 0 ≡ 0 → Tidy (memory w s) → Tidy (memory w₄ s)
+  opened-tidy free t =
+      table-tidy w w₄ s t (length-set w₃ (homeAt c) (homeIn i 1) ∙ long₃)
+      (λ a o q. same a (λ f l e. ⊎-elim (λ (y : a < ENTRIES). omega arith) (λ (y : ORDERS ≤ a). omega arith) o) (q c few))
+      (λ j l f o m. row j l f o m (eqb j i) refl)
+      (λ x l. home x l (eqb x c) refl)
+    where
+      row : (j : ℕ) → j < sessionLimit → (f : ℕ) → 0 < f → f < ENTRY → (b : Bool) → eqb j i ≡ b → rowWord w₄ j f ≡ cond (eqb (rowWord w₄ j 0) 0) 0 (fieldOf w₄ j f)
+      row j l f o m true e = let z : i ≡ j = sym (eqb-true j i e) in subst (λ (k : ℕ). rowWord w₄ k f ≡ cond (eqb (rowWord w₄ k 0) 0) 0 (fieldOf w₄ k f)) z (own-row f o m)
+      row j l f o m false e =
+          let q : j ≡ i → ⊥ = eqb-false j i e in
+          let k : (g : ℕ) → g < ENTRY → rowWord w₄ j g ≡ rowWord w j g = (λ g x. same (ENTRIES + j * ENTRY + g) (λ f z e. q (let z : j ≡ i = omega arith in z)) (omega arith)) in
+          same-row w w₄ j f (k 0 (lit< tt)) (k f m) (others-show j f l m q) (t .rows j l f o m)
+
+      shown-still : (x : ℕ) → x < connectionLimit → Shown w x → TidyHome w₄ x
+      shown-still x l y = by (eqb (y .slot) i) refl
+        where
+          by : (b : Bool) → eqb (y .slot) i ≡ b → TidyHome w₄ x
+          by true e =
+              let z : y .slot ≡ i = eqb-true (y .slot) i e in
+              let n : noConnection ≡ x = sym (field-free w i (y .field) (omega (arith, y .some)) free) ∙ ap (λ (k : ℕ). fieldOf w k (y .field)) (sym z) ∙ y .is in
+              absurd (omega arith)
+          by false e =
+              inr record { slot = y .slot; field = y .field; few = y .few; some = y .some; small = y .small; is = others-show (y .slot) (y .field) (y .few) (y .small) (eqb-false (y .slot) i e) ∙ y .is }
+
+      home : (x : ℕ) → x < connectionLimit → (b : Bool) → eqb x c ≡ b → TidyHome w₄ x
+      home x l true e = inr record { slot = i; field = 1; few = h; some = lit< tt; small = lit< tt; is = first-shown ∙ sym (eqb-true x c e) }
+      home x l false e =
+          ⊎-elim
+          (λ (z : homeOf w x ≡ 0). inl (same (homeAt x) (λ f z e. omega arith) (λ q. eqb-false x c e (let z : x ≡ c = omega arith in z)) ∙ z))
+          (λ (y : Shown w x). shown-still x l y)
+          (t .homes x l)
+
 -- connection c, which no slot shows, is the second of the live slot i: two stores
 module _ (w s : List ℕ) (i c : ℕ) (long : length w ≡ WORDS) (h : i < sessionLimit) (lives : rowWord w i 0 ≡ 0 → ⊥) (few : c < connectionLimit) (lone : Unshown w c) where
   abbrev v₁ : List ℕ
@@ -230,6 +279,62 @@ module _ (w s : List ℕ) (i c : ℕ) (long : length w ≡ WORDS) (h : i < sessi
       (λ g m. still (ENTRIES + j * ENTRY + g) (λ e. o (let z : j ≡ i = omega arith in z)) (omega arith))
       other-homes
       (λ f m e. o (let y : homeIn i 2 ≡ homeIn j (suc f) = sym housed ∙ e in let z : j ≡ i = omega arith in z)))))
+
+  -- memory stays in order where slot i had no second connection
+  others-still : (j g : ℕ) → j < sessionLimit → g < ENTRY → (j ≡ i → ⊥) → fieldOf v₂ j g ≡ fieldOf w j g
+  others-still j g l m o =
+      keeps w v₂ c j few l lone
+      (λ x y. still (ENTRIES + j * ENTRY + x) (λ e. o (let z : j ≡ i = omega arith in z)) (omega arith))
+      other-homes
+      (λ f y e. o (let x : homeIn i 2 ≡ homeIn j (suc f) = sym housed ∙ e in let z : j ≡ i = omega arith in z)) g m
+
+  first-still : fieldOf v₂ i 1 ≡ fieldOf w i 1
+  first-still = field-else w v₂ i c 0 few alive (still (ENTRIES + i * ENTRY + 1) (omega arith) (omega arith)) other-homes (lone i 0 h (lit< tt)) (λ e. let y : homeIn i 2 ≡ homeIn i 1 = sym housed ∙ e in omega arith)
+
+  second-now : fieldOf v₂ i 2 ≡ c
+  second-now = field-shown v₂ i 2 (omega arith) (λ e. lives (sym alive ∙ e)) (omega (arith, named)) (ap (homeOf v₂) named ∙ housed) ∙ named
+
+  pub joined-tidy : fieldOf w i 2 ≡ noConnection → Tidy (memory w s) → Tidy (memory v₂ s)
+  joined-tidy none t =
+      table-tidy w v₂ s t (length-set v₁ (homeAt c) (homeIn i 2) ∙ long-v)
+      (λ a o q. still a (λ e. ⊎-elim (λ (y : a < ENTRIES). omega arith) (λ (y : ORDERS ≤ a). omega arith) o) (q c few))
+      (λ j l f o m. row j l f o m (eqb j i) refl)
+      (λ x l. home x l (eqb x c) refl)
+    where
+      own : (f : ℕ) → 0 < f → f < ENTRY → rowWord v₂ i f ≡ cond (eqb (rowWord v₂ i 0) 0) 0 (fieldOf v₂ i f)
+      own zero o l = absurd (omega arith)
+      own (suc zero) o l = same-row w v₂ i 1 alive (still (ENTRIES + i * ENTRY + 1) (omega arith) (omega arith)) first-still (t .rows i h 1 o l)
+      own (suc (suc zero)) o l = live-row v₂ i 2 (λ e. lives (sym alive ∙ e)) (named ∙ sym second-now)
+      own (suc (suc (suc f))) o l = absurd (omega arith)
+
+      row : (j : ℕ) → j < sessionLimit → (f : ℕ) → 0 < f → f < ENTRY → (b : Bool) → eqb j i ≡ b → rowWord v₂ j f ≡ cond (eqb (rowWord v₂ j 0) 0) 0 (fieldOf v₂ j f)
+      row j l f o m true e = let z : i ≡ j = sym (eqb-true j i e) in subst (λ (k : ℕ). rowWord v₂ k f ≡ cond (eqb (rowWord v₂ k 0) 0) 0 (fieldOf v₂ k f)) z (own f o m)
+      row j l f o m false e =
+          let q : j ≡ i → ⊥ = eqb-false j i e in
+          let k : (g : ℕ) → g < ENTRY → rowWord v₂ j g ≡ rowWord w j g = (λ g x. still (ENTRIES + j * ENTRY + g) (λ e. q (let z : j ≡ i = omega arith in z)) (omega arith)) in
+          same-row w v₂ j f (k 0 (lit< tt)) (k f m) (others-still j f l m q) (t .rows j l f o m)
+
+      here-still : (x f : ℕ) → x < connectionLimit → 0 < f → f < ENTRY → fieldOf w i f ≡ x → TidyHome v₂ x
+      here-still x zero l o m e = absurd (omega arith)
+      here-still x (suc zero) l o m e = inr record { slot = i; field = 1; few = h; some = lit< tt; small = lit< tt; is = first-still ∙ e }
+      here-still x (suc (suc zero)) l o m e = let n : noConnection ≡ x = sym none ∙ e in absurd (omega arith)
+      here-still x (suc (suc (suc f))) l o m e = absurd (omega arith)
+
+      shown-still : (x : ℕ) → x < connectionLimit → Shown w x → TidyHome v₂ x
+      shown-still x l y = by (eqb (y .slot) i) refl
+        where
+          by : (b : Bool) → eqb (y .slot) i ≡ b → TidyHome v₂ x
+          by true e = here-still x (y .field) l (y .some) (y .small) (ap (λ (k : ℕ). fieldOf w k (y .field)) (sym (eqb-true (y .slot) i e)) ∙ y .is)
+          by false e =
+              inr record { slot = y .slot; field = y .field; few = y .few; some = y .some; small = y .small; is = others-still (y .slot) (y .field) (y .few) (y .small) (eqb-false (y .slot) i e) ∙ y .is }
+
+      home : (x : ℕ) → x < connectionLimit → (b : Bool) → eqb x c ≡ b → TidyHome v₂ x
+      home x l true e = inr record { slot = i; field = 2; few = h; some = lit< tt; small = lit< tt; is = second-now ∙ sym (eqb-true x c e) }
+      home x l false e =
+          ⊎-elim
+          (λ (z : homeOf w x ≡ 0). inl (other-homes x l (eqb-false x c e) ∙ z))
+          (λ (y : Shown w x). shown-still x l y)
+          (t .homes x l)
 
 -- a closing: the number of slot i is 0, and it shows no connections
 module _ (w s : List ℕ) (i : ℕ) (long : length w ≡ WORDS) (h : i < sessionLimit) where
@@ -325,6 +430,21 @@ opened-by w x₁ x₂ x₃ x₄ s i n c k e₁ e₂ e₃ e₄ e long h some few 
     (e₄ ∙ ap (set x₃ (homeAt c)) e
     ∙ ap (λ (x : List ℕ). set x (homeAt c) (homeIn i 1)) (e₃ ∙ ap (λ (x : List ℕ). set x (ENTRIES + i * ENTRY + 2) noConnection) (e₂ ∙ ap (λ (x : List ℕ). set x (ENTRIES + i * ENTRY + 1) c) e₁)))
     ∙ session-opened w s i n c long h some few lone
+
+pub opened-in-order : (w x₁ x₂ x₃ x₄ s : List ℕ) (i n c k : ℕ) → x₁ ≡ set w (ENTRIES + i * ENTRY + 0) n → x₂ ≡ set x₁ (ENTRIES + i * ENTRY + 1) c → x₃ ≡ set x₂ (ENTRIES + i * ENTRY + 2) noConnection
+    → x₄ ≡ set x₃ (homeAt c) k → k ≡ homeIn i 1 → length w ≡ WORDS → i < sessionLimit → (n ≡ 0 → ⊥) → c < connectionLimit → Unshown w c
+    → rowWord w i 0 ≡ 0 → Tidy (memory w s) → Tidy (memory x₄ s)
+opened-in-order w x₁ x₂ x₃ x₄ s i n c k e₁ e₂ e₃ e₄ e long h some few lone free t =
+    subst (λ (x : List ℕ). Tidy (memory x s))
+    (sym
+    (e₄ ∙ ap (set x₃ (homeAt c)) e
+    ∙ ap (λ (x : List ℕ). set x (homeAt c) (homeIn i 1)) (e₃ ∙ ap (λ (x : List ℕ). set x (ENTRIES + i * ENTRY + 2) noConnection) (e₂ ∙ ap (λ (x : List ℕ). set x (ENTRIES + i * ENTRY + 1) c) e₁))))
+    (opened-tidy w s i n c long h some few lone free t)
+
+pub joined-in-order : (w x₁ x₂ s : List ℕ) (i c k : ℕ) → x₁ ≡ set w (ENTRIES + i * ENTRY + 2) c → x₂ ≡ set x₁ (homeAt c) k → k ≡ homeIn i 2 → length w ≡ WORDS → i < sessionLimit → (rowWord w i 0 ≡ 0 → ⊥) → c < connectionLimit → Unshown w c
+    → fieldOf w i 2 ≡ noConnection → Tidy (memory w s) → Tidy (memory x₂ s)
+joined-in-order w x₁ x₂ s i c k e₁ e₂ e long h lives few lone none t =
+    subst (λ (x : List ℕ). Tidy (memory x s)) (sym (e₂ ∙ ap (set x₁ (homeAt c)) e ∙ ap (λ (x : List ℕ). set x (homeAt c) (homeIn i 2)) e₁)) (joined-tidy w s i c long h lives few lone none t)
 
 pub joined-by : (w x₁ x₂ s : List ℕ) (i c k : ℕ) → x₁ ≡ set w (ENTRIES + i * ENTRY + 2) c → x₂ ≡ set x₁ (homeAt c) k → k ≡ homeIn i 2 → length w ≡ WORDS → i < sessionLimit → (rowWord w i 0 ≡ 0 → ⊥) → c < connectionLimit → Unshown w c
     → view (memory x₂ s) ≡ onEntry (view (memory w s)) i (joined c)

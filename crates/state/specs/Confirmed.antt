@@ -92,6 +92,23 @@ module _ (w w′ : List ℕ) (i : ℕ) where
   field-same p q zero l = p 0 (omega arith)
   field-same p q (suc f) l = confirmed-same f (p 0 (omega arith)) (p (suc f) l) (q (rowWord w i (suc f)))
 
+  -- the same where a connection at home here stays so, and no other comes here
+  pub field-kept : (f : ℕ) → rowWord w′ i 0 ≡ rowWord w i 0 → rowWord w′ i (suc f) ≡ rowWord w i (suc f)
+      → ((c : ℕ) → c < connectionLimit → homeOf w c ≡ homeIn i (suc f) → homeOf w′ c ≡ homeOf w c)
+      → ((c : ℕ) → c < connectionLimit → homeOf w′ c ≡ homeIn i (suc f) → homeOf w c ≡ homeIn i (suc f))
+      → fieldOf w′ i (suc f) ≡ fieldOf w i (suc f)
+  unfolding fieldOf
+  field-kept f p q keep back = by (ltb (rowWord w i (suc f)) connectionLimit) refl (eqb (homeOf w (rowWord w i (suc f))) (homeIn i (suc f))) refl
+    where
+      by : (b : Bool) → ltb (rowWord w i (suc f)) connectionLimit ≡ b → (d : Bool) → eqb (homeOf w (rowWord w i (suc f))) (homeIn i (suc f)) ≡ d → fieldOf w′ i (suc f) ≡ fieldOf w i (suc f)
+      by false l d e = confirmed-same f p q (λ m. absurd (let z : connectionLimit ≤ rowWord w i (suc f) = ltb-false (rowWord w i (suc f)) connectionLimit l in omega arith))
+      by true l true e = confirmed-same f p q (λ m. keep (rowWord w i (suc f)) m (eqb-true (homeOf w (rowWord w i (suc f))) (homeIn i (suc f)) e))
+      by true l false e =
+          let stray : homeOf w (rowWord w i (suc f)) ≡ homeIn i (suc f) → ⊥ = eqb-false (homeOf w (rowWord w i (suc f))) (homeIn i (suc f)) e in
+          let m : rowWord w i (suc f) < connectionLimit = ltb-true (rowWord w i (suc f)) connectionLimit l in
+          stray-shows-none (rowWord w′ i 0) (rowWord w′ i (suc f)) (homeOf w′ (rowWord w′ i (suc f))) (homeIn i (suc f)) (λ t. stray (back (rowWord w i (suc f)) m (ap (homeOf w′) (sym q) ∙ t)))
+          ∙ sym (stray-shows-none (rowWord w i 0) (rowWord w i (suc f)) (homeOf w (rowWord w i (suc f))) (homeIn i (suc f)) stray)
+
   -- the same where one connection c that the slot did not show has another home, which is not here
   pub field-else : (c f : ℕ) → c < connectionLimit → rowWord w′ i 0 ≡ rowWord w i 0 → rowWord w′ i (suc f) ≡ rowWord w i (suc f)
       → ((x : ℕ) → x < connectionLimit → (x ≡ c → ⊥) → homeOf w′ x ≡ homeOf w x)

@@ -12,7 +12,15 @@ pub mod Queue
 pub mod Strings
 pub mod Windows
 pub mod Sharing
+pub mod Wiping
 pub mod Channels
 pub mod Search
 pub mod OneLook
 pub mod Fresh
+pub mod Tidy
+pub mod Keeping
+pub mod Leaving
+pub mod Unsharing
+pub mod Closing
+pub mod OneMemory
+pub mod FreshTidy

@@ -10,9 +10,9 @@ use lib.Dec.{eqb, lit<}
 use lib.ListN.{length}
 use borrow.Author.Tests.{eqb-true, eqb-false, ne-eqb, eq-eqb}
 use Rattle.model.specs.Sizes.{sessionLimit, connectionLimit, noConnection}
-use Rattle.model.specs.State.{Entry, at, live, slotOfNumber}
+use Rattle.model.specs.State.{Entry, at, live, halfOpen, slotOfNumber}
 use Rattle.model.specs.Place.{Role, Role.r-none, Role.r-halfOpen, Role.r-synchronous, Role.r-asynchronous, roleIn, onConnection, placeOf, slotIn, roleOf}
-use Rattle.model.proofs.Basics.{and-l, and-r, inside, pos-past, Sole}
+use Rattle.model.proofs.Basics.{and-l, and-r, inside, pos-passes, pos-past, Sole}
 use Rattle.model.proofs.Place.{place-unique, place-role as role-is, no-role}
 use Rattle.state.specs.Table.{length-tab}
 use Rattle.state.specs.View.{rowWord, homeIn, homeOf, keyOf, fieldOf, entryAt, entriesOf, locksOf}
@@ -40,6 +40,23 @@ pub lives-there : (w s : List ℕ) (n i : ℕ) → slotOfNumber (locksOf w s .en
 lives-there w s n i e h l z =
     let x : Entry = at (locksOf w s .entries) i in
     true≢false (sym l ∙ ap (λ (j : ℕ). live (at (locksOf w s .entries) j)) e ∙ ap not (eq-eqb (x .number) 0 (number-at w s i h ∙ z)))
+
+-- a free slot found
+pub free-there : (w s : List ℕ) (i : ℕ) → slotOfNumber (locksOf w s .entries) 0 ≡ i → i < sessionLimit → rowWord w i 0 ≡ 0
+free-there w s i e h =
+    let es : List Entry = locksOf w s .entries in
+    sym (number-at w s i h) ∙ ap (λ (j : ℕ). (at es j) .number) (sym e) ∙ eqb-true ((at es (slotOfNumber es 0)) .number) 0 (pos-passes (λ (x : Entry). eqb (x .number) 0) es refl)
+
+-- a session that waits for its second connection
+pub half-lives : (e : Entry) → halfOpen e ≡ true → live e ≡ true
+half-lives e h = and-l (live e) (eqb (e .asynchronous) noConnection) h
+
+pub half-there : (w s : List ℕ) (n i : ℕ) → slotOfNumber (locksOf w s .entries) n ≡ i → i < sessionLimit → halfOpen (at (locksOf w s .entries) (slotOfNumber (locksOf w s .entries) n)) ≡ true
+    → fieldOf w i 2 ≡ noConnection
+half-there w s n i e h l =
+    let es : List Entry = locksOf w s .entries in
+    let x : Entry = at es (slotOfNumber es n) in
+    sym (asynchronous-at w s i h) ∙ ap (λ (j : ℕ). (at es j) .asynchronous) (sym e) ∙ eqb-true (x .asynchronous) noConnection (and-r (live x) (eqb (x .asynchronous) noConnection) l)
 
 either : (x y : Bool) → (x || y) ≡ true → (x ≡ true) ⊎ (y ≡ true)
 either true y e = inl refl

@@ -50,7 +50,7 @@ module _ (w s : List ℕ) (a v : ℕ) (o : (a ≡ COUNT) ⊎ (QUEUE ≤ a)) wher
       }
 
   -- a request as its row has it
-  request-row : (i : ℕ) → i < sessionLimit → requestAt (set w a v) s i ≡ requestAt w s i
+  pub request-row : (i : ℕ) → i < sessionLimit → requestAt (set w a v) s i ≡ requestAt w s i
   unfolding requestAt
   request-row i l =
       let n : (g : ℕ) → g < REQUEST → REQUESTS + i * REQUEST + g ≡ a → ⊥ = (λ g x q. ⊎-elim (λ (y : a ≡ COUNT). omega arith) (λ (y : QUEUE ≤ a). omega arith) o) in
@@ -61,11 +61,11 @@ module _ (w s : List ℕ) (a v : ℕ) (o : (a ≡ COUNT) ⊎ (QUEUE ≤ a)) wher
         string = take (off w a v (REQUESTS + i * REQUEST + 1) (n 1 (lit< tt)) k) (part s (stringLimit + i * stringLimit) stringLimit);
       }
 
-slot-here : (w : List ℕ) (k v : ℕ) → k < sessionLimit → length w ≡ WORDS → v < sessionLimit → slotAt (set w (QUEUE + k) v) k ≡ v
+pub slot-here : (w : List ℕ) (k v : ℕ) → k < sessionLimit → length w ≡ WORDS → v < sessionLimit → slotAt (set w (QUEUE + k) v) k ≡ v
 unfolding slotAt
 slot-here w k v h n l = ap (λ (x : ℕ). x % sessionLimit) (here w (QUEUE + k) v (omega arith)) ∙ mod-eq-of-lt l
 
-slot-off : (w : List ℕ) (a v j : ℕ) → (QUEUE + j ≡ a → ⊥) → slotAt (set w a v) j ≡ slotAt w j
+pub slot-off : (w : List ℕ) (a v j : ℕ) → (QUEUE + j ≡ a → ⊥) → slotAt (set w a v) j ≡ slotAt w j
 unfolding slotAt
 slot-off w a v j o = ap (λ (x : ℕ). x % sessionLimit) (off w a v (QUEUE + j) o)
 
@@ -94,6 +94,34 @@ pub moved : (w s : List ℕ) (j k : ℕ) → j < countOf w → k < countOf w →
 moved w s j k h l long =
     slot-placed w s k (slotAt w j) l (slot-small w j) long
     ∙ ap (λ (r : Waiting). onWaiting (view (memory w s)) (λ (x : List Waiting). set x k r)) (sym (waiting-at w s j h))
+
+-- the requests at j and k change places
+pub swapped : (w s : List ℕ) (j k : ℕ) → j < countOf w → k < countOf w → length w ≡ WORDS
+    → view (memory (set (set w (QUEUE + k) (slotAt w j)) (QUEUE + j) (slotAt w k)) s)
+    ≡ onWaiting (view (memory w s)) (λ (x : List Waiting). set (set x k (getD x j noRequest)) j (getD x k noRequest))
+swapped w s j k h l long =
+    let w₁ : List ℕ = set w (QUEUE + k) (slotAt w j) in
+    let c : countOf w₁ ≡ countOf w = ap (λ (x : ℕ). min x sessionLimit) (off w (QUEUE + k) (slotAt w j) COUNT (omega arith)) in
+    let r : requestAt w₁ s (slotAt w k) ≡ getD (locksOf w s .waiting) k noRequest = request-row w s (QUEUE + k) (slotAt w j) (inr (omega arith)) (slotAt w k) (slot-small w k) ∙ sym (waiting-at w s k l) in
+    slot-placed w₁ s j (slotAt w k) (omega arith) (slot-small w k) (length-set w (QUEUE + k) (slotAt w j) ∙ long)
+    ∙ ap (λ (x : Waiting). onWaiting (view (memory w₁ s)) (λ (y : List Waiting). set y j x)) r
+    ∙ ap (λ (d : Server). onWaiting d (λ (y : List Waiting). set y j (getD (locksOf w s .waiting) k noRequest))) (moved w s j k h l long)
+
+-- a place behind the count is not seen
+pub past-count : (w s : List ℕ) (p v : ℕ) → countOf w ≤ p → view (memory (set w (QUEUE + p) v) s) ≡ view (memory w s)
+unfolding locksOf waitingOf
+past-count w s p v h =
+    let a : ℕ = QUEUE + p in
+    λ k. record {
+      locks = record {
+        clock = off w a v CLOCK (omega arith) k % 2 ^ 63;
+        entries = (ap (entriesOf (set w a v)) (key-off w s a v (omega arith)) ∙ entries-off w (keyOf w s) a v (omega arith) (omega arith) (past-homes w a (omega arith)) (inr (omega arith))) k;
+        waiting = (ap (λ (x : ℕ). tab (λ (j : ℕ). requestAt (set w a v) s (slotAt (set w a v) j)) 0 (min x sessionLimit)) (off w a v COUNT (omega arith))
+            ∙ tab-same (λ (j : ℕ). requestAt (set w a v) s (slotAt (set w a v) j)) (λ (j : ℕ). requestAt w s (slotAt w j)) 0 (countOf w)
+            (λ j x y. ap (requestAt (set w a v) s) (slot-off w a v j (omega arith)) ∙ request-row w s a v (inr (omega arith)) (slotAt w j) (slot-small w j))) k;
+      };
+      rest = rest-off w a v (omega arith) k;
+    }
 
 -- the first n are kept
 tab-take : {A : Type 0} (f : ℕ → A) (a m n : ℕ) → n ≤ m → tab f a n ≡ take n (tab f a m)

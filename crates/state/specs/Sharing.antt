@@ -28,7 +28,7 @@ pub no-sharers : (w s : List ℕ) → all noShared (locksOf w s .entries) ≡ tr
 no-sharers w s e = eqb-true (word w SHARERS % 2 ^ sessionLimit) 0 (sym (sharers-test w s) ∙ e)
 
 -- while nobody shares, the shared string is not seen
-unshared-entries : (w k k′ : List ℕ) → word w SHARERS % 2 ^ sessionLimit ≡ 0 → entriesOf w k′ ≡ entriesOf w k
+pub unshared-entries : (w k k′ : List ℕ) → word w SHARERS % 2 ^ sessionLimit ≡ 0 → entriesOf w k′ ≡ entriesOf w k
 unfolding entriesOf entryAt
 unshared-entries w k k′ e =
     tab-same (entryAt w k′) (entryAt w k) 0 sessionLimit

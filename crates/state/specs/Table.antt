@@ -20,6 +20,11 @@ apart zero (suc i) h = inl (omega arith)
 apart (suc j) zero h = inr (omega arith)
 apart (suc j) (suc i) h = ⊎-elim (λ (l : j < i). inl (omega arith)) (λ (l : i < j). inr (omega arith)) (apart j i (λ e. h (ap suc e)))
 
+pub below : (a b : ℕ) → (a < b) ⊎ (b ≤ a)
+below a zero = inr (omega arith)
+below zero (suc b) = inl (omega arith)
+below (suc a) (suc b) = ⊎-elim (λ (l : a < b). inl (omega arith)) (λ (l : b ≤ a). inr (omega arith)) (below a b)
+
 and-left : (x y : Bool) → (x && y) ≡ true → x ≡ true
 and-left true y e = refl
 and-left false y e = e

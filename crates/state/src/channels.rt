@@ -4,8 +4,10 @@ ghost use Rattle.model.specs.Locks.{joined};
 ghost use Rattle.model.specs.Sizes.{connectionLimit, noConnection, sessionLimit};
 ghost use Rattle.state.specs.Change.{onEntry};
 ghost use Rattle.state.specs.Channels.{Unshown, withRow};
+ghost use Rattle.state.specs.Closing.{Cleared, LeftHome};
 ghost use Rattle.state.specs.Layout.{ENTRIES, ENTRY, WORDS};
-ghost use Rattle.state.specs.View.{homeAt, memory, rowWord, view};
+ghost use Rattle.state.specs.Tidy.{Tidy};
+ghost use Rattle.state.specs.View.{fieldOf, homeAt, memory, rowWord, view};
 ghost use lib.ListN.{length, set};
 ghost use mathlib.Core.List.{List};
 ghost use mathlib.Core.Path.{_≡_};
@@ -40,7 +42,7 @@ fn set_home(w: &mut Words, c: u64, v: u64)
 // Session n opens in slot i over connection c.
 pub fn open_session(w: &mut Words, i: usize, n: u64, c: u64)
     requires { ⌜ (i < sessionLimit) × (n ≡ 0 → ⊥) × (c < connectionLimit) × Unshown (now w) c ⌝ }
-    ensures { λ _. ⌜ ((s : List ℕ) → view (memory (now (w .exit)) s) ≡ onEntry (view (memory (now (w .entry)) s)) i (withRow n c noConnection)) ⌝ }
+    ensures { λ _. ⌜ ((s : List ℕ) → view (memory (now (w .exit)) s) ≡ onEntry (view (memory (now (w .entry)) s)) i (withRow n c noConnection)) × ((s : List ℕ) → rowWord (now (w .entry)) i 0 ≡ 0 → Tidy (memory (now (w .entry)) s) → Tidy (memory (now (w .exit)) s)) ⌝ }
 {
     set_row(w, i, NUMBER, n);
     set_row(w, i, SYNCHRONOUS, c);
@@ -51,7 +53,7 @@ pub fn open_session(w: &mut Words, i: usize, n: u64, c: u64)
 // Connection c is the second of slot i, which is live.
 pub fn join_session(w: &mut Words, i: usize, c: u64)
     requires { ⌜ (i < sessionLimit) × (rowWord (now w) i 0 ≡ 0 → ⊥) × (c < connectionLimit) × Unshown (now w) c ⌝ }
-    ensures { λ _. ⌜ ((s : List ℕ) → view (memory (now (w .exit)) s) ≡ onEntry (view (memory (now (w .entry)) s)) i (joined c)) ⌝ }
+    ensures { λ _. ⌜ ((s : List ℕ) → view (memory (now (w .exit)) s) ≡ onEntry (view (memory (now (w .entry)) s)) i (joined c)) × ((s : List ℕ) → fieldOf (now (w .entry)) i 2 ≡ noConnection → Tidy (memory (now (w .entry)) s) → Tidy (memory (now (w .exit)) s)) ⌝ }
 {
     set_row(w, i, ASYNCHRONOUS, c);
     set_home(w, c, tables::home_in(i, ASYNCHRONOUS));
@@ -60,7 +62,7 @@ pub fn join_session(w: &mut Words, i: usize, c: u64)
 // The connection at a place in the row of slot i, which is free, has no home there any more.
 fn leave_home(w: &mut Words, i: usize, f: usize)
     requires { ⌜ (i < sessionLimit) × (0 < f) × (f < 3) × (rowWord (now w) i 0 ≡ 0) ⌝ }
-    ensures { λ _. ⌜ ((s : List ℕ) → view (memory (now (w .exit)) s) ≡ view (memory (now (w .entry)) s)) × (rowWord (now (w .exit)) i 0 ≡ 0) ⌝ }
+    ensures { λ _. ⌜ ((s : List ℕ) → view (memory (now (w .exit)) s) ≡ view (memory (now (w .entry)) s)) × (rowWord (now (w .exit)) i 0 ≡ 0) × LeftHome (now (w .entry)) (now (w .exit)) i f ⌝ }
 {
     let c = tables::row(w, i, f);
     if c >= CONNECTIONS {
@@ -75,7 +77,7 @@ fn leave_home(w: &mut Words, i: usize, f: usize)
 // The place is 0 again, as in a fresh server.
 fn clear_place(w: &mut Words, i: usize, f: usize)
     requires { ⌜ (i < sessionLimit) × (0 < f) × (f < 3) × (rowWord (now w) i 0 ≡ 0) ⌝ }
-    ensures { λ _. ⌜ ((s : List ℕ) → view (memory (now (w .exit)) s) ≡ view (memory (now (w .entry)) s)) × (rowWord (now (w .exit)) i 0 ≡ 0) ⌝ }
+    ensures { λ _. ⌜ ((s : List ℕ) → view (memory (now (w .exit)) s) ≡ view (memory (now (w .entry)) s)) × (rowWord (now (w .exit)) i 0 ≡ 0) × Cleared (now (w .entry)) (now (w .exit)) i f ⌝ }
 {
     leave_home(w, i, f);
     set_row(w, i, f, 0);
@@ -84,7 +86,7 @@ fn clear_place(w: &mut Words, i: usize, f: usize)
 // The session of slot i closes: nothing of its row and its connections' homes is left.
 pub fn close_session(w: &mut Words, i: usize)
     requires { ⌜ i < sessionLimit ⌝ }
-    ensures { λ _. ⌜ ((s : List ℕ) → view (memory (now (w .exit)) s) ≡ onEntry (view (memory (now (w .entry)) s)) i (withRow 0 noConnection noConnection)) ⌝ }
+    ensures { λ _. ⌜ ((s : List ℕ) → view (memory (now (w .exit)) s) ≡ onEntry (view (memory (now (w .entry)) s)) i (withRow 0 noConnection noConnection)) × ((s : List ℕ) → Tidy (memory (now (w .entry)) s) → Tidy (memory (now (w .exit)) s)) ⌝ }
 {
     set_row(w, i, NUMBER, 0);
     clear_place(w, i, SYNCHRONOUS);

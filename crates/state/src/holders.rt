@@ -1,11 +1,13 @@
 // Who holds which lock, in one look: the word of the exclusive holder and the set of those that share, a bit for each slot.
 ghost use Prim.Native.Nat.{ℕ, _*_, _+_, _/_, _<_, _≤_, _%_, _^_};
 ghost use Rattle.model.specs.Lists.{all, allBut};
-ghost use Rattle.model.specs.Locks.{give, noExclusive, noShared, withoutExclusive, withoutShared};
+ghost use Rattle.model.specs.Locks.{give, noExclusive, noShared, withoutExclusive};
 ghost use Rattle.model.specs.State.{at};
 ghost use Rattle.state.specs.Bits.{bit, with-bit, without};
 ghost use Rattle.state.specs.Change.{onEntry};
 ghost use Rattle.state.specs.Holders.{NoOther};
+ghost use Rattle.state.specs.Tidy.{Tidy};
+ghost use lib.ListN.{set};
 ghost use Rattle.state.specs.View.{keyOf, locksOf, memory, view, word};
 ghost use mathlib.Core.Bool.{not};
 ghost use mathlib.Core.List.{List, []};
@@ -55,10 +57,10 @@ pub fn no_other_exclusive(w: &Words, i: usize) -> bool
 }
 
 // Sets of slots, a bit each.
-const SETS: u64 = 1 << SESSION_LIMIT;
+pub const SETS: u64 = 1 << SESSION_LIMIT;
 
 // Bit i of a set.
-fn bit_of(m: u64, i: usize) -> u64
+pub fn bit_of(m: u64, i: usize) -> u64
     requires { ⌜ i < sessionLimit ⌝ }
     ensures { λ r. ⌜ r ≡ bit m i ⌝ }
 {
@@ -72,7 +74,8 @@ fn power_of(i: usize) -> u64
     1 << i
 }
 
-fn taken_out(m: u64, i: usize) -> u64
+// Without slot i.
+pub fn taken_out(m: u64, i: usize) -> u64
     requires { ⌜ i < sessionLimit ⌝ }
     ensures { λ r. ⌜ r ≡ without m i ⌝ }
 {
@@ -82,7 +85,8 @@ fn taken_out(m: u64, i: usize) -> u64
     m
 }
 
-fn put_in(m: u64, i: usize) -> u64
+// With slot i.
+pub fn put_in(m: u64, i: usize) -> u64
     requires { ⌜ i < sessionLimit ⌝ }
     ensures { λ r. ⌜ r ≡ with-bit sessionLimit m i ⌝ }
 {
@@ -107,7 +111,7 @@ pub fn nobody_shares(w: &Words) -> bool
 // Slot i gets the exclusive lock, which nobody else holds.
 pub fn give_exclusive(w: &mut Words, i: usize)
     requires { ⌜ (i < sessionLimit) × NoOther (now w) i ⌝ }
-    ensures { λ _. ⌜ ((s : List ℕ) → view (memory (now (w .exit)) s) ≡ onEntry (view (memory (now (w .entry)) s)) i (give [])) ⌝ }
+    ensures { λ _. ⌜ ((s : List ℕ) → view (memory (now (w .exit)) s) ≡ onEntry (view (memory (now (w .entry)) s)) i (give [])) × ((s : List ℕ) → Tidy (memory (now (w .entry)) s) → Tidy (memory (now (w .exit)) s)) ⌝ }
 {
     store(w, HOLDER, i as u64 + 1);
 }
@@ -115,7 +119,7 @@ pub fn give_exclusive(w: &mut Words, i: usize)
 // Slot i holds the exclusive lock no more, if it did.
 pub fn drop_exclusive(w: &mut Words, i: usize)
     requires { ⌜ i < sessionLimit ⌝ }
-    ensures { λ _. ⌜ ((s : List ℕ) → view (memory (now (w .exit)) s) ≡ onEntry (view (memory (now (w .entry)) s)) i withoutExclusive) ⌝ }
+    ensures { λ _. ⌜ ((s : List ℕ) → view (memory (now (w .exit)) s) ≡ onEntry (view (memory (now (w .entry)) s)) i withoutExclusive) × ((s : List ℕ) → Tidy (memory (now (w .entry)) s) → Tidy (memory (now (w .exit)) s)) ⌝ }
 {
     sized(w);
     if w[HOLDER] == i as u64 + 1 {
@@ -123,19 +127,10 @@ pub fn drop_exclusive(w: &mut Words, i: usize)
     }
 }
 
-// Slot i holds the shared lock no more, if it did.
-pub fn drop_shared(w: &mut Words, i: usize)
-    requires { ⌜ i < sessionLimit ⌝ }
-    ensures { λ _. ⌜ ((s : List ℕ) → view (memory (now (w .exit)) s) ≡ onEntry (view (memory (now (w .entry)) s)) i withoutShared) ⌝ }
-{
-    let m = taken_out(w[SHARERS], i);
-    store(w, SHARERS, m);
-}
-
 // Slot i joins those that share, with their string.
 pub fn join_sharers(w: &mut Words, i: usize)
     requires { ⌜ i < sessionLimit ⌝ }
-    ensures { λ _. ⌜ ((s : List ℕ) → view (memory (now (w .exit)) s) ≡ onEntry (view (memory (now (w .entry)) s)) i (give (keyOf (now (w .entry)) s))) ⌝ }
+    ensures { λ _. ⌜ ((s : List ℕ) → view (memory (now (w .exit)) s) ≡ onEntry (view (memory (now (w .entry)) s)) i (give (keyOf (now (w .entry)) s))) × ((s : List ℕ) → Tidy (memory (now (w .entry)) s) → Tidy (memory (now (w .exit)) s)) ⌝ }
 {
     let m = put_in(w[SHARERS], i);
     store(w, SHARERS, m);
@@ -144,7 +139,7 @@ pub fn join_sharers(w: &mut Words, i: usize)
 // The same where nobody shares: slot i is the only one.
 pub fn first_sharer(w: &mut Words, i: usize)
     requires { ⌜ (i < sessionLimit) × (word (now w) SHARERS % 2 ^ sessionLimit ≡ 0) ⌝ }
-    ensures { λ _. ⌜ ((s : List ℕ) → view (memory (now (w .exit)) s) ≡ onEntry (view (memory (now (w .entry)) s)) i (give (keyOf (now (w .entry)) s))) ⌝ }
+    ensures { λ _. ⌜ ((s : List ℕ) → view (memory (now (w .exit)) s) ≡ onEntry (view (memory (now (w .entry)) s)) i (give (keyOf (now (w .entry)) s))) × (now (w .exit) ≡ set (now (w .entry)) SHARERS (2 ^ i)) × (2 ^ i < 2 ^ sessionLimit) ⌝ }
 {
     let m = power_of(i);
     store(w, SHARERS, m);

@@ -1,11 +1,9 @@
 // Lock requests: a row and a place for a string for each slot, and the queue of those that wait, oldest first.
 ghost use Prim.Native.Nat.{ℕ, _*_, _+_, _<_, _≤_, min};
-ghost use Rattle.model.specs.Lists.{all, same};
-ghost use Rattle.model.specs.Locks.{fits, give};
-ghost use Rattle.state.specs.Bits.{with-bit};
-ghost use Rattle.state.specs.Change.{onEntry};
+ghost use Rattle.model.specs.Lists.{same};
 ghost use Rattle.state.specs.Queue.{noRequest, onWaiting};
 ghost use Rattle.state.specs.Requests.{Idle, countOf, stringAt};
+ghost use Rattle.state.specs.Tidy.{Tidy};
 ghost use Rattle.state.specs.View.{keyOf, locksOf, memory, requestAt, view};
 ghost use Rattle.wire.specs.Splice.{splice};
 ghost use lib.ListN.{drop, getD, length, set, take};
@@ -28,9 +26,10 @@ use crate::sizes::Words;
 use crate::words::store;
 
 // the shared string has a first byte, and so many more at the most
-const KEY_REST: usize = STRING_LIMIT - 1;
+pub const KEY_REST: usize = STRING_LIMIT - 1;
 
-fn least(a: u64, b: usize) -> usize
+// The lesser of the two.
+pub fn least(a: u64, b: usize) -> usize
     requires { ⌜ b ≤ stringLimit ⌝ }
     ensures { λ r. ⌜ (r ≡ min a b) × (r ≤ b) ⌝ }
 {
@@ -71,48 +70,35 @@ pub fn string_length(w: &Words, i: usize) -> usize
     least(w[REQUESTS + i * REQUEST + 1], STRING_LIMIT)
 }
 
-// The j-th request that waits is put at place k of the queue.
-pub fn move_waiting(w: &mut Words, j: usize, k: usize)
+// The j-th request that waits and the k-th change places: the same slots go on waiting.
+pub fn swap_waiting(w: &mut Words, j: usize, k: usize)
     requires { ⌜ (j < countOf (now w)) × (k < countOf (now w)) ⌝ }
-    ensures { λ _. ⌜ ((s : List ℕ) → view (memory (now (w .exit)) s) ≡ onWaiting (view (memory (now (w .entry)) s)) (λ x. set x k (getD x j noRequest))) ⌝ }
+    ensures { λ _. ⌜ ((s : List ℕ) → view (memory (now (w .exit)) s) ≡ onWaiting (view (memory (now (w .entry)) s)) (λ x. set (set x k (getD x j noRequest)) j (getD x k noRequest))) × ((s : List ℕ) → Tidy (memory (now (w .entry)) s) → Tidy (memory (now (w .exit)) s)) ⌝ }
 {
     let x = w[QUEUE + j] % SESSIONS;
+    let y = w[QUEUE + k] % SESSIONS;
     store(w, QUEUE + k, x);
+    store(w, QUEUE + j, y);
 }
 
-// Only the first n go on waiting.
-pub fn keep_first(w: &mut Words, n: usize)
-    requires { ⌜ n ≤ countOf (now w) ⌝ }
-    ensures { λ _. ⌜ ((s : List ℕ) → view (memory (now (w .exit)) s) ≡ onWaiting (view (memory (now (w .entry)) s)) (take n)) ⌝ }
+fn put_request_in(w: &mut [u64], strings: &mut [u8], i: usize, deadline: u64, string: &[u8])
+    requires { ⌜ (i < sessionLimit) × (length (now string) ≤ stringLimit) × (length (now w) ≡ WORDS) × (length (now strings) ≡ STRINGS) × (countOf (now w) < sessionLimit) × Idle (now w) i ⌝ }
+    ensures { λ _. ⌜ (view (memory (now (w .exit)) (now (strings .exit))) ≡ onWaiting (view (memory (now (w .entry)) (now (strings .entry)))) (λ x. x ++ (record { slot = i; deadline = deadline; string = now (string .entry) } ∷ []))) × (Tidy (memory (now (w .entry)) (now (strings .entry))) → Tidy (memory (now (w .exit)) (now (strings .exit)))) ⌝ }
 {
-    store(w, COUNT, n as u64);
-}
-
-// Slot i's request, its string laid already, goes to the end of the queue with a deadline.
-pub fn queue_request(w: &mut Words, i: usize, deadline: u64)
-    requires { ⌜ (i < sessionLimit) × (countOf (now w) < sessionLimit) × Idle (now w) i ⌝ }
-    ensures { λ _. ⌜ ((s : List ℕ) → view (memory (now (w .exit)) s) ≡ onWaiting (view (memory (now (w .entry)) s)) (λ x. x ++ (record { slot = i; deadline = deadline; string = stringAt (now (w .entry)) s i } ∷ []))) ⌝ }
-{
-    let n = waiting_count(w);
-    store(w, REQUESTS + i * REQUEST + 0, deadline);
-    store(w, QUEUE + n, i as u64);
-    store(w, COUNT, n as u64 + 1);
-}
-
-fn lay_request_in(w: &mut [u64], strings: &mut [u8], i: usize, string: &[u8])
-    requires { ⌜ (i < sessionLimit) × (length (now string) ≤ stringLimit) × (length (now w) ≡ WORDS) × (length (now strings) ≡ STRINGS) × Idle (now w) i ⌝ }
-    ensures { λ _. ⌜ (view (memory (now (w .exit)) (now (strings .exit))) ≡ view (memory (now (w .entry)) (now (strings .entry)))) × (stringAt (now (w .exit)) (now (strings .exit)) i ≡ now (string .entry)) ⌝ }
-{
+    let n = least(w[COUNT], SESSION_LIMIT);
     wire::frame::put_payload(strings, STRING_LIMIT + i * STRING_LIMIT, string);
     w[REQUESTS + i * REQUEST + 1] = string.len() as u64;
+    w[REQUESTS + i * REQUEST + 0] = deadline;
+    w[QUEUE + n] = i as u64;
+    w[COUNT] = n as u64 + 1;
 }
 
-// The string of a request of slot i, which does not wait, is laid into its place. Nobody sees it yet.
-pub fn lay_request(w: &mut Words, strings: &mut Strings, i: usize, string: &[u8])
-    requires { ⌜ (i < sessionLimit) × (length (now string) ≤ stringLimit) × Idle (now w) i ⌝ }
-    ensures { λ _. ⌜ (view (memory (now (w .exit)) (now (strings .exit))) ≡ view (memory (now (w .entry)) (now (strings .entry)))) × (stringAt (now (w .exit)) (now (strings .exit)) i ≡ now (string .entry)) ⌝ }
+// The request of slot i, which does not wait, goes to the end of the queue with a string and a deadline.
+pub fn put_request(w: &mut Words, strings: &mut Strings, i: usize, deadline: u64, string: &[u8])
+    requires { ⌜ (i < sessionLimit) × (length (now string) ≤ stringLimit) × (countOf (now w) < sessionLimit) × Idle (now w) i ⌝ }
+    ensures { λ _. ⌜ (view (memory (now (w .exit)) (now (strings .exit))) ≡ onWaiting (view (memory (now (w .entry)) (now (strings .entry)))) (λ x. x ++ (record { slot = i; deadline = deadline; string = now (string .entry) } ∷ []))) × (Tidy (memory (now (w .entry)) (now (strings .entry))) → Tidy (memory (now (w .exit)) (now (strings .exit)))) ⌝ }
 {
-    lay_request_in(w, strings, i, string);
+    put_request_in(w, strings, i, deadline, string);
 }
 
 fn same_parts(strings: &[u8], k: usize, a: usize, n: usize) -> bool

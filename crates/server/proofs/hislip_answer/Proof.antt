@@ -145,7 +145,8 @@ returns-7 c = let a = c .before .before .before .before .before .before .before 
     let k : mayAnswer e x ≡ true = c .before .before .before .before .before .before .before .before .before .before .before .may-answer .ensures s ∙ not-false (c .before .before .before .before .before .before .before .before .before .before .before .may-answer .result) (c .before .before .before .before .before .before .before .before .before .before .if4 .left) in
     let z : c .before .before .before .before .before .before .before .exchange .result ≡ x .clientSize = size-read x (c .before .before .before .before .before .before .before .exchange .result) (c .before .before .before .before .before .before .before .exchange .ensures .0) in
     answer-call (a .session) i p end sh room _ m _ out _ found (answer-taken d (a .session) i p end sh room found r1 l k (c .before .before .before .before .before .before .before .before .before .if5 .left) (omega arith))
-    (same-end d _ i end (c .before .before .before .before .before .is-set .result) p sh _ out _ (c .before .before .before .before .before .is-set .ensures) (c .before .before .give-answer .ensures s))
+    (same-end d _ i end (c .before .before .before .before .before .is-set .result) p sh _ out _ (c .before .before .before .before .before .is-set .ensures) (c .before .before .give-answer .ensures .0 s))
+    (c .before .before .give-answer .ensures .1 s)
 
 pub hislip-answer-spec : {M : Type 1} → statement M
 hislip-answer-spec =

@@ -47,7 +47,7 @@ returns-4 c = let a = c .before .before .before .before .before .before .before 
     let d = view m in
     let out = a .out .now in
     let room = length out in
-    cut-call (a .connection) (c .before .before .before .before .before .before .before .place-of .result .slot) room _ m _ out _ (c .before .before .before .close-place .result) (is-open d (cut (a .connection) room) room (a .connection) (cut-causes d room (a .connection)) (c .before .before .before .before .before .before .before .before .before .before .before .before .before .if1 .left) (omega arith) (sym (ap (λ (x : Connection). x .isOpen) (c .before .before .before .before .before .before .before .before .before .before .connection .ensures .0)) ∙ eq-eqb (c .before .before .before .before .before .before .before .before .before .before .connection .result) 1 (c .before .before .before .before .before .before .before .before .before .if3 .left))) (c .before .before .before .before .before .before .before .place-of .ensures .1 s) (c .before .before .before .close-place .ensures) (c .told4 .ensures)
+    cut-call (a .connection) (c .before .before .before .before .before .before .before .place-of .result .slot) room _ m _ out _ (c .before .before .before .close-place .result) (is-open d (cut (a .connection) room) room (a .connection) (cut-causes d room (a .connection)) (c .before .before .before .before .before .before .before .before .before .before .before .before .before .if1 .left) (omega arith) (sym (ap (λ (x : Connection). x .isOpen) (c .before .before .before .before .before .before .before .before .before .before .connection .ensures .0)) ∙ eq-eqb (c .before .before .before .before .before .before .before .before .before .before .connection .result) 1 (c .before .before .before .before .before .before .before .before .before .if3 .left))) (c .before .before .before .before .before .before .before .place-of .ensures .1 s) (c .before .before .before .close-place .ensures .0) (c .told4 .ensures) (c .before .before .before .close-place .ensures .1)
 
 pub hislip-cut-spec : {M : Type 1} → statement M
 hislip-cut-spec =

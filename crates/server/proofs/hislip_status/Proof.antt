@@ -9,7 +9,7 @@ returns : tie.Need-returns
 returns c =
     let a = c .before .before .args in
     let s = a .strings .now in
-    status-call (a .status) (memory (a .words .now) s) _ (c .set-status .ensures s)
+    (status-call (a .status) (memory (a .words .now) s) _ (c .set-status .ensures .0 s), c .set-status .ensures .1 s)
 
 pub hislip-status-spec : {M : Type 1} → statement M
 hislip-status-spec = tie.close (tie.spec (λ c κs. search needs) returns)

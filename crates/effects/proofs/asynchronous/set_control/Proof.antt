@@ -10,8 +10,10 @@ returns : tie.Need-returns
 returns c =
     let a = c .before .before .before .before .before .args in
     let f = c .before .before .before .flags-of in
-    let g = c .before .commanded in
-    λ s. controls (view (memory (a .w .now) s)) _ (a .code) (shown (f .result)) (shown (g .result)) (f .ensures) (g .ensures) (c .set-flags .ensures s)
+    let g = c .before .commanded in (
+      λ s. controls (view (memory (a .w .now) s)) _ (a .code) (shown (f .result)) (shown (g .result)) (f .ensures) (g .ensures) (c .set-flags .ensures .0 s),
+      c .set-flags .ensures .1,
+    )
 
 pub set-control-spec : {M : Type 1} → statement M
 set-control-spec =

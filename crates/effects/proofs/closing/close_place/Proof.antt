@@ -6,7 +6,10 @@ use Rattle.effects.proofs.closing.close_place.Statement.{statement}
 use Rattle.effects.proofs.closing.close_place.Tie as tie
 
 returns : tie.Need-returns
-returns c = let a = c .before .before .before .before .before .before .before .before .before .args in closes _ (a .c) (a .i) _ _ _ _ _ _ (c .before .before .before .before .before .before .close-parts .ensures (a .strings .now)) (c .before .before .grant-waiting .ensures)
+returns c = let a = c .before .before .before .before .before .before .before .before .before .before .args in
+    let x = c .before .before .before .before .before .before .close-parts .ensures in
+    let y = c .before .before .grant-waiting .ensures in
+    (closes _ (a .c) (a .i) _ _ _ _ _ _ (x .0) y, λ t. y .tidy (x .1 t))
 
 pub close-place-spec : {M : Type 1} → statement M
 close-place-spec =

@@ -13,24 +13,28 @@ use Rattle.effects.proofs.closing.shut_channels.Statement.{statement}
 use Rattle.effects.proofs.closing.shut_channels.Tie as tie
 
 returns : tie.Need-returns
-returns c = let a = c .before .before .before .before .before .before .before .args in
-    λ s. let e : Entry = at (locksOf (a .w .now) s .entries) (a .i) in
-    let d : Server = view (memory (a .w .now) s) in
-    let x = c .before .before .before .before .before .entry .result % 256 in
-    let y = c .before .before .before .entry2 .result % 256 in
-    let p = synchronous-read e (c .before .before .before .before .before .entry .result) (c .before .before .before .before .before .entry .ensures .0 s) in
-    let q = asynchronous-read e (c .before .before .before .entry2 .result) (c .before .before .before .entry2 .ensures .0 s) in
-    c .before .shut-connection .ensures s ∙ ap (λ (l : List ℕ). onRest d (λ (r : Rest). withConnections r (shutAll (r .connections) l))) (sym (one-channel e x y p q (c .if1 .taken)))
+returns c = let a = c .before .before .before .before .before .before .before .args in (
+  λ s. let e : Entry = at (locksOf (a .w .now) s .entries) (a .i) in
+      let d : Server = view (memory (a .w .now) s) in
+      let x = c .before .before .before .before .before .entry .result % 256 in
+      let y = c .before .before .before .entry2 .result % 256 in
+      let p = synchronous-read e (c .before .before .before .before .before .entry .result) (c .before .before .before .before .before .entry .ensures .0 s) in
+      let q = asynchronous-read e (c .before .before .before .entry2 .result) (c .before .before .before .entry2 .ensures .0 s) in
+      c .before .shut-connection .ensures .0 s ∙ ap (λ (l : List ℕ). onRest d (λ (r : Rest). withConnections r (shutAll (r .connections) l))) (sym (one-channel e x y p q (c .if1 .taken))),
+  λ s. c .before .shut-connection .ensures .1 s,
+)
 
 returns-2 : tie.Need-returns-2
-returns-2 c = let a = c .before .before .before .before .before .before .before .before .before .args in
-    λ s. let e : Entry = at (locksOf (a .w .now) s .entries) (a .i) in
-    let d : Server = view (memory (a .w .now) s) in
-    let x = c .before .before .before .before .before .before .before .entry .result % 256 in
-    let y = c .before .before .before .before .before .entry2 .result % 256 in
-    let p = synchronous-read e (c .before .before .before .before .before .before .before .entry .result) (c .before .before .before .before .before .before .before .entry .ensures .0 s) in
-    let q = asynchronous-read e (c .before .before .before .before .before .entry2 .result) (c .before .before .before .before .before .entry2 .ensures .0 s) in
-    shut-both d _ _ x y (c .before .before .before .shut-connection .ensures s) (c .shut-connection2 .ensures s) ∙ ap (λ (l : List ℕ). onRest d (λ (r : Rest). withConnections r (shutAll (r .connections) l))) (sym (two-channels e x y p q (c .before .before .if1 .left)))
+returns-2 c = let a = c .before .before .before .before .before .before .before .before .before .args in (
+  λ s. let e : Entry = at (locksOf (a .w .now) s .entries) (a .i) in
+      let d : Server = view (memory (a .w .now) s) in
+      let x = c .before .before .before .before .before .before .before .entry .result % 256 in
+      let y = c .before .before .before .before .before .entry2 .result % 256 in
+      let p = synchronous-read e (c .before .before .before .before .before .before .before .entry .result) (c .before .before .before .before .before .before .before .entry .ensures .0 s) in
+      let q = asynchronous-read e (c .before .before .before .before .before .entry2 .result) (c .before .before .before .before .before .entry2 .ensures .0 s) in
+      shut-both d _ _ x y (c .before .before .before .shut-connection .ensures .0 s) (c .shut-connection2 .ensures .0 s) ∙ ap (λ (l : List ℕ). onRest d (λ (r : Rest). withConnections r (shutAll (r .connections) l))) (sym (two-channels e x y p q (c .before .before .if1 .left))),
+  λ s t. c .shut-connection2 .ensures .1 s (c .before .before .before .shut-connection .ensures .1 s t),
+)
 
 pub shut-channels-spec : {M : Type 1} → statement M
 shut-channels-spec =

@@ -1,5 +1,6 @@
 -- `opening::enter_session` meets its contract: the slot, the exchange, the number.
-use lib.Dec.{eqb}
+use native.Mathlib.Omega.{arith}
+use lib.Dec.{eqb, lit<}
 use Rattle.effects.specs.Mode.{preference-read}
 use Rattle.effects.specs.Opening.{session-entered}
 use Rattle.state.specs.View.{memory, view}
@@ -8,13 +9,17 @@ use Rattle.effects.proofs.opening.enter_session.Statement.{statement}
 use Rattle.effects.proofs.opening.enter_session.Tie as tie
 
 enter-slot-requires : tie.Need-enter-slot-requires
-enter-slot-requires c κs = let p = c .before .pre in (search needs, p .2, search needs, p .4)
+enter-slot-requires c κs = let p = c .before .before .pre in (search needs, p .2, search needs, p .4, p .5)
 
 returns : tie.Need-returns
-returns c = let a = c .before .before .before .before .before .before .before .before .args in
+returns c = let a = c .before .before .before .before .before .before .before .before .before .args in
     let x = c .before .before .before .before .single in
-    λ s. session-entered (view (memory (a .w .now) s)) _ _ _ _ (a .i) (a .n) (eqb (x .result) 1) (search needs) (c .before .before .before .before .before .before .enter-slot .ensures s .locks) (c .before .before .before .before .before .before .enter-slot .ensures s .rest) (preference-read _ (x .result) (x .ensures .0))
-    (c .before .before .renew-exchange .ensures s) (c .set-single .ensures s)
+    let e = c .before .before .before .before .before .before .enter-slot .ensures in
+    let y = c .before .before .renew-exchange .ensures in
+    let z = c .set-single .ensures in (
+      session-entered (view (memory (a .w .now) (a .strings .now))) _ _ _ _ (a .i) (a .n) (eqb (x .result) 1) (search needs) (e .locks) (e .rest) (preference-read _ (x .result) (x .ensures .0)) (y .0 _) (z .0 _),
+      λ t. z .1 _ (search needs) (y .1 _ (omega (arith, x .ensures .1, e .tidy t .values 1 (lit< tt))) (e .tidy t)),
+    )
 
 pub enter-session-spec : {M : Type 1} → statement M
 enter-session-spec =

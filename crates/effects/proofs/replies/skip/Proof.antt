@@ -18,9 +18,10 @@ unfolding bytesOf
 returns c = let a = c .before .before .before .args in
     λ s out. did-plainly (view (memory (a .w .now) s)) (took skipped (a .taken) 0) (withConnection (restOf (a .w .now)) (a .c) (openConnection ((connectionAt (restOf (a .w .now)) (a .c)) .remainder - a .taken))) [] _ _ _ _ _
     (ap numbersOf (c .quiet .ensures))
-    (c .before .keep-open .ensures s ∙ ap (λ (x : ℕ). onRest (view (memory (a .w .now) s)) (λ (q : Rest). withConnection q (a .c) (openConnection (x - a .taken)))) (c .before .before .before .pre .2))
+    (c .before .keep-open .ensures .0 s ∙ ap (λ (x : ℕ). onRest (view (memory (a .w .now) s)) (λ (q : Rest). withConnection q (a .c) (openConnection (x - a .taken)))) (c .before .before .before .pre .2))
     (nothing-said out)
     refl
+    (c .before .keep-open .ensures .1 s)
 
 pub skip-spec : {M : Type 1} → statement M
 skip-spec = tie.close (tie.spec (λ c. search needs) (λ c κs. search needs) (λ c κs. search needs) returns)

@@ -12,8 +12,10 @@ mul-result c =
     search (needs, h)
 
 returns : tie.Need-returns
-returns c =
-    rw (c .before .before .same-number .ensures .0, c .same-number2 .ensures .0, c .before .wide .ensures) (both-on (eqb (c .before .before .before .args .word) 1) (eqb (c .before .before .before .args .code) 1))
+returns c = (
+  rw (c .before .before .same-number .ensures .0, c .same-number2 .ensures .0, c .before .wide .ensures) (both-on (eqb (c .before .before .before .args .word) 1) (eqb (c .before .before .before .args .code) 1)),
+  rw (c .before .before .same-number .ensures .0, c .same-number2 .ensures .0) (both-small (eqb (c .before .before .before .args .word) 1) (eqb (c .before .wide .result) 1)),
+)
 
 pub left-by-spec : {M : Type 1} → statement M
 left-by-spec = tie.close (tie.spec (λ c κs. search needs) (λ c κs. search needs) (λ c κs. search needs) (λ c. search needs) mul-result returns)

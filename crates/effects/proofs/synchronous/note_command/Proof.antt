@@ -10,13 +10,18 @@ use Rattle.effects.proofs.synchronous.note_command.Statement.{statement
 use Rattle.effects.proofs.synchronous.note_command.Tie as tie
 
 returns : tie.Need-returns
-returns c = let a = c .before .before .before .args in λ s. c .note-rmt .ensures s ∙ notes-data (view (memory (a .w .now) s)) (a .i) (a .kind) (a .code) (a .param) (c .before .before .if1 .taken)
+returns c = let a = c .before .before .before .args in (
+  λ s. c .note-rmt .ensures .0 s ∙ notes-data (view (memory (a .w .now) s)) (a .i) (a .kind) (a .code) (a .param) (c .before .before .if1 .taken),
+  c .note-rmt .ensures .1,
+)
 
 returns-2 : tie.Need-returns-2
-returns-2 c = let a = c .before .before .before .before .args in
-    λ s. c .note-asked .ensures s
-    ∙ ap (λ (n : ℕ). onRest (view (memory (a .w .now) s)) (withSlot (a .i) (ask (a .code) n))) (c .before .new .ensures)
-    ∙ notes-ask (view (memory (a .w .now) s)) (a .i) (a .kind) (a .code) (a .param) (c .before .before .before .if1 .left)
+returns-2 c = let a = c .before .before .before .before .args in (
+  λ s. c .note-asked .ensures .0 s
+      ∙ ap (λ (n : ℕ). onRest (view (memory (a .w .now) s)) (withSlot (a .i) (ask (a .code) n))) (c .before .new .ensures)
+      ∙ notes-ask (view (memory (a .w .now) s)) (a .i) (a .kind) (a .code) (a .param) (c .before .before .before .if1 .left),
+  c .note-asked .ensures .1,
+)
 
 pub note-command-spec : {M : Type 1} → statement M
 note-command-spec =

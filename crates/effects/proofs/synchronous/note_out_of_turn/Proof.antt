@@ -15,8 +15,9 @@ returns c = let p = c .before .before .before .before .before .before .before .b
       λ s. let d = view (memory (a .w .now) s) in
           noted-then d _ _ (a .i) (λ x. commandNotes (a .kind) (a .code) (a .param) (tested (a .code) x)) stepped _ _ _ _
           (noted-then d _ _ (a .i) (tested (a .code)) (commandNotes (a .kind) (a .code) (a .param)) _ _ _ _
-          (tested-out-of-turn d (a .i) (a .param) (a .code) _ _ _ _ (p .pre .2) (x .ensures .1 s)) (c .before .before .note-command .ensures s))
-          (c .step-number .ensures s),
+          (tested-out-of-turn d (a .i) (a .param) (a .code) _ _ _ _ (p .pre .2) (x .ensures .1 s)) (c .before .before .note-command .ensures .0 s))
+          (c .step-number .ensures .0 s),
+      λ s t. c .step-number .ensures .1 s (c .before .before .note-command .ensures .1 s (x .ensures .2 s t)),
     )
 
 pub note-out-of-turn-spec : {M : Type 1} → statement M

@@ -8,12 +8,13 @@ use Rattle.locks.proofs.complete.at_clear.Statement.{statement}
 use Rattle.locks.proofs.complete.at_clear.Tie as tie
 
 complete-any-requires : tie.Need-complete-any-requires
-complete-any-requires c κs = let a = c .before .before .before .before .before .before .before .before .args in let l = turned-short (a .w .now) [] _ _ (a .i) (a .out .now) _ _ _ (c .before .before .before .before .clear-request .ensures []) in search needs
+complete-any-requires c κs = let a = c .before .before .before .before .before .before .before .before .before .before .args in let l = turned-short (a .w .now) (a .strings .now) _ _ (a .i) (a .out .now) _ _ _ (c .before .before .before .before .before .clear-request .ensures) in search needs
 
 returns : tie.Need-returns
-returns c = let a = c .before .before .before .before .before .before .before .before .before .before .before .args in
-    let l = turned-short (a .w .now) [] _ _ (a .i) (a .out .now) _ _ _ (c .before .before .before .before .before .before .before .clear-request .ensures []) in
-    (omega (arith, c .before .before .complete-any .ensures .0), λ s. met-clear _ _ _ (a .i) (a .out .now) _ _ _ _ _ (omega arith) (c .before .before .before .before .before .before .before .clear-request .ensures s) (c .before .before .complete-any .ensures .1 s))
+returns c = let a = c .before .before .before .before .before .before .before .before .before .before .before .before .before .args in
+    let x = c .before .before .before .before .before .before .before .before .clear-request .ensures in
+    let l = turned-short (a .w .now) (a .strings .now) _ _ (a .i) (a .out .now) _ _ _ x in
+    (omega (arith, c .before .before .complete-any .ensures .0), met-clear _ _ _ (a .i) (a .out .now) _ _ _ _ _ (omega arith) x (c .before .before .complete-any .ensures .1))
 
 pub at-clear-spec : {M : Type 1} → statement M
 at-clear-spec =

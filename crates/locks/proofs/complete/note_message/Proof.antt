@@ -11,8 +11,9 @@ returns : tie.Need-returns
 returns c = let a = c .before .before .args in (
   λ s out r. met-none _ _ _ _ _ _
       (message-not (locksOf (a .w .now) s) (a .i) (a .n) (due-unstood ((at (locksOf (a .w .now) s .entries) (a .i)) .standing) (a .n) (c .before .before .pre .1 s)))
-      (noted-stored (view (memory (a .w .now) s)) _ (a .i) (a .n) (search needs) (c .set-order .ensures s)),
-  λ s. c .set-order .ensures s,
+      (noted-stored (view (memory (a .w .now) s)) _ (a .i) (a .n) (search needs) (c .set-order .ensures .0 s))
+      (c .set-order .ensures .1 s (search needs)),
+  λ s. c .set-order .ensures .0 s,
 )
 
 pub note-message-spec : {M : Type 1} → statement M

@@ -11,7 +11,7 @@ returns : tie.Need-returns
 returns c = let a = c .before .before .before .before .args in
     let w = a .w .now in
     let s = a .strings .now in
-    pass-met (memory w s) _ _ _ _ _ (pass-none (view (memory w s)) _ _ (omega (arith, count-is w s, c .before .waiting-count .ensures .0, c .if1 .taken)))
+    pass-met (memory w s) _ _ _ _ _ (pass-none (view (memory w s)) _ _ (omega (arith, count-is w s, c .before .waiting-count .ensures .0, c .if1 .taken))) (λ t. t)
 
 returns-2 : tie.Need-returns-2
 returns-2 c = c .before .before .pass-waiting .ensures

@@ -17,9 +17,11 @@ give-exclusive-requires c κs = let a = c .before .before .before .args in
     (search needs, no-other (a .w .now) (a .strings .now) (a .i) (may-exclusive (locksOf (a .w .now) (a .strings .now) .entries) (a .i) (a .string .now) (c .before .before .before .pre .2)))
 
 returns : tie.Need-returns
-returns c = let a = c .before .before .before .before .args in
-    c .give-exclusive .ensures (a .strings .now)
-    ∙ ap (λ (k : List ℕ). onEntry (view (memory (a .w .now) (a .strings .now))) (a .i) (give k)) (sym (no-string (a .string .now) (c .before .before .if1 .taken)))
+returns c = let a = c .before .before .before .before .args in (
+  c .give-exclusive .ensures .0 (a .strings .now)
+      ∙ ap (λ (k : List ℕ). onEntry (view (memory (a .w .now) (a .strings .now))) (a .i) (give k)) (sym (no-string (a .string .now) (c .before .before .if1 .taken))),
+  c .give-exclusive .ensures .1 (a .strings .now),
+)
 
 give-key-requires : tie.Need-give-key-requires
 give-key-requires c κs = let a = c .before .before .before .before .args in

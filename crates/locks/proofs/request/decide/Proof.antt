@@ -13,13 +13,13 @@ give-asked-requires c κs = (search needs, search needs, c .before .before .befo
 returns : tie.Need-returns
 returns c = let a = c .before .before .before .before .before .before .before .before .before .before .before .before .before .before .args in
     let p = c .before .before .before .before .before .put-answer .ensures in
-    met-one _ _ _ _ _ _ _ _ _ (decided-granted (locksOf (a .w .now) (a .strings .now)) (a .i) (a .string .now) (a .timeout) (c .before .before .before .before .before .before .before .before .before .may-give .ensures ∙ c .before .before .before .before .before .before .before .before .if1 .taken)) (c .give-asked .ensures) (p .1 (a .strings .now)) (p .0) (search needs)
+    met-one _ _ _ _ _ _ _ _ _ (decided-granted (locksOf (a .w .now) (a .strings .now)) (a .i) (a .string .now) (a .timeout) (c .before .before .before .before .before .before .before .before .before .may-give .ensures ∙ c .before .before .before .before .before .before .before .before .if1 .taken)) (c .give-asked .ensures .0) (p .1 (a .strings .now)) (p .0) (search needs) (c .give-asked .ensures .1)
 
 returns-2 : tie.Need-returns-2
 returns-2 c = let a = c .before .before .before .before .before .before .before .before .before .before .before .before .before .before .args in
     let p = c .before .before .put-answer2 .ensures in
     let s = a .strings .now in
-    met-one _ _ _ _ _ _ _ _ _ (decided-denied (locksOf (a .w .now) (a .strings .now)) (a .i) (a .string .now) (a .timeout) (c .before .before .before .before .before .before .before .before .before .may-give .ensures ∙ c .before .before .before .before .before .before .before .before .if1 .left) (c .before .before .before .before .before .before .cannot-wait .ensures s ∙ c .before .before .before .before .before .if2 .taken)) refl (p .1 s) (p .0) (search needs)
+    met-one _ _ _ _ _ _ _ _ _ (decided-denied (locksOf (a .w .now) (a .strings .now)) (a .i) (a .string .now) (a .timeout) (c .before .before .before .before .before .before .before .before .before .may-give .ensures ∙ c .before .before .before .before .before .before .before .before .if1 .left) (c .before .before .before .before .before .before .cannot-wait .ensures s ∙ c .before .before .before .before .before .if2 .taken)) refl (p .1 s) (p .0) (search needs) (λ t. t)
 
 wait-requires : tie.Need-wait-requires
 wait-requires c κs = let a = c .before .before .before .before .before .before .before .before .before .before .before .args in
@@ -28,7 +28,7 @@ wait-requires c κs = let a = c .before .before .before .before .before .before 
 
 returns-3 : tie.Need-returns-3
 returns-3 c = let a = c .before .before .before .before .before .before .before .before .before .before .before .before .args in
-    met-none _ _ _ _ _ _ (decided-queued (locksOf (a .w .now) (a .strings .now)) (a .i) (a .string .now) (a .timeout) (c .before .before .before .before .before .before .before .may-give .ensures ∙ c .before .before .before .before .before .before .if1 .left) (c .before .before .before .before .cannot-wait .ensures (a .strings .now) ∙ c .before .before .before .if2 .left)) (c .wait .ensures)
+    met-none _ _ _ _ _ _ (decided-queued (locksOf (a .w .now) (a .strings .now)) (a .i) (a .string .now) (a .timeout) (c .before .before .before .before .before .before .before .may-give .ensures ∙ c .before .before .before .before .before .before .if1 .left) (c .before .before .before .before .cannot-wait .ensures (a .strings .now) ∙ c .before .before .before .if2 .left)) (c .wait .ensures .0) (c .wait .ensures .1)
 
 pub decide-spec : {M : Type 1} → statement M
 decide-spec =

@@ -5,7 +5,12 @@ use Rattle.locks.proofs.sessions.close_slot.Statement.{statement}
 use Rattle.locks.proofs.sessions.close_slot.Tie as tie
 
 returns : tie.Need-returns
-returns c = let a = c .before .before .before .before .before .before .args in λ s. closed _ _ _ _ (a .i) (c .before .before .before .before .close-session .ensures s) (c .before .before .drop-locks .ensures s) (c .drop-request .ensures s)
+returns c = let a = c .before .before .before .before .before .before .before .before .args in
+    let s = a .strings .now in
+    let o = c .before .before .before .before .before .before .close-session .ensures in
+    let x = c .before .before .before .drop-locks .ensures in
+    let y = c .drop-request .ensures in
+    closed _ _ _ _ (a .i) (o .0 s) (x .0) (y .0) (λ t. y .1 (x .1 (o .1 s t)))
 
 pub close-slot-spec : {M : Type 1} → statement M
 close-slot-spec = tie.close (tie.spec (λ c κs. search needs) (λ c κs. search needs) (λ c κs. search needs) returns)

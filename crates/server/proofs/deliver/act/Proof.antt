@@ -5,7 +5,7 @@ use native.Mathlib.Omega.{arith}
 use Rattle.checks.specs.Numbers.{message}
 use Rattle.model.specs.Place.{Role.r-none, Role.r-halfOpen, Role.r-synchronous, Role.r-asynchronous}
 use Rattle.state.specs.View.{memory, view}
-use Rattle.server.specs.Acting.{acts-as, half-acts, role-none, role-half, role-sync, role-async, size-eight, slot-free, slot-lives, slot-named}
+use Rattle.server.specs.Acting.{acts-as, half-acts, role-none, role-half, role-sync, role-async, size-eight, slot-free, slot-half, slot-named}
 use borrow.Author.Needs.{needs}
 use Rattle.server.proofs.deliver.act.Statement.{statement}
 use Rattle.server.proofs.deliver.act.Tie as tie
@@ -43,20 +43,20 @@ returns-2 c = let a = c .before .before .before .before .before .before .before 
     λ ro e. acts-as (view (memory (a .w .now) s)) (a .i) (a .c) h p _ _ _ _ _ ro r-asynchronous (role-async ro (e ∙ c .before .before .before .before .before .before .if2 .taken)) (c .before .before .act-asynchronous .ensures)
 
 act-opening-requires : tie.Need-act-opening-requires
-act-opening-requires c κs = let a = c .before .before .before .before .before .before .before .args in
-    let q = c .before .before .before .before .before .before .before .pre in
+act-opening-requires c κs = let a = c .before .before .before .before .before .before .before .before .args in
+    let q = c .before .before .before .before .before .before .before .before .pre in
     let s = a .strings .now in
     let h = message (a .kind) (a .code) (a .param) (a .len) in
     let p = a .payload .now in
-    (search needs, search needs, search needs, λ t k. slot-free (a .w .now) t h p (q .5 t r-none (sym (c .before .before .if3 .taken))) k, λ t k. slot-named (a .w .now) t h p (q .5 t r-none (sym (c .before .before .if3 .taken))) k, λ t k. slot-lives (a .w .now) t h p (q .5 t r-none (sym (c .before .before .if3 .taken))) k, q .6 (c .before .before .if3 .taken))
+    (search needs, search needs, search needs, λ t k. slot-free (a .w .now) t h p (q .5 t r-none (sym (c .before .before .before .if3 .taken))) k, λ t k. slot-named (a .w .now) t h p (q .5 t r-none (sym (c .before .before .before .if3 .taken))) k, λ t k. slot-half (a .w .now) t h p (q .5 t r-none (sym (c .before .before .before .if3 .taken))) k, q .6 (c .before .before .before .if3 .taken))
 
 returns-3 : tie.Need-returns-3
-returns-3 c = let a = c .before .before .before .before .before .before .before .before .before .before .args in
-    let q = c .before .before .before .before .before .before .before .before .before .before .pre in
+returns-3 c = let a = c .before .before .before .before .before .before .before .before .before .before .before .args in
+    let q = c .before .before .before .before .before .before .before .before .before .before .before .pre in
     let s = a .strings .now in
     let h = message (a .kind) (a .code) (a .param) (a .len) in
     let p = a .payload .now in
-    λ ro e. acts-as (view (memory (a .w .now) s)) (a .i) (a .c) h p _ _ _ _ _ ro r-none (role-none ro (e ∙ c .before .before .before .before .before .if3 .taken)) (c .before .before .act-opening .ensures s p (a .i) (a .code))
+    λ ro e. acts-as (view (memory (a .w .now) s)) (a .i) (a .c) h p _ _ _ _ _ ro r-none (role-none ro (e ∙ c .before .before .before .before .before .before .if3 .taken)) (c .before .before .act-opening .ensures p (a .i) (a .code))
 
 returns-4 : tie.Need-returns-4
 returns-4 c = let a = c .before .before .before .before .before .before .args in

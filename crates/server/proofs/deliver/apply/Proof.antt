@@ -23,7 +23,7 @@ count-refused-requires c κs = c .before .before .before .before .pre .5
 returns-2 : tie.Need-returns-2
 returns-2 c =
     let a = c .before .before .before .before .before .before .before .before .before .before .args in
-    λ ro x e f g. error-done (view (memory (a .w .now) (a .strings .now))) (a .c) (a .i) x ro _ _ _ _ _ (a .v) (c .before .before .before .before .before .before .before .if2 .taken) (omega arith) (a .taken) (a .left) e f (a .moves) g _ _ (c .before .before .before .before .before .count-refused .ensures (a .strings .now)) (c .before .before .send-error .ensures (a .strings .now))
+    λ ro x e f g. error-done (view (memory (a .w .now) (a .strings .now))) (a .c) (a .i) x ro _ _ _ _ _ (a .v) (c .before .before .before .before .before .before .before .if2 .taken) (omega arith) (a .taken) (a .left) e f (a .moves) g _ _ (c .before .before .before .before .before .count-refused .ensures .0 (a .strings .now)) (c .before .before .before .before .before .count-refused .ensures .1 (a .strings .now)) (c .before .before .send-error .ensures (a .strings .now))
 
 returns-3 : tie.Need-returns-3
 returns-3 c =
@@ -35,7 +35,7 @@ unfolding bytesOf
 returns-4 c =
     let a = c .before .before .before .before .before .before .args in
     let d = view (memory (a .w .now) (a .strings .now)) in
-    λ ro x e f g. ignored-done d (a .c) (a .i) x ro _ _ _ _ _ (a .v) (c .before .if4 .taken) (a .taken) e (did-plainly d (took ignored (a .taken) 0) (restOf (a .w .now)) [] _ _ _ _ _ (ap numbersOf (c .quiet .ensures)) refl (nothing-said (a .out .now)) refl)
+    λ ro x e f g. ignored-done d (a .c) (a .i) x ro _ _ _ _ _ (a .v) (c .before .if4 .taken) (a .taken) e (did-plainly d (took ignored (a .taken) 0) (restOf (a .w .now)) [] _ _ _ _ _ (ap numbersOf (c .quiet .ensures)) refl (nothing-said (a .out .now)) refl (λ t. t))
 
 returns-5 : tie.Need-returns-5
 returns-5 c =

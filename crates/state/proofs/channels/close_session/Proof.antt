@@ -3,6 +3,7 @@ use mathlib.Core.Path.{ap, _∙_}
 use mathlib.Core.List.{List, []}
 use Prim.Native.Nat.{ℕ}
 use Rattle.state.specs.Channels.{session-freed, free-here}
+use Rattle.state.specs.Closing.{closed-in-order}
 use Rattle.state.specs.View.{memory, rowWord, view}
 use borrow.Author.Needs.{needs}
 use Rattle.state.proofs.channels.close_session.Statement.{statement}
@@ -19,7 +20,10 @@ clear-place-requires-2 c κs = (search needs, search needs, search needs, c .bef
 returns : tie.Need-returns
 returns c = let a = c .before .before .before .before .before .before .args in
     let e = c .before .before .before .before .set-row .ensures in
-    λ s. c .clear-place2 .ensures .0 s ∙ c .before .before .clear-place .ensures .0 s ∙ ap (λ (y : List ℕ). view (memory y s)) (e .0) ∙ session-freed (a .w .now) s (a .i) (e .1) (search needs)
+    let w = a .w .now in (
+      λ s. c .clear-place2 .ensures .0 s ∙ c .before .before .clear-place .ensures .0 s ∙ ap (λ (y : List ℕ). view (memory y s)) (e .0) ∙ session-freed (a .w .now) s (a .i) (e .1) (search needs),
+      λ s. closed-in-order w _ _ _ s (a .i) (e .0) (e .1) (search needs) (c .before .before .clear-place .ensures .2) (c .clear-place2 .ensures .2),
+    )
 
 pub close-session-spec : {M : Type 1} → statement M
 close-session-spec = tie.close (tie.spec (λ c κs. search needs) clear-place-requires clear-place-requires-2 returns)

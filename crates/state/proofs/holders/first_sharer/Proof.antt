@@ -2,6 +2,7 @@
 use mathlib.Core.Path.{ap, _∙_}
 use mathlib.Core.List.{List}
 use Prim.Native.Nat.{ℕ}
+use native.Mathlib.Omega.{arith}
 use lib.ListN.{set}
 use Rattle.state.specs.Granting.{first-joined}
 use Rattle.state.specs.Layout.{SHARERS}
@@ -11,10 +12,13 @@ use Rattle.state.proofs.holders.first_sharer.Statement.{statement}
 use Rattle.state.proofs.holders.first_sharer.Tie as tie
 
 returns : tie.Need-returns
-returns c = let a = c .before .before .before .args in
-    λ s. ap (λ (x : List ℕ). view (memory x s)) (c .store .ensures .0)
-    ∙ ap (λ (v : ℕ). view (memory (set (a .w .now) SHARERS v) s)) (c .before .before .power-of .ensures .0)
-    ∙ first-joined (a .w .now) s (a .i) (search needs) (c .store .ensures .1) (c .before .before .before .pre .1)
+returns c = let a = c .before .before .before .args in (
+  λ s. ap (λ (x : List ℕ). view (memory x s)) (c .store .ensures .0)
+      ∙ ap (λ (v : ℕ). view (memory (set (a .w .now) SHARERS v) s)) (c .before .before .power-of .ensures .0)
+      ∙ first-joined (a .w .now) s (a .i) (search needs) (c .store .ensures .1) (c .before .before .before .pre .1),
+  c .store .ensures .0 ∙ ap (set (a .w .now) SHARERS) (c .before .before .power-of .ensures .0),
+  omega (arith, c .before .before .power-of .ensures .0, c .before .before .power-of .ensures .1),
+)
 
 pub first-sharer-spec : {M : Type 1} → statement M
 first-sharer-spec = tie.close (tie.spec (λ c κs. search needs) (λ c κs. search needs) returns)

@@ -25,6 +25,8 @@ returns c = let a = c .before .before .before .before .before .before .args in
     let b = c .before .before .copy-to-front .ensures ∙ ap (splice s 0) e in (
       ap₂ (λ (x : ℕ) (y : List ℕ). view (memory (set w KEY (x - 1)) y)) (q .5) b ∙ key-unseen w s k (omega arith) (omega arith) (search needs) (search needs) (q .6),
       ap₂ (λ (x : ℕ) (y : List ℕ). keyOf (set w KEY (x - 1)) y) (q .5) b ∙ key-laid w s k (omega arith) (omega arith) (search needs) (search needs),
+      ap (λ (x : ℕ). set w KEY (x - 1)) (q .5),
+      b,
     )
 
 pub copy-key-spec : {M : Type 1} → statement M

@@ -1,4 +1,5 @@
 -- `sharing::lay_key` meets its contract: the string at the front, and its length.
+use mathlib.Core.Path.{refl}
 use Rattle.state.specs.Sharing.{key-laid, key-unseen}
 use borrow.Author.Needs.{needs}
 use Rattle.state.proofs.sharing.lay_key.Statement.{statement}
@@ -10,6 +11,8 @@ returns c = let a = c .before .before .before .before .before .before .before .a
     rw (c .before .before .put-payload .ensures) (
       key-unseen (a .w .now) (a .strings .now) (a .string .now) (search needs) (search needs) (search needs) (search needs) (q .4),
       key-laid (a .w .now) (a .strings .now) (a .string .now) (search needs) (search needs) (search needs) (search needs),
+      refl,
+      refl,
     )
 
 pub lay-key-spec : {M : Type 1} → statement M
