@@ -31,7 +31,7 @@
  *
  * WHAT IS WRITTEN. `words`, `strings` and the first `output` bytes of `out`; the bytes of `out` after
  * them keep their values, and `bytes`, `payload` and `shown` are only read. A refused call, a delivery
- * answered more needed or held, and the two questions (hislip_deadline, hislip_client_size) write nothing
+ * answered more needed or held, and the questions (hislip_deadline, hislip_client_size, and hislip_holders but for its rows) write nothing
  * at all.
  *
  * MESSAGE NUMBERS. A client counts its Data, DataEND and Trigger from ffffff00 hex by two, wrapping, from
@@ -108,7 +108,7 @@ extern "C" {
 #endif
 
 /* Sizes. */
-#define HISLIP_WORDS 748          /* uint64_t to lend as `words`: what hislip_words() tells         */
+#define HISLIP_WORDS 812          /* uint64_t to lend as `words`: what hislip_words() tells         */
 #define HISLIP_STRING_BYTES 8448  /* bytes to lend as `strings`: what hislip_string_bytes() tells   */
 #define HISLIP_SESSIONS 32        /* live sessions, half-open ones included                         */
 #define HISLIP_CONNECTIONS 64     /* connections are numbered 0 to 63                               */
@@ -158,6 +158,7 @@ extern "C" {
 #define HISLIP_REFUSED_ANSWER_TOO_LONG 6 /* answer above 1,024 bytes or above the client's size         */
 #define HISLIP_REFUSED_SHORT_BUFFER 7    /* output buffer under 2,048 bytes                             */
 #define HISLIP_REFUSED_NO_SESSION 8      /* no live session of that number                              */
+#define HISLIP_REFUSED_SHORT_LIST 9      /* fewer rows lent than sessions hold a lock                   */
 
 /* Modes, for hislip_new. */
 #define HISLIP_SYNCHRONIZED 0
@@ -200,6 +201,18 @@ typedef struct {
 typedef struct {
     uint64_t waiting, deadline;
 } hislip_deadlines;
+
+/* A session that holds a lock. `exclusive`, `shared`: 1 if it holds that one, else 0. `granted_at`: what
+ * the clock read at its last grant. `grants`: locks granted to it since it opened, counted from the
+ * answers sent; once at 2^62 it stays there. */
+typedef struct {
+    uint64_t session, exclusive, shared, granted_at, grants;
+} hislip_row;
+
+/* The answer to hislip_holders. `rows`: how many were written. */
+typedef struct {
+    uint64_t refusal, rows;
+} hislip_counted;
 
 /* The answer to hislip_client_size. `size`: the largest payload that the session's client takes. */
 typedef struct {
@@ -289,6 +302,13 @@ hislip_deadlines hislip_deadline(const uint64_t *words, const uint8_t *strings);
  * A half-open session is live too. Refusal: 8 (no live session of that number). */
 HISLIP_NOT_NULL HISLIP_USE_RESULT
 hislip_sized hislip_client_size(const uint64_t *words, const uint8_t *strings, uint32_t session);
+
+/* A question, no event: it changes nothing but the rows lent. Who holds what, since when: one row for
+ * each session that holds a lock, ascending by SessionID; rows after those keep their values. 32 rows
+ * (HISLIP_SESSIONS) always suffice. Refusal: 9 (the list is shorter than the holders), and then no row
+ * is written. */
+HISLIP_NOT_NULL HISLIP_USE_RESULT
+hislip_counted hislip_holders(const uint64_t *words, const uint8_t *strings, hislip_row *rows, size_t rows_len);
 
 /* The payload length of a message, from its 16 header bytes: a help for going through frames. */
 static inline uint64_t hislip_payload_length(const uint8_t *message)

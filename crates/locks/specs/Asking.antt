@@ -10,7 +10,7 @@ use borrow.Author.Tests.{lt-ltb, le-ltb, eq-eqb, ne-eqb, ltb-false, leb-false}
 use Rattle.model.specs.Sizes.{sessionLimit, stringLimit}
 use Rattle.model.specs.Lists.{all}
 use Rattle.model.specs.State.{Entry, Waiting, Locks, Server, at, blank}
-use Rattle.model.specs.Locks.{LockResult, LockEvent.request, noShared, mayGrant, give, holds, tell, withEntries, withWaiting, unanswered, elsewhere, noPlace, invalidBy, stands, Ruling, Ruling.invalid, ruling, respond, change}
+use Rattle.model.specs.Locks.{LockResult, LockEvent.request, noShared, mayGrant, giveAt, holds, tell, withEntries, withWaiting, unanswered, elsewhere, noPlace, invalidBy, stands, Ruling, Ruling.invalid, ruling, respond, change}
 use Rattle.state.specs.Grid.{upd, upd-set}
 use Rattle.state.specs.Queue.{noRequest, onWaiting, count-is}
 use Rattle.state.specs.Requests.{countOf}
@@ -100,9 +100,9 @@ module _ (l : Locks) (i : ℕ) (k : List ℕ) where
         ap (λ (r : Ruling). respond r l i t k)
         (ruled (invalidBy k (at (l .entries) i)) (holds k (at (l .entries) i)) (all (elsewhere i) (l .waiting)) (mayGrant (l .entries) i k) (eqb t 0 || noPlace (l .waiting)) e)
 
-    pub decided-granted : mayGrant (l .entries) i k ≡ true → decided l i t k ≡ told (withEntries l (upd (l .entries) i (give k))) (tell (l .entries) i 1 true)
+    pub decided-granted : mayGrant (l .entries) i k ≡ true → decided l i t k ≡ told (withEntries l (upd (l .entries) i (giveAt (l .clock) k))) (tell (l .entries) i 1 true)
     unfolding decided
-    decided-granted e = rw (e, upd-set (l .entries) i blank (give k))
+    decided-granted e = rw (e, upd-set (l .entries) i blank (giveAt (l .clock) k))
 
     pub decided-denied : mayGrant (l .entries) i k ≡ false → (eqb t 0 || noPlace (l .waiting)) ≡ true → decided l i t k ≡ told l (tell (l .entries) i 0 true)
     unfolding decided

@@ -1,16 +1,18 @@
 -- The granting rule by the tests of the code, and a grant as one change of the table. Assumes nothing.
-use mathlib.Core.Path.{_≡_, refl, sym, ap, _∙_}
-use mathlib.Core.Bool.{Bool, true, false, not, _&&_, _||_, true≢false}
+use mathlib.Core.Path.{_≡_, refl, sym, ap, ap₂, subst, _∙_}
+use mathlib.Core.Bool.{Bool, true, false, not, _&&_, _||_, cond, true≢false}
 use mathlib.Core.List.{List, [], _∷_}
-use Prim.Native.Nat.{ℕ, zero, suc, _^_, _%_}
+use Prim.Native.Nat.{ℕ, zero, suc, _^_, _%_, _≤_, _<_}
 use native.Mathlib.Omega.{arith}
-use lib.ListN.{length}
-use borrow.Author.Tests.{eqb-true, eqb-false}
-use Rattle.model.specs.Sizes.{sessionLimit}
+use lib.Dec.{ltb}
+use lib.ListN.{length, set}
+use borrow.Author.Tests.{eqb-true, eqb-false, ltb-true}
+use Rattle.model.specs.Sizes.{sessionLimit, grantsLimit}
 use Rattle.model.specs.Lists.{same, all, allBut}
-use Rattle.model.specs.State.{Entry, at, blank}
-use Rattle.model.specs.Locks.{noExclusive, noShared, fits, mayGrant, give, grant}
-use Rattle.state.specs.Grid.{upd, upd-set}
+use Rattle.model.specs.State.{Entry, Server, at, blank}
+use Rattle.model.specs.Locks.{noExclusive, noShared, fits, mayGrant, give, giveAt, withGranted, oneMore, noteGrant, grant, withEntries}
+use Rattle.state.specs.Grid.{upd, upd-upd, upd-set}
+use Rattle.state.specs.Change.{onEntry, orderWith}
 use Rattle.state.specs.Layout.{SHARERS}
 use Rattle.state.specs.View.{word, keyOf, locksOf}
 use Rattle.state.specs.Holders.{sharers-test, fits-none, fits-some}
@@ -84,6 +86,36 @@ pub no-string : (k : List ℕ) → length k ≡ 0 → k ≡ []
 no-string [] n = refl
 no-string (x ∷ k) n = absurd (omega arith)
 
+-- the server with another table of sessions
+abbrev withEntriesIn : Server → List Entry → Server
+withEntriesIn d es = record { locks = withEntries (d .locks) es; rest = d .rest }
+
 -- a grant, as the model writes it
-pub grant-upd : (es : List Entry) (i : ℕ) (k : List ℕ) → grant es i k ≡ upd es i (give k)
-grant-upd es i k = upd-set es i blank (give k)
+pub grant-upd : (now : ℕ) (es : List Entry) (i : ℕ) (k : List ℕ) → grant now es i k ≡ upd es i (giveAt now k)
+grant-upd now es i k = upd-set es i blank (giveAt now k)
+
+-- noted by two stores
+pub noted : (d d₁ d₂ : Server) (i t n m : ℕ) → t ≡ d .locks .clock → n ≡ (at (d .locks .entries) i) .locksGranted .grants → m ≡ oneMore n
+    → d₁ ≡ onEntry d i (orderWith 2 t) → d₂ ≡ onEntry d₁ i (orderWith 3 m) → d₂ ≡ onEntry d i (noteGrant (d .locks .clock))
+noted d d₁ d₂ i t n m et en em e f =
+    let es : List Entry = d .locks .entries in
+    f
+    ∙ ap (λ (x : Server). onEntry x i (orderWith 3 m)) e
+    ∙ ap (withEntriesIn d)
+    (upd-upd es i (orderWith 2 t) (orderWith 3 m)
+    ∙ sym (upd-set es i blank (withGranted (record { grantedAt = t; grants = m })))
+    ∙ ap₂ (λ (x y : ℕ). set es i (withGranted (record { grantedAt = x; grants = y }) (at es i))) et (em ∙ ap oneMore en)
+    ∙ upd-set es i blank (noteGrant (d .locks .clock)))
+
+-- the number of locks granted stays within its range
+pub grants-fit : (m n g : ℕ) → m ≡ oneMore n → n ≡ g → g ≤ 2 ^ 62 → m ≤ 2 ^ 62
+grants-fit m n g e f h = subst (λ (x : ℕ). x ≤ 2 ^ 62) (sym e) (go (ltb n grantsLimit) refl)
+  where
+    go : (b : Bool) → ltb n grantsLimit ≡ b → cond b (suc n) n ≤ 2 ^ 62
+    go true l = let x : n < grantsLimit = ltb-true n grantsLimit l in omega arith
+    go false l = omega arith
+
+-- a lock given, then noted
+pub given-noted : (d d₁ d₂ : Server) (i : ℕ) (k : List ℕ) → d₁ ≡ onEntry d i (give k) → d₂ ≡ onEntry d₁ i (noteGrant (d₁ .locks .clock)) → d₂ ≡ onEntry d i (giveAt (d .locks .clock) k)
+given-noted d d₁ d₂ i k e f =
+    f ∙ ap (λ (x : Server). onEntry x i (noteGrant (x .locks .clock))) e ∙ ap (withEntriesIn d) (upd-upd (d .locks .entries) i (give k) (noteGrant (d .locks .clock)))

@@ -10,7 +10,7 @@ use lib.Seq.{take-all}
 use Rattle.wire.specs.Frame.{frameBytes}
 use Rattle.wire.specs.Splice.{splice}
 use Rattle.model.specs.State.{Entry, Waiting, Server}
-use Rattle.model.specs.Locks.{Passed, tell, mayGrant, give, grant, after, put, passOver, grantPass}
+use Rattle.model.specs.Locks.{Passed, tell, mayGrant, giveAt, grant, after, put, passOver, grantPass}
 use Rattle.state.specs.Change.{onEntry}
 use Rattle.state.specs.Queue.{noRequest, onWaiting, count-is}
 use Rattle.state.specs.Requests.{countOf, stringAt}
@@ -22,7 +22,7 @@ use Rattle.locks.specs.Waiting.{swapped, next, moved-on, kept-more}
 
 -- slot i has got what its request asked for, and its frame is written
 pub record Granted (i : ℕ) (w w′ s s′ out out′ : List ℕ) (at r : ℕ) : Type 0 where
-  pub server : view (memory w′ s′) ≡ onEntry (view (memory w s)) i (give (stringAt w s i))
+  pub server : view (memory w′ s′) ≡ onEntry (view (memory w s)) i (giveAt (locksOf w s .clock) (stringAt w s i))
   pub buffer : out′ ≡ splice out at (frameBytes (answerFrame (locksOf w s .entries) i 1))
   pub place : r ≡ at + 17
   pub tidy : Tidy (memory w s) → Tidy (memory w′ s′)
@@ -41,18 +41,18 @@ behind d front r out at = stand d (r .entries) (front ++ r .waiting) (ends (r .a
 
 -- the pass from place j on, with k requests kept at the front
 unfoldable pub passed : ℕ → ℕ → Server → List ℕ → ℕ → Stand
-passed j k d out at = behind d (take k (d .locks .waiting)) (passOver (drop j (d .locks .waiting)) (d .locks .entries)) out at
+passed j k d out at = behind d (take k (d .locks .waiting)) (passOver (d .locks .clock) (drop j (d .locks .waiting)) (d .locks .entries)) out at
 
 module _ (d : Server) (j k : ℕ) (r : Waiting) (x : ℕ) (out : List ℕ) (at : ℕ)
     (h : j < length (d .locks .waiting)) (e : getD (d .locks .waiting) j noRequest ≡ r) (y : r .slot ≡ x) where
   over : (b : Bool) → mayGrant (d .locks .entries) x (r .string) ≡ b
-      → passOver (drop j (d .locks .waiting)) (d .locks .entries)
-      ≡ put b r (d .locks .entries) (passOver (drop (j + 1) (d .locks .waiting)) (after b r (d .locks .entries)))
+      → passOver (d .locks .clock) (drop j (d .locks .waiting)) (d .locks .entries)
+      ≡ put b r (d .locks .entries) (passOver (d .locks .clock) (drop (j + 1) (d .locks .waiting)) (after (d .locks .clock) b r (d .locks .entries)))
   unfolding passOver
   over b q =
       let es : List Entry = d .locks .entries in
-      ap (λ (l : List Waiting). passOver l es) (next (d .locks .waiting) j r h e)
-      ∙ ap (λ (b : Bool). put b r es (passOver (drop (j + 1) (d .locks .waiting)) (after b r es))) (ap (λ (n : ℕ). mayGrant es n (r .string)) y ∙ q)
+      ap (λ (l : List Waiting). passOver (d .locks .clock) l es) (next (d .locks .waiting) j r h e)
+      ∙ ap (λ (b : Bool). put b r es (passOver (d .locks .clock) (drop (j + 1) (d .locks .waiting)) (after (d .locks .clock) b r es))) (ap (λ (n : ℕ). mayGrant es n (r .string)) y ∙ q)
 
   -- a request that may not be granted goes on waiting
   pub pass-keep : (d′ : Server) → d′ ≡ onWaiting d (λ (ws : List Waiting). swapped ws j k) → k ≤ j
@@ -61,25 +61,25 @@ module _ (d : Server) (j k : ℕ) (r : Waiting) (x : ℕ) (out : List ℕ) (at :
   pass-keep d′ m l q =
       let ws : List Waiting = d .locks .waiting in
       let es : List Entry = d .locks .entries in
-      let t : Passed = passOver (drop (j + 1) ws) es in
+      let t : Passed = passOver (d .locks .clock) (drop (j + 1) ws) es in
       ap (λ (p : Passed). behind d (take k ws) p out at) (over false q)
       ∙ ap (λ (l : List Waiting). stand d (t .entries) l (ends (t .answers) out at)) (sym (kept-more ws j r h e k l (t .waiting)))
-      ∙ ap (λ (l : List Waiting). behind d (take (k + 1) (swapped ws j k)) (passOver l es) out at) (sym (moved-on ws j r h e k l))
+      ∙ ap (λ (l : List Waiting). behind d (take (k + 1) (swapped ws j k)) (passOver (d .locks .clock) l es) out at) (sym (moved-on ws j r h e k l))
       ∙ ap (λ (d : Server). passed (j + 1) (k + 1) d out at) (sym m)
 
   -- a request that may be granted is, and is told
-  pub pass-grant : (d′ : Server) → d′ ≡ onEntry d x (give (r .string)) → mayGrant (d .locks .entries) x (r .string) ≡ true → at + 17 ≤ length out
+  pub pass-grant : (d′ : Server) → d′ ≡ onEntry d x (giveAt (d .locks .clock) (r .string)) → mayGrant (d .locks .entries) x (r .string) ≡ true → at + 17 ≤ length out
       → passed j k d out at ≡ passed (j + 1) k d′ (splice out at (frameBytes (answerFrame (d .locks .entries) x 1))) (at + 17)
   unfolding passed
   pass-grant d′ m q f =
       let ws : List Waiting = d .locks .waiting in
       let es : List Entry = d .locks .entries in
-      let t : ℕ → Passed = (λ n. passOver (drop (j + 1) ws) (grant es n (r .string))) in
+      let t : ℕ → Passed = (λ n. passOver (d .locks .clock) (drop (j + 1) ws) (grant (d .locks .clock) es n (r .string))) in
       let o : List ℕ = splice out at (frameBytes (answerFrame es x 1)) in
       ap (λ (p : Passed). behind d (take k ws) p out at) (over true q)
       ∙ ap (λ (n : ℕ). stand d ((t n) .entries) (take k ws ++ (t n) .waiting) (ends (tell es n 1 true ∷ (t n) .answers) out at)) y
       ∙ ap (stand d ((t x) .entries) (take k ws ++ (t x) .waiting)) (ends-cons (tell es x 1 true) ((t x) .answers) out at f)
-      ∙ ap (λ (l : List Entry). behind d (take k ws) (passOver (drop (j + 1) ws) l) o (at + 17)) (grant-upd es x (r .string))
+      ∙ ap (λ (l : List Entry). behind d (take k ws) (passOver (d .locks .clock) (drop (j + 1) ws) l) o (at + 17)) (grant-upd (d .locks .clock) es x (r .string))
       ∙ ap (λ (d : Server). passed (j + 1) k d o (at + 17)) (sym m)
 
 -- behind the last
@@ -87,7 +87,7 @@ pub pass-end : (d d′ : Server) (j k : ℕ) (out : List ℕ) (at : ℕ) → len
     → passed j k d out at ≡ record { server = d′; spot = spot out at }
 unfolding passed passOver
 pass-end d d′ j k out at h m =
-    ap (λ (l : List Waiting). behind d (take k (d .locks .waiting)) (passOver l (d .locks .entries)) out at) (drop-of-length-le (d .locks .waiting) h)
+    ap (λ (l : List Waiting). behind d (take k (d .locks .waiting)) (passOver (d .locks .clock) l (d .locks .entries)) out at) (drop-of-length-le (d .locks .waiting) h)
     ∙ ap₂ (stand d (d .locks .entries)) (append-nil (take k (d .locks .waiting))) (ends-nil out at)
     ∙ ap (λ (x : Server). record { server = x; spot = spot out at }) (sym m)
 

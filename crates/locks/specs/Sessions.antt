@@ -3,8 +3,8 @@ use mathlib.Core.Path.{_≡_, refl, sym, ap, _∙_}
 use Prim.Native.Nat.{ℕ}
 use Rattle.model.specs.Lists.{keep}
 use Rattle.model.specs.Sizes.{noConnection, beforeFirst}
-use Rattle.model.specs.State.{Entry, Server, Standing.no-release, blank}
-use Rattle.model.specs.Locks.{LockEvent.enter, LockEvent.join, LockEvent.close, elsewhere, withoutExclusive, withoutShared, withOrder, opened, joined, change}
+use Rattle.model.specs.State.{Entry, Server, Standing.no-release, noGrants, blank}
+use Rattle.model.specs.Locks.{LockEvent.enter, LockEvent.join, LockEvent.close, elsewhere, withoutExclusive, withoutShared, withOrder, withGranted, opened, joined, change}
 use Rattle.state.specs.Grid.{upd-upd, upd-set}
 use Rattle.state.specs.Change.{onEntry, orderWith}
 use Rattle.state.specs.Channels.{withRow}
@@ -13,14 +13,14 @@ use Rattle.state.specs.Tidy.{Tidy}
 use Rattle.state.specs.View.{Memory, view}
 use Rattle.locks.specs.Outcome.{Quiet}
 
--- a slot without its locks, where no message acted and no release stands
+-- a slot without its locks, where no message acted, no release stands and no lock was granted
 abbrev pub withoutLocks : Entry → Entry
-withoutLocks e = withOrder beforeFirst no-release (withoutShared (withoutExclusive e))
+withoutLocks e = withGranted noGrants (withOrder beforeFirst no-release (withoutShared (withoutExclusive e)))
 
--- four stores make it so
-pub unlocked : (i : ℕ) (d d₁ d₂ d₃ d₄ : Server) → d₁ ≡ onEntry d i (orderWith 0 beforeFirst) → d₂ ≡ onEntry d₁ i (orderWith 1 0) → d₃ ≡ onEntry d₂ i withoutExclusive → d₄ ≡ onEntry d₃ i withoutShared
-    → d₄ ≡ onEntry d i withoutLocks
-unlocked i d d₁ d₂ d₃ d₄ e₁ e₂ e₃ e₄ = rw (e₄, e₃, e₂, e₁, upd-upd, upd-upd, upd-upd)
+-- six stores make it so
+pub unlocked : (i : ℕ) (d d₁ d₂ d₃ d₄ d₅ d₆ : Server) → d₁ ≡ onEntry d i (orderWith 0 beforeFirst) → d₂ ≡ onEntry d₁ i (orderWith 1 0) → d₃ ≡ onEntry d₂ i (orderWith 2 0) → d₄ ≡ onEntry d₃ i (orderWith 3 0)
+    → d₅ ≡ onEntry d₄ i withoutExclusive → d₆ ≡ onEntry d₅ i withoutShared → d₆ ≡ onEntry d i withoutLocks
+unlocked i d d₁ d₂ d₃ d₄ d₅ d₆ e₁ e₂ e₃ e₄ e₅ e₆ = rw (e₆, e₅, e₄, e₃, e₂, e₁, upd-upd, upd-upd, upd-upd, upd-upd, upd-upd)
 
 -- another row without locks
 pub renewed : (i n a b : ℕ) (d d₁ d₂ : Server) → d₁ ≡ onEntry d i (withRow n a b) → d₂ ≡ onEntry d₁ i withoutLocks → d₂ ≡ onEntry d i (λ (e : Entry). withoutLocks (withRow n a b e))

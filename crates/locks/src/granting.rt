@@ -1,13 +1,14 @@
 // The granting rule, and a grant.
-ghost use Prim.Native.Nat.{_+_, _<_, _≤_};
+ghost use Prim.Native.Nat.{ℕ, _+_, _<_, _≤_};
 ghost use Rattle.locks.specs.Pass.{Granted};
-ghost use Rattle.model.specs.Locks.{give, mayGrant};
+ghost use Rattle.model.specs.Locks.{give, mayGrant, noteGrant, oneMore};
 ghost use Rattle.state.specs.Change.{onEntry};
 ghost use Rattle.state.specs.Requests.{stringAt};
 ghost use Rattle.state.specs.Tidy.{Tidy};
 ghost use Rattle.state.specs.View.{locksOf, memory, view};
 ghost use lib.ListN.{length};
 ghost use mathlib.Core.Bool.{true};
+ghost use mathlib.Core.List.{List};
 ghost use mathlib.Core.Path.{_≡_};
 ghost use Rattle.model.specs.Sizes.{sessionLimit, stringLimit};
 ghost use Rattle.state.specs.Layout.{STRINGS};
@@ -17,6 +18,7 @@ use state::requests;
 use state::sharing;
 use state::sizes::Strings;
 use state::sizes::Words;
+use state::tables;
 
 // The length of the string of slot i's request; 0 asks for the exclusive lock.
 fn asked_length(w: &Words, strings: &[u8], i: usize) -> usize
@@ -91,6 +93,29 @@ pub fn grant(w: &mut Words, strings: &mut Strings, i: usize)
     sharing::give_shared(w, strings, i, n);
 }
 
+// The number of locks granted to a session stays at 2^62.
+const GRANTS_LIMIT: u64 = 4611686018427387904;
+
+fn one_more(n: u64) -> u64
+    ensures { λ r. ⌜ r ≡ oneMore n ⌝ }
+{
+    if n < GRANTS_LIMIT {
+        return n + 1;
+    }
+    n
+}
+
+// A grant to slot i is noted: the clock's reading, and one lock more.
+pub fn note_grant(w: &mut Words, i: usize)
+    requires { ⌜ i < sessionLimit ⌝ }
+    ensures { λ _. ⌜ ((s : List ℕ) → view (memory (now (w .exit)) s) ≡ onEntry (view (memory (now (w .entry)) s)) i (noteGrant (locksOf (now (w .entry)) s .clock))) × ((s : List ℕ) → Tidy (memory (now (w .entry)) s) → Tidy (memory (now (w .exit)) s)) ⌝ }
+{
+    let t = tables::clock(w);
+    let n = one_more(tables::order(w, i, tables::GRANTS));
+    tables::set_order(w, i, tables::GRANTED_AT, t);
+    tables::set_order(w, i, tables::GRANTS, n);
+}
+
 // Slot i gets the lock that its request asks for, and is told (1).
 pub fn grant_and_answer(
     w: &mut Words,
@@ -104,5 +129,6 @@ pub fn grant_and_answer(
 {
     let r = put_answer(w, out, at, i, 1);
     grant(w, strings, i);
+    note_grant(w, i);
     r
 }

@@ -23,7 +23,7 @@ pub fn exclusive_code(w: &Words) -> u8
     1
 }
 
-fn holds_any(w: &Words, i: usize) -> bool
+pub fn holds_any(w: &Words, i: usize) -> bool
     requires { ⌜ i < sessionLimit ⌝ }
     ensures { λ r. ⌜ ((s : List ℕ) → holder (at (locksOf (now (w .entry)) s .entries) i) ≡ r) ⌝ }
 {

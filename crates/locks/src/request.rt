@@ -104,6 +104,7 @@ fn decide(
     if granting::may_give(w, strings, i, string) {
         let r = put_answer(w, out, at, i, 1);
         granting::give_asked(w, strings, i, string);
+        granting::note_grant(w, i);
         return r;
     }
     if cannot_wait(w, timeout) {

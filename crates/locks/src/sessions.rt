@@ -20,13 +20,15 @@ use state::sizes::Strings;
 use state::sizes::Words;
 use state::tables;
 
-// A slot that opens or closes has no locks, no message acted in it, and no release stands.
+// A slot that opens or closes has no locks, no message acted in it, no release stands, and no lock was granted to it.
 fn drop_locks(w: &mut Words, strings: &mut Strings, i: usize)
     requires { ⌜ i < sessionLimit ⌝ }
     ensures { λ _. ⌜ (view (memory (now (w .exit)) (now (strings .exit))) ≡ onEntry (view (memory (now (w .entry)) (now (strings .entry)))) i withoutLocks) × (Tidy (memory (now (w .entry)) (now (strings .entry))) → Tidy (memory (now (w .exit)) (now (strings .exit)))) ⌝ }
 {
     tables::set_order(w, i, tables::LAST_NUMBER, BEFORE_FIRST);
     tables::set_order(w, i, tables::STANDING, 0);
+    tables::set_order(w, i, tables::GRANTED_AT, 0);
+    tables::set_order(w, i, tables::GRANTS, 0);
     holders::drop_exclusive(w, i);
     sharing::leave_sharers(w, strings, i);
 }

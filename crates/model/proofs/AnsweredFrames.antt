@@ -18,25 +18,8 @@ use Rattle.model.specs.LocalityRows.{kindOf, slotActed, isCode, codeWher
 use Rattle.model.specs.LocalityReplies.{preferred, numberSent, plainTo, ReplyTo, replyIn, replies, saidTo, fatalTo, pairTo, saidFirst, direct, answeredFirst, answerTo}
 use Rattle.model.specs.Locality.{Local}
 use Rattle.model.specs.AnsweredOnce.{lockOnly}
+use Rattle.model.specs.GrantsSeen.{ofClear, toWaiting}
 use Rattle.model.proofs.Basics.{and-l, and-r}
-
--- of an AsyncDeviceClear: code 0 before the acknowledgement, and all after it (a release that stood is answered 1 or 2 before it)
-abbrev pub ofClear : List Frame → List Frame
-ofClear [] = []
-ofClear (f ∷ fs) = cond (eqb (f .message .kind) 23) (lockOnly fs) (cond (eqb (f .message .kind) 5 && eqb (f .message .code) 0) (f ∷ ofClear fs) (ofClear fs))
-
--- an AsyncLock's own answer comes first, and so does that of a release which a Data, DataEND or Trigger ends
-abbrev pub toWaiting : Happening → List Frame → List Frame
-toWaiting (message-acted a) fs = cond (one-of (4 ∷ 6 ∷ 7 ∷ 12 ∷ []) (kindOf a)) (drop 1 (lockOnly fs)) (cond (eqb (kindOf a) 19) (ofClear fs) (lockOnly fs))
-toWaiting unmoved fs = lockOnly fs
-toWaiting (connected c) fs = lockOnly fs
-toWaiting (disconnected c k) fs = lockOnly fs
-toWaiting (skipped-over c k) fs = lockOnly fs
-toWaiting (errored c h k) fs = lockOnly fs
-toWaiting (clock-read t) fs = lockOnly fs
-toWaiting (status-set b) fs = lockOnly fs
-toWaiting (answer-sent n p end) fs = lockOnly fs
-toWaiting (answer-withheld n m) fs = lockOnly fs
 
 pub lock-append : (xs ys : List Frame) → lockOnly (xs ++ ys) ≡ lockOnly xs ++ lockOnly ys
 lock-append [] ys = refl

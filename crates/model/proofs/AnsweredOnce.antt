@@ -36,7 +36,8 @@ use Rattle.model.proofs.Sending.{role-of-async}
 use Rattle.model.proofs.NextQuestion.{first-is}
 use Rattle.model.proofs.Locality.{local-call, local-run, exchange-slots}
 use Rattle.model.proofs.WaitingOne.{One, None, all-imp, all-and, keep-one, keep-gone, look-all, look-one, snoc-one, new-one, good-none, one-none, away, codes-none, codes-one}
-use Rattle.model.proofs.AnsweredFrames.{toWaiting, taken}
+use Rattle.model.specs.GrantsSeen.{toWaiting}
+use Rattle.model.proofs.AnsweredFrames.{taken}
 use Rattle.model.proofs.AnsweredQuiet.{ActedFacts, Facts, acted-facts, facts, codes, away-due, away-after, quiet-after, is-lock, lefts, newest, comes, sized-call, second-call, second-run}
 use Rattle.model.proofs.AnsweredRead.{releaseOf, Known, codes-read, known-after, quiet-list}
 
@@ -116,10 +117,10 @@ module _ (c : ℕ) (real : c ≡ noConnection → ⊥) (s t j : ℕ) (p : Releas
     On = ((A ≡ []) × (One j t (r .server .locks .waiting))) ⊎ ((A ≡ 1 ∷ []) × Quieted)
 
     looked : joins c h ≡ false → all (away c 0 E) (taken d h) ≡ true → all apart-from left₀ ≡ true → One j t left₀ → Same → On
-    looked n a b o m = go (look-one j t (looksAfter E h) (l .due) left₀ (r .server .locks .entries) (r .server .locks .waiting) (l .granted) (l .waiting) o)
+    looked n a b o m = go (look-one (d .locks .clock) j t (looksAfter E h) (l .due) left₀ (r .server .locks .entries) (r .server .locks .waiting) (l .granted) (l .waiting) o)
       where
         q : (all apart-from (r .server .locks .waiting) ≡ true) × (all apart-from (l .granted) ≡ true)
-        q = look-all apart-from (looksAfter E h) (l .due) left₀ (r .server .locks .entries) (r .server .locks .waiting) (l .granted) (l .waiting) b
+        q = look-all (d .locks .clock) apart-from (looksAfter E h) (l .due) left₀ (r .server .locks .entries) (r .server .locks .waiting) (l .granted) (l .waiting) b
 
         none-taken : codesTo c (map (answerTo 0 E) (taken d h)) ≡ []
         none-taken = codes-none c 0 E (taken d h) a

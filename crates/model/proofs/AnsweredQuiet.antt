@@ -35,7 +35,8 @@ use Rattle.model.proofs.ReadOff.{each-of}
 use Rattle.model.proofs.Sending.{OnlyOn, role-of-async, role-of-sync}
 use Rattle.model.proofs.Locality.{local-call, exchange-slots}
 use Rattle.model.proofs.WaitingOne.{all-imp, all-and, look-all, away, codes-none, codes-append}
-use Rattle.model.proofs.AnsweredFrames.{toWaiting, taken, unanswered, Told, frames-told}
+use Rattle.model.specs.GrantsSeen.{toWaiting}
+use Rattle.model.proofs.AnsweredFrames.{taken, unanswered, Told, frames-told}
 
 -- what is known of a call, beside the table
 pub record ActedFacts (d : Server) (a : Action) (fs : List Frame) : Type 0 where
@@ -162,7 +163,7 @@ facts d i z (status b) done q = tt
 facts d i z (status b) withheld q = tt
 facts d i z (status b) (took o k n) q = tt
 
-told-own : (d : Server) (h : Happening) (fs : List Frame) → Facts d h fs → Told d h fs
+pub told-own : (d : Server) (h : Happening) (fs : List Frame) → Facts d h fs → Told d h fs
 told-own d (message-acted b) fs f = record { own = λ a e. subst (λ (x : Heard). x ≡ heard 5 fs) (same a e) (f .told) }
   where
     same : (a : Action) → message-acted b ≡ message-acted a → b .told ≡ a .told
@@ -255,7 +256,7 @@ module _ (c : ℕ) (real : c ≡ noConnection → ⊥) (d : Server) (h : Happeni
   -- where no request that is left is of a session with connection c, none is granted to it, and none is after
   pub quiet-after : joins c h ≡ false → all (away c 0 es) left ≡ true → (codesTo c (map (answerTo 1 (l .due)) (l .granted)) ≡ []) × (all (away c 0 es′) ws′ ≡ true)
   quiet-after n a =
-      let q = look-all (away c 0 es) (looksAfter es h) (l .due) left es′ ws′ (l .granted) (l .waiting) a in (
+      let q = look-all (d .locks .clock) (away c 0 es) (looksAfter es h) (l .due) left es′ ws′ (l .granted) (l .waiting) a in (
         codes-none c 1 (l .due) (l .granted) (all-imp (away c 0 es) (away c 1 (l .due)) (λ w e. ap not (away-due n (w .slot) (not-of _ e))) (l .granted) (q .1)),
         all-imp (away c 0 es) (away c 0 es′) (λ w e. ap not (away-after n (w .slot) (not-of _ e))) ws′ (q .0),
       )
@@ -370,9 +371,9 @@ module _ (d : Server) (h : Happening) (r : Result) (l : Local d h r) (f : Facts 
       ap (λ (x : ℕ). not (eqb x noConnection)) (l .asynchronous (w .slot) within ∙ e) ∙ and-r (live (at es₂ (w .slot))) _ b
 
   looked-second : all (away noConnection 0 es₃) (requestsLeft es₂ (d .locks .clock) h (d .locks .waiting)) ≡ true → all (away noConnection 0 es₃) (r .server .locks .waiting) ≡ true
-  looked-second a = (look-all (away noConnection 0 es₃) (looksAfter es₂ h) (l .due) (requestsLeft es₂ (d .locks .clock) h (d .locks .waiting)) es₃ (r .server .locks .waiting) (l .granted) (l .waiting) a) .0
+  looked-second a = (look-all (d .locks .clock) (away noConnection 0 es₃) (looksAfter es₂ h) (l .due) (requestsLeft es₂ (d .locks .clock) h (d .locks .waiting)) es₃ (r .server .locks .waiting) (l .granted) (l .waiting) a) .0
 
-all-kept : (p : Waiting → Bool) (ws : List Waiting) → all p (keep p ws) ≡ true
+pub all-kept : (p : Waiting → Bool) (ws : List Waiting) → all p (keep p ws) ≡ true
 all-kept p [] = refl
 all-kept p (w ∷ ws) = go (p w) refl (all-kept p ws)
   where

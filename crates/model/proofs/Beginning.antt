@@ -17,7 +17,7 @@ use Rattle.model.specs.State.{Locks, Entry, Waiting, Kind.exclusive-lock
 use Rattle.model.specs.Interface.{Event, Event.delivery, Outcome.acted, Reply.took}
 use Rattle.model.specs.Place.{slotOf}
 use Rattle.model.specs.Locks
-use Rattle.model.specs.Locks.{Answer, LockEvent, noShared, holds, mayGrant, give, grant, elsewhere, unexpired, refuse, tell, passOver, grantPass, change, settle, frees, noPlace}
+use Rattle.model.specs.Locks.{Answer, LockEvent, noShared, holds, mayGrant, giveAt, grant, elsewhere, unexpired, refuse, tell, passOver, grantPass, change, settle, frees, noPlace}
 use Rattle.model.specs.Refusals.{refusal}
 use Rattle.model.specs.Step.{Result, plan, answered, finish, step, lockFrame}
 use Rattle.model.specs.Agreement.{isLock}
@@ -179,26 +179,26 @@ module _ (l : Locks) (v : Inv l) (j : ℕ) (aw : awaitsExclusive l j ≡ true) (
   abbrev Unmoved : List Entry → Waiting → Type 0
   Unmoved es₁ w = ((at es₁ (w .slot)) .asynchronous ≡ (at (l .entries) (w .slot)) .asynchronous) × ((at es₁ (w .slot)) .number ≡ (at (l .entries) (w .slot)) .number)
 
-  granted-got : (es₁ es′ : List Entry) (gs : List Waiting) → Each (λ w. at es′ (w .slot) ≡ give (w .string) (at es₁ (w .slot))) gs → Each (λ w. live (at (l .entries) (w .slot)) ≡ true) gs
+  granted-got : (now : ℕ) (es₁ es′ : List Entry) (gs : List Waiting) → Each (λ w. at es′ (w .slot) ≡ giveAt now (w .string) (at es₁ (w .slot))) gs → Each (λ w. live (at (l .entries) (w .slot)) ≡ true) gs
       → Each (Unmoved es₁) gs → all mine gs ≡ true → all (spare x) (map (told es₁) gs) ≡ false → Got es′
-  granted-got es₁ es′ [] g u m a n = absurd (true≢false n)
-  granted-got es₁ es′ (w ∷ gs) g u m a n = go (eqb ((at es₁ (w .slot)) .asynchronous) x) refl n (granted-got es₁ es′ gs (g .1) (u .1) (m .1) (and-r (mine w) _ a))
+  granted-got now es₁ es′ [] g u m a n = absurd (true≢false n)
+  granted-got now es₁ es′ (w ∷ gs) g u m a n = go (eqb ((at es₁ (w .slot)) .asynchronous) x) refl n (granted-got now es₁ es′ gs (g .1) (u .1) (m .1) (and-r (mine w) _ a))
     where
       here : w .slot ≡ j → (elsewhere j w ≡ true) ⊎ (isNil (w .string) ≡ true) → Got es′
       here q (inl e) = absurd (apart j w e q)
       here q (inr e) =
-          let y : at es′ j ≡ give [] (at es₁ (w .slot)) = ap (at es′) (sym q) ∙ g .0 ∙ ap (λ k. give k (at es₁ (w .slot))) (nil→ (w .string) e) in
+          let y : at es′ j ≡ giveAt now [] (at es₁ (w .slot)) = ap (at es′) (sym q) ∙ g .0 ∙ ap (λ k. giveAt now k (at es₁ (w .slot))) (nil→ (w .string) e) in
           (ap (λ (z : Entry). z .number) y ∙ m .0 .1 ∙ ap (λ z. (at (l .entries) z) .number) q, ap (λ (z : Entry). z .exclusive) y)
 
       go : (b : Bool) → eqb ((at es₁ (w .slot)) .asynchronous) x ≡ b → (not b && all (spare x) (map (told es₁) gs)) ≡ false → (all (spare x) (map (told es₁) gs) ≡ false → Got es′) → Got es′
       go true e n ih = here (sole (w .slot) (u .0) (sym (m .0 .0) ∙ eqb-true _ _ e)) (or→ (elsewhere j w) _ (and-l (mine w) _ a))
       go false e n ih = ih n
 
-  pass-got : (es₁ : List Entry) (ws₁ : List Waiting) → Good es₁ ws₁ → Each (λ w. live (at (l .entries) (w .slot)) ≡ true) ws₁ → Each (Unmoved es₁) ws₁ → all mine ws₁ ≡ true
-      → all (spare x) ((passOver ws₁ es₁) .answers) ≡ false → Got ((passOver ws₁ es₁) .entries)
-  pass-got es₁ ws₁ g u m a n =
-      let f = pass-looks ws₁ es₁ in
-      granted-got es₁ ((passOver ws₁ es₁) .entries) (f .grants) (looked-get (f .looked) g) (looked-each (λ w. live (at (l .entries) (w .slot)) ≡ true) (f .looked) u) (looked-each (Unmoved es₁) (f .looked) m) ((looked-both mine (f .looked) a) .1) (ap (all (spare x)) (sym (f .answers)) ∙ n)
+  pass-got : (now : ℕ) (es₁ : List Entry) (ws₁ : List Waiting) → Good es₁ ws₁ → Each (λ w. live (at (l .entries) (w .slot)) ≡ true) ws₁ → Each (Unmoved es₁) ws₁ → all mine ws₁ ≡ true
+      → all (spare x) ((passOver now ws₁ es₁) .answers) ≡ false → Got ((passOver now ws₁ es₁) .entries)
+  pass-got now es₁ ws₁ g u m a n =
+      let f = pass-looks now ws₁ es₁ in
+      granted-got now es₁ ((passOver now ws₁ es₁) .entries) (f .grants) (looked-get (f .looked) g) (looked-each (λ w. live (at (l .entries) (w .slot)) ≡ true) (f .looked) u) (looked-each (Unmoved es₁) (f .looked) m) ((looked-both mine (f .looked) a) .1) (ap (all (spare x)) (sym (f .answers)) ∙ n)
 
   kept-who : (i : ℕ) (y : Entry) → y .asynchronous ≡ (at (l .entries) i) .asynchronous → y .number ≡ (at (l .entries) i) .number → (w : Waiting) → Unmoved (set (l .entries) i y) w
   kept-who i y ea en w = go (at-set (l .entries) i y (w .slot))
@@ -217,7 +217,7 @@ module _ (l : Locks) (v : Inv l) (j : ℕ) (aw : awaitsExclusive l j ≡ true) (
   unfolding grantPass
   stores-got ws i r s g₀ g a n =
       rw (s .locks)
-      (pass-got (set (l .entries) i (s .entry)) ws (rw (s .locks) at g) (good-live (l .entries) ws g₀) (each-all (Unmoved (set (l .entries) i (s .entry))) (λ w. true) ws (always ws) (λ w t. kept-who i (s .entry) (s .lesser .asynchronous) (s .lesser .number) w)) a (rw (s .locks) at n))
+      (pass-got (l .clock) (set (l .entries) i (s .entry)) ws (rw (s .locks) at g) (good-live (l .entries) ws g₀) (each-all (Unmoved (set (l .entries) i (s .entry))) (λ w. true) ws (always ws) (λ w t. kept-who i (s .entry) (s .lesser .asynchronous) (s .lesser .number) w)) a (rw (s .locks) at n))
 
   settled-got : (b : Bool) (ws : List Waiting) (i : ℕ) (r : Locks.LockResult) → Stores (Locks.withWaiting l ws) i r → Good (l .entries) ws → Good (r .locks .entries) (r .locks .waiting) → all mine ws ≡ true
       → all (spare x) ((settle b (r .locks)) .answers) ≡ false → Got ((settle b (r .locks)) .locks .entries)
@@ -238,7 +238,7 @@ module _ (l : Locks) (v : Inv l) (j : ℕ) (aw : awaitsExclusive l j ≡ true) (
       ((change-sound l (v .sound .good) (v .sound .firm) (LockEvent.clear i) f) .good) (all-keep mine (elsewhere i) (l .waiting) (have .1)) n
   event-got (Locks.close i) f n =
       let ks = keep (elsewhere i) (l .waiting) in
-      pass-got (set (l .entries) i blank) ks ((change-sound l (v .sound .good) (v .sound .firm) (LockEvent.close i) tt) .good)
+      pass-got (l .clock) (set (l .entries) i blank) ks ((change-sound l (v .sound .good) (v .sound .firm) (LockEvent.close i) tt) .good)
       (good-live (l .entries) ks (good-keep (l .entries) (elsewhere i) (l .waiting) (v .sound .good)))
       (each-all (Unmoved (set (l .entries) i blank)) (elsewhere i) ks (all-kept (elsewhere i) (l .waiting)) (λ w a. let q = getD-set-other (l .entries) i (w .slot) blank blank (apart i w a) in (ap (λ (z : Entry). z .asynchronous) q, ap (λ (z : Entry). z .number) q)))
       (all-keep mine (elsewhere i) (l .waiting) (have .1))
@@ -268,11 +268,11 @@ later-holds d v j e aw real a = go (refusal d e) refl a
         record { number = r .0; exclusive = r .1 }
 
 -- at once
-ask-yes : (l : Locks) (i t : ℕ) (k : List ℕ) → any answers1 (map lockFrame ((change l (LockEvent.request i t k)) .answers)) ≡ true → (change l (LockEvent.request i t k)) .locks .entries ≡ grant (l .entries) i k
+ask-yes : (l : Locks) (i t : ℕ) (k : List ℕ) → any answers1 (map lockFrame ((change l (LockEvent.request i t k)) .answers)) ≡ true → (change l (LockEvent.request i t k)) .locks .entries ≡ grant (l .clock) (l .entries) i k
 unfolding change
 ask-yes l i t k a = go (holds k (at (l .entries) i)) (all (elsewhere i) (l .waiting)) (Locks.invalidBy k (at (l .entries) i)) (mayGrant (l .entries) i k) (eqb t 0 || noPlace (l .waiting)) a
   where
-    go : (h a s m z : Bool) → any answers1 (map lockFrame ((Locks.respond (Locks.ruling h a s m z) l i t k) .answers)) ≡ true → (Locks.respond (Locks.ruling h a s m z) l i t k) .locks .entries ≡ grant (l .entries) i k
+    go : (h a s m z : Bool) → any answers1 (map lockFrame ((Locks.respond (Locks.ruling h a s m z) l i t k) .answers)) ≡ true → (Locks.respond (Locks.ruling h a s m z) l i t k) .locks .entries ≡ grant (l .clock) (l .entries) i k
     go true a s m z q = absurd (false≢true q)
     go false false s m z q = absurd (false≢true q)
     go false true true m z q = absurd (false≢true q)
@@ -293,9 +293,9 @@ once-holds d c bs room k n e t o z a =
     let empty : p ≡ [] = sym ((whole-scan _ bs h p (r .shows)) .2) ∙ ap (λ m. take m (drop 16 bs)) z in
     let answers = map lockFrame ((change (d .locks) (LockEvent.request i (h .param) p)) .answers) in
     let g = ask-yes (d .locks) i (h .param) p (ap (any answers1) (sym (append-nil answers)) ∙ ap (λ (x : Result). any answers1 (x .frames)) (sym one) ∙ a) in
-    let q : at ((step d (delivery c bs room)) .server .locks .entries) i ≡ give [] (at es i) =
-    ap (λ (x : Result). at (x .server .locks .entries) i) one ∙ ap (λ es. at es i) g ∙ ap (λ k. at (grant es i k) i) empty
-    ∙ getD-set-same es i (give [] (at es i)) blank (inside live es i refl (async-live es c (r .role))) in
+    let q : at ((step d (delivery c bs room)) .server .locks .entries) i ≡ giveAt (d .locks .clock) [] (at es i) =
+    ap (λ (x : Result). at (x .server .locks .entries) i) one ∙ ap (λ es. at es i) g ∙ ap (λ k. at (grant (d .locks .clock) es i k) i) empty
+    ∙ getD-set-same es i (giveAt (d .locks .clock) [] (at es i)) blank (inside live es i refl (async-live es c (r .role))) in
     record { number = ap (λ (x : Entry). x .number) q; exclusive = ap (λ (x : Entry). x .exclusive) q }
 
 pub begins-holding : (d : Server) → Inv (d .locks) → (j : ℕ) {e : Event} → Begins d j e → Holder ((at (d .locks .entries) j) .number) j ((step d e) .server)

@@ -66,13 +66,13 @@ refuse-rest es p (w ∷ ws) = go (p w) (refuse-rest es p ws)
     go true l = omega arith
     go false l = omega arith
 
-pass-length : (ws : List Waiting) (es : List Entry) → length ((passOver ws es) .answers) ≤ length ws
+pass-length : (now : ℕ) (ws : List Waiting) (es : List Entry) → length ((passOver now ws es) .answers) ≤ length ws
 unfolding passOver
-pass-length [] es = omega arith
-pass-length (w ∷ ws) es = go (mayGrant es (w .slot) (w .string)) (λ es. pass-length ws es)
+pass-length now [] es = omega arith
+pass-length now (w ∷ ws) es = go (mayGrant es (w .slot) (w .string)) (λ es. pass-length now ws es)
   where
-    go : (b : Bool) → ((es : List Entry) → length ((passOver ws es) .answers) ≤ length ws) → length ((put b w es (passOver ws (after b w es))) .answers) ≤ suc (length ws)
-    go true ih = omega (arith, ih (after true w es))
+    go : (b : Bool) → ((es : List Entry) → length ((passOver now ws es) .answers) ≤ length ws) → length ((put b w es (passOver now ws (after now b w es))) .answers) ≤ suc (length ws)
+    go true ih = omega (arith, ih (after now true w es))
     go false ih = omega (arith, ih es)
 
 -- of an event and its pass
@@ -88,13 +88,13 @@ ask-length Locks.queued l i t k = omega arith
 release-length : (u : Locks.Releasing) (l : Locks) (i n : ℕ) → length ((Locks.released u l i n) .answers) + length ((settle (Locks.freesNow u) ((Locks.released u l i n) .locks)) .answers) ≤ length (l .waiting) + 1
 unfolding grantPass
 release-length Locks.r-invalid l i n = omega arith
-release-length (Locks.r-now k) l i n = omega (arith, pass-length (l .waiting) ((Locks.released (Locks.r-now k) l i n) .locks .entries))
+release-length (Locks.r-now k) l i n = omega (arith, pass-length (l .clock) (l .waiting) ((Locks.released (Locks.r-now k) l i n) .locks .entries))
 release-length (Locks.r-stands k) l i n = omega arith
 
 complete-length : (u : Locks.Due) (l : Locks) (i n : ℕ) → length ((Locks.completed u l i n) .answers) + length ((settle (Locks.isDue u) ((Locks.completed u l i n) .locks)) .answers) ≤ length (l .waiting) + 1
 unfolding grantPass
 complete-length Locks.not-due l i n = omega arith
-complete-length (Locks.due-now k) l i n = omega (arith, pass-length (l .waiting) ((Locks.completed (Locks.due-now k) l i n) .locks .entries))
+complete-length (Locks.due-now k) l i n = omega (arith, pass-length (l .clock) (l .waiting) ((Locks.completed (Locks.due-now k) l i n) .locks .entries))
 
 answers-bound : (l : Locks) (e : LockEvent) → answers l e ≤ length (l .waiting) + 1
 unfolding change grantPass
@@ -109,7 +109,7 @@ answers-bound l (Locks.clear i) =
     let u = Locks.dueAny ((at (l .entries) i) .standing) in
     let l′ = Locks.withWaiting l (keep (elsewhere i) (l .waiting)) in
     simp (length-append (refuse (l .entries) (elsewhere i) (l .waiting)) ((Locks.completed u l′ i beforeFirst) .answers)) (omega (arith, refuse-rest (l .entries) (elsewhere i) (l .waiting), complete-length u l′ i beforeFirst))
-answers-bound l (Locks.close i) = omega (arith, pass-length (keep (elsewhere i) (l .waiting)) (set (l .entries) i blank), keep-length (elsewhere i) (l .waiting))
+answers-bound l (Locks.close i) = omega (arith, pass-length (l .clock) (keep (elsewhere i) (l .waiting)) (set (l .entries) i blank), keep-length (elsewhere i) (l .waiting))
 answers-bound l (Locks.reading t) = omega (arith, refuse-length (l .entries) (unexpired t) (l .waiting))
 
 -- what a call says directly

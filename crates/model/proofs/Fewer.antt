@@ -94,7 +94,7 @@ module _ (i : ℕ) (es es′ : List Entry) (f : Fewer i es es′) where
   no-worse = record { granted = may-fewer; access = access-fewer }
 
 -- a request answered 1: the same tests come out alike
-module _ (l l′ : Locks) (i t : ℕ) (k : List ℕ) (f : Fewer i (l .entries) (l′ .entries)) (ws : l′ .waiting ≡ l .waiting) where
+module _ (l l′ : Locks) (i t : ℕ) (k : List ℕ) (f : Fewer i (l .entries) (l′ .entries)) (ws : l′ .waiting ≡ l .waiting) (now : l′ .clock ≡ l .clock) where
   abbrev Same : Locks.Ruling → Locks.Ruling → Type 0
   Same a b = ((Locks.respond b l′ i t k) .answers ≡ (Locks.respond a l i t k) .answers) × (at ((Locks.respond b l′ i t k) .locks .entries) i ≡ at ((Locks.respond a l i t k) .locks .entries) i)
 
@@ -105,7 +105,7 @@ module _ (l l′ : Locks) (i t : ℕ) (k : List ℕ) (f : Fewer i (l .entries) (
   asked-same false true true m z m′ e g = absurd (false≢true g)
   asked-same false true false true z true e g = (
     ap (λ (x : Entry). record { to = x .asynchronous; code = 1; request = true } ∷ []) (f .own),
-    ap (λ (x : Entry). at (set (l′ .entries) i (Locks.give k x)) i) (f .own) ∙ at-own (l .entries) (l′ .entries) i (Locks.give k (at (l .entries) i)) (f .slots),
+    ap₂ (λ (t : ℕ) (x : Entry). at (set (l′ .entries) i (Locks.giveAt t k x)) i) now (f .own) ∙ at-own (l .entries) (l′ .entries) i (Locks.giveAt (l .clock) k (at (l .entries) i)) (f .slots),
   )
   asked-same false true false true z false e g = absurd (false≢true (e refl))
   asked-same false true false false true m′ e g = absurd (false≢true g)
@@ -218,7 +218,7 @@ module _ (d d′ : Server) (c : ℕ) (f : FewerLocks (slotOf d c) d d′) (bs : 
       let i = slotOf d c in
       let one = request-step d c bs room r t o in
       let two : step d′ (delivery c bs room) ≡ finish d′ (asking d′ i h p) = request-step d′ c bs room (request-same r) t o ∙ ap (λ j. finish d′ (asking d′ j h p)) slot-same in
-      let a = ask-same (d .locks) (d′ .locks) i (h .param) p (f .fewer) (f .waiting) (ap (any answers1) (sym (append-nil (map lockFrame ((change (d .locks) (Locks.request i (h .param) p)) .answers)))) ∙ ap (λ (x : Result). any answers1 (x .frames)) (sym one) ∙ g) in (
+      let a = ask-same (d .locks) (d′ .locks) i (h .param) p (f .fewer) (f .waiting) (f .clock) (ap (any answers1) (sym (append-nil (map lockFrame ((change (d .locks) (Locks.request i (h .param) p)) .answers)))) ∙ ap (λ (x : Result). any answers1 (x .frames)) (sym one) ∙ g) in (
         ap (λ (x : Result). x .reply) two ∙ ap (λ (x : Entry). took acted (16 + h .len) (x .number)) (f .fewer .own) ∙ ap (λ (x : Result). x .reply) (sym one) ∙ e,
         ap (λ (x : Result). x .frames) two ∙ ap (λ xs. map lockFrame xs ++ []) (a .0) ∙ ap (λ (x : Result). x .frames) (sym one),
         ap (λ (x : Result). at (x .server .locks .entries) i) two ∙ a .1 ∙ ap (λ (x : Result). at (x .server .locks .entries) i) (sym one),

@@ -73,3 +73,5 @@ pub mod AnsweredQuiet
 pub mod AnsweredRead
 pub mod AnsweredOnce
 pub mod Asking
+pub mod Holders
+pub mod GrantsSeen

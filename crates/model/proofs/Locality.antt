@@ -78,10 +78,10 @@ local-closing d c real k reply s =
     (disconnected c k)
     _
     (freed d c)
-    ((pass-looks (stay d c) (freed d c)) .grants)
+    ((pass-looks (d .locks .clock) (stay d c) (freed d c)) .grants)
     (rest-closing d c real k)
     (locks-closing d c k)
-    (ap (λ (fs : List Frame). saidTo k 2 (channels d c) ++ fs) (pass-frames (stay d c) (freed d c)))
+    (ap (λ (fs : List Frame). saidTo k 2 (channels d c) ++ fs) (pass-frames (d .locks .clock) (stay d c) (freed d c)))
     s
 
 -- a message that acted
@@ -221,7 +221,7 @@ module _ (d : Server) (c : ℕ) (bs : List ℕ) (room : ℕ) (real : c ≡ noCon
       (λ o k n e. cc)
   effect-local (v-fatal x) s r es er ev =
       rw (fatal-heard x (live (entryOf d c)) ((entryOf d c) .synchronous) c (cond (eqb ((entryOf d c) .asynchronous) noConnection) [] ((entryOf d c) .asynchronous ∷ [])) _) (local-closing d c real (with-code x) _ (λ o k n e. cc))
-  effect-local v-closed s r es er ev = rw (none-heard ((passOver (stay d c) (freed d c)) .answers)) (local-closing d c real silence _ (λ o k n e. cc))
+  effect-local v-closed s r es er ev = rw (none-heard ((passOver (d .locks .clock) (stay d c) (freed d c)) .answers)) (local-closing d c real silence _ (λ o k n e. cc))
   effect-local v-acts empty r es er ev = idle-local _
   effect-local v-acts few r es er ev = idle-local _
   effect-local v-acts wrong r es er ev = idle-local _

@@ -11,12 +11,12 @@ use borrow.Author.Tests.{eqb-true, eq-eqb, ne-eqb}
 use Rattle.wire.specs.declared.Header.{Header}
 use Rattle.model.specs.State.{Entry, Waiting, Exchange, Asked.none, at, blank, slotOfNumber}
 use Rattle.model.specs.Place.{slotIn}
-use Rattle.model.specs.Locks.{withLocks, give}
+use Rattle.model.specs.Locks.{withLocks, withGranted, giveAt}
 use Rattle.model.specs.Exchange
 use Rattle.model.specs.Closing.{OldestFirst, OldestFirst.pass-end, OldestFirst.pass-grant, OldestFirst.pass-wait}
 use Rattle.model.specs.Happening.{Action, Happening, Happening.unmoved, Happening.connected, Happening.disconnected, Happening.skipped-over, Happening.errored, Happening.message-acted, Happening.clock-read, Happening.status-set, Happening.answer-sent, Happening.answer-withheld}
-use Rattle.model.specs.LocalityRows.{Row, inSlot, slotActed, clear-row, asked-row, available-row, size-row, mode-row, count-row, sent-row, expected-row, step-row, number-row, synchronous-row, asynchronous-row, exclusive-row, shared-row, last-row, standing-row}
-use Rattle.model.specs.Locality.{entryDue, givenExclusive, givenShared, Look}
+use Rattle.model.specs.LocalityRows.{Row, inSlot, slotActed, clear-row, asked-row, available-row, size-row, mode-row, count-row, sent-row, expected-row, step-row, number-row, synchronous-row, asynchronous-row, exclusive-row, shared-row, last-row, standing-row, moreGranted, granted-row}
+use Rattle.model.specs.Locality.{entryDue, givenExclusive, givenShared, givenGrants, Look}
 use Rattle.model.proofs.Basics.{same?}
 
 module _ {A : Type 0} where
@@ -100,8 +100,8 @@ exchangeRow preferred =
       once-closed = record { inClear = clear-row .once-closed; asked = none; messageAvailable = false; clientSize = size-row .once-closed; overlap = (mode-row preferred) .once-closed; count = count-row .once-closed; anySent = sent-row .once-closed; rmtExpected = expected-row .once-closed; numberExpected = 0xffffff00 };
     }
 
-abbrev pub entryRow : Row Entry
-entryRow =
+abbrev pub entryRow : ℕ → Row Entry
+entryRow now =
     record {
       by-message = λ a x. record {
         number = number-row .by-message a (x .number);
@@ -111,6 +111,7 @@ entryRow =
         shared = (shared-row x) .by-message a (x .shared);
         last = last-row .by-message a (x .last);
         standing = (standing-row x) .by-message a (x .standing);
+        locksGranted = (granted-row now) .by-message a (x .locksGranted);
       };
       by-answer = λ b x. x;
       when-withheld = λ x. x;
@@ -128,38 +129,39 @@ split-entry : (b : Bool) (u x : Entry)
       shared = cond b (u .shared) (x .shared);
       last = cond b (u .last) (x .last);
       standing = cond b (u .standing) (x .standing);
+      locksGranted = cond b (u .locksGranted) (x .locksGranted);
     }
 split-entry true u x = refl
 split-entry false u x = refl
 
-pub due-entry : (es : List Entry) (i : ℕ) (h : Happening) (x : Entry) → inSlot entryRow es i h x ≡ entryDue es h i x
-due-entry es i unmoved x = refl
-due-entry es i (connected c) x = refl
-due-entry es i (disconnected c k) x = split-entry (eqb i (slotIn es c)) blank x
-due-entry es i (skipped-over c k) x = refl
-due-entry es i (errored c h k) x = split-entry (eqb i (slotIn es c) && eqb ((at es i) .synchronous) c) x x
-due-entry es i (message-acted a) x = split-entry (eqb i (slotActed es a)) (entryRow .by-message a x) x
-due-entry es i (clock-read t) x = refl
-due-entry es i (status-set b) x = refl
-due-entry es i (answer-sent k p end) x = split-entry (eqb i (slotOfNumber es k)) x x
-due-entry es i (answer-withheld k p) x = split-entry (eqb i (slotOfNumber es k)) x x
+pub due-entry : (now : ℕ) (es : List Entry) (i : ℕ) (h : Happening) (x : Entry) → inSlot (entryRow now) es i h x ≡ entryDue now es h i x
+due-entry now es i unmoved x = refl
+due-entry now es i (connected c) x = refl
+due-entry now es i (disconnected c k) x = split-entry (eqb i (slotIn es c)) blank x
+due-entry now es i (skipped-over c k) x = refl
+due-entry now es i (errored c h k) x = split-entry (eqb i (slotIn es c) && eqb ((at es i) .synchronous) c) x x
+due-entry now es i (message-acted a) x = split-entry (eqb i (slotActed es a)) ((entryRow now) .by-message a x) x
+due-entry now es i (clock-read t) x = refl
+due-entry now es i (status-set b) x = refl
+due-entry now es i (answer-sent k p end) x = split-entry (eqb i (slotOfNumber es k)) x x
+due-entry now es i (answer-withheld k p) x = split-entry (eqb i (slotOfNumber es k)) x x
 
 -- what a look leaves of an entry
-abbrev pub lookedAt : List Waiting → ℕ → Entry → Entry
-lookedAt gs i x = withLocks (givenExclusive gs i || x .exclusive) (givenShared gs i (x .shared)) x
+abbrev pub lookedAt : ℕ → List Waiting → ℕ → Entry → Entry
+lookedAt now gs i x = withGranted (givenGrants now gs i (x .locksGranted)) (withLocks (givenExclusive gs i || x .exclusive) (givenShared gs i (x .shared)) x)
 
 or-true : (a : Bool) → (a || true) ≡ true
 or-true true = refl
 or-true false = refl
 
-grant-look : (w : Waiting) (gs : List Waiting) (i : ℕ) (x : Entry) (b : Bool) (k : List ℕ) → eqb (w .slot) i ≡ b → w .string ≡ k → lookedAt gs i (cond b (give k x) x) ≡ lookedAt (w ∷ gs) i x
-grant-look w gs i x true [] e q = rw (e, q) (ap (λ b. withLocks b (givenShared gs i (x .shared)) x) (or-true (givenExclusive gs i)))
-grant-look w gs i x true (y ∷ k) e q = rw (e, q)
-grant-look w gs i x false k e q = rw e
+grant-look : (now : ℕ) (w : Waiting) (gs : List Waiting) (i : ℕ) (x : Entry) (b : Bool) (k : List ℕ) → eqb (w .slot) i ≡ b → w .string ≡ k → lookedAt now gs i (cond b (giveAt now k x) x) ≡ lookedAt now (w ∷ gs) i x
+grant-look now w gs i x true [] e q = rw (e, q) (ap (λ b. withGranted (givenGrants now gs i (moreGranted now (x .locksGranted))) (withLocks b (givenShared gs i (x .shared)) x)) (or-true (givenExclusive gs i)))
+grant-look now w gs i x true (y ∷ k) e q = rw (e, q)
+grant-look now w gs i x false k e q = rw e
 
-pub pass-sized : {es es′ : List Entry} {ws vs gs : List Waiting} → OldestFirst es ws es′ vs gs → length es′ ≡ length es
+pub pass-sized : {now : ℕ} {es es′ : List Entry} {ws vs gs : List Waiting} → OldestFirst now es ws es′ vs gs → length es′ ≡ length es
 pass-sized pass-end = refl
-pass-sized (pass-grant {es = es} w m l) = pass-sized l ∙ length-set es (w .slot) (give (w .string) (at es (w .slot)))
+pass-sized (pass-grant {es = es} w m l) = pass-sized l ∙ length-set es (w .slot) _
 pass-sized (pass-wait w m l) = pass-sized l
 
 flip : (a b : ℕ) → eqb a b ≡ eqb b a
@@ -169,20 +171,20 @@ flip a b = go (same? a b)
     go (inl e) = eq-eqb a b e ∙ sym (eq-eqb b a (sym e))
     go (inr n) = ne-eqb a b n ∙ sym (ne-eqb b a (λ e. n (sym e)))
 
-pub pass-each : {es es′ : List Entry} {ws vs gs : List Waiting} → OldestFirst es ws es′ vs gs → (i : ℕ) → i < length es → at es′ i ≡ lookedAt gs i (at es i)
-pass-each pass-end i l = refl
-pass-each (pass-grant {es = es} {gs = gs} w m p) i l =
-    pass-each p i (rw (length-set es (w .slot) (give (w .string) (at es (w .slot)))) l)
-    ∙ ap (lookedAt gs i) (touch es (w .slot) (give (w .string)) (give (w .string) (at es (w .slot))) blank i l refl)
-    ∙ ap (λ b. lookedAt gs i (cond b (give (w .string) (at es i)) (at es i))) (flip i (w .slot))
-    ∙ grant-look w gs i (at es i) (eqb (w .slot) i) (w .string) refl refl
-pass-each (pass-wait w m p) i l = pass-each p i l
+pub pass-each : (now : ℕ) {es es′ : List Entry} {ws vs gs : List Waiting} → OldestFirst now es ws es′ vs gs → (i : ℕ) → i < length es → at es′ i ≡ lookedAt now gs i (at es i)
+pass-each now pass-end i l = refl
+pass-each now (pass-grant {es = es} {gs = gs} w m p) i l =
+    pass-each now p i (rw (length-set es (w .slot) (giveAt now (w .string) (at es (w .slot)))) l)
+    ∙ ap (lookedAt now gs i) (touch es (w .slot) (giveAt now (w .string)) (giveAt now (w .string) (at es (w .slot))) blank i l refl)
+    ∙ ap (λ b. lookedAt now gs i (cond b (giveAt now (w .string) (at es i)) (at es i))) (flip i (w .slot))
+    ∙ grant-look now w gs i (at es i) (eqb (w .slot) i) (w .string) refl refl
+pass-each now (pass-wait w m p) i l = pass-each now p i l
 
-module _ (es es′ : List Entry) (ws vs gs : List Waiting) where
-  pub look-sized : (b : Bool) → Look b es ws es′ vs gs → length es′ ≡ length es
+module _ (now : ℕ) (es es′ : List Entry) (ws vs gs : List Waiting) where
+  pub look-sized : (b : Bool) → Look now b es ws es′ vs gs → length es′ ≡ length es
   look-sized true p = pass-sized p
   look-sized false p = ap length (p .0)
 
-  pub look-each : (b : Bool) → Look b es ws es′ vs gs → (i : ℕ) → i < length es → at es′ i ≡ lookedAt gs i (at es i)
-  look-each true p i l = pass-each p i l
-  look-each false p i l = ap (λ (x : List Entry). at x i) (p .0) ∙ ap (λ (gs : List Waiting). lookedAt gs i (at es i)) (sym (p .2))
+  pub look-each : (b : Bool) → Look now b es ws es′ vs gs → (i : ℕ) → i < length es → at es′ i ≡ lookedAt now gs i (at es i)
+  look-each true p i l = pass-each now p i l
+  look-each false p i l = ap (λ (x : List Entry). at x i) (p .0) ∙ ap (λ (gs : List Waiting). lookedAt now gs i (at es i)) (sym (p .2))

@@ -69,7 +69,7 @@ module _ (d : Server) where
   locks-kept a q0 q4 q17 q19 q6 q7 q12 =
       record {
         clock = refl;
-        rows = row-kept blank entryRow (d .locks .entries) (d .locks .entries) a (λ x. rw (q0, q4, q17, q19, q6, q7, q12));
+        rows = row-kept blank (entryRow (d .locks .clock)) (d .locks .entries) (d .locks .entries) a (λ x. rw (q0, q4, q17, q19, q6, q7, q12));
         look = rw (q4, q19, q6, q7, q12) (refl, refl, refl);
       }
 
@@ -78,8 +78,8 @@ pub told-frames : (es : List Entry) (gs : List Waiting) → map lockFrame (map (
 told-frames es [] = refl
 told-frames es (w ∷ gs) = ap (λ (fs : List Frame). answerTo 1 es w ∷ fs) (told-frames es gs)
 
-pub pass-frames : (ws : List Waiting) (es : List Entry) → map lockFrame ((passOver ws es) .answers) ≡ map (answerTo 1 es) ((pass-looks ws es) .grants)
-pass-frames ws es = ap (map lockFrame) ((pass-looks ws es) .answers) ∙ told-frames es ((pass-looks ws es) .grants)
+pub pass-frames : (now : ℕ) (ws : List Waiting) (es : List Entry) → map lockFrame ((passOver now ws es) .answers) ≡ map (answerTo 1 es) ((pass-looks now ws es) .grants)
+pass-frames now ws es = ap (map lockFrame) ((pass-looks now ws es) .answers) ∙ told-frames es ((pass-looks now ws es) .grants)
 
 pub refused-frames : (es : List Entry) (q : Waiting → Bool) (ws : List Waiting) → map lockFrame (refuse es (λ w. not (q w)) ws) ≡ map (answerTo 0 es) (keep q ws)
 refused-frames es q [] = refl
@@ -99,12 +99,12 @@ module _ (d : Server) (c : ℕ) where
   stay = keep (elsewhere (slotOf d c)) (d .locks .waiting)
 
   pub locks-closing : (k : Heard)
-      → LocksPart d (disconnected c k) record { clock = d .locks .clock; entries = (passOver stay freed) .entries; waiting = (passOver stay freed) .waiting } freed ((pass-looks stay freed) .grants)
+      → LocksPart d (disconnected c k) record { clock = d .locks .clock; entries = (passOver (d .locks .clock) stay freed) .entries; waiting = (passOver (d .locks .clock) stay freed) .waiting } freed ((pass-looks (d .locks .clock) stay freed) .grants)
   locks-closing k =
       record {
         clock = refl;
         rows = record { size = length-set (d .locks .entries) (slotOf d c) blank; each = λ i l. set-at (d .locks .entries) (slotOf d c) blank blank i l };
-        look = (pass-looks stay freed) .looked;
+        look = (pass-looks (d .locks .clock) stay freed) .looked;
       }
 
 -- a session begins, and gets its second connection
@@ -113,7 +113,7 @@ pub locks-enter : (d : Server) (a : Action) → kindOf a ≡ 0
 locks-enter d a e =
     record {
       clock = refl;
-      rows = row-message blank entryRow (d .locks .entries) (d .locks .entries) a (slotOfNumber (d .locks .entries) 0) _ (rw e) (rw e);
+      rows = row-message blank (entryRow (d .locks .clock)) (d .locks .entries) (d .locks .entries) a (slotOfNumber (d .locks .entries) 0) _ (rw e) (rw e);
       look = rw e (refl, refl, refl);
     }
 
@@ -122,7 +122,7 @@ pub locks-join : (d : Server) (a : Action) → kindOf a ≡ 17
 locks-join d a e =
     record {
       clock = refl;
-      rows = row-message blank entryRow (d .locks .entries) (d .locks .entries) a (slotOfNumber (d .locks .entries) (a .message .param)) _ (rw e) (rw e);
+      rows = row-message blank (entryRow (d .locks .clock)) (d .locks .entries) (d .locks .entries) a (slotOfNumber (d .locks .entries) (a .message .param)) _ (rw e) (rw e);
       look = rw e (refl, refl, refl);
     }
 
@@ -133,18 +133,18 @@ ended t n x =
     withOrder n (cond (not (isSilence r)) no-release (x .standing)) (withLocks (cond (isCode 1 r) false (x .exclusive)) (cond (isCode 2 r) [] (x .shared)) x)
 
 -- whom the look after it grants, if there is one
-abbrev pub grantsBy : Bool → List Waiting → List Entry → List Waiting
-grantsBy true ws es = (pass-looks ws es) .grants
-grantsBy false ws es = []
+abbrev pub grantsBy : ℕ → Bool → List Waiting → List Entry → List Waiting
+grantsBy now true ws es = (pass-looks now ws es) .grants
+grantsBy now false ws es = []
 
-pub settle-frames : (b : Bool) (l : Locks) → map lockFrame ((settle b l) .answers) ≡ map (answerTo 1 (l .entries)) (grantsBy b (l .waiting) (l .entries))
+pub settle-frames : (b : Bool) (l : Locks) → map lockFrame ((settle b l) .answers) ≡ map (answerTo 1 (l .entries)) (grantsBy (l .clock) b (l .waiting) (l .entries))
 unfolding grantPass
-settle-frames true l = pass-frames (l .waiting) (l .entries)
+settle-frames true l = pass-frames (l .clock) (l .waiting) (l .entries)
 settle-frames false l = refl
 
-settle-looks : (b : Bool) (l : Locks) → Look b (l .entries) (l .waiting) ((settle b l) .locks .entries) ((settle b l) .locks .waiting) (grantsBy b (l .waiting) (l .entries))
+settle-looks : (b : Bool) (l : Locks) → Look (l .clock) b (l .entries) (l .waiting) ((settle b l) .locks .entries) ((settle b l) .locks .waiting) (grantsBy (l .clock) b (l .waiting) (l .entries))
 unfolding grantPass
-settle-looks true l = (pass-looks (l .waiting) (l .entries)) .looked
+settle-looks true l = (pass-looks (l .clock) (l .waiting) (l .entries)) .looked
 settle-looks false l = (refl, refl, refl)
 
 settle-clock : (b : Bool) (l : Locks) → (settle b l) .locks .clock ≡ l .clock
@@ -178,12 +178,12 @@ module _ (l : Locks) (i n : ℕ) (t : ℕ → Bool) where
 
 -- the part of a message that is the last with number n
 pub locks-ended : (d : Server) (a : Action) (t : ℕ → Bool) (n : ℕ) (ws : List Waiting) (b : Bool)
-    → ((x : Entry) → entryRow .by-message a x ≡ ended t n x) → looksAfter (d .locks .entries) (message-acted a) ≡ b → requestsLeft (d .locks .entries) (d .locks .clock) (message-acted a) (d .locks .waiting) ≡ ws
+    → ((x : Entry) → (entryRow (d .locks .clock)) .by-message a x ≡ ended t n x) → looksAfter (d .locks .entries) (message-acted a) ≡ b → requestsLeft (d .locks .entries) (d .locks .clock) (message-acted a) (d .locks .waiting) ≡ ws
     → (i : ℕ) → i ≡ slotActed (d .locks .entries) a → (y : List Entry) → y ≡ set (d .locks .entries) i (ended t n (at (d .locks .entries) i))
-    → LocksPart d (message-acted a) ((settle b (Locks.withEntries (Locks.withWaiting (d .locks) ws) y)) .locks) y (grantsBy b ws y)
+    → LocksPart d (message-acted a) ((settle b (Locks.withEntries (Locks.withWaiting (d .locks) ws) y)) .locks) y (grantsBy (d .locks .clock) b ws y)
 locks-ended d a t n ws b row eb ew i ei y ey =
     record {
       clock = settle-clock b _;
-      rows = rw ey (row-message blank entryRow (d .locks .entries) (d .locks .entries) a i _ ei (sym (row (at (d .locks .entries) i))));
+      rows = rw ey (row-message blank (entryRow (d .locks .clock)) (d .locks .entries) (d .locks .entries) a i _ ei (sym (row (at (d .locks .entries) i))));
       look = rw (eb, ew) (settle-looks b (Locks.withEntries (Locks.withWaiting (d .locks) ws) y));
     }

@@ -123,7 +123,7 @@ module _ (d : Server) (c : ℕ) (h : Header) (p : List ℕ) where
 
   ending-local : (gs : List Frame) (k : ℕ) (q : Heard) (t : ℕ → Bool) (ws : List Waiting) (n : ℕ) (zs : List Answer) (rest : Rest) (said : List Frame)
       → RestPart d (message-acted (action k num q)) rest
-      → ((x : Entry) → entryRow .by-message (action k num q) x ≡ ended t n x)
+      → ((x : Entry) → (entryRow (d .locks .clock)) .by-message (action k num q) x ≡ ended t n x)
       → slotOf d c ≡ slotActed (d .locks .entries) (action k num q)
       → releasedWith (at (d .locks .entries) (slotActed (d .locks .entries) (action k num q))) (action k num q) ≡ codeWhere t ((at (d .locks .entries) (slotOf d c)) .standing)
       → requestsLeft (d .locks .entries) (d .locks .clock) (message-acted (action k num q)) (d .locks .waiting) ≡ ws
@@ -141,7 +141,7 @@ module _ (d : Server) (c : ℕ) (h : Header) (p : List ℕ) where
       let b = isCode 1 (codeWhere t s) || isCode 2 (codeWhere t s) in
       let eb : looksAfter (d .locks .entries) (message-acted (action k num q)) ≡ b = ap (λ (x : Heard). isCode 1 x || isCode 2 x) er in
       let left : settle (isDue (dueBy t s)) ((Locks.completed (dueBy t s) l i n) .locks) ≡ settle b (Locks.withEntries l y) = ap₂ settle (z .2) (z .0) in
-      assemble d _ (endingBy gs (dueBy t s) ws n zs rest said) y (grantsBy b ws y) r
+      assemble d _ (endingBy gs (dueBy t s) ws n zs rest said) y (grantsBy (d .locks .clock) b ws y) r
       (rw left (locks-ended d (action k num q) t n ws b row eb ew i ei y refl))
       (ap₂ _++_ (sym eg) (ap₂ _++_ (frames-append zs ((Locks.completed (dueBy t s) l i n) .answers) ∙ ap (λ (fs : List Frame). map lockFrame zs ++ fs) (z .1) ∙ sym ef)
       (ap₂ _++_ (sym es) (ap (λ (x : Locks.LockResult). map lockFrame (x .answers)) left ∙ settle-frames b (Locks.withEntries l y)))))
@@ -280,32 +280,32 @@ module _ (d : Server) (c : ℕ) (h : Header) (p : List ℕ) where
     unfolding grantPass
     freed-now q exclusive-lock =
         let y = Locks.update es (slotOf d c) Locks.withoutExclusive in
-        assemble d _ (releasing (Locks.r-now exclusive-lock)) y ((pass-looks (d .locks .waiting) y) .grants)
+        assemble d _ (releasing (Locks.r-now exclusive-lock)) y ((pass-looks (d .locks .clock) (d .locks .waiting) y) .grants)
         (rest-kept d (action 4 num (with-code 1)) refl refl (λ x. refl))
         record {
           clock = refl;
-          rows = row-message blank entryRow es es (action 4 num (with-code 1)) (slotOf d c) _ refl (rw q);
-          look = rw q ((pass-looks (d .locks .waiting) y) .looked);
+          rows = row-message blank (entryRow (d .locks .clock)) es es (action 4 num (with-code 1)) (slotOf d c) _ refl (rw q);
+          look = rw q ((pass-looks (d .locks .clock) (d .locks .waiting) y) .looked);
         }
-        (ap₂ (λ (a : ℕ) (fs : List Frame). frameOf a 5 1 0 [] ∷ fs) mine (pass-frames (d .locks .waiting) y))
+        (ap₂ (λ (a : ℕ) (fs : List Frame). frameOf a 5 1 0 [] ∷ fs) mine (pass-frames (d .locks .clock) (d .locks .waiting) y))
         (λ o k n e. cc)
     freed-now q shared-lock =
         let y = Locks.update es (slotOf d c) Locks.withoutShared in
-        assemble d _ (releasing (Locks.r-now shared-lock)) y ((pass-looks (d .locks .waiting) y) .grants)
+        assemble d _ (releasing (Locks.r-now shared-lock)) y ((pass-looks (d .locks .clock) (d .locks .waiting) y) .grants)
         (rest-kept d (action 4 num (with-code 2)) refl refl (λ x. refl))
         record {
           clock = refl;
-          rows = row-message blank entryRow es es (action 4 num (with-code 2)) (slotOf d c) _ refl (rw q);
-          look = rw q ((pass-looks (d .locks .waiting) y) .looked);
+          rows = row-message blank (entryRow (d .locks .clock)) es es (action 4 num (with-code 2)) (slotOf d c) _ refl (rw q);
+          look = rw q ((pass-looks (d .locks .clock) (d .locks .waiting) y) .looked);
         }
-        (ap₂ (λ (a : ℕ) (fs : List Frame). frameOf a 5 2 0 [] ∷ fs) mine (pass-frames (d .locks .waiting) y))
+        (ap₂ (λ (a : ℕ) (fs : List Frame). frameOf a 5 2 0 [] ∷ fs) mine (pass-frames (d .locks .clock) (d .locks .waiting) y))
         (λ o k n e. cc)
 
     not-freed : eqb (h .code) 0 ≡ true → ReleasedBy Locks.r-invalid
     not-freed q =
         assemble d _ (releasing Locks.r-invalid) es []
         (rest-kept d (action 4 num (with-code 3)) refl refl (λ x. refl))
-        record { clock = refl; rows = row-kept blank entryRow es es (action 4 num (with-code 3)) (λ x. rw q); look = rw q (refl, refl, refl) }
+        record { clock = refl; rows = row-kept blank (entryRow (d .locks .clock)) es es (action 4 num (with-code 3)) (λ x. rw q); look = rw q (refl, refl, refl) }
         (ap (λ (a : ℕ). frameOf a 5 3 0 [] ∷ []) mine)
         (λ o k n e. cc)
 
@@ -315,7 +315,7 @@ module _ (d : Server) (c : ℕ) (h : Header) (p : List ℕ) where
         (rest-kept d (action 4 num silence) refl refl (λ x. refl))
         record {
           clock = refl;
-          rows = row-message blank entryRow es es (action 4 num silence) (slotOf d c) _ refl (rw (q, ek));
+          rows = row-message blank (entryRow (d .locks .clock)) es es (action 4 num silence) (slotOf d c) _ refl (rw (q, ek));
           look = rw q (refl, refl, refl);
         }
         refl
@@ -345,15 +345,15 @@ module _ (d : Server) (c : ℕ) (h : Header) (p : List ℕ) where
     requested-by q Locks.invalid =
         assemble d _ (requesting Locks.invalid) es []
         (rest-kept d (action 4 num (with-code 3)) refl refl (λ x. refl))
-        record { clock = refl; rows = row-kept blank entryRow es es (action 4 num (with-code 3)) (λ x. rw q); look = rw q (refl, refl, refl) }
+        record { clock = refl; rows = row-kept blank (entryRow (d .locks .clock)) es es (action 4 num (with-code 3)) (λ x. rw q); look = rw q (refl, refl, refl) }
         (ap (λ (a : ℕ). frameOf a 5 3 0 [] ∷ []) mine)
         (λ o k n e. cc)
     requested-by q Locks.granted =
-        assemble d _ (requesting Locks.granted) (Locks.grant es (slotOf d c) p) []
+        assemble d _ (requesting Locks.granted) (Locks.grant (d .locks .clock) es (slotOf d c) p) []
         (rest-kept d (action 4 num (with-code 1)) refl refl (λ x. refl))
         record {
           clock = refl;
-          rows = row-message blank entryRow es es (action 4 num (with-code 1)) (slotOf d c) _ refl (rw q (give-row p (at es (slotOf d c))));
+          rows = row-message blank (entryRow (d .locks .clock)) es es (action 4 num (with-code 1)) (slotOf d c) _ refl (rw q (ap (Locks.noteGrant (d .locks .clock)) (give-row p (at es (slotOf d c)))));
           look = rw q (refl, refl, refl);
         }
         (ap (λ (a : ℕ). frameOf a 5 1 0 [] ∷ []) mine)
@@ -361,13 +361,13 @@ module _ (d : Server) (c : ℕ) (h : Header) (p : List ℕ) where
     requested-by q Locks.denied =
         assemble d _ (requesting Locks.denied) es []
         (rest-kept d (action 4 num (with-code 0)) refl refl (λ x. refl))
-        record { clock = refl; rows = row-kept blank entryRow es es (action 4 num (with-code 0)) (λ x. rw q); look = rw q (refl, refl, refl) }
+        record { clock = refl; rows = row-kept blank (entryRow (d .locks .clock)) es es (action 4 num (with-code 0)) (λ x. rw q); look = rw q (refl, refl, refl) }
         (ap (λ (a : ℕ). frameOf a 5 0 0 [] ∷ []) mine)
         (λ o k n e. cc)
     requested-by q Locks.queued =
         assemble d _ (requesting Locks.queued) es []
         (rest-kept d (action 4 num silence) refl refl (λ x. refl))
-        record { clock = refl; rows = row-kept blank entryRow es es (action 4 num silence) (λ x. rw q); look = rw q (refl, refl, refl) }
+        record { clock = refl; rows = row-kept blank (entryRow (d .locks .clock)) es es (action 4 num silence) (λ x. rw q); look = rw q (refl, refl, refl) }
         refl
         (λ o k n e. cc)
 

@@ -35,8 +35,8 @@ pub record RestPart (d : Server) (h : Happening) (r : Rest) : Type 0 where
 
 pub record LocksPart (d : Server) (h : Happening) (l : Locks) (due : List Entry) (granted : List Waiting) : Type 0 where
   pub clock : l .clock ≡ singly clock-row h (d .locks .clock)
-  pub rows : Rowed blank entryRow (d .locks .entries) h (d .locks .entries) due
-  pub look : Look (looksAfter (d .locks .entries) h) due (requestsLeft (d .locks .entries) (d .locks .clock) h (d .locks .waiting)) (l .entries) (l .waiting) granted
+  pub rows : Rowed blank (entryRow (d .locks .clock)) (d .locks .entries) h (d .locks .entries) due
+  pub look : Look (d .locks .clock) (looksAfter (d .locks .entries) h) due (requestsLeft (d .locks .entries) (d .locks .clock) h (d .locks .waiting)) (l .entries) (l .waiting) granted
 
 pub assemble : (d : Server) (h : Happening) (r : Result) (due : List Entry) (granted : List Waiting) → RestPart d h (r .server .rest) → LocksPart d h (r .server .locks) due granted
     → r .frames ≡ saidFirst d h ++ (answeredFirst d h ++ (direct d h ++ map (answerTo 1 due) granted)) → ((o : Outcome) (k n : ℕ) → r .reply ≡ took o k n → n ≡ sessionSaid d h n) → Local d h r
@@ -62,7 +62,7 @@ assemble d h r due granted p l f s =
       connection-places = p .connections .size;
       is-open = λ x q. ap (λ (y : Connection). y .isOpen) (p .connections .each x q);
       remainder = λ x q. ap (λ (y : Connection). y .remainder) (p .connections .each x q);
-      slots = look-sized due (r .server .locks .entries) _ (r .server .locks .waiting) granted (looksAfter es h) (l .look) ∙ l .rows .size;
+      slots = look-sized (d .locks .clock) due (r .server .locks .entries) _ (r .server .locks .waiting) granted (looksAfter es h) (l .look) ∙ l .rows .size;
       number = λ i q. ap (λ (x : Entry). x .number) (ends i q);
       synchronous = λ i q. ap (λ (x : Entry). x .synchronous) (ends i q);
       asynchronous = λ i q. ap (λ (x : Entry). x .asynchronous) (ends i q);
@@ -71,6 +71,7 @@ assemble d h r due granted p l f s =
       shared = λ i q. ap (λ (x : Entry). x .shared) (ends i q);
       last = λ i q. ap (λ (x : Entry). x .last) (ends i q);
       standing = λ i q. ap (λ (x : Entry). x .standing) (ends i q);
+      locks-granted = λ i q. ap (λ (x : Entry). x .locksGranted) (ends i q);
       due = due;
       due-slots = l .rows .size;
       due-is = λ i q. begins i q;
@@ -82,8 +83,8 @@ assemble d h r due granted p l f s =
     es : List Entry
     es = d .locks .entries
 
-    begins : (i : ℕ) → i < length es → at due i ≡ entryDue es h i (at es i)
-    begins i q = l .rows .each i q ∙ due-entry es i h (at es i)
+    begins : (i : ℕ) → i < length es → at due i ≡ entryDue (d .locks .clock) es h i (at es i)
+    begins i q = l .rows .each i q ∙ due-entry (d .locks .clock) es i h (at es i)
 
-    ends : (i : ℕ) → i < length es → at (r .server .locks .entries) i ≡ lookedAt granted i (entryDue es h i (at es i))
-    ends i q = look-each due (r .server .locks .entries) _ (r .server .locks .waiting) granted (looksAfter es h) (l .look) i (rw (l .rows .size) q) ∙ ap (lookedAt granted i) (begins i q)
+    ends : (i : ℕ) → i < length es → at (r .server .locks .entries) i ≡ lookedAt (d .locks .clock) granted i (entryDue (d .locks .clock) es h i (at es i))
+    ends i q = look-each (d .locks .clock) due (r .server .locks .entries) _ (r .server .locks .waiting) granted (looksAfter es h) (l .look) i (rw (l .rows .size) q) ∙ ap (lookedAt (d .locks .clock) granted i) (begins i q)

@@ -187,7 +187,7 @@ module _ (d : Server) (c : ℕ) (bs : List ℕ) (room : ℕ) where
   by-effect (v-error x) s r k n ev q = absurd (let y : _≡_ {A = ℕ} 0 1 = cc in omega arith)
   by-effect (v-fatal x) s r k n ev q =
       (ap shuts ev, ap isSilence (fatal-heard x (live e) (e .synchronous) c (cond (eqb (e .asynchronous) noConnection) [] (e .asynchronous ∷ [])) _) ∙ sym (ap closesBy ev))
-  by-effect v-closed s r k n ev q = (ap shuts ev, ap isSilence (none-heard ((passOver (stay d c) (freed d c)) .answers)) ∙ sym (ap closesBy ev))
+  by-effect v-closed s r k n ev q = (ap shuts ev, ap isSilence (none-heard ((passOver (d .locks .clock) (stay d c) (freed d c)) .answers)) ∙ sym (ap closesBy ev))
   by-effect v-acts empty r k n ev q = absurd (let y : _≡_ {A = ℕ} 0 1 = cc in omega arith)
   by-effect v-acts few r k n ev q = absurd (let y : _≡_ {A = ℕ} 0 1 = cc in omega arith)
   by-effect v-acts wrong r k n ev q = absurd (let y : _≡_ {A = ℕ} 0 1 = cc in omega arith)

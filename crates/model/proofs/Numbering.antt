@@ -61,7 +61,7 @@ pub record ActedFacts (d : Server) (a : Action) : Type 0 where
   pub own-number : eqb (kindOf a) 0 ≡ false → a .session ≡ (at (d .locks .entries) (slotActed (d .locks .entries) a)) .number
   pub carries : one-of commands (kindOf a) ≡ true → a .message .param ≡ (exchangeAt (d .rest) (slotActed (d .locks .entries) a)) .numberExpected
 
-abbrev Facts : Server → Happening → Type 0
+abbrev pub Facts : Server → Happening → Type 0
 Facts d unmoved = Unit {0}
 Facts d (connected c) = Unit {0}
 Facts d (disconnected c k) = Unit {0}
@@ -99,7 +99,7 @@ delivered d i z c bs room acted k n e =
     said : n ≡ cond (eqb ((header bs) .kind) 0) n ((at es slot) .number)
     said = subst (λ (r : Reply). n ≡ sessionSaid d (happened (delivery c bs room) r ((step d (delivery c bs room)) .frames)) n) e ((local-call d (delivery c bs room)) .session acted k n e)
 
-facts : (d : Server) → Inv (d .locks) → length (d .rest .exchanges) ≡ length (d .locks .entries) → (e : Event) (r : Reply) → (step d e) .reply ≡ r → Facts d (happened e r ((step d e) .frames))
+pub facts : (d : Server) → Inv (d .locks) → length (d .rest .exchanges) ≡ length (d .locks .entries) → (e : Event) (r : Reply) → (step d e) .reply ≡ r → Facts d (happened e r ((step d e) .frames))
 facts d i z (delivery c bs room) (refused n) q = tt
 facts d i z (delivery c bs room) done q = tt
 facts d i z (delivery c bs room) withheld q = tt

@@ -44,8 +44,8 @@ give-reach : (k : List ℕ) (e : Entry) → reachable e ≡ true → reachable (
 give-reach [] e h = h
 give-reach (x ∷ k) e h = h
 
-grant-reach : (es : List Entry) (i : ℕ) (k : List ℕ) → Reachable es → Reachable (grant es i k)
-grant-reach es i k h = all-set reachable es i _ (give-reach k (at es i) (all-at reachable es i refl h)) h
+grant-reach : (now : ℕ) (es : List Entry) (i : ℕ) (k : List ℕ) → Reachable es → Reachable (grant now es i k)
+grant-reach now es i k h = all-set reachable es i _ (give-reach k (at es i) (all-at reachable es i refl h)) h
 
 tell-fits : (es : List Entry) (i n : ℕ) (q : Bool) → Reachable es → ltb n 256 ≡ true → answerFits (tell es i n q) ≡ true
 tell-fits es i n q h e = both _ _ (and-r (ltb ((at es i) .synchronous) 256) _ (all-at reachable es i refl h)) e
@@ -63,7 +63,7 @@ refuse-fits es p (w ∷ ws) h = go (p w) (refuse-fits es p ws h)
 
 respond-kept : (a : Locks.Ruling) (l : Locks) (i t : ℕ) (k : List ℕ) → Reachable (l .entries) → Kept (Locks.respond a l i t k)
 respond-kept Locks.invalid l i t k h = record { entries = h; answers = one-fits (l .entries) i 3 true h refl }
-respond-kept Locks.granted l i t k h = record { entries = grant-reach (l .entries) i k h; answers = one-fits (l .entries) i 1 true h refl }
+respond-kept Locks.granted l i t k h = record { entries = grant-reach (l .clock) (l .entries) i k h; answers = one-fits (l .entries) i 1 true h refl }
 respond-kept Locks.denied l i t k h = record { entries = h; answers = one-fits (l .entries) i 0 true h refl }
 respond-kept Locks.queued l i t k h = record { entries = h; answers = refl }
 
@@ -110,18 +110,18 @@ record PassKept (r : Passed) : Type 0 where
   entries : Reachable (r .entries)
   answers : AnswersFit (r .answers)
 
-pass-kept : (ws : List Waiting) (es : List Entry) → Reachable es → PassKept (passOver ws es)
+pass-kept : (now : ℕ) (ws : List Waiting) (es : List Entry) → Reachable es → PassKept (passOver now ws es)
 unfolding passOver
-pass-kept [] es h = record { entries = h; answers = refl }
-pass-kept (w ∷ ws) es h = go (mayGrant es (w .slot) (w .string)) (λ es h. pass-kept ws es h)
+pass-kept now [] es h = record { entries = h; answers = refl }
+pass-kept now (w ∷ ws) es h = go (mayGrant es (w .slot) (w .string)) (λ es h. pass-kept now ws es h)
   where
-    go : (b : Bool) → ((es : List Entry) → Reachable es → PassKept (passOver ws es)) → PassKept (put b w es (passOver ws (after b w es)))
+    go : (b : Bool) → ((es : List Entry) → Reachable es → PassKept (passOver now ws es)) → PassKept (put b w es (passOver now ws (after now b w es)))
     go true ih =
-        let r = ih (grant es (w .slot) (w .string)) (grant-reach es (w .slot) (w .string) h) in
+        let r = ih (grant now es (w .slot) (w .string)) (grant-reach now es (w .slot) (w .string) h) in
         record { entries = r .entries; answers = both _ _ (tell-fits es (w .slot) 1 true h refl) (r .answers) }
     go false ih = let r = ih es h in record { entries = r .entries; answers = r .answers }
 
 pub settle-kept : (b : Bool) (l : Locks) → Reachable (l .entries) → Kept (settle b l)
 unfolding grantPass
-settle-kept true l h = let r = pass-kept (l .waiting) (l .entries) h in record { entries = r .entries; answers = r .answers }
+settle-kept true l h = let r = pass-kept (l .clock) (l .waiting) (l .entries) h in record { entries = r .entries; answers = r .answers }
 settle-kept false l h = record { entries = h; answers = refl }

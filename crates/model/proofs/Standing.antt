@@ -19,7 +19,7 @@ use Rattle.model.specs.Interface.{Event, Event.delivery, Outcome.acted, 
 use Rattle.model.specs.Scan.{Scan}
 use Rattle.model.specs.Place.{slotOf, Role.r-asynchronous}
 use Rattle.model.specs.Locks
-use Rattle.model.specs.Locks.{LockEvent, noExclusive, noShared, holds, mayGrant, give, grant, elsewhere, passOver, after, put, grantPass, change, settle, frees, noPlace, releaseCode}
+use Rattle.model.specs.Locks.{LockEvent, noExclusive, noShared, holds, mayGrant, give, giveAt, grant, elsewhere, passOver, after, put, grantPass, change, settle, frees, noPlace, releaseCode}
 use Rattle.model.specs.Checks.{verdict}
 use Rattle.model.specs.Acts
 use Rattle.model.specs.Refusals.{refusal}
@@ -52,13 +52,13 @@ standing-same (x ∷ es) zero y e (suc j) = refl
 standing-same (x ∷ es) (suc i) y e zero = refl
 standing-same (x ∷ es) (suc i) y e (suc j) = standing-same es i y e j
 
-pass-standing : (ws : List Waiting) (es : List Entry) (j : ℕ) → (at ((passOver ws es) .entries) j) .standing ≡ (at es j) .standing
+pass-standing : (now : ℕ) (ws : List Waiting) (es : List Entry) (j : ℕ) → (at ((passOver now ws es) .entries) j) .standing ≡ (at es j) .standing
 unfolding passOver
-pass-standing [] es j = refl
-pass-standing (w ∷ ws) es j = go (mayGrant es (w .slot) (w .string)) (λ es. pass-standing ws es j)
+pass-standing now [] es j = refl
+pass-standing now (w ∷ ws) es j = go (mayGrant es (w .slot) (w .string)) (λ es. pass-standing now ws es j)
   where
-    go : (b : Bool) → ((es : List Entry) → (at ((passOver ws es) .entries) j) .standing ≡ (at es j) .standing) → (at ((put b w es (passOver ws (after b w es))) .entries) j) .standing ≡ (at es j) .standing
-    go true ih = ih (grant es (w .slot) (w .string)) ∙ standing-same es (w .slot) (give (w .string) (at es (w .slot))) (give-standing (w .string) (at es (w .slot))) j
+    go : (b : Bool) → ((es : List Entry) → (at ((passOver now ws es) .entries) j) .standing ≡ (at es j) .standing) → (at ((put b w es (passOver now ws (after now b w es))) .entries) j) .standing ≡ (at es j) .standing
+    go true ih = ih (grant now es (w .slot) (w .string)) ∙ standing-same es (w .slot) (giveAt now (w .string) (at es (w .slot))) (give-standing (w .string) (at es (w .slot))) j
     go false ih = ih es
 
 -- the lock that a release stands for is held, so its session is live
@@ -100,7 +100,7 @@ module _ (l : Locks) (v : Inv l) (j m : ℕ) (k : Kind) (h : (at (l .entries) j)
   -- a request of the session itself is answered 3
   asked-kept : (a : Locks.Ruling) (i t : ℕ) (s : List ℕ) → (j ≡ i → a ≡ Locks.invalid) → Kept ((Locks.respond a l i t s) .locks .entries)
   asked-kept Locks.invalid i t s f = (refl, h)
-  asked-kept Locks.granted i t s f = store i (give s (at (l .entries) i)) (λ q. (give-num s (at (l .entries) i), give-standing s (at (l .entries) i)))
+  asked-kept Locks.granted i t s f = store i (giveAt (l .clock) s (at (l .entries) i)) (λ q. (give-num s (at (l .entries) i), give-standing s (at (l .entries) i)))
   asked-kept Locks.denied i t s f = (refl, h)
   asked-kept Locks.queued i t s f = (refl, h)
 
@@ -174,7 +174,7 @@ module _ (l : Locks) (v : Inv l) (j m : ℕ) (k : Kind) (h : (at (l .entries) j)
       go true =
           let x = change-kept e f n in
           let w = (change l e) .locks in
-          (pass-num (w .waiting) (w .entries) j ∙ x .0, pass-standing (w .waiting) (w .entries) j ∙ x .1)
+          (pass-num (w .clock) (w .waiting) (w .entries) j ∙ x .0, pass-standing (w .clock) (w .waiting) (w .entries) j ∙ x .1)
 
   -- what answers it: with a message of its number, with a clear
   due-answers : (ws : List Waiting) (n i : ℕ) → j ≡ i → (u : Locks.Due) → u ≡ Locks.due-now k → (Locks.completed u (Locks.withWaiting l ws) i n) .answers ≡ Locks.tell (l .entries) i (releaseCode k) false ∷ []

@@ -32,6 +32,8 @@ use Rattle.model.proofs.Locality.{local-run}
 use Rattle.model.proofs.LocalityTable.{nothing-free}
 use Rattle.model.proofs.Fewer.{fewer-never-hurts}
 use Rattle.model.proofs.AnsweredOnce.{answered-once}
+use Rattle.model.proofs.Holders.{holders-shown}
+use Rattle.model.proofs.GrantsSeen.{grants-seen}
 use Rattle.model.proofs.Fits.{found-run, inv-run}
 use Rattle.model.proofs.OneString.{one-string}
 use Rattle.model.proofs.AlwaysRoom.{always-room}
@@ -79,6 +81,8 @@ statements =
         nothing-free = nothing-free;
         fewer-locks = fewer-never-hurts;
         answered-once = answered-once;
+        holders-shown = holders-shown;
+        grants-seen = grants-seen;
         found = found-run;
         one-string = one-string;
         always-room = always-room;

@@ -15,7 +15,7 @@ use Rattle.model.specs.Sizes.{beforeFirst}
 use Rattle.model.specs.Lists.{all, keep}
 use Rattle.model.specs.State.{Locks, Entry, blank, at, live, Rest, Exchange, Asked, Asked.none, Asked.some, exchangeAt, freshExchange, withExchange}
 use Rattle.model.specs.Locks
-use Rattle.model.specs.Locks.{LockEvent, give, mayGrant, grantPass, change, settle, frees}
+use Rattle.model.specs.Locks.{LockEvent, mayGrant, grantPass, change, settle, frees}
 use Rattle.model.specs.Exchange
 use Rattle.model.specs.Acts
 use Rattle.model.specs.Tie.{Track, nothingYet, testedTrack, follows}
@@ -34,7 +34,7 @@ Nums es es′ = (j : ℕ) → (at es′ j) .number ≡ (at es j) .number
 
 pub settle-num : (b : Bool) (l : Locks) → Nums (l .entries) ((settle b l) .locks .entries)
 unfolding grantPass
-settle-num true l j = pass-num (l .waiting) (l .entries) j
+settle-num true l j = pass-num (l .clock) (l .waiting) (l .entries) j
 settle-num false l j = refl
 
 -- what the log tracks, of an exchange
@@ -103,7 +103,7 @@ change-calm l (Locks.request i t k) x j = asked-num (Locks.ruling (Locks.holds k
   where
     asked-num : (a : Locks.Ruling) → (at ((Locks.respond a l i t k) .locks .entries) j) .number ≡ (at (l .entries) j) .number
     asked-num Locks.invalid = refl
-    asked-num Locks.granted = num-same (l .entries) i (give k (at (l .entries) i)) (give-num k (at (l .entries) i)) j
+    asked-num Locks.granted = num-same (l .entries) i (Locks.giveAt (l .clock) k (at (l .entries) i)) (give-num k (at (l .entries) i)) j
     asked-num Locks.denied = refl
     asked-num Locks.queued = refl
 change-calm l (Locks.release i n) x j = release-num l i n (Locks.releasingOf (at (l .entries) i) n) j

@@ -54,12 +54,12 @@ module _ (j t : ℕ) (q : Waiting → Bool) where
       go false r = r
 
 -- a look
-old-all : (p : Waiting → Bool) {es es′ : List Entry} {ws vs gs : List Waiting} → OldestFirst es ws es′ vs gs → all p ws ≡ true → (all p vs ≡ true) × (all p gs ≡ true)
+old-all : (p : Waiting → Bool) {now : ℕ} {es es′ : List Entry} {ws vs gs : List Waiting} → OldestFirst now es ws es′ vs gs → all p ws ≡ true → (all p vs ≡ true) × (all p gs ≡ true)
 old-all p pass-end a = (refl, refl)
 old-all p (pass-grant w m l) a = let r = old-all p l (and-r (p w) _ a) in (r .0, both _ _ (and-l (p w) _ a) (r .1))
 old-all p (pass-wait w m l) a = let r = old-all p l (and-r (p w) _ a) in (both _ _ (and-l (p w) _ a) (r .0), r .1)
 
-old-one : (j t : ℕ) {es es′ : List Entry} {ws vs gs : List Waiting} → OldestFirst es ws es′ vs gs → One j t ws → (One j t vs × None j gs) ⊎ (None j vs × One j t gs)
+old-one : (j t : ℕ) {now : ℕ} {es es′ : List Entry} {ws vs gs : List Waiting} → OldestFirst now es ws es′ vs gs → One j t ws → (One j t vs × None j gs) ⊎ (None j vs × One j t gs)
 old-one j t pass-end o = absurd o
 old-one j t (pass-grant w m l) (inl o) = let r = old-all (elsewhere j) l (o .2) in inr (r .0, inl (o .0, o .1, r .1))
 old-one j t (pass-grant {vs = vs} {gs = gs} w m l) (inr o) = go (old-one j t l (o .1))
@@ -74,13 +74,13 @@ old-one j t (pass-wait {vs = vs} {gs = gs} w m l) (inr o) = go (old-one j t l (o
     go (inl r) = inl (inr (o .0, r .0), r .1)
     go (inr r) = inr (both _ _ (o .0) (r .0), r .1)
 
-pub look-all : (p : Waiting → Bool) (b : Bool) (es : List Entry) (ws : List Waiting) (es′ : List Entry) (vs gs : List Waiting) → Look b es ws es′ vs gs → all p ws ≡ true → (all p vs ≡ true) × (all p gs ≡ true)
-look-all p true es ws es′ vs gs l a = old-all p l a
-look-all p false es ws es′ vs gs l a = (rw (l .1) a, rw (l .2))
+pub look-all : (now : ℕ) (p : Waiting → Bool) (b : Bool) (es : List Entry) (ws : List Waiting) (es′ : List Entry) (vs gs : List Waiting) → Look now b es ws es′ vs gs → all p ws ≡ true → (all p vs ≡ true) × (all p gs ≡ true)
+look-all now p true es ws es′ vs gs l a = old-all p l a
+look-all now p false es ws es′ vs gs l a = (rw (l .1) a, rw (l .2))
 
-pub look-one : (j t : ℕ) (b : Bool) (es : List Entry) (ws : List Waiting) (es′ : List Entry) (vs gs : List Waiting) → Look b es ws es′ vs gs → One j t ws → (One j t vs × None j gs) ⊎ (None j vs × One j t gs)
-look-one j t true es ws es′ vs gs l o = old-one j t l o
-look-one j t false es ws es′ vs gs l o = inl (rw (l .1) o, rw (l .2))
+pub look-one : (now j t : ℕ) (b : Bool) (es : List Entry) (ws : List Waiting) (es′ : List Entry) (vs gs : List Waiting) → Look now b es ws es′ vs gs → One j t ws → (One j t vs × None j gs) ⊎ (None j vs × One j t gs)
+look-one now j t true es ws es′ vs gs l o = old-one j t l o
+look-one now j t false es ws es′ vs gs l o = inl (rw (l .1) o, rw (l .2))
 
 -- one comes
 pub snoc-one : (j t : ℕ) (w : Waiting) → elsewhere j w ≡ true → (ws : List Waiting) → One j t ws → One j t (ws ++ w ∷ [])

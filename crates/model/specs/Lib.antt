@@ -58,3 +58,5 @@ pub mod NextQuestion
 pub mod InStep
 pub mod AnsweredOnce
 pub mod Asking
+pub mod Holders
+pub mod GrantsSeen

@@ -9,22 +9,22 @@ use lib.ListN.{length}
 use Rattle.wire.specs.Message.{header, prologue}
 use Rattle.model.specs.Sizes.{noConnection}
 use Rattle.model.specs.Lists.{isNil, any}
-use Rattle.model.specs.State.{Server, Entry, Waiting, Exchange, Connection, at, live, exchangeAt, connectionAt}
+use Rattle.model.specs.State.{Server, Granted, Entry, Waiting, Exchange, Connection, at, live, exchangeAt, connectionAt}
 use Rattle.model.specs.Place.{entryOf}
 use Rattle.model.specs.Interface.{Event, Event.delivery, Outcome, Outcome.closed, Reply.took}
 use Rattle.model.specs.Step.{Line, Result, step, final, log}
 use Rattle.model.specs.Closing.{OldestFirst}
 use Rattle.model.specs.Happening.{Happening, heard, happened}
-use Rattle.model.specs.LocalityRows.{Row, inSlot, clear-row, asked-row, available-row, size-row, mode-row, count-row, sent-row, expected-row, step-row, number-row, synchronous-row, asynchronous-row, exclusive-row, shared-row, last-row, standing-row, requestsLeft, looksAfter, open-row, remainder-row, isSilence, Single, singly, clock-row, status-row, made-row, issued-row, enable-row, lockout-row, remote-row}
+use Rattle.model.specs.LocalityRows.{Row, inSlot, clear-row, asked-row, available-row, size-row, mode-row, count-row, sent-row, expected-row, step-row, number-row, synchronous-row, asynchronous-row, exclusive-row, shared-row, last-row, standing-row, moreGranted, granted-row, requestsLeft, looksAfter, open-row, remainder-row, isSilence, Single, singly, clock-row, status-row, made-row, issued-row, enable-row, lockout-row, remote-row}
 use Rattle.model.specs.LocalityReplies.{saidFirst, direct, answeredFirst, answerTo, sessionSaid}
 
 -- what happened at a call, as the host sees it
 abbrev pub atCall : Server → Event → Happening
 atCall d e = happened e ((step d e) .reply) ((step d e) .frames)
 
--- the entry that the call itself makes of slot i, before waiting requests are looked at
-abbrev pub entryDue : List Entry → Happening → ℕ → Entry → Entry
-entryDue es h i x =
+-- the entry that the call itself makes of slot i while the clock reads now, before waiting requests are looked at
+abbrev pub entryDue : ℕ → List Entry → Happening → ℕ → Entry → Entry
+entryDue now es h i x =
     record {
       number = inSlot number-row es i h (x .number);
       synchronous = inSlot synchronous-row es i h (x .synchronous);
@@ -33,6 +33,7 @@ entryDue es h i x =
       shared = inSlot (shared-row x) es i h (x .shared);
       last = inSlot last-row es i h (x .last);
       standing = inSlot (standing-row x) es i h (x .standing);
+      locksGranted = inSlot (granted-row now) es i h (x .locksGranted);
     }
 
 -- what a grant makes of a session's locks: exclusive if the string is empty, else shared with that string
@@ -43,10 +44,15 @@ abbrev pub givenShared : List Waiting → ℕ → List ℕ → List ℕ
 givenShared [] i s = s
 givenShared (w ∷ gs) i s = givenShared gs i (cond (eqb (w .slot) i && not (isNil (w .string))) (w .string) s)
 
+-- 02, Q-9: each is noted
+abbrev pub givenGrants : ℕ → List Waiting → ℕ → Granted → Granted
+givenGrants now [] i g = g
+givenGrants now (w ∷ gs) i g = givenGrants now gs i (cond (eqb (w .slot) i) (moreGranted now g) g)
+
 -- waiting requests are looked at, oldest first (`OldestFirst`), or are not: then nobody is granted
-abbrev pub Look : Bool → List Entry → List Waiting → List Entry → List Waiting → List Waiting → Type 0
-Look true es ws es′ ws′ gs = OldestFirst es ws es′ ws′ gs
-Look false es ws es′ ws′ gs = (es′ ≡ es) × (ws′ ≡ ws) × (gs ≡ [])
+abbrev pub Look : ℕ → Bool → List Entry → List Waiting → List Entry → List Waiting → List Waiting → Type 0
+Look now true es ws es′ ws′ gs = OldestFirst now es ws es′ ws′ gs
+Look now false es ws es′ ws′ gs = (es′ ≡ es) × (ws′ ≡ ws) × (gs ≡ [])
 
 -- a row for what stands once; for the exchange of each slot; for each connection; for the session of each slot
 abbrev pub Once : {A : Type 0} → Server → Happening → Result → (Server → A) → Single A → Type 0
@@ -102,11 +108,12 @@ pub record Local (d : Server) (h : Happening) (r : Result) : Type 0 where
   pub shared : EachSession d h r (λ i s. givenShared granted i s) (λ e. e .shared) shared-row
   pub last : EachSession d h r (λ i n. n) (λ e. e .last) (λ e. last-row)
   pub standing : EachSession d h r (λ i s. s) (λ e. e .standing) standing-row
+  pub locks-granted : EachSession d h r (λ i g. givenGrants (d .locks .clock) granted i g) (λ e. e .locksGranted) (λ e. granted-row (d .locks .clock))
   -- requests: which are granted and which wait on. The look begins with the slots and the requests as the call itself leaves them
   pub due : List Entry
   pub due-slots : length due ≡ length (d .locks .entries)
-  pub due-is : (i : ℕ) → i < length (d .locks .entries) → at due i ≡ entryDue (d .locks .entries) h i (at (d .locks .entries) i)
-  pub waiting : Look (looksAfter (d .locks .entries) h) due (requestsLeft (d .locks .entries) (d .locks .clock) h (d .locks .waiting)) (r .server .locks .entries) (r .server .locks .waiting) granted
+  pub due-is : (i : ℕ) → i < length (d .locks .entries) → at due i ≡ entryDue (d .locks .clock) (d .locks .entries) h i (at (d .locks .entries) i)
+  pub waiting : Look (d .locks .clock) (looksAfter (d .locks .entries) h) due (requestsLeft (d .locks .entries) (d .locks .clock) h (d .locks .waiting)) (r .server .locks .entries) (r .server .locks .waiting) granted
   -- every frame: an interruption (02, Q-5), the lock answers that come first, direct replies, answers 1 to those granted
   pub frames : r .frames ≡ saidFirst d h ++ (answeredFirst d h ++ (direct d h ++ map (answerTo 1 due) granted))
   -- the session's number in the reply

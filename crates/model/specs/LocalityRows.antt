@@ -2,14 +2,14 @@
 -- parameter and payload, apart from the definitions of the checks and of what a message does.
 use mathlib.Core.Bool.{Bool, true, false, not, _&&_, _||_, cond}
 use mathlib.Core.List.{List, [], _∷_, _++_}
-use Prim.Native.Nat.{ℕ, _+_, _-_, _%_, _^_}
+use Prim.Native.Nat.{ℕ, suc, _+_, _-_, _%_, _^_}
 use lib.Dec.{eqb, leb, ltb}
 use Rattle.wire.specs.declared.Header.{Header}
 use Rattle.wire.specs.Field.{number}
 use Rattle.wire.specs.Class.{one-of}
 use Rattle.model.specs.Sizes.{noConnection}
 use Rattle.model.specs.Lists.{isNil, keep}
-use Rattle.model.specs.State.{Making, Entry, Waiting, Kind.exclusive-lock, Kind.shared-lock, Standing, Standing.no-release, Standing.release-of, Asked, Asked.none, Asked.some, Exchange, at, live, slotOfNumber}
+use Rattle.model.specs.State.{Making, Granted, noGrants, Entry, Waiting, Kind.exclusive-lock, Kind.shared-lock, Standing, Standing.no-release, Standing.release-of, Asked, Asked.none, Asked.some, Exchange, at, live, slotOfNumber}
 use Rattle.model.specs.Place.{slotIn}
 use Rattle.model.specs.Happening.{Heard, Heard.silence, Heard.with-code, Action, Happening, Happening.unmoved, Happening.connected, Happening.disconnected, Happening.skipped-over, Happening.errored, Happening.message-acted, Happening.clock-read, Happening.status-set, Happening.answer-sent, Happening.answer-withheld}
 
@@ -241,6 +241,21 @@ standing-row e =
       when-withheld = λ s. s;
       by-error = λ h s. s;
       once-closed = no-release;
+    }
+
+-- 02, Q-9: "the clock reading of its last grant and the number of locks granted to it, as answers sent since it opened (once at 2^62 it
+-- stays there)": one grant more, while the clock reads now; a request granted at once is one, and a session begins (0) with none
+abbrev pub moreGranted : ℕ → Granted → Granted
+moreGranted now g = record { grantedAt = now; grants = cond (ltb (g .grants) (2 ^ 62)) (suc (g .grants)) (g .grants) }
+
+abbrev pub granted-row : ℕ → Row Granted
+granted-row now =
+    record {
+      by-message = λ a g. cond (eqb (kindOf a) 0) noGrants (cond (obtains a) (moreGranted now g) g);
+      by-answer = λ end g. g;
+      when-withheld = λ g. g;
+      by-error = λ h g. g;
+      once-closed = noGrants;
     }
 
 -- REQUESTS, before they are looked at: one that waits is the last, until clock of arrival plus timeout; a clear (19) and a closing take

@@ -6,8 +6,8 @@ use Prim.Native.Nat.{ℕ, zero, suc, _+_, _%_}
 use lib.Dec.{eqb, leb, ltb}
 use lib.ListN.{set, length}
 use Rattle.model.specs.Lists.{isNil, same, all, allBut, keep}
-use Rattle.model.specs.Sizes.{sessionLimit, stringLimit, lastSessionId, noConnection, beforeFirst}
-use Rattle.model.specs.State.{Entry, Waiting, Locks, Kind, Kind.exclusive-lock, Kind.shared-lock, Standing, Standing.no-release, Standing.release-of, at, live, blank, slotOfNumber}
+use Rattle.model.specs.Sizes.{sessionLimit, stringLimit, lastSessionId, noConnection, beforeFirst, grantsLimit}
+use Rattle.model.specs.State.{Granted, Entry, Waiting, Locks, Kind, Kind.exclusive-lock, Kind.shared-lock, Standing, Standing.no-release, Standing.release-of, at, live, noGrants, blank, slotOfNumber}
 
 -- an answer (type 5): to which connection, the code, and whether it answers a request (true) or a release (false)
 pub record Answer : Type 0 where
@@ -68,22 +68,36 @@ access es i = (at es i) .exclusive || (all noExclusive es && (not (noShared (at 
 
 -- the entry of a session that opens; with its second connection
 abbrev pub opened : ℕ → ℕ → Entry
-opened n c = record { number = n; synchronous = c; asynchronous = noConnection; exclusive = false; shared = []; last = beforeFirst; standing = no-release }
+opened n c = record { number = n; synchronous = c; asynchronous = noConnection; exclusive = false; shared = []; last = beforeFirst; standing = no-release; locksGranted = noGrants }
 
 abbrev pub joined : ℕ → Entry → Entry
-joined c e = record { number = e .number; synchronous = e .synchronous; asynchronous = c; exclusive = e .exclusive; shared = e .shared; last = e .last; standing = e .standing }
+joined c e = record { number = e .number; synchronous = e .synchronous; asynchronous = c; exclusive = e .exclusive; shared = e .shared; last = e .last; standing = e .standing; locksGranted = e .locksGranted }
 
 -- with other locks; with another last number and standing release
 abbrev pub withLocks : Bool → List ℕ → Entry → Entry
-withLocks x k e = record { number = e .number; synchronous = e .synchronous; asynchronous = e .asynchronous; exclusive = x; shared = k; last = e .last; standing = e .standing }
+withLocks x k e = record { number = e .number; synchronous = e .synchronous; asynchronous = e .asynchronous; exclusive = x; shared = k; last = e .last; standing = e .standing; locksGranted = e .locksGranted }
 
 abbrev pub withOrder : ℕ → Standing → Entry → Entry
-withOrder n s e = record { number = e .number; synchronous = e .synchronous; asynchronous = e .asynchronous; exclusive = e .exclusive; shared = e .shared; last = n; standing = s }
+withOrder n s e = record { number = e .number; synchronous = e .synchronous; asynchronous = e .asynchronous; exclusive = e .exclusive; shared = e .shared; last = n; standing = s; locksGranted = e .locksGranted }
 
 -- with the lock that a string asks for; without its exclusive lock; without its shared one; without the lock of a kind
 abbrev pub give : List ℕ → Entry → Entry
 give [] e = withLocks true (e .shared) e
 give (x ∷ xs) e = withLocks (e .exclusive) (x ∷ xs) e
+
+-- 02, Q-9: the number of locks granted, "once at 2^62 it stays there"
+abbrev pub oneMore : ℕ → ℕ
+oneMore n = cond (ltb n grantsLimit) (suc n) n
+
+abbrev pub withGranted : Granted → Entry → Entry
+withGranted g e = record { number = e .number; synchronous = e .synchronous; asynchronous = e .asynchronous; exclusive = e .exclusive; shared = e .shared; last = e .last; standing = e .standing; locksGranted = g }
+
+-- the clock reads now: the lock is given, and its grant is noted
+abbrev pub noteGrant : ℕ → Entry → Entry
+noteGrant now e = withGranted (record { grantedAt = now; grants = oneMore (e .locksGranted .grants) }) e
+
+abbrev pub giveAt : ℕ → List ℕ → Entry → Entry
+giveAt now k e = noteGrant now (give k e)
 
 abbrev pub withoutExclusive : Entry → Entry
 withoutExclusive e = withLocks false (e .shared) e
@@ -103,8 +117,9 @@ holds (x ∷ xs) e = not (noShared e)
 abbrev pub update : List Entry → ℕ → (Entry → Entry) → List Entry
 update es i f = set es i (f (at es i))
 
-abbrev pub grant : List Entry → ℕ → List ℕ → List Entry
-grant es i k = update es i (give k)
+-- a grant, at once or later, at a clock reading
+abbrev pub grant : ℕ → List Entry → ℕ → List ℕ → List Entry
+grant now es i k = update es i (giveAt now k)
 
 -- an answer goes to the session's asynchronous connection
 abbrev pub tell : List Entry → ℕ → ℕ → Bool → Answer
@@ -146,7 +161,7 @@ ruling false true false false false = queued
 -- of slot i, with timeout t and string k; it waits until clock of arrival plus timeout
 abbrev pub respond : Ruling → Locks → ℕ → ℕ → List ℕ → LockResult
 respond invalid l i t k = record { locks = l; answers = tell (l .entries) i 3 true ∷ [] }
-respond granted l i t k = record { locks = withEntries l (grant (l .entries) i k); answers = tell (l .entries) i 1 true ∷ [] }
+respond granted l i t k = record { locks = withEntries l (grant (l .clock) (l .entries) i k); answers = tell (l .entries) i 1 true ∷ [] }
 respond denied l i t k = record { locks = l; answers = tell (l .entries) i 0 true ∷ [] }
 respond queued l i t k = unanswered (withWaiting l (l .waiting ++ record { slot = i; deadline = l .clock + t; string = k } ∷ []))
 
@@ -242,21 +257,21 @@ pub record Passed : Type 0 where
   pub answers : List Answer
 
 -- by the test that request w may be granted: the table that the next request meets, and what is noted of w
-abbrev pub after : Bool → Waiting → List Entry → List Entry
-after true w es = grant es (w .slot) (w .string)
-after false w es = es
+abbrev pub after : ℕ → Bool → Waiting → List Entry → List Entry
+after now true w es = grant now es (w .slot) (w .string)
+after now false w es = es
 
 abbrev pub put : Bool → Waiting → List Entry → Passed → Passed
 put true w es r = record { entries = r .entries; waiting = r .waiting; answers = tell es (w .slot) 1 true ∷ r .answers }
 put false w es r = record { entries = r .entries; waiting = w ∷ r .waiting; answers = r .answers }
 
-unfoldable pub passOver : List Waiting → List Entry → Passed
-passOver [] es = record { entries = es; waiting = []; answers = [] }
-passOver (w ∷ ws) es = let b = mayGrant es (w .slot) (w .string) in put b w es (passOver ws (after b w es))
+unfoldable pub passOver : ℕ → List Waiting → List Entry → Passed
+passOver now [] es = record { entries = es; waiting = []; answers = [] }
+passOver now (w ∷ ws) es = let b = mayGrant es (w .slot) (w .string) in put b w es (passOver now ws (after now b w es))
 
 unfoldable pub grantPass : Locks → LockResult
 grantPass l =
-    let r = passOver (l .waiting) (l .entries) in
+    let r = passOver (l .clock) (l .waiting) (l .entries) in
     record { locks = record { clock = l .clock; entries = r .entries; waiting = r .waiting }; answers = r .answers }
 
 -- the events that free a lock: the server passes over the waiting requests only after these. That a pass would do nothing after any

@@ -8,7 +8,7 @@ use Rattle.wire.specs.Frame.{frameOf}
 use Rattle.wire.specs.MessageId.{start}
 use Rattle.model.specs.Sizes.{payloadLimit, protocolVersion, noConnection, beforeFirst}
 use Rattle.model.specs.MessageTypes.{Initialize, InitializeResponse, AsyncInitialize, AsyncInitializeResponse}
-use Rattle.model.specs.State.{Entry, Standing.no-release, Asked.none, at, live, halfOpen, Server, exchangeAt, fresh, Making}
+use Rattle.model.specs.State.{Entry, Standing.no-release, Asked.none, noGrants, at, live, halfOpen, Server, exchangeAt, fresh, Making}
 use Rattle.model.specs.Interface.{Event, Event.delivery, Outcome.acted, Reply.took}
 use Rattle.model.specs.Step.{step, final}
 
@@ -19,18 +19,19 @@ pub record OnlySlot (d d′ : Server) (i : ℕ) : Type 0 where
   pub waiting-same : d′ .locks .waiting ≡ d .locks .waiting
   pub clock-same : d′ .locks .clock ≡ d .locks .clock
 
--- session n is opened over connection c: half-open, without locks, no message acted on, no release standing, with nothing asked, in the
--- mode that the host prefers (02, Q-1), no answer counted, no RMT expected (02, Q-5), and the first number expected (02, Q-10)
+-- session n is opened over connection c: half-open, without locks, no message acted on, no release standing, no lock granted (02, Q-9), with
+-- nothing asked, in the mode that the host prefers (02, Q-1), no answer counted, no RMT expected (02, Q-5), and the first number expected
+-- (02, Q-10)
 pub record Opened (d d′ : Server) (v : Making) (c n : ℕ) : Type 0 where
   pub slot : ℕ
   pub was-free : live (at (d .locks .entries) slot) ≡ false
-  pub session : at (d′ .locks .entries) slot ≡ record { number = n; synchronous = c; asynchronous = noConnection; exclusive = false; shared = []; last = beforeFirst; standing = no-release }
+  pub session : at (d′ .locks .entries) slot ≡ record { number = n; synchronous = c; asynchronous = noConnection; exclusive = false; shared = []; last = beforeFirst; standing = no-release; locksGranted = noGrants }
   pub exchange : exchangeAt (d′ .rest) slot ≡ record { inClear = false; asked = none; messageAvailable = false; clientSize = payloadLimit; overlap = v .prefersOverlap; count = start; anySent = false; rmtExpected = false; numberExpected = start }
   pub no-more : OnlySlot d d′ slot
 
 -- half-open session n gets connection c as its second one, and is otherwise as it was
 abbrev pub withSecond : ℕ → Entry → Entry
-withSecond c e = record { number = e .number; synchronous = e .synchronous; asynchronous = c; exclusive = e .exclusive; shared = e .shared; last = e .last; standing = e .standing }
+withSecond c e = record { number = e .number; synchronous = e .synchronous; asynchronous = c; exclusive = e .exclusive; shared = e .shared; last = e .last; standing = e .standing; locksGranted = e .locksGranted }
 
 pub record Joined (d d′ : Server) (c n : ℕ) : Type 0 where
   pub slot : ℕ

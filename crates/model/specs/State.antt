@@ -18,9 +18,14 @@ pub data Standing : Type 0 where
   no-release : Standing
   release-of : Kind → ℕ → Standing
 
+-- 02, Q-9: "the clock reading of its last grant and the number of locks granted to it, as answers sent since it opened"
+pub record Granted : Type 0 where
+  pub grantedAt : ℕ
+  pub grants : ℕ
+
 -- one slot of the table of sessions: the SessionID (0: the slot is free), the two connections (255: none), the exclusive lock,
 -- the string of the shared lock (empty: none); the number of the last Data, DataEND or Trigger that acted since it opened or since
--- its last AsyncDeviceClear (fffffefe hex: none), and the release that stands
+-- its last AsyncDeviceClear (fffffefe hex: none), and the release that stands; what was granted to it
 pub record Entry : Type 0 where
   pub number : ℕ
   pub synchronous : ℕ
@@ -29,6 +34,7 @@ pub record Entry : Type 0 where
   pub shared : List ℕ
   pub last : ℕ
   pub standing : Standing
+  pub locksGranted : Granted
 
 -- a waiting request: the slot of its session, its deadline, its string (empty: it asks for the exclusive lock)
 pub record Waiting : Type 0 where
@@ -92,9 +98,13 @@ pub record Server : Type 0 where
   pub locks : Locks
   pub rest : Rest
 
+-- nothing was granted yet
+abbrev pub noGrants : Granted
+noGrants = record { grantedAt = 0; grants = 0 }
+
 -- a free slot
 abbrev pub blank : Entry
-blank = record { number = 0; synchronous = noConnection; asynchronous = noConnection; exclusive = false; shared = []; last = beforeFirst; standing = no-release }
+blank = record { number = 0; synchronous = noConnection; asynchronous = noConnection; exclusive = false; shared = []; last = beforeFirst; standing = no-release; locksGranted = noGrants }
 
 -- 01: a client's size starts at 1,024 per session; 02, Q-1: a session starts in the preferred mode, and its count at ffffff00 hex; 02, Q-10: and
 -- so does the number expected

@@ -43,6 +43,8 @@ use Rattle.model.specs.Isolation.{Isolated}
 use Rattle.model.specs.IsolationRun.{IsolationRun}
 use Rattle.model.specs.Fewer.{FewerNeverHurts}
 use Rattle.model.specs.AnsweredOnce.{AnsweredOnce}
+use Rattle.model.specs.Holders.{HoldersShown}
+use Rattle.model.specs.GrantsSeen.{GrantsSeen}
 use Rattle.model.specs.Locality.{LocalRun, NothingFree}
 use Rattle.model.specs.OneString.{OneStringRun}
 use Rattle.model.specs.AlwaysRoom.{AlwaysRoom}
@@ -126,6 +128,10 @@ pub record Beyond : Type 0 where
   pub fewer-locks : FewerNeverHurts
   -- 02, Q-14: a request that waits is answered exactly once, by a grant, its session's device clear or its deadline, unless its session closes
   pub answered-once : (v : Making) (es : List Event) → AnsweredOnce v es
+  -- 02, Q-9: the rows for the front panel are the lock model's holders, each once, ascending; the number of each session is that of the answers 1
+  -- to its requests since it opened, and its reading that of the last one
+  pub holders-shown : (v : Making) (es : List Event) → HoldersShown v es
+  pub grants-seen : (v : Making) (es : List Event) → GrantsSeen v es
   -- the session that has a connection is the one that is found
   pub found : (v : Making) (es : List Event) (c j : ℕ) → (c ≡ noConnection → ⊥) → onConnection c (at ((final (fresh v) es) .locks .entries) j) ≡ true → j ≡ slotOf (final (fresh v) es) c
   pub one-string : (v : Making) (es : List Event) → OneStringRun v es

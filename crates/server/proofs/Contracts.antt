@@ -97,4 +97,6 @@ about-the-code =
       isolation = λ v m m′ m″ ss rs f g j h g′. program .isolation v m m′ m″ ss rs (fresh f) (runs g) j h (runs g′);
       fewer-locks = λ m m′ n n′ a b g g′. program .fewer-locks m m′ n n′ a b (runs g) (runs g′);
       answered-once = λ v m m′ m″ m‴ ss s rs l f g g′ g″. program .answered-once v m m′ m″ m‴ ss s rs l (fresh f) (runs g) (runs g′) (runs g″);
+      holders-shown = λ v m m′ ss f g. program .holders-shown v m m′ ss (fresh f) (runs g);
+      grants-seen = λ v m m′ ss l f g. program .grants-seen v m m′ ss l (fresh f) (runs g);
     }

@@ -1,3 +1,4 @@
 pub mod Contracts
 pub mod Numbering
 pub mod Program
+pub mod Table

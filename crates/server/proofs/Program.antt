@@ -1,7 +1,7 @@
 -- Demand 3 about the program, proved: the returned structs tell the model's replies, so a run of the C interface is a list of calls
 -- that each meet `Post`. The statement is specs/Program.antt.
 use mathlib.Core.Path.{_≡_, refl, sym, ap, ap₂, subst, _∙_}
-use mathlib.Core.Bool.{Bool, true, false, not, cond}
+use mathlib.Core.Bool.{Bool, true, false, not, _&&_, cond}
 use mathlib.Core.List.{List, [], _∷_, map, _++_}
 use Prim.Native.Nat.{ℕ, zero, suc, _+_, _<_, _^_}
 use lib.Dec.{eqb}
@@ -15,7 +15,7 @@ use Rattle.wire.specs.Frame.{bytesOf, bytes-one, frameBytes, frameOf, Frame}
 use Rattle.model.specs.Sizes.{noConnection}
 use Rattle.model.specs.State.{Making, Server, at, exchangeAt, fresh, live, slotOfNumber, Entry, Rest}
 use Rattle.wire.proofs.ReadFrames.{read-frames}
-use Rattle.model.specs.Lists.{any}
+use Rattle.model.specs.Lists.{any, tally}
 use Rattle.model.specs.Interface.{Event, Event.opening, Event.delivery, Event.cut, Event.clock, Event.answer, Event.status, Outcome, Outcome.more-needed, Outcome.skipped, Outcome.held, Outcome.ignored, Outcome.error-sent, Outcome.closed, Outcome.acted, Reply, Reply.refused, Reply.done, Reply.withheld, Reply.took, outcomeNumber, DeliveryAnswer, deliveryAnswer, DoneAnswer, doneAnswer, AnsweredAnswer, answeredAnswer}
 use Rattle.model.specs.Scan.{Scan, Scan.empty, Scan.few, Scan.wrong, Scan.skipping, Scan.long, Scan.part, Scan.whole}
 use Rattle.model.specs.Place.{slotOf, Role, Role.r-none, Role.r-halfOpen, Role.r-synchronous, Role.r-asynchronous}
@@ -55,6 +55,12 @@ use Rattle.model.specs.Fewer.{FewerLocks, answers1}
 use Rattle.model.proofs.Fewer.{fewer-never-hurts}
 use Rattle.model.specs.AnsweredOnce.{Release.none-stands, Once, clockIn}
 use Rattle.model.proofs.AnsweredOnce.{answered-once}
+use Rattle.model.specs.LockModel.{notShared}
+use Rattle.model.specs.Deciding.{modelAfter}
+use Rattle.model.specs.Holders.{holdersOf, Ascending, holdsLock}
+use Rattle.model.proofs.Holders.{holders-shown}
+use Rattle.model.specs.GrantsSeen.{noneYet, grantsOf, Shows}
+use Rattle.model.proofs.GrantsSeen.{grants-seen}
 use Rattle.model.proofs.IsolationRun.{isolation-run}
 use Rattle.model.specs.Canonical.{canonical}
 use Rattle.state.specs.Fresh.{freshStrings, freshWords}
@@ -487,6 +493,30 @@ module _ (v : Making) (m m′ m″ m‴ : Memory) (ss : List Seen) (s : Seen) (r
       subst (λ (ls : List Line). Once c (synchronousOf v before n) (clockIn ls + (header bs) .param) none-stands (log ((step d₀ e₀) .server) behind)) (sym lines-before) r in
       subst (λ (ls : List Line). Once c (synchronousOf v before n) (clockIn (map lineSeen ss) + (header bs) .param) none-stands ls) (sym lines-behind) u
 
+-- who holds what, since when
+module _ (v : Making) (m m′ : Memory) (ss : List Seen) (f : Fresh v m) (g : Run m ss m′) where
+  shown-holders : Ascending (holdersOf (view m′ .locks .entries))
+      × ((p : ℕ → Bool → Bool → Bool) → tally (λ r. p (r .session) (r .exclusive) (r .shared)) (holdersOf (view m′ .locks .entries))
+      ≡ tally (λ s. holdsLock s && p (s .number) (s .exclusive) (not (notShared s))) ((modelAfter v (seenEvents ss)) .sessions))
+  shown-holders =
+      let h = holders-shown v (seenEvents ss) in
+      let e : view m′ ≡ final (fresh v) (seenEvents ss) = left v m m′ ss f g in (
+        subst (λ (d : Server). Ascending (holdersOf (d .locks .entries))) (sym e) (h .ascending),
+        λ p. ap (λ (d : Server). tally (λ r. p (r .session) (r .exclusive) (r .shared)) (holdersOf (d .locks .entries))) e ∙ h .exactly p,
+      )
+
+  read-all : v .vendor < 2 ^ 16 → AllPossible (seenEvents ss) → map lineSeen ss ≡ log (fresh v) (seenEvents ss)
+  read-all small p =
+      ap (map lineSeen) (made view (calls g) .0 ∙ ap (λ (d : Server). map seen (log d (seenEvents ss))) (f .shows))
+      ∙ read-lines (log (fresh v) (seenEvents ss)) (sent-fits .any-run v (seenEvents ss) small p)
+
+  seen-grants : v .vendor < 2 ^ 16 → AllPossible (seenEvents ss) → (j : ℕ) → live (at (view m′ .locks .entries) j) ≡ true
+      → Shows (grantsOf (map lineSeen ss) 0 ((at (view m′ .locks .entries) j) .number) noneYet) (at (view m′ .locks .entries) j)
+  seen-grants small p j =
+      subst (λ (ls : List Line). live (at (view m′ .locks .entries) j) ≡ true → Shows (grantsOf ls 0 ((at (view m′ .locks .entries) j) .number) noneYet) (at (view m′ .locks .entries) j)) (sym (read-all small p))
+      (subst (λ (d : Server). live (at (d .locks .entries) j) ≡ true → Shows (grantsOf (log (fresh v) (seenEvents ss)) 0 ((at (d .locks .entries) j) .number) noneYet) (at (d .locks .entries) j)) (sym (left v m m′ ss f g))
+      ((grants-seen v (seenEvents ss)) .shows j))
+
 pub program : Program Fresh Run
 program =
     record {
@@ -516,4 +546,6 @@ program =
       isolation = isolated;
       fewer-locks = λ m m′ n n′ a b g g′ c bs room x y f. no-worse m m′ n n′ a b g g′ c bs room x y f;
       answered-once = λ v m m′ m″ m‴ ss s rs small f g g′ g″ p p′ p″ c bs room k n x e t o w. once-seen v m m′ m″ m‴ ss s rs small f g g′ g″ p p′ p″ c bs room x k n e t o w;
+      holders-shown = λ v m m′ ss f g. shown-holders v m m′ ss f g;
+      grants-seen = λ v m m′ ss small f g p j. seen-grants v m m′ ss f g small p j;
     }

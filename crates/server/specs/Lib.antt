@@ -8,3 +8,5 @@ pub mod Events
 pub mod Answers
 pub mod Program
 pub mod Asking
+pub mod Fill
+pub mod Holders

@@ -2,7 +2,7 @@
 -- memory that `hislip_new` wrote. What the host saw is read off the structs that the calls returned and the buffers that they wrote.
 -- The predicates are the model's; proofs/Contracts.antt has `about-the-code`, whose premises are the functions' own contracts.
 use mathlib.Core.Path.{_≡_}
-use mathlib.Core.Bool.{Bool, true, false, not, cond}
+use mathlib.Core.Bool.{Bool, true, false, not, _&&_, cond}
 use mathlib.Core.List.{List, [], _∷_, map}
 use Prim.Native.Nat.{ℕ, zero, suc, _+_, _<_, _^_}
 use lib.Dec.{eqb}
@@ -12,6 +12,7 @@ use Rattle.wire.specs.Frame.{frameOf, frameBytes, bytesOf}
 use Rattle.wire.specs.Message.{header}
 use Rattle.model.specs.Interface.{Event.opening, Event.delivery, Event.cut, Event.clock, Event.answer, Event.status, Outcome, Outcome.more-needed, Outcome.skipped, Outcome.held, Outcome.ignored, Outcome.error-sent, Outcome.closed, Outcome.acted, Reply, Reply.refused, Reply.done, Reply.withheld, Reply.took}
 use Rattle.model.specs.Sizes.{noConnection}
+use Rattle.model.specs.Lists.{tally}
 use Rattle.model.specs.State.{Asked.some, Kind, Making, at, exchangeAt, fresh, live, slotOfNumber, Server}
 use Rattle.model.specs.Step.{final, log, answerType, Line}
 use Rattle.model.specs.Post.{Post}
@@ -23,8 +24,8 @@ use Rattle.model.specs.InStep.{Numbering, Knows, opened, expected, noted, count
 use Rattle.model.specs.IsolationRun.{Undisturbed}
 use Rattle.model.specs.Tie.{Track, nothingYet, track}
 use Rattle.model.specs.Demand3.{Seen, seen, seenEvents, Demand3}
-use Rattle.model.specs.LockModel.{freshModel}
-use Rattle.model.specs.Deciding.{EachDecides}
+use Rattle.model.specs.LockModel.{freshModel, notShared}
+use Rattle.model.specs.Deciding.{EachDecides, modelAfter}
 use Rattle.model.specs.Canonical.{canonical, kept}
 use Rattle.model.specs.OnlyWhole.{OnlyWhole}
 use Rattle.model.specs.Possible.{AllPossible}
@@ -36,6 +37,8 @@ use Rattle.model.specs.Locality.{LocalRun}
 use Rattle.model.specs.NextQuestion.{questionUnread, synchronousOf, asynchronousOf, owes}
 use Rattle.model.specs.Fewer.{FewerLocks}
 use Rattle.model.specs.AnsweredOnce.{Release.none-stands, Once, clockIn}
+use Rattle.model.specs.Holders.{holdersOf, Ascending, holdsLock}
+use Rattle.model.specs.GrantsSeen.{noneYet, grantsOf, Shows}
 use Rattle.model.specs.Refusals.{refusal}
 use Rattle.model.specs.Standing.{StandsOn}
 use Rattle.state.specs.Tidy.{Tidy}
@@ -221,3 +224,11 @@ pub record Program (New : Making → Memory → Type 0) (Ran : Memory → List S
       → AllPossible (seenEvents ss) → AllPossible (seenEvents (s ∷ [])) → AllPossible (seenEvents rs)
       → (c : ℕ) (bs : List ℕ) (room k n : ℕ) → s .event ≡ delivery c bs room → s .reply ≡ took acted k n → (header bs) .kind ≡ AsyncLock → (header bs) .code ≡ 1 → s .output ≡ []
       → Once c (synchronousOf v (seenEvents ss) n) (clockIn (map lineSeen ss) + (header bs) .param) none-stands (map lineSeen rs)
+  -- 02, Q-9: the rows that `hislip_holders` writes are the lock model's holders, each once, ascending by SessionID
+  pub holders-shown : (v : Making) (m m′ : Memory) (ss : List Seen) → New v m → Ran m ss m′
+      → Ascending (holdersOf (view m′ .locks .entries))
+      × ((p : ℕ → Bool → Bool → Bool) → tally (λ r. p (r .session) (r .exclusive) (r .shared)) (holdersOf (view m′ .locks .entries))
+      ≡ tally (λ s. holdsLock s && p (s .number) (s .exclusive) (not (notShared s))) ((modelAfter v (seenEvents ss)) .sessions))
+  -- the number of each session is that of the answers 1 to its requests since it opened, its reading that of the last, as the host saw them
+  pub grants-seen : (v : Making) (m m′ : Memory) (ss : List Seen) → v .vendor < 2 ^ 16 → New v m → Ran m ss m′ → AllPossible (seenEvents ss) → (j : ℕ) → live (at (view m′ .locks .entries) j) ≡ true
+      → Shows (grantsOf (map lineSeen ss) 0 ((at (view m′ .locks .entries) j) .number) noneYet) (at (view m′ .locks .entries) j)

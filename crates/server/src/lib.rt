@@ -18,6 +18,7 @@ ghost use Rattle.state.specs.Layout.{STRINGS, WORDS};
 
 mod asking;
 mod deliver;
+mod holders;
 
 use effects::Delivery;
 use effects::answer;

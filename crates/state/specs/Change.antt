@@ -14,7 +14,7 @@ use borrow.Author.Tests.{eqb-true, eqb-false}
 use Rattle.model.specs.Sizes.{sessionLimit, connectionLimit, stringLimit}
 use Rattle.model.specs.State.{Entry, Waiting, Locks, Exchange, Connection, RemoteLocal, Rest, Server, blank, at, freshExchange, closedConnection, exchangeAt, connectionAt}
 use Rattle.model.specs.Exchange.{withAnswering, withClear, withClientSize, withMode, withCount, withExpectation, withNumber}
-use Rattle.model.specs.Locks.{withOrder}
+use Rattle.model.specs.Locks.{withOrder, withGranted}
 use Rattle.state.specs.Table.{tab, tab-same, tab-set, getD-tab, apart}
 use Rattle.state.specs.Grid.{upd, upd-set, part, grid, grid-set, grid-off, getD-grid, word-of}
 use Rattle.state.specs.Bits.{bit}
@@ -46,13 +46,15 @@ connectionWith zero v x = record { isOpen = flag v; remainder = x .remainder }
 connectionWith (suc f) v x = record { isOpen = x .isOpen; remainder = v }
 
 abbrev pub entryWith : ℕ → ℕ → Entry → Entry
-entryWith zero v e = record { number = v; synchronous = e .synchronous; asynchronous = e .asynchronous; exclusive = e .exclusive; shared = e .shared; last = e .last; standing = e .standing }
-entryWith (suc zero) v e = record { number = e .number; synchronous = v % 256; asynchronous = e .asynchronous; exclusive = e .exclusive; shared = e .shared; last = e .last; standing = e .standing }
-entryWith (suc (suc f)) v e = record { number = e .number; synchronous = e .synchronous; asynchronous = v % 256; exclusive = e .exclusive; shared = e .shared; last = e .last; standing = e .standing }
+entryWith zero v e = record { number = v; synchronous = e .synchronous; asynchronous = e .asynchronous; exclusive = e .exclusive; shared = e .shared; last = e .last; standing = e .standing; locksGranted = e .locksGranted }
+entryWith (suc zero) v e = record { number = e .number; synchronous = v % 256; asynchronous = e .asynchronous; exclusive = e .exclusive; shared = e .shared; last = e .last; standing = e .standing; locksGranted = e .locksGranted }
+entryWith (suc (suc f)) v e = record { number = e .number; synchronous = e .synchronous; asynchronous = v % 256; exclusive = e .exclusive; shared = e .shared; last = e .last; standing = e .standing; locksGranted = e .locksGranted }
 
 abbrev pub orderWith : ℕ → ℕ → Entry → Entry
 orderWith zero v e = withOrder (v % 2 ^ 32) (e .standing) e
-orderWith (suc f) v e = withOrder (e .last) (standingOf v) e
+orderWith (suc zero) v e = withOrder (e .last) (standingOf v) e
+orderWith (suc (suc zero)) v e = withGranted (record { grantedAt = v; grants = e .locksGranted .grants }) e
+orderWith (suc (suc (suc f))) v e = withGranted (record { grantedAt = e .locksGranted .grantedAt; grants = v }) e
 
 -- a single value of the rest, by its place: vendor number, preference, status byte, last SessionID, the three flags
 abbrev pub flagsWith : ℕ → ℕ → RemoteLocal → RemoteLocal
@@ -154,6 +156,7 @@ module _ (w : List ℕ) where
         shared = cond (eqb (bit (off a v SHARERS q k) i) 1) key [];
         last = order-off a v i 0 h (lit< tt) o k % 2 ^ 32;
         standing = standingOf (order-off a v i 1 h (lit< tt) o k);
+        locksGranted = record { grantedAt = order-off a v i 2 h (lit< tt) o k; grants = order-off a v i 3 h (lit< tt) o k };
       }
 
   pub entries-off : (key : List ℕ) (a v : ℕ) → (HOLDER ≡ a → ⊥) → (SHARERS ≡ a → ⊥) → Homeless a → (a < ENTRIES) ⊎ (REQUESTS ≤ a)
@@ -288,12 +291,14 @@ module _ (w s : List ℕ) (i f v : ℕ) (long : length w ≡ WORDS) where
         };
       }
 
--- of a slot, its last message and the release that stands
+-- of a slot, its last message, the release that stands, and what was granted to it
 order-by : (t : ℕ → ℕ) (x : Bool) (y : List ℕ) (r : ℕ → ℕ) (f v : ℕ) → f < ORDER
     → entryFrom t (λ (g : ℕ). cond (eqb g f) v (r g)) x y ≡ orderWith f v (entryFrom t r x y)
 order-by t x y r zero v l = refl
 order-by t x y r (suc zero) v l = refl
-order-by t x y r (suc (suc f)) v l = absurd (omega arith)
+order-by t x y r (suc (suc zero)) v l = refl
+order-by t x y r (suc (suc (suc zero))) v l = refl
+order-by t x y r (suc (suc (suc (suc f)))) v l = absurd (omega arith)
 
 module _ (w key : List ℕ) (i f v : ℕ) (h : i < sessionLimit) (l : f < ORDER) where
   abbrev ordered : List ℕ
@@ -304,10 +309,10 @@ module _ (w key : List ℕ) (i f v : ℕ) (h : i < sessionLimit) (l : f < ORDER)
   order-fields j g m x =
       field-same w ordered j (λ y z. off w (ORDERS + i * ORDER + f) v (ENTRIES + j * ENTRY + y) (omega arith)) (λ c z. off w (ORDERS + i * ORDER + f) v (homeAt c) (omega arith)) g x
 
-  entry-with : (j : ℕ) (r : ℕ → ℕ) → j < sessionLimit → orderWord ordered j 0 ≡ r 0 → orderWord ordered j 1 ≡ r 1
+  entry-with : (j : ℕ) (r : ℕ → ℕ) → j < sessionLimit → ((g : ℕ) → g < ORDER → orderWord ordered j g ≡ r g)
       → entryAt ordered key j ≡ entryFrom (fieldOf w j) r (eqb (word w HOLDER) (j + 1)) (cond (eqb (bit (word w SHARERS) j) 1) key [])
   unfolding entryAt
-  entry-with j r m p q =
+  entry-with j r m p =
       let a : ℕ = ORDERS + i * ORDER + f in
       λ k. record {
         number = order-fields j 0 m (lit< tt) k;
@@ -315,22 +320,23 @@ module _ (w key : List ℕ) (i f v : ℕ) (h : i < sessionLimit) (l : f < ORDER)
         asynchronous = order-fields j 2 m (lit< tt) k;
         exclusive = eqb (off w a v HOLDER (omega arith) k) (j + 1);
         shared = cond (eqb (bit (off w a v SHARERS (omega arith) k) j) 1) key [];
-        last = p k % 2 ^ 32;
-        standing = standingOf (q k);
+        last = p 0 (lit< tt) k % 2 ^ 32;
+        standing = standingOf (p 1 (lit< tt) k);
+        locksGranted = record { grantedAt = p 2 (lit< tt) k; grants = p 3 (lit< tt) k };
       }
 
   order-row : length w ≡ WORDS → entryAt ordered key i ≡ orderWith f v (entryAt w key i)
   unfolding entryAt
   order-row n =
       let b : ℕ = ORDERS + i * ORDER in
-      entry-with i (λ (g : ℕ). cond (eqb g f) v (orderWord w i g)) h (stored w b f v 0 (omega arith)) (stored w b f v 1 (omega arith))
+      entry-with i (λ (g : ℕ). cond (eqb g f) v (orderWord w i g)) h (λ g x. stored w b f v g (omega arith))
       ∙ order-by (fieldOf w i) (eqb (word w HOLDER) (i + 1)) (cond (eqb (bit (word w SHARERS) i) 1) key []) (orderWord w i) f v l
 
   order-other : (j : ℕ) → j < sessionLimit → (j ≡ i → ⊥) → entryAt ordered key j ≡ entryAt w key j
   unfolding entryAt
   order-other j m o =
       let n : (g : ℕ) → g < ORDER → orderWord ordered j g ≡ orderWord w j g = (λ g x. off w (ORDERS + i * ORDER + f) v (ORDERS + j * ORDER + g) (λ e. ⊎-elim (λ (y : j < i). omega arith) (λ (y : i < j). omega arith) (apart j i o))) in
-      entry-with j (orderWord w j) m (n 0 (lit< tt)) (n 1 (lit< tt))
+      entry-with j (orderWord w j) m n
 
 -- a memory whose table differs in slot i alone
 pub entries-change : (w w′ key key′ : List ℕ) (i : ℕ) (g : Entry → Entry) → i < sessionLimit
@@ -418,7 +424,9 @@ module _ (w : List ℕ) (i : ℕ) where
   unfolding entryAt
   order-again key zero l = refl
   order-again key (suc zero) l = refl
-  order-again key (suc (suc f)) l = absurd (omega arith)
+  order-again key (suc (suc zero)) l = refl
+  order-again key (suc (suc (suc zero))) l = refl
+  order-again key (suc (suc (suc (suc f)))) l = absurd (omega arith)
 
   pub order-read : (s : List ℕ) (f : ℕ) → i < sessionLimit → f < ORDER → orderWith f (orderWord w i f) (at (locksOf w s .entries) i) ≡ at (locksOf w s .entries) i
   order-read s f h l = ap (orderWith f (orderWord w i f)) (entry-at s h) ∙ order-again (keyOf w s) f l ∙ sym (entry-at s h)

@@ -23,7 +23,7 @@ use Rattle.state.specs.Keeping.{table-tidy, live-row, same-row}
 
 -- a slot with another SessionID and other connections
 abbrev pub withRow : ℕ → ℕ → ℕ → Entry → Entry
-withRow n a b e = record { number = n; synchronous = a; asynchronous = b; exclusive = e .exclusive; shared = e .shared; last = e .last; standing = e .standing }
+withRow n a b e = record { number = n; synchronous = a; asynchronous = b; exclusive = e .exclusive; shared = e .shared; last = e .last; standing = e .standing; locksGranted = e .locksGranted }
 
 -- no slot shows connection c
 abbrev pub Unshown : List ℕ → ℕ → Type 0
@@ -91,6 +91,7 @@ module _ (w w′ key : List ℕ) (j : ℕ) (holder : word w′ HOLDER ≡ word w
         shared = cond (eqb (bit (sharers k) j) 1) key [];
         last = order 0 k % 2 ^ 32;
         standing = standingOf (order 1 k);
+        locksGranted = record { grantedAt = order 2 k; grants = order 3 k };
       }
 
   entry-kept : ((f : ℕ) → f < ENTRY → fieldOf w′ j f ≡ fieldOf w j f) → entryAt w′ key j ≡ entryAt w key j

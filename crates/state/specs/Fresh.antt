@@ -26,7 +26,7 @@ abbrev pub flagWord : Bool → ℕ
 flagWord b = cond b 1 0
 
 -- vendor number; preference; status, last SessionID and the flags; exchanges (the client's size is 1,024, the count and the number expected at their start);
--- connections; clock, holder, sharers, key, count; entries (free); orders (no message acted); requests; queue
+-- connections; clock, holder, sharers, key, count; entries (free); orders (no message acted, no lock granted); requests; queue
 abbrev pub freshWords : Making → List ℕ
 freshWords v =
     v .vendor
@@ -36,7 +36,7 @@ freshWords v =
     ++ replicate (connectionLimit * CONNECTION) 0
     ++ replicate 5 0
     ++ replicate (sessionLimit * ENTRY) 0
-    ++ rows sessionLimit (beforeFirst ∷ 0 ∷ [])
+    ++ rows sessionLimit (beforeFirst ∷ 0 ∷ 0 ∷ 0 ∷ [])
     ++ replicate (sessionLimit * REQUEST) 0
     ++ replicate sessionLimit 0
 

@@ -57,10 +57,11 @@ module _ (v : Making) where
       behind-made p (omega arith) (omega arith)
       ∙ rw (le-ltb p EXCHANGES (omega arith), le-ltb p CONNECTIONS (omega arith), le-ltb p ORDERS (omega arith), lt-ltb p REQUESTS (omega arith), eq-eqb ((p - ORDERS) % ORDER) 0 m)
 
-  no-standing : (i : ℕ) → i < sessionLimit → word (freshWords v) (ORDERS + i * ORDER + 1) ≡ 0
+  -- no release stands, and nothing was granted
+  order-0 : (i f : ℕ) → i < sessionLimit → 0 < f → f < ORDER → word (freshWords v) (ORDERS + i * ORDER + f) ≡ 0
   unfolding freshWord
-  no-standing i h =
-      let p : ℕ = ORDERS + i * ORDER + 1 in
+  order-0 i f h o l =
+      let p : ℕ = ORDERS + i * ORDER + f in
       let m : (p - ORDERS) % ORDER ≡ 0 → ⊥ = (λ q. omega arith) in
       behind-made p (omega arith) (omega arith)
       ∙ rw (le-ltb p EXCHANGES (omega arith), le-ltb p CONNECTIONS (omega arith), le-ltb p ORDERS (omega arith), lt-ltb p REQUESTS (omega arith), ne-eqb ((p - ORDERS) % ORDER) 0 m)
@@ -106,8 +107,10 @@ module _ (v : Making) where
 
   fresh-order : InRange OrderRange ORDERS ORDER ORDER sessionLimit (freshWords v)
   fresh-order i zero h l = subst (OrderRange 0) (sym (last-before i h)) (lit< tt)
-  fresh-order i (suc zero) h l = subst (OrderRange 1) (sym (no-standing i h)) (omega arith)
-  fresh-order i (suc (suc f)) h l = absurd (omega arith)
+  fresh-order i (suc zero) h l = subst (OrderRange 1) (sym (order-0 i 1 h (lit< tt) l)) (omega arith)
+  fresh-order i (suc (suc zero)) h l = subst (OrderRange 2) (sym (order-0 i 2 h (lit< tt) l)) (lit< tt)
+  fresh-order i (suc (suc (suc zero))) h l = subst (OrderRange 3) (sym (order-0 i 3 h (lit< tt) l)) (omega arith)
+  fresh-order i (suc (suc (suc (suc f)))) h l = absurd (omega arith)
 
   pub fresh-tidy : v .vendor < 65536 → Tidy (memory (freshWords v) freshStrings)
   fresh-tidy h =

@@ -33,6 +33,7 @@ module _ (w key : List ℕ) (j : ℕ) (long : length w ≡ WORDS) where
         shared = cond (eqb (bit (off w HOLDER v SHARERS (omega arith) k) j) 1) key [];
         last = off w HOLDER v (ORDERS + j * ORDER + 0) (omega arith) k % 2 ^ 32;
         standing = standingOf (off w HOLDER v (ORDERS + j * ORDER + 1) (omega arith) k);
+        locksGranted = record { grantedAt = off w HOLDER v (ORDERS + j * ORDER + 2) (omega arith) k; grants = off w HOLDER v (ORDERS + j * ORDER + 3) (omega arith) k };
       }
 
   entry-sharers : (v : ℕ) → entryAt (set w SHARERS v) key j ≡ entryFrom (fieldOf w j) (orderWord w j) ((entryAt w key j) .exclusive) (cond (eqb (bit v j) 1) key [])
@@ -47,6 +48,7 @@ module _ (w key : List ℕ) (j : ℕ) (long : length w ≡ WORDS) where
         shared = cond (eqb (bit (here w SHARERS v (omega arith) k) j) 1) key [];
         last = off w SHARERS v (ORDERS + j * ORDER + 0) (omega arith) k % 2 ^ 32;
         standing = standingOf (off w SHARERS v (ORDERS + j * ORDER + 1) (omega arith) k);
+        locksGranted = record { grantedAt = off w SHARERS v (ORDERS + j * ORDER + 2) (omega arith) k; grants = off w SHARERS v (ORDERS + j * ORDER + 3) (omega arith) k };
       }
 
   -- slot j as its words have it, with these locks

@@ -81,13 +81,14 @@ ENTRIES = COUNT + 1
 abbrev pub ENTRY : ℕ
 ENTRY = 3
 
--- a row for each slot: the number of its last message, its release that stands
+-- a row for each slot: the number of its last message, its release that stands; 02, Q-9: the clock reading of its last grant, the number of
+-- locks granted to it
 abbrev pub ORDERS : ℕ
 ORDERS = ENTRIES + sessionLimit * ENTRY
 
 -- words a row
 abbrev pub ORDER : ℕ
-ORDER = 2
+ORDER = 4
 
 -- a row for each slot: its request's deadline, the length of its string
 abbrev pub REQUESTS : ℕ

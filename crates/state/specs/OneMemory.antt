@@ -284,7 +284,9 @@ module _ (w s w′ s′ : List ℕ) (t : Tidy (memory w s)) (t′ : Tidy (memory
   unfolding entryAt
   order-word i zero h l = mod-one _ _ (2 ^ 32) (t .orders i 0 h l) (t′ .orders i 0 h l) (ap (λ (x : Entry). x .last) (entry-same i h))
   order-word i (suc zero) h l = standing-one _ _ (t .orders i 1 h l) (t′ .orders i 1 h l) (ap (λ (x : Entry). x .standing) (entry-same i h))
-  order-word i (suc (suc f)) h l = absurd (omega arith)
+  order-word i (suc (suc zero)) h l = ap (λ (x : Entry). x .locksGranted .grantedAt) (entry-same i h)
+  order-word i (suc (suc (suc zero))) h l = ap (λ (x : Entry). x .locksGranted .grants) (entry-same i h)
+  order-word i (suc (suc (suc (suc f)))) h l = absurd (omega arith)
 
   -- those that hold
   holder-same : word w HOLDER ≡ word w′ HOLDER

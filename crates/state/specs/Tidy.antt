@@ -48,10 +48,12 @@ abbrev pub ConnectionRange : ℕ → ℕ → Type 0
 ConnectionRange zero v = Flag v
 ConnectionRange (suc f) v = Any v
 
--- the number of the last message; 0, or the release that stands plus 1
+-- the number of the last message; 0, or the release that stands plus 1; 02, Q-9: a clock reading; the number of locks granted
 abbrev pub OrderRange : ℕ → ℕ → Type 0
 OrderRange zero v = v < 2 ^ 32
-OrderRange (suc f) v = v ≤ 2 ^ 33
+OrderRange (suc zero) v = v ≤ 2 ^ 33
+OrderRange (suc (suc zero)) v = v < 2 ^ 63
+OrderRange (suc (suc (suc f))) v = v ≤ 2 ^ 62
 
 -- n rows of k words from word b on, of each the first so many fields within their ranges
 abbrev pub InRange : (ℕ → ℕ → Type 0) → ℕ → ℕ → ℕ → ℕ → List ℕ → Type 0

@@ -53,7 +53,7 @@ unfoldable pub fieldOf : List ℕ → ℕ → ℕ → ℕ
 fieldOf w i zero = rowWord w i 0
 fieldOf w i (suc f) = confirmed (rowWord w i 0) (rowWord w i (suc f)) (homeOf w (rowWord w i (suc f))) (homeIn i (suc f))
 
--- slot i's last message and the release that stands, in another row
+-- slot i's last message, the release that stands, and what was granted to it, in another row
 abbrev pub orderWord : List ℕ → ℕ → ℕ → ℕ
 orderWord w i f = word w (ORDERS + i * ORDER + f)
 
@@ -63,7 +63,7 @@ standingOf x = cond (eqb x 0) no-release (release-of (cond (ltb (x - 1) (2 ^ 32)
 
 -- slot i: its SessionID and connections, and its order; exclusive and shared stand in words that all slots have in common
 abbrev pub entryFrom : (ℕ → ℕ) → (ℕ → ℕ) → Bool → List ℕ → Entry
-entryFrom t r x y = record { number = t 0; synchronous = t 1; asynchronous = t 2; exclusive = x; shared = y; last = r 0 % 2 ^ 32; standing = standingOf (r 1) }
+entryFrom t r x y = record { number = t 0; synchronous = t 1; asynchronous = t 2; exclusive = x; shared = y; last = r 0 % 2 ^ 32; standing = standingOf (r 1); locksGranted = record { grantedAt = r 2; grants = r 3 } }
 
 unfoldable pub entryAt : List ℕ → List ℕ → ℕ → Entry
 entryAt w key i = entryFrom (fieldOf w i) (orderWord w i) (eqb (word w HOLDER) (i + 1)) (cond (eqb (bit (word w SHARERS) i) 1) key [])

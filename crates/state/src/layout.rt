@@ -37,10 +37,11 @@ pub const ENTRIES: usize = COUNT + 1;
 
 pub const ENTRY: usize = 3;
 
-// a row for each slot: the number of its last message, its release that stands
+// a row for each slot: the number of its last message, its release that stands, the clock reading of its last grant, the number of locks
+// granted to it
 pub const ORDERS: usize = ENTRIES + SESSION_LIMIT * ENTRY;
 
-pub const ORDER: usize = 2;
+pub const ORDER: usize = 4;
 
 // a row for each slot: its request's deadline, the length of its string
 pub const REQUESTS: usize = ORDERS + SESSION_LIMIT * ORDER;

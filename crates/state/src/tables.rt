@@ -60,10 +60,14 @@ pub const SYNCHRONOUS: usize = 1;
 pub const ASYNCHRONOUS: usize = 2;
 
 // The fields of its order: the number of its last message, its release that stands (0: none; else, less 1: the number that it waits for,
-// and above 32 bits which lock it frees).
+// and above 32 bits which lock it frees); the clock reading of its last grant, the number of locks granted to it.
 pub const LAST_NUMBER: usize = 0;
 
 pub const STANDING: usize = 1;
+
+pub const GRANTED_AT: usize = 2;
+
+pub const GRANTS: usize = 3;
 
 // The single values: the vendor number, the mode that the host prefers, the instrument's status byte, the SessionID issued last, the three remote/local flags.
 pub const VENDOR: usize = 0;
@@ -175,16 +179,16 @@ pub fn entry(w: &Words, i: usize, f: usize) -> u64
     v
 }
 
-// The last message of a slot and the release that stands.
+// The last message of a slot, the release that stands, and what was granted to it.
 pub fn order(w: &Words, i: usize, f: usize) -> u64
-    requires { ⌜ (i < sessionLimit) × (f < 2) ⌝ }
+    requires { ⌜ (i < sessionLimit) × (f < 4) ⌝ }
     ensures { λ r. ⌜ ((s : List ℕ) → orderWith f r (at (locksOf (now (w .entry)) s .entries) i) ≡ at (locksOf (now (w .entry)) s .entries) i) × (r ≡ orderWord (now (w .entry)) i f) ⌝ }
 {
     w[ORDERS + i * ORDER + f]
 }
 
 pub fn set_order(w: &mut Words, i: usize, f: usize, v: u64)
-    requires { ⌜ (i < sessionLimit) × (f < 2) ⌝ }
+    requires { ⌜ (i < sessionLimit) × (f < 4) ⌝ }
     ensures { λ _. ⌜ ((s : List ℕ) → view (memory (now (w .exit)) s) ≡ onEntry (view (memory (now (w .entry)) s)) i (orderWith f v)) × ((s : List ℕ) → OrderRange f v → Tidy (memory (now (w .entry)) s) → Tidy (memory (now (w .exit)) s)) ⌝ }
 {
     store(w, ORDERS + i * ORDER + f, v);

@@ -1,8 +1,9 @@
 -- `request::decide` meets its contract: the ways of the rule that are left.
 use mathlib.Core.Path.{refl, _∙_}
 use Rattle.locks.specs.Asking.{decided-denied, decided-granted, decided-queued, has-place, met-none}
+use Rattle.locks.specs.Granting.{given-noted}
 use Rattle.locks.specs.Outcome.{met-one}
-use Rattle.state.specs.View.{locksOf}
+use Rattle.state.specs.View.{locksOf, memory, view}
 use borrow.Author.Needs.{needs}
 use Rattle.locks.proofs.request.decide.Statement.{statement}
 use Rattle.locks.proofs.request.decide.Tie as tie
@@ -11,9 +12,12 @@ give-asked-requires : tie.Need-give-asked-requires
 give-asked-requires c κs = (search needs, search needs, c .before .before .before .before .before .before .before .before .may-give .ensures ∙ c .before .before .before .before .before .before .before .if1 .taken)
 
 returns : tie.Need-returns
-returns c = let a = c .before .before .before .before .before .before .before .before .before .before .before .before .before .before .args in
-    let p = c .before .before .before .before .before .put-answer .ensures in
-    met-one _ _ _ _ _ _ _ _ _ (decided-granted (locksOf (a .w .now) (a .strings .now)) (a .i) (a .string .now) (a .timeout) (c .before .before .before .before .before .before .before .before .before .may-give .ensures ∙ c .before .before .before .before .before .before .before .before .if1 .taken)) (c .give-asked .ensures .0) (p .1 (a .strings .now)) (p .0) (search needs) (c .give-asked .ensures .1)
+returns c = let a = c .before .before .before .before .before .before .before .before .before .before .before .before .before .before .before .before .args in
+    let p = c .before .before .before .before .before .before .before .put-answer .ensures in
+    let g = c .before .before .give-asked .ensures in
+    let n = c .note-grant .ensures in
+    met-one _ _ _ _ _ _ _ _ _ (decided-granted (locksOf (a .w .now) (a .strings .now)) (a .i) (a .string .now) (a .timeout) (c .before .before .before .before .before .before .before .before .before .before .before .may-give .ensures ∙ c .before .before .before .before .before .before .before .before .before .before .if1 .taken))
+    (given-noted (view (memory (a .w .now) (a .strings .now))) _ _ (a .i) (a .string .now) (g .0) (n .0 _)) (p .1 (a .strings .now)) (p .0) (search needs) (λ t. n .1 _ (g .1 t))
 
 returns-2 : tie.Need-returns-2
 returns-2 c = let a = c .before .before .before .before .before .before .before .before .before .before .before .before .before .before .args in
@@ -37,6 +41,7 @@ decide-spec =
     (λ c κs. search needs)
     (λ c κs. search needs)
     give-asked-requires
+    (λ c κs. search needs)
     (λ c. search needs)
     returns
     (λ c κs. search needs)
