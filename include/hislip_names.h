@@ -20,6 +20,7 @@ static inline const char *hislip_refusal_name(uint64_t refusal)
     case HISLIP_REFUSED_ANSWER_TOO_LONG: return "the answer is above 1,024 bytes or above the client's size";
     case HISLIP_REFUSED_SHORT_BUFFER: return "the output buffer is under 2,048 bytes";
     case HISLIP_REFUSED_NO_SESSION: return "no live session has that number";
+    case HISLIP_REFUSED_LIST_TOO_SHORT: return "the list of rows is shorter than the holders";
     default: return "no refusal has that number";
     }
 }

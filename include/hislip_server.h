@@ -16,12 +16,12 @@
  *  - `words` points to HISLIP_WORDS uint64_t, aligned as uint64_t, and `strings` to
  *    HISLIP_STRING_BYTES bytes. In hislip_deliver `bytes` points to `len` bytes, in hislip_answer
  *    `payload` to `len` bytes and `shown` to `shown_len`, and in these two, hislip_cut and hislip_clock
- *    `out` to `out_len` bytes.
+ *    `out` to `out_len` bytes. In hislip_holders `rows` points to `rows_len` rows, aligned as uint64_t.
  *    Byte memory needs no alignment.
  *  - NO POINTER IS NULL, NOT EVEN BESIDE A LENGTH OF 0. The proved code takes references, and a
  *    reference is never null: of a null one the proofs say nothing. Beside 0 any other pointer will
  *    do, for instance "". GCC and Clang warn of a null constant.
- *  - words, strings, bytes, payload, shown and out do not overlap one another; payload and shown may.
+ *  - words, strings, bytes, payload, shown, out and rows do not overlap one another; payload and shown may.
  *  - Two threads do not use one server at once. Different servers are independent.
  *  - hislip_new has written the memory before the other calls see it.
  *
@@ -31,8 +31,9 @@
  *
  * WHAT IS WRITTEN. `words`, `strings` and the first `output` bytes of `out`; the bytes of `out` after
  * them keep their values, and `bytes`, `payload` and `shown` are only read. A refused call, a delivery
- * answered more needed or held, and the questions (hislip_deadline, hislip_client_size, and hislip_holders but for its rows) write nothing
- * at all.
+ * answered more needed or held, and the questions hislip_deadline and hislip_client_size write nothing
+ * at all. hislip_holders, a question too, writes the first rows of its list, as many as it answers, and
+ * nothing else.
  *
  * MESSAGE NUMBERS. A client counts its Data, DataEND and Trigger from ffffff00 hex by two, wrapping, from
  * its opening and again from each AsyncDeviceClear. A message that carries another number than the one
@@ -91,9 +92,9 @@ extern "C" {
 /* The version of this interface. A change of the first number, or below 1.0 of the second, may ask
  * for changes in the host. */
 #define HISLIP_VERSION_MAJOR 0
-#define HISLIP_VERSION_MINOR 5
+#define HISLIP_VERSION_MINOR 6
 #define HISLIP_VERSION_PATCH 0
-#define HISLIP_VERSION "0.5.0"
+#define HISLIP_VERSION "0.6.0"
 
 /* Compilers that know these words warn; the others pass over them.
  * HISLIP_NOT_NULL: no pointer is null, see WHAT THE HOST OWES.
@@ -158,7 +159,7 @@ extern "C" {
 #define HISLIP_REFUSED_ANSWER_TOO_LONG 6 /* answer above 1,024 bytes or above the client's size         */
 #define HISLIP_REFUSED_SHORT_BUFFER 7    /* output buffer under 2,048 bytes                             */
 #define HISLIP_REFUSED_NO_SESSION 8      /* no live session of that number                              */
-#define HISLIP_REFUSED_SHORT_LIST 9      /* fewer rows lent than sessions hold a lock                   */
+#define HISLIP_REFUSED_LIST_TOO_SHORT 9  /* the list of rows is shorter than the holders                */
 
 /* Modes, for hislip_new. */
 #define HISLIP_SYNCHRONIZED 0
@@ -218,6 +219,19 @@ typedef struct {
 typedef struct {
     uint64_t refusal, size;
 } hislip_sized;
+
+/* A session that holds a lock, in the list of hislip_holders. `session`: its number. `exclusive`, `shared`:
+ * 1 if it holds that lock, else 0; it may hold both. `granted_at`: what the clock read when a lock was
+ * granted to it last. `grants`: how many locks were granted to it since it opened; once at 2^62 it stays
+ * there. */
+typedef struct {
+    uint64_t session, exclusive, shared, granted_at, grants;
+} hislip_row;
+
+/* The answer to hislip_holders. `rows`: how many rows were written. */
+typedef struct {
+    uint64_t refusal, rows;
+} hislip_counted;
 
 /* How many uint64_t to lend as `words`: HISLIP_WORDS, if header and archive are of one version. */
 uint64_t hislip_words(void);
@@ -303,10 +317,13 @@ hislip_deadlines hislip_deadline(const uint64_t *words, const uint8_t *strings);
 HISLIP_NOT_NULL HISLIP_USE_RESULT
 hislip_sized hislip_client_size(const uint64_t *words, const uint8_t *strings, uint32_t session);
 
-/* A question, no event: it changes nothing but the rows lent. Who holds what, since when: one row for
- * each session that holds a lock, ascending by SessionID; rows after those keep their values. 32 rows
- * (HISLIP_SESSIONS) always suffice. Refusal: 9 (the list is shorter than the holders), and then no row
- * is written. */
+/* A question, no event: it changes nothing in the server. Who holds what, since when: one row for each
+ * session that holds a lock, ascending by session, into the front of the list; further rows keep their
+ * values. A lock is held from the answer that grants it, at once or after waiting, to the answer of its
+ * release (a release that stands has not freed it yet) or the session's closing. The reading and the number of
+ * grants are those of the answers 1 to the session's own lock requests; the session's next opening begins
+ * at none. A list of HISLIP_SESSIONS rows always suffices; `rows_len` may be 0. Refusal: 9 (`rows_len` is
+ * below the number of holders; no row is written then). */
 HISLIP_NOT_NULL HISLIP_USE_RESULT
 hislip_counted hislip_holders(const uint64_t *words, const uint8_t *strings, hislip_row *rows, size_t rows_len);
 

@@ -65,6 +65,18 @@ static void open_both(void)
     expect("and its second channel", told.outcome == HISLIP_ACTED_ON && told.session == 2);
 }
 
+/* A alone holds a lock, the exclusive one, since the clock read 0. */
+static void who_holds(void)
+{
+    static hislip_row rows[HISLIP_SESSIONS];
+    hislip_counted counted = hislip_holders(words, strings, rows, HISLIP_SESSIONS);
+    expect("one session holds a lock", counted.refusal == HISLIP_ACCEPTED && counted.rows == 1);
+    expect("A, the exclusive one", rows[0].session == 1 && rows[0].exclusive == 1 && rows[0].shared == 0);
+    expect("its first, since 0", rows[0].granted_at == 0 && rows[0].grants == 1);
+    counted = hislip_holders(words, strings, rows, 0);
+    expect("no row is too few", counted.refusal == HISLIP_REFUSED_LIST_TOO_SHORT && counted.rows == 0);
+}
+
 static void lock_and_hold(void)
 {
     hislip_delivery told = send(1, HISLIP_TYPE_ASYNC_LOCK, 1, 0, "");
@@ -90,6 +102,7 @@ static void lock_and_hold(void)
     expect("and nobody waits", due.waiting == 0 && due.deadline == 0);
     done = hislip_clock(words, strings, 1499, out, sizeof out);
     expect("the clock does not go back", done.refusal == HISLIP_REFUSED_CLOCK_BACKWARDS);
+    who_holds();
 }
 
 static void ask_and_answer(void)

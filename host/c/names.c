@@ -16,6 +16,16 @@ static void sizes(void)
            HISLIP_VERSION_PATCH);
 }
 
+/* Where the fields of a row lie, in their order, and how long it is. */
+static void row(void)
+{
+    const size_t places[] = {offsetof(hislip_row, session), offsetof(hislip_row, exclusive),
+                             offsetof(hislip_row, shared), offsetof(hislip_row, granted_at),
+                             offsetof(hislip_row, grants), sizeof(hislip_row)};
+    for (size_t i = 0; i < sizeof places / sizeof *places; i++)
+        printf("row %u\n", (unsigned)places[i]);
+}
+
 /* The named types, in the order of their numbers. */
 static const uint8_t types[] = {
     HISLIP_TYPE_INITIALIZE, HISLIP_TYPE_INITIALIZE_RESPONSE, HISLIP_TYPE_FATAL_ERROR, HISLIP_TYPE_ERROR,
@@ -33,11 +43,12 @@ static const uint8_t types[] = {
 int main(void)
 {
     sizes();
+    row();
     for (size_t i = 0; i < sizeof types; i++)
         printf("constant %u\n", types[i]);
     for (unsigned type = 0; type <= UINT8_MAX; type++)
         printf("type %u %s\n", type, hislip_type_name((uint8_t)type));
-    for (uint64_t refusal = HISLIP_ACCEPTED; refusal <= HISLIP_REFUSED_NO_SESSION + 1; refusal++)
+    for (uint64_t refusal = HISLIP_ACCEPTED; refusal <= HISLIP_REFUSED_LIST_TOO_SHORT + 1; refusal++)
         printf("refusal %" PRIu64 " %s\n", refusal, hislip_refusal_name(refusal));
     for (uint64_t outcome = HISLIP_MORE_NEEDED; outcome <= HISLIP_ACTED_ON + 1; outcome++)
         printf("outcome %" PRIu64 " %s\n", outcome, hislip_outcome_name(outcome));

@@ -2,15 +2,17 @@
 //!
 //! An entry is a row of `name:`, `breaks:`, `alone:` (optional), `file:`, `in:` (optional), `old:`
 //! and `new:` lines. `old` must occur exactly once in the file, or in the function that `in` names,
-//! so that an entry cannot go stale unnoticed.
+//! so that an entry cannot go stale unnoticed. A second change has lines `also file:` and so on.
 
 use std::collections::BTreeMap;
 use std::path::{Path, PathBuf};
 use std::{env, fmt::Write, fs};
 
-const MODULES: [&str; 7] = [
-    "acts", "delivery", "limits", "locks", "reply", "server", "wire",
+const MODULES: [&str; 8] = [
+    "acts", "delivery", "holders", "limits", "locks", "reply", "server", "wire",
 ];
+/// What stands before the names of lines: nothing, and for a second change.
+const CHANGES: [&str; 2] = ["", "also "];
 
 type Entry<'a> = BTreeMap<&'a str, &'a str>;
 
@@ -43,35 +45,39 @@ fn copy(directory: &Path, entry: &Entry) {
         let file = format!("{module}.rs");
         let path = Path::new("../../reference/src").join(&file);
         let mut source = fs::read_to_string(path).expect("the reference's source");
-        if entry["file"] == file {
-            source = changed(&source, entry);
+        for change in CHANGES {
+            let line = |name: &str| entry.get(&*format!("{change}{name}")).copied();
+            if line("file") == Some(&file) {
+                source = changed(&source, entry["name"], line);
+            }
         }
         let source = source.replace("crate::", "super::");
         fs::write(directory.join(&file), source).expect("written");
     }
 }
 
-fn changed(source: &str, entry: &Entry) -> String {
-    let name = entry["name"];
-    let start = match entry.get("in") {
+fn changed<'a>(source: &str, name: &str, line: impl Fn(&str) -> Option<&'a str>) -> String {
+    let needed = |kind: &str| line(kind).unwrap_or_else(|| panic!("{name}: no `{kind}`"));
+    let (old, new) = (needed("old"), needed("new"));
+    let start = match line("in") {
         Some(function) => source.find(function).expect("`in` names a function"),
         None => 0,
     };
-    let end = match entry.get("in") {
+    let end = match line("in") {
         Some(_) => start + source[start..].find("\n    }\n").expect("a method"),
         None => source.len(),
     };
     let part = &source[start..end];
-    let count = part.matches(entry["old"]).count();
+    let count = part.matches(old).count();
     assert_eq!(count, 1, "{name}: `old` must occur once, not {count} times");
-    let part = part.replace(entry["old"], entry["new"]);
+    let part = part.replace(old, new);
     [&source[..start], &part, &source[end..]].concat()
 }
 
 fn module(code: &mut String, out: &Path, entry: &Entry) {
     let name = entry["name"];
     writeln!(code, "#[allow(warnings)]\nmod {name} {{").expect("string");
-    writeln!(code, "    pub use reference::{{lock_view, mode}};").expect("string");
+    writeln!(code, "    pub use reference::{{event, lock_view, mode}};").expect("string");
     for module in MODULES {
         let path = out.join(name).join(module).with_extension("rs");
         writeln!(code, "    #[path = {path:?}]\n    pub mod {module};").expect("string");

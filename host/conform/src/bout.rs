@@ -1,6 +1,6 @@
 //! Two servers, one list.
 
-use reference::{Event, Fresh, Reply};
+use reference::{Event, Fresh, Reply, Row};
 
 use crate::asking::Roll;
 use crate::demand3::Trial;
@@ -123,6 +123,7 @@ impl Bout {
         self.roll.after(&self.left.model);
         let (one, other) = (&mut self.left.watch, &mut self.right.watch);
         let asked = self.roll.ask(one.subject.as_ref(), other.subject.as_ref());
+        let asked = asked.and(same_rows(&self.left.rows, &self.right.rows));
         asked.map_err(|[what, first, second]| {
             format!("{what}, {}: {first}; {}: {second}", left.name, right.name)
         })?;
@@ -146,6 +147,15 @@ impl Bout {
         let place = list.len().saturating_sub(1);
         self.end().map_err(|what| Difference { place, what })
     }
+}
+
+/// The rows of the holders that two servers told.
+fn same_rows(left: &[Row], right: &[Row]) -> Result<(), [Complaint; 3]> {
+    if left == right {
+        return Ok(());
+    }
+    let [left, right] = [left, right].map(|told| format!("{told:?}"));
+    Err(["the holders".into(), left, right])
 }
 
 /// Runs a list that is not random; returns the events run.

@@ -4,7 +4,7 @@ use reference::event::{frames, Frame};
 use reference::history::{omitted, trimmed};
 use reference::lock_model::{LockAnswer, LockModel};
 use reference::lock_view::LockView;
-use reference::{Event, Fresh, Reply, Subject};
+use reference::{Event, Fresh, Reply, Row, Subject};
 
 use crate::messages::{header, BEFORE_FIRST};
 use crate::watch::{Complaint, Side, Watch};
@@ -24,6 +24,8 @@ pub struct Trial {
     pub model: LockModel,
     /// What the lock model answers to the last event.
     answers: Vec<LockAnswer>,
+    /// The rows of the holders after the last event.
+    pub rows: Vec<Row>,
 }
 
 impl Trial {
@@ -33,6 +35,7 @@ impl Trial {
             again: Watch::new(side, fresh),
             model: LockModel::new(),
             answers: Vec::new(),
+            rows: Vec::new(),
         }
     }
 
@@ -57,6 +60,7 @@ impl Trial {
         self.model.event(event, &reply, &mut self.answers);
         self.compare_answers(&sent)?;
         self.compare_deadline()?;
+        self.compare_holders()?;
         if !omitted(event, &reply) {
             self.keep(event)?;
         }
@@ -98,6 +102,17 @@ impl Trial {
             true => Ok(()),
             false => Err(format!("{told:?}, by the lock model {model:?}")),
         }
+    }
+
+    /// Who holds what, since when, is what the lock model says.
+    fn compare_holders(&mut self) -> Result<(), Complaint> {
+        self.rows = self.watch.holders()?;
+        self.watch.log.holders.push(self.rows.len());
+        if self.rows.iter().copied().eq(self.model.holders()) {
+            return Ok(());
+        }
+        let (told, model) = (&self.rows, self.model.holders().collect::<Vec<_>>());
+        Err(format!("holders {told:?}, by the lock model {model:?}"))
     }
 
     /// Access and AsyncLockInfo go by the lock model's holders.

@@ -2,7 +2,7 @@
 //! lent: a store outside the lent memory is seen.
 
 use hislip::sys;
-use reference::{Deadline, Fresh, Reply, Size, Subject};
+use reference::{Counted, Deadline, Fresh, Reply, Row, Size, Subject};
 
 const GUARD: usize = 8;
 const GUARD_WORD: u64 = 0x5afe_5afe_5afe_5afe;
@@ -137,6 +137,18 @@ impl Subject for Library {
         Size {
             refusal: told.refusal,
             size: told.size,
+        }
+    }
+
+    /// The list itself is lent, so that a store beside its rows is seen.
+    fn holders(&self, rows: &mut [Row]) -> Counted {
+        const { assert!(size_of::<Row>() == size_of::<sys::hislip_row>()) };
+        let (words, strings) = self.shown();
+        let (lent, length) = (rows.as_mut_ptr().cast(), rows.len());
+        let told = unsafe { sys::hislip_holders(words, strings, lent, length) };
+        Counted {
+            refusal: told.refusal,
+            rows: told.rows,
         }
     }
 

@@ -21,6 +21,9 @@ pub struct Reach {
     pub standing: [usize; 3],
     /// Most lock answers in one event.
     pub most_lock_answers: usize,
+    /// Events after which sessions held locks, and the most that did.
+    pub holding: usize,
+    pub most_holders: usize,
 }
 
 fn bump(counts: &mut [usize], place: usize) {
@@ -34,6 +37,9 @@ impl Reach {
         for (place, event) in list.iter().enumerate() {
             self.event(event, &log.replies[place], log.output(place));
         }
+        self.holding += log.holders.iter().filter(|count| **count > 0).count();
+        let most = log.holders.iter().max().copied();
+        self.most_holders = self.most_holders.max(most.unwrap_or(0));
     }
 
     fn event(&mut self, event: &Event, reply: &Reply, output: &[u8]) {
@@ -84,7 +90,7 @@ impl Reach {
     }
 
     /// In words, a line for each kind.
-    pub fn lines(&self) -> [String; 8] {
+    pub fn lines(&self) -> [String; 9] {
         [
             format!("reached: refusals 1 to 8 {:?}", &self.refusals[1..]),
             format!(
@@ -106,6 +112,10 @@ impl Reach {
                 "reached: releases that stood, acted with a message, acted in a clear {:?}",
                 self.standing
             ),
+            format!(
+                "reached: {} events after which locks were held, at most by {} sessions",
+                self.holding, self.most_holders
+            ),
         ]
     }
 
@@ -121,6 +131,8 @@ impl Reach {
             ("interrupted", json::numbers(&self.interrupted)),
             ("standing_releases", json::numbers(&self.standing)),
             ("most_lock_answers", self.most_lock_answers.to_string()),
+            ("holding", self.holding.to_string()),
+            ("most_holders", self.most_holders.to_string()),
         ])
     }
 }

@@ -4,9 +4,10 @@ use std::ops::Range;
 
 use reference::event::frames;
 use reference::history::omitted;
+use reference::limits::SESSIONS;
 use reference::lock_view::LockView;
 use reference::wire::Header;
-use reference::{Deadline, Event, Fresh, Reply, Subject};
+use reference::{Counted, Deadline, Event, Fresh, Refusal, Reply, Row, Subject};
 
 use crate::numbers::mix;
 
@@ -16,6 +17,9 @@ pub const LONGEST: usize = 4096;
 const BESIDE: usize = 64;
 /// Buffers begin at any of so many places, so that nothing relies on alignment.
 const SHIFTS: usize = 8;
+
+/// Longest list of rows that is lent.
+const ROWS: usize = SESSIONS + 1;
 
 /// What went wrong, in words.
 pub type Complaint = String;
@@ -38,6 +42,8 @@ pub struct Log {
     pub replies: Vec<Reply>,
     output: Vec<u8>,
     ends: Vec<usize>,
+    /// How many sessions held a lock after each event, if somebody asked.
+    pub holders: Vec<usize>,
 }
 
 impl Log {
@@ -51,6 +57,7 @@ impl Log {
         self.replies.clear();
         self.output.clear();
         self.ends.clear();
+        self.holders.clear();
     }
 
     /// The last event's answer and output.
@@ -75,6 +82,18 @@ fn pattern(call: usize, buffer: &mut [u8]) {
     }
 }
 
+/// What the lent rows hold before a question: no two of them the same, and no two questions in a row.
+fn blank(call: usize, place: usize) -> Row {
+    let word = mix((call * (ROWS + 2) + place) as u64);
+    Row {
+        session: word,
+        exclusive: word.rotate_left(13),
+        shared: word.rotate_left(26),
+        granted_at: word.rotate_left(39),
+        grants: word.rotate_left(52),
+    }
+}
+
 pub struct Watch {
     pub subject: Box<dyn Subject>,
     pub log: Log,
@@ -87,6 +106,10 @@ pub struct Watch {
     input: Vec<u8>,
     before: Vec<u8>,
     after: Vec<u8>,
+    /// Questions for the holders so far.
+    questions: usize,
+    /// The lent rows, with one before and one after them that are not lent.
+    rows: Vec<Row>,
 }
 
 impl Watch {
@@ -104,6 +127,8 @@ impl Watch {
             input: Vec::new(),
             before,
             after: Vec::new(),
+            questions: 0,
+            rows: vec![Row::default(); ROWS + 2],
         }
     }
 
@@ -151,6 +176,40 @@ impl Watch {
         check_waking(event, &reply, due)?;
         self.check_memory(event, &reply)?;
         Ok(reply)
+    }
+
+    /// The rows of the holders. A list that is just long enough gets the same, and one that is shorter by
+    /// one is refused.
+    pub fn holders(&mut self) -> Result<Vec<Row>, Complaint> {
+        let Some(rows) = self.rows_in(ROWS)? else {
+            return Err(format!("{ROWS} rows are too few for the holders"));
+        };
+        if self.rows_in(rows.len())?.as_ref() != Some(&rows) {
+            return Err("other rows in a list that is just long enough".into());
+        }
+        match rows.len().checked_sub(1) {
+            Some(short) if self.rows_in(short)?.is_some() => {
+                Err("fewer rows fit into a list that is too short".into())
+            }
+            _ => Ok(rows),
+        }
+    }
+
+    /// One question with a list of so many rows. None: the list is too short.
+    fn rows_in(&mut self, room: usize) -> Result<Option<Vec<Row>>, Complaint> {
+        self.questions += 1;
+        let question = self.questions;
+        let lent = 1..1 + room;
+        for (place, row) in self.rows[..room + 2].iter_mut().enumerate() {
+            *row = blank(question, place);
+        }
+        let told = self.subject.holders(&mut self.rows[lent]);
+        let count = check_counted(told, room)?;
+        let mut beside = (0..room + 2).filter(|place| !(1..1 + count).contains(place));
+        if beside.any(|place| self.rows[place] != blank(question, place)) {
+            return Err(format!("{told:?}, and other rows were changed"));
+        }
+        Ok((told.refusal == 0).then(|| self.rows[1..1 + count].to_vec()))
     }
 
     /// Sees that the server holds what it held after the last event, after questions.
@@ -224,6 +283,16 @@ fn check_reply(event: &Event, reply: &Reply, output: &[u8]) -> Result<(), Compla
         return Err("the output is not a row of whole frames".into());
     }
     Ok(())
+}
+
+/// The answer to the question for the holders: 9 and no rows, or no more rows than were lent.
+fn check_counted(told: Counted, room: usize) -> Result<usize, Complaint> {
+    const TOO_SHORT: u64 = Refusal::ListTooShort as u64;
+    match (told.refusal, usize::try_from(told.rows)) {
+        (0, Ok(rows)) if rows <= room => Ok(rows),
+        (TOO_SHORT, Ok(0)) => Ok(0),
+        _ => Err(format!("{told:?} in a list of {room} rows")),
+    }
 }
 
 /// A reading before the deadline told just before answers nobody, one at or past it somebody.

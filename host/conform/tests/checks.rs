@@ -58,6 +58,8 @@ fn random_lists_reach_every_answer() {
         "{reach:?}"
     );
     assert!(reach.standing.iter().all(|count| *count > 50), "{reach:?}");
+    assert!(reach.holding > 5000, "{reach:?}");
+    assert!(reach.most_holders >= 5, "{reach:?}");
 }
 
 /// `make conform` does the same on more lists.

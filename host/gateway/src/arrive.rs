@@ -114,9 +114,10 @@ impl Gateway {
         self.close(number, who.session);
         match output {
             Ok(output) => {
+                let later = self.later_answers(Frames::new(&output));
                 self.say(who, || format!("connection {number} cut: {why}"));
                 self.route(&output);
-                self.later_answers(Frames::new(&output));
+                self.say_each(later);
             }
             Err(refusal) => self.say(who, || format!("connection {number} cut: {refusal}")),
         }
@@ -130,7 +131,7 @@ impl Gateway {
         }
         if let Some(session) = session {
             self.sessions.remove(&session);
-            self.holders.gone(session);
+            self.locks.gone(session);
         }
     }
 

@@ -126,8 +126,9 @@ impl Gateway {
         let who = self.who(number);
         self.route(output);
         self.close(number, session);
+        let later = self.later_answers(Frames::new(output));
         self.say_errors(who, head, output);
-        self.later_answers(Frames::new(output));
+        self.say_each(later);
     }
 
     fn acted_on(&mut self, number: usize, session: SessionId, message: &[u8], output: &[u8]) {
@@ -144,6 +145,7 @@ impl Gateway {
         };
         let reply = reply.map(|frame| frame.code);
         self.follow(number, session, &acted, reply);
+        let later = self.later_answers(later);
         let who = self.who(number);
         self.say(who, || {
             let (code, number) = (acted.code, acted.parameter);
@@ -155,7 +157,7 @@ impl Gateway {
                 format!("interrupted by {number:08x}: its RMT-delivered")
             });
         }
-        self.later_answers(later);
+        self.say_each(later);
         self.pass_on(session, &acted);
     }
 
@@ -179,14 +181,14 @@ impl Gateway {
         match acted.kind {
             names::ASYNC_INITIALIZE => state.whole = true,
             names::ASYNC_LOCK if acted.code == REQUEST => {
-                self.holders.requested(session, acted.payload, reply);
+                self.locks.requested(session, acted.payload, reply);
             }
-            names::ASYNC_LOCK => self.holders.released(session, acted.parameter, reply),
+            names::ASYNC_LOCK => self.locks.released(session, acted.parameter, reply),
             names::DATA | names::DATA_END | names::TRIGGER => {
-                self.holders.came(session, Some(acted.parameter));
+                self.locks.came(session, Some(acted.parameter));
             }
             names::ASYNC_DEVICE_CLEAR => {
-                self.holders.came(session, None);
+                self.locks.came(session, None);
                 state.clear(self.next_ticket);
                 self.bench.clear(session);
             }

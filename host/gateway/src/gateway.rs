@@ -4,7 +4,7 @@
 use std::collections::{BTreeMap, VecDeque};
 use std::net::{SocketAddr, TcpListener, ToSocketAddrs};
 use std::sync::mpsc::{channel, Receiver, Sender};
-use std::time::{Duration, Instant};
+use std::time::{Duration, Instant, SystemTime};
 
 use hislip::{Frames, Mode, Server, CONNECTIONS};
 use query::names;
@@ -15,10 +15,11 @@ use crate::describe::kept;
 use crate::event::{Event, Id};
 use crate::instrument::{Bench, Instrument, Ticket};
 use crate::listen::Listening;
-use crate::locks::{Holders, Later};
+use crate::locks::{Followed, Later};
 use crate::log::Log;
 use crate::refuse::Refusals;
 use crate::session::{Session, SessionId};
+use crate::utc;
 
 /// How long the last bytes have to get out when the gateway ends.
 const ENDING: Duration = Duration::from_millis(500);
@@ -60,6 +61,8 @@ pub struct Who {
 pub struct Gateway {
     pub(crate) server: Server,
     start: Instant,
+    /// The same by the calendar, for the log.
+    started: SystemTime,
     queue: Receiver<Event>,
     pub(crate) events: Sender<Event>,
     pub(crate) connections: [Option<Connection>; CONNECTIONS],
@@ -68,7 +71,7 @@ pub struct Gateway {
     pub(crate) newcomers: VecDeque<Newcomer>,
     pub(crate) refusals: Refusals,
     pub(crate) sessions: BTreeMap<SessionId, Session>,
-    pub(crate) holders: Holders,
+    pub(crate) locks: Followed,
     pub(crate) bench: Bench,
     pub(crate) trigger_answers: bool,
     pub(crate) next_ticket: Ticket,
@@ -111,13 +114,14 @@ impl Gateway {
         Ok(Gateway {
             server: Server::new(settings.vendor, settings.prefers),
             start: Instant::now(),
+            started: SystemTime::now(),
             queue,
             connections: [const { None }; CONNECTIONS],
             next_id: 0,
             newcomers: VecDeque::new(),
             refusals: Refusals::default(),
             sessions: BTreeMap::new(),
-            holders: Holders::default(),
+            locks: Followed::default(),
             bench: Bench::start(instrument, settings.instrument_within, events.clone())?,
             trigger_answers,
             next_ticket: 0,
@@ -210,24 +214,35 @@ impl Gateway {
         match self.server.clock(now).map(kept) {
             Ok(output) => {
                 self.route(&output);
-                self.later_answers(Frames::new(&output));
+                let later = self.later_answers(Frames::new(&output));
+                self.say_each(later);
             }
             Err(refusal) => self.say(Who::default(), || format!("clock {now}: {refusal}")),
         }
     }
 
-    /// Lock answers that are not the direct reply to a lock message.
-    pub(crate) fn later_answers(&mut self, frames: Frames) {
+    /// Follows lock answers that are not the direct reply to a lock message, and returns what to say of
+    /// them. All are followed before anything is said: the server tells its holders after the whole event.
+    #[must_use]
+    pub(crate) fn later_answers(&mut self, frames: Frames) -> Vec<(Who, String)> {
+        let mut later = Vec::new();
         for frame in frames.filter(|frame| frame.kind == names::ASYNC_LOCK_RESPONSE) {
             let who = self.who(frame.connection.into());
             if let Some(session) = who.session {
-                let after = match self.holders.answered(session, frame.code) {
+                let after = match self.locks.answered(session, frame.code) {
                     Later::Request => "waiting",
                     Later::Release => "standing",
                 };
                 let name = names::of_type(frame.kind);
-                self.say(who, || format!("{name} {} after {after}", frame.code));
+                later.push((who, format!("{name} {} after {after}", frame.code)));
             }
+        }
+        later
+    }
+
+    pub(crate) fn say_each(&self, lines: Vec<(Who, String)>) {
+        for (who, what) in lines {
+            self.say(who, || what);
         }
     }
 
@@ -256,7 +271,8 @@ impl Gateway {
             let session = who
                 .session
                 .map_or("-".into(), |number| format!("session {number}"));
-            let locks = self.holders.describe();
+            let time = |reading| utc::of(self.started + Duration::from_millis(reading));
+            let locks = self.locks.describe(&self.server.holders(), time);
             format!("{peer} {session} {}; {locks}", what())
         });
     }

@@ -1,18 +1,19 @@
-//! Who holds which lock, who waits and whose release stands, for the log alone, followed from messages
-//! that acted and lock answers sent.
+//! Locks, for the log alone. Who holds which, and since when, is the server's own word
+//! ([`hislip::Server::holders`]); what it does not tell is followed from messages that acted and lock answers
+//! sent: the string of a shared lock, who waits and whose release stands.
 
 use std::collections::BTreeMap;
+
+use hislip::Holder;
 
 use crate::session::SessionId;
 
 const GRANTED: u8 = 1;
-const EXCLUSIVE_RELEASED: u8 = 1;
-const SHARED_RELEASED: u8 = 2;
 
 #[derive(Default)]
 struct Locks {
-    exclusive: bool,
-    shared: Option<Vec<u8>>,
+    /// The string of its last shared lock.
+    string: Vec<u8>,
     /// For this string.
     waits: Option<Vec<u8>>,
     stands: Option<Stands>,
@@ -33,9 +34,9 @@ pub enum Later {
 }
 
 #[derive(Default)]
-pub struct Holders(BTreeMap<SessionId, Locks>);
+pub struct Followed(BTreeMap<SessionId, Locks>);
 
-impl Holders {
+impl Followed {
     /// A request for a string was answered, or waits.
     pub fn requested(&mut self, session: SessionId, string: &[u8], answer: Option<u8>) {
         let locks = self.0.entry(session).or_default();
@@ -50,9 +51,8 @@ impl Holders {
     /// A release that names a message was answered, or stands.
     pub fn released(&mut self, session: SessionId, number: u32, answer: Option<u8>) {
         let locks = self.0.entry(session).or_default();
-        match answer {
-            Some(code) => locks.free(code),
-            None => locks.stands = Some(Stands { number, due: false }),
+        if answer.is_none() {
+            locks.stands = Some(Stands { number, due: false });
         }
     }
 
@@ -72,7 +72,6 @@ impl Holders {
             .take_if(|stands| stands.due && code > 0)
             .is_some()
         {
-            locks.free(code);
             return Later::Release;
         }
         if let (Some(string), GRANTED) = (locks.waits.take(), code) {
@@ -85,47 +84,58 @@ impl Holders {
         self.0.remove(&session);
     }
 
-    /// `no locks`, or who holds and who waits.
-    pub fn describe(&self) -> String {
+    /// `no locks`, or who holds which, who waits and whose release stands; behind them of each holder how many
+    /// locks it was granted, and when the last one. `time` shows a reading of the clock.
+    pub fn describe(&self, holders: &[Holder], time: impl Fn(u64) -> String) -> String {
+        let mut parts = self.parts(holders);
+        for holder in holders {
+            let record = format!("lock {} at {}", holder.grants, time(holder.granted_at));
+            parts.push((holder.session, record));
+        }
+        let parts = parts
+            .iter()
+            .map(|(session, what)| format!("{session} {what}"));
+        match parts.collect::<Vec<_>>() {
+            none if none.is_empty() => "no locks".into(),
+            parts => format!("locks: {}", parts.join(", ")),
+        }
+    }
+
+    /// What is said of each session, in their order.
+    fn parts(&self, holders: &[Holder]) -> Vec<(SessionId, String)> {
         let mut parts = Vec::new();
+        for holder in holders {
+            if holder.exclusive {
+                parts.push((holder.session, "exclusive".into()));
+            }
+            if holder.shared {
+                let string = self.string(holder.session).escape_ascii();
+                parts.push((holder.session, format!("shared \"{string}\"")));
+            }
+        }
         for (session, locks) in &self.0 {
-            if locks.exclusive {
-                parts.push(format!("{session} exclusive"));
-            }
-            if let Some(string) = &locks.shared {
-                parts.push(format!("{session} shared \"{}\"", string.escape_ascii()));
-            }
             if locks.waits.is_some() {
-                parts.push(format!("{session} waits"));
+                parts.push((*session, "waits".into()));
             }
             if let Some(stands) = &locks.stands {
-                parts.push(format!(
-                    "{session} release stands for {:08x}",
-                    stands.number
-                ));
+                let number = stands.number;
+                parts.push((*session, format!("release stands for {number:08x}")));
             }
         }
-        match parts.is_empty() {
-            true => "no locks".into(),
-            false => format!("locks: {}", parts.join(", ")),
-        }
+        parts.sort_by_key(|(session, _)| *session);
+        parts
+    }
+
+    fn string(&self, session: SessionId) -> &[u8] {
+        let locks = self.0.get(&session);
+        locks.map_or(&[], |locks| &locks.string)
     }
 }
 
 impl Locks {
     fn grant(&mut self, string: Vec<u8>) {
-        if string.is_empty() {
-            self.exclusive = true;
-        } else {
-            self.shared = Some(string);
-        }
-    }
-
-    fn free(&mut self, released: u8) {
-        match released {
-            EXCLUSIVE_RELEASED => self.exclusive = false,
-            SHARED_RELEASED => self.shared = None,
-            _ => {}
+        if !string.is_empty() {
+            self.string = string;
         }
     }
 }

@@ -9,8 +9,12 @@ const DAYS_IN_400_YEARS: u64 = 146_097;
 
 /// `2026-11-16T06:30:40.123Z`
 pub fn now() -> String {
-    let since = SystemTime::now().duration_since(UNIX_EPOCH);
-    let since = since.unwrap_or_default();
+    of(SystemTime::now())
+}
+
+/// The same of any moment.
+pub fn of(time: SystemTime) -> String {
+    let since = time.duration_since(UNIX_EPOCH).unwrap_or_default();
     stamp(since.as_secs(), since.subsec_millis())
 }
 

@@ -235,7 +235,8 @@ fn check_lines(lines: &str, peer: &str) {
         );
         assert!(rest.contains(';') || rest.starts_with("gateway"), "{line}");
     }
-    let locks = "locks: 1 shared \"cal\"";
+    let (_, since) = lines.split_once("1 lock 1 at ").expect("a lock is held");
+    let locks = format!("locks: 1 shared \"cal\", 1 lock 1 at {}", &since[..24]);
     for line in [
         format!(" {peer} session 1 Initialize \"hislip0\"; no locks\n"),
         format!(" session 1 AsyncLock shared \"cal\", 0 ms, answered 1; {locks}\n"),

@@ -136,7 +136,7 @@ fn a_release_waits_for_its_message() {
     assert_eq!(a.lock(b"", 0), 3, "while it stands");
     a.send(7, b"*IDN?");
     assert_eq!((a.lock_answer(), b.lock_answer()), (1, 1));
-    assert!(gateway.logged("session 1 AsyncLockResponse 1 after standing; locks: 2 waits"));
+    assert!(gateway.logged("session 1 AsyncLockResponse 1 after standing; locks: 2 exclusive"));
     assert!(gateway.logged("session 2 AsyncLockResponse 1 after waiting; locks: 2 exclusive"));
     a.answer();
 }

@@ -1,8 +1,8 @@
 //! A safe wrapper over the proved HiSLIP server library.
 //!
 //! A [`Server`] owns the memory that the C interface wants lent and an output buffer. The six
-//! events are methods, or values of [`Event`] for [`Server::apply`]. Two questions change nothing:
-//! [`Server::deadline`] and [`Server::client_size`].
+//! events are methods, or values of [`Event`] for [`Server::apply`]. Three questions change nothing:
+//! [`Server::deadline`], [`Server::client_size`] and [`Server::holders`].
 //!
 //! ```
 //! use hislip::{MessageType, Mode, Outcome, Server};
@@ -26,6 +26,7 @@
 
 mod event;
 mod frame;
+mod holder;
 mod message_type;
 mod mode;
 mod numbers;
@@ -37,6 +38,7 @@ pub mod sys;
 
 pub use event::{Answer, Event};
 pub use frame::{Frame, Frames};
+pub use holder::Holder;
 pub use message_type::{type_name, MessageType};
 pub use mode::Mode;
 pub use numbers::{Connection, SessionId};

@@ -22,11 +22,14 @@ pub enum Refusal {
     ShortBuffer,
     /// 8: no live session has that number.
     NoSession,
+    /// 9: the list of rows is shorter than the holders of locks. [`crate::Server::holders`] lends one that
+    /// is long enough.
+    ListTooShort,
 }
 
 impl Refusal {
     /// All of them, in the order of their numbers.
-    pub const ALL: [Refusal; 8] = [
+    pub const ALL: [Refusal; 9] = [
         Refusal::Connection,
         Refusal::AlreadyOpen,
         Refusal::ClockBackwards,
@@ -35,9 +38,10 @@ impl Refusal {
         Refusal::AnswerTooLong,
         Refusal::ShortBuffer,
         Refusal::NoSession,
+        Refusal::ListTooShort,
     ];
 
-    /// The number in the C interface, 1 to 8.
+    /// The number in the C interface, 1 to 9.
     pub fn number(self) -> u64 {
         self as u64 + 1
     }
@@ -53,14 +57,15 @@ impl Refusal {
             Refusal::AnswerTooLong => "the answer is above 1,024 bytes or above the client's size",
             Refusal::ShortBuffer => "the output buffer is under 2,048 bytes",
             Refusal::NoSession => "no live session has that number",
+            Refusal::ListTooShort => "the list of rows is shorter than the holders",
         }
     }
 
-    /// Ok for 0, the refusal for 1 to 8. Panics at any other number, as `Server` documents.
+    /// Ok for 0, the refusal for 1 to 9. Panics at any other number, as `Server` documents.
     pub(crate) fn check(number: u64) -> Result<(), Refusal> {
         match number {
             0 => Ok(()),
-            1..=8 => Err(Refusal::ALL[number as usize - 1]),
+            1..=9 => Err(Refusal::ALL[number as usize - 1]),
             _ => panic!("the library gave refusal {number}, which does not exist"),
         }
     }

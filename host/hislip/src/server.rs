@@ -1,11 +1,12 @@
 //! One server and its memory.
 
 use crate::frame::Frames;
+use crate::holder::Holder;
 use crate::mode::Mode;
 use crate::numbers::{Connection, SessionId};
 use crate::outcome::{Answered, Delivery, Outcome};
 use crate::refusal::Refusal;
-use crate::sizes::OUTPUT;
+use crate::sizes::{OUTPUT, SESSIONS};
 use crate::sys;
 
 /// Lock requests that wait, as [`Server::deadline`] tells it.
@@ -24,7 +25,7 @@ pub struct Deadline {
 ///
 /// # Panics
 ///
-/// The methods panic if the archive answers what its interface does not have: a refusal above 8, an
+/// The methods panic if the archive answers what its interface does not have: a refusal above 9, an
 /// outcome above 6, a SessionID of more than 16 bits, more output than the buffer has, or more words
 /// than can be counted. Each is excluded by proof, so a panic means that another archive is linked. No
 /// input makes them panic.
@@ -222,6 +223,28 @@ impl Server {
         // SAFETY: as for `deadline`.
         let told = unsafe { sys::hislip_client_size(words, strings, session.into().into()) };
         Refusal::check(told.refusal).map(|()| told.size)
+    }
+
+    /// The sessions that hold a lock, by ascending SessionID: which locks, the reading of the clock at the
+    /// last grant to each, and how many locks were granted to it since it opened. A release that waits for
+    /// its message has not freed its lock yet. Asking changes nothing.
+    ///
+    /// ```
+    /// let server = hislip::Server::new(*b"AA", hislip::Mode::Synchronized);
+    /// assert!(server.holders().is_empty());
+    /// ```
+    ///
+    /// # Panics
+    ///
+    /// As [`Server`] says: never, with the proved archive.
+    pub fn holders(&self) -> Vec<Holder> {
+        let mut rows = [sys::hislip_row::default(); SESSIONS];
+        let (words, strings) = (self.words.as_ptr(), self.strings.as_ptr());
+        // SAFETY: as for `deadline`; the rows are this function's own.
+        let told = unsafe { sys::hislip_holders(words, strings, rows.as_mut_ptr(), rows.len()) };
+        Refusal::check(told.refusal).expect("a row for every session");
+        let holding = &rows[..told.rows as usize];
+        holding.iter().map(Holder::of).collect()
     }
 
     fn memory(&mut self) -> (*mut u64, *mut u8) {

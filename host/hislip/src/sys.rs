@@ -51,6 +51,32 @@ pub struct hislip_sized {
     pub size: u64,
 }
 
+/// A session that holds a lock, as `hislip_holders` tells it.
+#[repr(C)]
+#[derive(Clone, Copy, Debug, Default, PartialEq, Eq)]
+pub struct hislip_row {
+    /// Its number.
+    pub session: u64,
+    /// 1 if it holds the exclusive lock, else 0.
+    pub exclusive: u64,
+    /// 1 if it holds a shared lock, else 0.
+    pub shared: u64,
+    /// The reading of the clock at the last grant to it.
+    pub granted_at: u64,
+    /// Locks granted to it since it opened; once at 2^62 it stays there.
+    pub grants: u64,
+}
+
+/// The answer to `hislip_holders`.
+#[repr(C)]
+#[derive(Clone, Copy, Debug, PartialEq, Eq)]
+pub struct hislip_counted {
+    /// 0, or 9 and then `rows` is 0.
+    pub refusal: u64,
+    /// How many rows were written.
+    pub rows: u64,
+}
+
 /// The answer to an instrument's answer.
 #[repr(C)]
 #[derive(Clone, Copy, Debug, PartialEq, Eq)]
@@ -123,4 +149,12 @@ extern "C" {
     /// How long an answer to a session may be.
     #[must_use = "asking changes nothing"]
     pub fn hislip_client_size(words: *const u64, strings: *const u8, session: u32) -> hislip_sized;
+    /// Who holds what, since when.
+    #[must_use = "it counts the rows that were written"]
+    pub fn hislip_holders(
+        words: *const u64,
+        strings: *const u8,
+        rows: *mut hislip_row,
+        rows_len: usize,
+    ) -> hislip_counted;
 }

@@ -1,8 +1,8 @@
 //! The safe wrapper: typed answers, and nothing that is passed can do harm.
 
 use hislip::{
-    sys, Answer, Answered, Connection, Deadline, Event, Frame, Frames, MessageType, Mode, Outcome,
-    Refusal, Server, OUTPUT,
+    sys, Answer, Answered, Connection, Deadline, Event, Frame, Frames, Holder, MessageType, Mode,
+    Outcome, Refusal, Server, OUTPUT,
 };
 use reference::compose::message;
 
@@ -99,6 +99,91 @@ fn a_host_may_sleep_until_the_deadline() {
     assert_eq!(server.deadline(), Some(due), "asking changes nothing");
     assert_eq!(server.clock(140).expect("forwards").count(), 1);
     assert_eq!(server.deadline(), None);
+}
+
+/// A holder: session, exclusive, shared, reading, number.
+fn holder(session: u16, exclusive: bool, shared: bool, granted_at: u64, grants: u64) -> Holder {
+    Holder {
+        session: session.into(),
+        exclusive,
+        shared,
+        granted_at,
+        grants,
+    }
+}
+
+/// Delivers a lock message on an asynchronous connection: the codes that are answered.
+fn lock(server: &mut Server, connection: u32, code: u8, parameter: u32, string: &[u8]) -> Vec<u8> {
+    let delivered = server.deliver(connection, &message(4, code, parameter, string));
+    let frames = delivered.expect("open").frames;
+    frames.map(|frame| frame.code).collect()
+}
+
+#[test]
+fn the_holders_are_told() {
+    const NONE_SENT: u32 = 0xffff_fefe;
+    let mut server = with_session();
+    second_session(&mut server);
+    assert_eq!(server.holders(), []);
+    assert_eq!(server.clock(100).expect("forwards").count(), 0);
+    assert_eq!(lock(&mut server, 3, 1, 0, b"cal"), [1]);
+    assert_eq!(lock(&mut server, 1, 1, 0, b"cal"), [1]);
+    assert_eq!(server.clock(140).expect("forwards").count(), 0);
+    assert_eq!(lock(&mut server, 1, 1, 0, b""), [1]);
+    let both = [
+        holder(1, true, true, 140, 2),
+        holder(2, false, true, 100, 1),
+    ];
+    assert_eq!(server.holders(), both);
+    assert_eq!(lock(&mut server, 1, 1, 0, b""), [3], "counts nothing");
+    assert_eq!(lock(&mut server, 3, 1, 900, b""), [], "waits");
+    assert_eq!(server.clock(170).expect("forwards").count(), 0);
+    assert_eq!(server.holders(), both, "asking changes nothing");
+    assert_eq!(lock(&mut server, 1, 0, NONE_SENT, b""), [1, 1]);
+    let second = [
+        holder(1, false, true, 140, 2),
+        holder(2, true, true, 170, 2),
+    ];
+    assert_eq!(server.holders(), second, "the clock of the grant");
+    assert_eq!(server.cut(2).expect("open").count(), 0);
+    assert_eq!(server.holders(), second[..1]);
+}
+
+/// What the wrapper never lets happen.
+#[test]
+fn a_list_that_is_too_short_is_refused() {
+    let mut words = [0; hislip::WORDS];
+    let mut strings = [0; hislip::STRING_BYTES];
+    let mut out = [0; OUTPUT];
+    let (w, s) = (words.as_mut_ptr(), strings.as_mut_ptr());
+    unsafe { sys::hislip_new(w, s, 0x4141, 0) };
+    for (connection, bytes) in [
+        (0, message(0, 0, 0x0100_0000, b"")),
+        (1, message(17, 0, 1, b"")),
+        (1, message(4, 1, 0, b"k")),
+    ] {
+        unsafe { sys::hislip_open(w, s, connection) };
+        let (shown, len) = (bytes.as_ptr(), bytes.len());
+        let out = out.as_mut_ptr();
+        let told = unsafe { sys::hislip_deliver(w, s, connection, shown, len, out, OUTPUT) };
+        assert_eq!(told.taken, len as u64);
+    }
+    let blank = sys::hislip_row {
+        session: 7,
+        exclusive: 7,
+        shared: 7,
+        granted_at: 7,
+        grants: 7,
+    };
+    let mut rows = [blank; 2];
+    let short = unsafe { sys::hislip_holders(w, s, rows.as_mut_ptr(), 0) };
+    assert_eq!((short.refusal, short.rows), (9, 0));
+    assert_eq!(rows, [blank; 2]);
+    let told = unsafe { sys::hislip_holders(w, s, rows.as_mut_ptr(), 2) };
+    assert_eq!((told.refusal, told.rows), (0, 1));
+    assert_eq!((rows[0].session, rows[0].shared), (1, 1));
+    assert_eq!(rows[1], blank, "further rows stay as they are");
+    assert_eq!(Refusal::ListTooShort.number(), 9);
 }
 
 #[test]

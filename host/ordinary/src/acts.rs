@@ -59,6 +59,9 @@ impl Server {
         let requested =
             self.locks
                 .request(message.slot, message.payload, deadline, message.connection);
+        if requested == Requested::Granted {
+            self.sessions[usize::from(message.slot)].granted(self.clock);
+        }
         if requested != Requested::Waits {
             frames.send(message.connection, kind::LOCK_RESPONSE, requested as u8, 0);
         }

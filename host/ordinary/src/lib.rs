@@ -14,6 +14,7 @@
 mod acts;
 mod delivery;
 mod frames;
+mod holders;
 mod locks;
 mod replies;
 mod server;

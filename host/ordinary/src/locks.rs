@@ -111,6 +111,12 @@ impl Locks {
         (self.exclusive | self.shared).count_ones()
     }
 
+    /// The same by slot.
+    pub fn holding(&self) -> impl Iterator<Item = u8> + '_ {
+        let holders = self.exclusive | self.shared;
+        (0..SESSIONS as u8).filter(move |slot| holders & bit(*slot) != 0)
+    }
+
     /// The requests that wait, by arrival, each with its slot.
     pub fn waiting(&self) -> impl Iterator<Item = (u8, &Request)> {
         let slots = self.queue[..self.queued].iter();
@@ -206,21 +212,22 @@ impl Locks {
     pub fn withdraw(&mut self, slot: u8) -> bool {
         let waited = self.waiting & bit(slot) != 0;
         if waited {
-            self.look(|_, other| other == slot, |_| ());
+            self.look(|_, other| other == slot, |_, _| ());
         }
         waited
     }
 
-    /// Takes away the requests whose deadline is reached, oldest first, and tells where each is answered.
-    pub fn expire(&mut self, clock: u64, tell: impl FnMut(u8)) {
+    /// Takes away the requests whose deadline is reached, oldest first, and tells whose each is and where it is
+    /// answered.
+    pub fn expire(&mut self, clock: u64, tell: impl FnMut(u8, u8)) {
         let late =
             |locks: &mut Locks, slot: u8| locks.requests[usize::from(slot)].deadline <= clock;
         self.look(late, tell);
     }
 
-    /// Looks at the requests once, oldest first, grants what may be granted and tells where each is
-    /// answered.
-    pub fn grant_pass(&mut self, tell: impl FnMut(u8)) {
+    /// Looks at the requests once, oldest first, grants what may be granted and tells whose each is and where
+    /// it is answered.
+    pub fn grant_pass(&mut self, tell: impl FnMut(u8, u8)) {
         self.look(Locks::granted, tell);
     }
 
@@ -240,13 +247,13 @@ impl Locks {
     }
 
     /// Takes those requests out of the queue that `ends` says yes to; the others keep their order.
-    fn look(&mut self, ends: impl Fn(&mut Locks, u8) -> bool, mut tell: impl FnMut(u8)) {
+    fn look(&mut self, ends: impl Fn(&mut Locks, u8) -> bool, mut tell: impl FnMut(u8, u8)) {
         let mut kept = 0;
         for place in 0..self.queued {
             let slot = self.queue[place];
             if ends(self, slot) {
                 self.waiting &= !bit(slot);
-                tell(self.requests[usize::from(slot)].connection);
+                tell(slot, self.requests[usize::from(slot)].connection);
             } else {
                 self.queue[kept] = slot;
                 kept += 1;

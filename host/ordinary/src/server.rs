@@ -1,6 +1,6 @@
 //! The state, and the events that are not deliveries.
 
-use reference::limits::{CLOCK, CONNECTIONS, OUTPUT, PAYLOAD, SESSIONS};
+use reference::limits::{CLOCK, CONNECTIONS, GRANTS, OUTPUT, PAYLOAD, SESSIONS};
 use reference::wire::{kind, HEADER};
 use reference::{Mode, Refusal, Reply};
 
@@ -65,6 +65,9 @@ pub struct Session {
     /// MessageID that the next Data, DataEND or Trigger must carry.
     pub expected: u32,
     pub client_size: u64,
+    /// The reading of the clock at its last grant, and the locks granted to it since it opened.
+    pub granted_at: u64,
+    pub grants: u64,
 }
 
 /// Where every count of messages starts.
@@ -85,6 +88,8 @@ const NOBODY: Session = Session {
     rmt_expected: false,
     expected: FIRST,
     client_size: PAYLOAD as u64,
+    granted_at: 0,
+    grants: 0,
 };
 
 impl Session {
@@ -127,6 +132,12 @@ impl Session {
             self.asked = None;
             self.rmt_expected = true;
         }
+    }
+
+    /// A lock is granted to it.
+    pub fn granted(&mut self, clock: u64) {
+        self.granted_at = clock;
+        self.grants = GRANTS.min(self.grants + 1);
     }
 
     /// What was asked is forgotten, and the client is told on both channels which message interrupted.
@@ -214,7 +225,7 @@ impl Server {
         }
         self.clock = milliseconds;
         let mut frames = Frames::new(out);
-        self.locks.expire(milliseconds, |connection| {
+        self.locks.expire(milliseconds, |_, connection| {
             frames.send(connection, kind::LOCK_RESPONSE, 0, 0);
         });
         done(frames.used())
@@ -284,7 +295,9 @@ impl Server {
     }
 
     pub(crate) fn grant_pass(&mut self, frames: &mut Frames) {
-        self.locks.grant_pass(|connection| {
+        let (sessions, clock) = (&mut self.sessions, self.clock);
+        self.locks.grant_pass(|slot, connection| {
+            sessions[usize::from(slot)].granted(clock);
             frames.send(connection, kind::LOCK_RESPONSE, 1, 0);
         });
     }

@@ -2,7 +2,7 @@
 
 use reference::lock_view::{LockView, SessionView, StandingView, WaitingView};
 use reference::subject::image_of;
-use reference::{Deadline, Fresh, Refusal, Reply, Size, Subject};
+use reference::{Counted, Deadline, Fresh, Refusal, Reply, Row, Size, Subject};
 
 use crate::locks::Request;
 use crate::server::Server;
@@ -63,6 +63,10 @@ impl Subject for Server {
                 size: 0,
             },
         }
+    }
+
+    fn holders(&self, rows: &mut [Row]) -> Counted {
+        Server::holders(self, rows)
     }
 
     fn fork(&self) -> Box<dyn Subject> {

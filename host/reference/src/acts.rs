@@ -53,6 +53,8 @@ impl Server {
             sent: None,
             rmt_expected: false,
             expected: FIRST,
+            granted_at: 0,
+            grants: 0,
         });
         self.connections[usize::from(connection)].role = Role::Synchronous(slot);
         let version = VERSION.min((parameter >> 16) as u16);
@@ -153,7 +155,9 @@ impl Server {
                 if stands || holds || self.locks.is_waiting(slot) {
                     3
                 } else if self.locks.may_grant(slot, &string) {
+                    let clock = self.clock;
                     self.locks.grant(slot, &string);
+                    self.session_mut(slot).granted(clock);
                     1
                 } else if timeout == 0 {
                     0

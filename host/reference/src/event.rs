@@ -109,6 +109,27 @@ pub struct Size {
     pub size: u64,
 }
 
+/// A row of the front panel: a session that holds a lock. `exclusive` and `shared` are 1 if that lock
+/// is held, else 0. It lies as in the C interface, so that a list of rows can be lent as it is.
+#[repr(C)]
+#[derive(Clone, Copy, Debug, Default, PartialEq, Eq)]
+pub struct Row {
+    pub session: u64,
+    pub exclusive: u64,
+    pub shared: u64,
+    /// The reading of the clock at its last grant.
+    pub granted_at: u64,
+    /// Locks granted to it since it opened.
+    pub grants: u64,
+}
+
+/// The answer to the question who holds what: how many rows were written.
+#[derive(Clone, Copy, Debug, Default, PartialEq, Eq)]
+pub struct Counted {
+    pub refusal: u64,
+    pub rows: u64,
+}
+
 /// One frame of an output.
 #[derive(Clone, Copy, Debug, PartialEq, Eq)]
 pub struct Frame<'a> {

@@ -14,19 +14,22 @@ pub mod compose;
 pub mod delivery;
 pub mod event;
 pub mod history;
+pub mod holders;
 pub mod journal;
 pub mod limits;
 pub mod lock_model;
 pub mod lock_view;
 pub mod locks;
 pub mod mode;
+#[cfg(test)]
+mod most_grants;
 pub mod reply;
 pub mod server;
 pub mod subject;
 pub mod verifier;
 pub mod wire;
 
-pub use event::{Deadline, Event, Reply, Size};
+pub use event::{Counted, Deadline, Event, Reply, Row, Size};
 pub use mode::{Fresh, Mode};
 pub use reply::{Answered, Delivery, Outcome, Refusal};
 pub use server::Server;

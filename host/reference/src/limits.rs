@@ -10,6 +10,8 @@ pub const PAYLOAD: usize = 1024;
 pub const LOCK_STRING: usize = 256;
 /// Highest clock reading.
 pub const CLOCK: u64 = 1 << 62;
+/// Locks granted to a session are counted so far.
+pub const GRANTS: u64 = 1 << 62;
 /// Smallest output buffer.
 pub const OUTPUT: usize = 2048;
 

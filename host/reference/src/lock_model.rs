@@ -6,10 +6,12 @@
 
 use std::collections::BTreeMap;
 
-use crate::event::{Deadline, Event, Reply};
+use crate::event::{Deadline, Event, Reply, Row};
 use crate::lock_view::{LockView, SessionView, StandingView, WaitingView};
 
 const LOCK_STRING: usize = 256;
+/// Grants are counted so far.
+const MOST_GRANTS: u64 = 1 << 62;
 /// The number that a release names before any message has acted.
 const NONE_ACTED: u32 = 0xffff_fefe;
 
@@ -22,6 +24,9 @@ struct Entry {
     /// The last Data, DataEND or Trigger acted on since opening or the last AsyncDeviceClear.
     last: Option<u32>,
     standing: Option<StandingView>,
+    /// When it was answered 1 to a request last, and how often since it opened (02's Q-9).
+    granted_at: u64,
+    grants: u64,
 }
 
 impl Entry {
@@ -130,6 +135,18 @@ impl LockModel {
             waiting: self.waiting.len() as u64,
             deadline: earliest.unwrap_or(0),
         }
+    }
+
+    /// A row for each session that holds a lock, ascending.
+    pub fn holders(&self) -> impl Iterator<Item = Row> + '_ {
+        let holding = self.sessions.iter().filter(|(_, entry)| entry.locks() > 0);
+        holding.map(|(number, entry)| Row {
+            session: (*number).into(),
+            exclusive: entry.exclusive.into(),
+            shared: entry.shared.is_some().into(),
+            granted_at: entry.granted_at,
+            grants: entry.grants,
+        })
     }
 
     pub fn count(&self) -> Count {
@@ -339,6 +356,10 @@ impl LockModel {
                 own.exclusive = true;
             } else {
                 own.shared = Some(string.to_vec());
+            }
+            own.granted_at = self.clock;
+            if own.grants < MOST_GRANTS {
+                own.grants += 1;
             }
             self.count.granted += 1;
             self.say(session, 1, answers);

@@ -11,6 +11,7 @@ pub enum Refusal {
     AnswerTooLong = 6,
     ShortBuffer = 7,
     NoSession = 8,
+    ListTooShort = 9,
 }
 
 /// What became of a delivery.

@@ -59,6 +59,9 @@ pub(crate) struct Session {
     pub rmt_expected: bool,
     /// MessageID that the next Data, DataEND or Trigger must carry.
     pub expected: u32,
+    /// The reading of the clock at its last grant, and the locks granted to it since it opened.
+    pub granted_at: u64,
+    pub grants: u64,
 }
 
 impl Session {
@@ -335,9 +338,13 @@ impl Server {
     }
 
     pub(crate) fn grant_pass(&mut self, frames: &mut Frames) {
-        let sessions = &self.sessions;
-        self.locks
-            .grant_pass(|slot| answer_lock(sessions, slot, 1, frames));
+        let (sessions, clock) = (&mut self.sessions, self.clock);
+        self.locks.grant_pass(|slot| {
+            if let Some(session) = &mut sessions[usize::from(slot)] {
+                session.granted(clock);
+            }
+            answer_lock(sessions, slot, 1, frames);
+        });
     }
 }
 

@@ -2,7 +2,7 @@
 
 use std::hash::{Hash, Hasher};
 
-use crate::event::{Deadline, Event, Reply, Size};
+use crate::event::{Counted, Deadline, Event, Reply, Row, Size};
 use crate::lock_view::LockView;
 use crate::mode::Fresh;
 use crate::server::Server;
@@ -28,6 +28,8 @@ pub trait Subject {
     /// Questions, which change nothing.
     fn deadline(&self) -> Deadline;
     fn client_size(&self, session: u32) -> Size;
+    /// The rows of the holders, into the front of a list.
+    fn holders(&self, rows: &mut [Row]) -> Counted;
 
     /// A second server in the same state.
     fn fork(&self) -> Box<dyn Subject>;
@@ -166,6 +168,19 @@ macro_rules! subject_of {
                     Err(refusal) => $crate::Size {
                         refusal: refusal as u64,
                         size: 0,
+                    },
+                }
+            }
+
+            fn holders(&self, rows: &mut [$crate::Row]) -> $crate::Counted {
+                match <$server>::holders(self, rows) {
+                    Ok(rows) => $crate::Counted {
+                        refusal: 0,
+                        rows: rows as u64,
+                    },
+                    Err(refusal) => $crate::Counted {
+                        refusal: refusal as u64,
+                        rows: 0,
                     },
                 }
             }

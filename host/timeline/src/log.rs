@@ -1,13 +1,14 @@
 //! The gateway's log (`gateway --log FILE`) as lanes.
 //!
 //! ```text
-//! 2026-11-16T06:50:26.807Z 127.0.0.1:55264 session 1 DataEND ffffff04 "READ?"; locks: 1 exclusive, 2 waits
-//! 2026-11-16T06:50:26.807Z 127.0.0.1:55264 session 1 answer ffffff04 "+1.25"; locks: 1 exclusive, 2 waits
+//! 2026-11-16T06:50:26.807Z 127.0.0.1:55264 session 1 DataEND ffffff04 "READ?"; locks: 1 exclusive, 2 waits, 1 lock 1 at 2026-11-16T06:50:19.311Z
+//! 2026-11-16T06:50:26.807Z 127.0.0.1:55264 session 1 answer ffffff04 "+1.25"; locks: 1 exclusive, 2 waits, 1 lock 1 at 2026-11-16T06:50:19.311Z
 //! 2026-11-16T06:50:27.119Z gateway ends: SIGTERM; 4 connections cut
 //! ```
 //!
-//! Behind the last `;` stands who holds a lock after the event, who waits and whose release stands; a text
-//! in quotes has its own quotes escaped.
+//! Behind the last `;` stands who holds a lock after the event, who waits and whose release stands, then of
+//! each holder how many locks it was granted and when the last one; a text in quotes has its own quotes
+//! escaped.
 
 use std::collections::{BTreeMap, BTreeSet};
 
@@ -91,16 +92,20 @@ fn told(rest: &str) -> Result<Told<'_>, String> {
     }))
 }
 
-/// `no locks`, or `locks: 1 exclusive, 2 shared "cal", 3 waits, 1 release stands for ffffff04`.
+/// `no locks`, or `locks: 1 exclusive, 2 shared "cal", 3 waits, 1 release stands for ffffff04`, and behind
+/// them of each holder when its last lock was granted, which is not drawn: `1 lock 2 at TIME`.
 fn states(text: &str) -> Result<BTreeSet<State>, String> {
     match text.strip_prefix("locks: ") {
-        Some(list) => outside_quotes(list, ", ").into_iter().map(state).collect(),
+        Some(list) => {
+            let parts = outside_quotes(list, ", ").into_iter();
+            parts.filter_map(|part| state(part).transpose()).collect()
+        }
         None if text == "no locks" => Ok(BTreeSet::new()),
         None => Err(format!("`{text}` does not tell locks")),
     }
 }
 
-fn state(part: &str) -> Result<State, String> {
+fn state(part: &str) -> Result<Option<State>, String> {
     let wrong = || format!("`{part}` is no lock");
     let (session, says) = part.split_once(' ').ok_or_else(wrong)?;
     let kind = match says {
@@ -108,9 +113,10 @@ fn state(part: &str) -> Result<State, String> {
         "waits" => Kind::Waits,
         _ if says.starts_with("shared ") => Kind::Shared,
         _ if says.starts_with("release stands ") => Kind::Stands,
+        _ if says.starts_with("lock ") => return Ok(None),
         _ => return Err(wrong()),
     };
-    Ok((number(session)?, kind, says.into()))
+    Ok(Some((number(session)?, kind, says.into())))
 }
 
 /// A message or an answer with its number.

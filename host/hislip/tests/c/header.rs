@@ -2,9 +2,11 @@
 //! wrong, and their numbers and names are those of the wrapper and of the archive.
 
 use std::fs;
+use std::mem::offset_of;
 use std::sync::OnceLock;
 
 use crate::compiler::{root, run, scratch, strict, C99, CPP11};
+use hislip::sys::hislip_row;
 use hislip::{type_name, Outcome, Refusal};
 
 #[test]
@@ -76,6 +78,23 @@ fn a_dropped_answer_to_a_question_is_warned_of() {
     warned_of("question", &ask("told ="), &ask(""));
 }
 
+#[test]
+fn a_dropped_count_of_rows_is_warned_of() {
+    let ask = |keep: &str, rows: &str| {
+        format!(
+            "#include \"hislip_server.h\"\n\
+             uint64_t ask(const uint64_t *words, const uint8_t *strings, hislip_row *rows);\n\
+             uint64_t ask(const uint64_t *words, const uint8_t *strings, hislip_row *rows)\n\
+             {{ hislip_counted told = {{1, 1}};\n\
+             {keep} hislip_holders(words, strings, {rows}, HISLIP_SESSIONS);\n\
+             return told.refusal + told.rows + rows->grants; }}\n"
+        )
+    };
+    let good = ask("told =", "rows");
+    warned_of("rows", &good, &ask("", "rows"));
+    warned_of("null-rows", &good, &ask("told =", "NULL"));
+}
+
 /// What host/c/names.c prints of one kind, behind the kind's word.
 fn lines<'a>(text: &'a str, kind: &str) -> Vec<&'a str> {
     let rest = |line: &'a str| line.strip_prefix(kind)?.strip_prefix(' ');
@@ -126,6 +145,20 @@ fn sizes_and_version_are_the_wrappers() {
 }
 
 #[test]
+fn a_row_lies_as_in_the_wrapper() {
+    let places = [
+        offset_of!(hislip_row, session),
+        offset_of!(hislip_row, exclusive),
+        offset_of!(hislip_row, shared),
+        offset_of!(hislip_row, granted_at),
+        offset_of!(hislip_row, grants),
+        size_of::<hislip_row>(),
+    ];
+    let text = names_in_c();
+    assert_eq!(lines(text, "row"), places.map(|place| place.to_string()));
+}
+
+#[test]
 fn names_are_the_wrappers() {
     let text = names_in_c();
     let constants: Vec<String> = (0..26).map(|type_: u8| type_.to_string()).collect();
@@ -133,8 +166,8 @@ fn names_are_the_wrappers() {
     let types = (0..=u8::MAX).map(|number| format!("{number} {}", type_name(number)));
     assert_eq!(lines(text, "type"), types.collect::<Vec<_>>());
     let refusals = Refusal::ALL.map(|refusal| format!("{} {}", refusal.number(), refusal.reason()));
-    assert_eq!(lines(text, "refusal")[1..9], refusals);
-    assert_eq!(lines(text, "refusal")[9], "9 no refusal has that number");
+    assert_eq!(lines(text, "refusal")[1..10], refusals);
+    assert_eq!(lines(text, "refusal")[10], "10 no refusal has that number");
     let outcomes = [
         Outcome::MoreNeeded,
         Outcome::Skipped,

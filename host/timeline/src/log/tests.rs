@@ -14,7 +14,7 @@ const LOG: &str = r#"2026-11-16T06:50:00.000Z gateway listens on 127.0.0.1:4880 
 2026-11-16T06:50:02.150Z 127.0.0.1:5001 session 1 answer ffffff00 "+1.25"; locks: 1 exclusive, 2 waits
 2026-11-16T06:50:02.151Z 127.0.0.1:5002 session 1 AsyncLock release after ffffff02, stands; locks: 1 exclusive, 1 release stands for ffffff02, 2 waits
 2026-11-16T06:50:02.152Z 127.0.0.1:5001 session 1 Trigger ffffff02; locks: 2 shared "a; \"b, c"
-2026-11-16T06:50:02.153Z 127.0.0.1:5004 session 2 AsyncLockResponse 1 after waiting; locks: 2 shared "a; \"b, c"
+2026-11-16T06:50:02.153Z 127.0.0.1:5004 session 2 AsyncLockResponse 1 after waiting; locks: 2 shared "a; \"b, c", 2 lock 7 at 2026-11-16T06:50:02.152Z
 2026-11-16T06:50:02.154Z 127.0.0.1:5003 session 2 DataEND ffffff00 "*IDN?"; locks: 2 shared "a; \"b, c"
 2026-11-16T06:50:02.155Z - - status byte is 04; locks: 2 shared "a; \"b, c"
 2026-11-16T06:50:02.156Z 127.0.0.1:5003 session 2 connection 2 cut: the program closed it; no locks
