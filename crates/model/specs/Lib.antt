@@ -9,6 +9,7 @@ pub mod Locks
 pub mod Exchange
 pub mod Checks
 pub mod Acts
+pub mod Sensing
 pub mod Refusals
 pub mod Step
 pub mod Table
