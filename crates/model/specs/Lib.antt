@@ -16,6 +16,7 @@ pub mod Table
 pub mod Bench
 pub mod Figures
 pub mod Corners
+pub mod WatchCorners
 pub mod Canonical
 pub mod Post
 pub mod LockModel
@@ -61,3 +62,4 @@ pub mod AnsweredOnce
 pub mod Asking
 pub mod Holders
 pub mod GrantsSeen
+pub mod Watching
