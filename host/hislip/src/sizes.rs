@@ -34,4 +34,4 @@ pub const NOT_ALLOWED: u8 = 128;
 pub const WORDS: usize = 1068;
 
 /// Bytes that a server is kept in beside them: what [`crate::sys::hislip_string_bytes`] tells.
-pub const STRING_BYTES: usize = 8448;
+pub const STRING_BYTES: usize = 12576;
