@@ -134,11 +134,70 @@ static void ask_and_answer(void)
     expect("and B's Data goes through", told.outcome == HISLIP_ACTED_ON && told.taken == 17);
 }
 
+/* B's readings come as a block of IEEE 754 singles, big endian; 2.5 is above the limit. */
+static void watch_readings(void)
+{
+    static const uint8_t readings[] = "#18\x3f\x80\0\0\x40\x20\0"; /* 1, then 2.5 */
+    static const uint8_t nothing[1] = {0};
+    hislip_delivery told = send(2, HISLIP_TYPE_TRIGGER, 0, 0xffffff02, "");
+    hislip_record record = hislip_readings(words, strings, 2);
+    hislip_answered answered;
+    hislip_done done = hislip_watch_outside(words, strings, 2, 2.0f, 1.0f);
+    expect("B asks for readings", told.outcome == HISLIP_ACTED_ON && told.session == 2);
+    expect("and had none yet", record.refusal == HISLIP_ACCEPTED && record.seen == 0);
+    expect("low above high is refused", done.refusal == HISLIP_REFUSED_BAD_LIMITS);
+    done = hislip_watch_above(words, strings, 2, 2.0f);
+    expect("a watch above 2", done.refusal == HISLIP_ACCEPTED && done.output == 0);
+    answered = hislip_answer(words, strings, 2, readings, sizeof readings, 0, nothing, 0, out, sizeof out);
+    expect("2.5 requests service behind the answer",
+           answered.output == 2 * (1 + HISLIP_HEADER) + sizeof readings
+               && out[1 + HISLIP_HEADER + sizeof readings] == 3
+               && out[answered.output - 14] == HISLIP_TYPE_ASYNC_SERVICE_REQUEST
+               && out[answered.output - 13] == (0x41 | 0x50));
+    answered = hislip_answer(words, strings, 2, readings, sizeof readings, 1, nothing, 0, out, sizeof out);
+    expect("once", answered.output == 1 + HISLIP_HEADER + sizeof readings);
+    record = hislip_readings(words, strings, 2);
+    expect("and is recorded", record.seen == 1 && record.last == 2.5f && record.lowest == 1.0f
+                                  && record.highest == 2.5f);
+    done = hislip_watch_off(words, strings, 1);
+    expect("A has no watch any more", done.refusal == HISLIP_REFUSED_NO_SESSION);
+}
+
+static hislip_listed allow(const char *text)
+{
+    return hislip_patterns(words, strings, (const uint8_t *)text, strlen(text));
+}
+
+/* Two commands are allowed; what else B sends is answered Error 128. */
+static void allowed_commands(void)
+{
+    hislip_delivery told;
+    hislip_listed listed = allow("*IDN?\nMEASure[:VOLTage[:DC]]?\n");
+    expect("two commands are allowed", listed.refusal == HISLIP_ACCEPTED);
+    told = send(2, HISLIP_TYPE_DATA_END, 1, 0xffffff04, "MEAS?");
+    expect("the short form of one acts", told.outcome == HISLIP_ACTED_ON && told.session == 2);
+    told = send(2, HISLIP_TYPE_DATA_END, 0, 0xffffff06, "MEASU?");
+    expect("nothing between short and long does",
+           told.outcome == HISLIP_ERROR_SENT
+               && one_frame(told.output, 2, HISLIP_TYPE_ERROR, HISLIP_NOT_ALLOWED, 0));
+    listed = allow("*RST\nMEASure[:VOLTage?]\n");
+    expect("a bad pattern is told with its place", listed.refusal == HISLIP_REFUSED_BAD_PATTERN
+                                                      && listed.pattern == 1 && listed.place == 16);
+    told = send(2, HISLIP_TYPE_DATA_END, 0, 0xffffff08, "*idn? 1");
+    expect("and the list before stays", told.outcome == HISLIP_ACTED_ON);
+    listed = allow("");
+    told = send(2, HISLIP_TYPE_DATA_END, 0, 0xffffff0a, "*IDN?");
+    expect("an empty list allows nothing",
+           listed.refusal == HISLIP_ACCEPTED && told.outcome == HISLIP_ERROR_SENT);
+}
+
 int main(void)
 {
     expect("the first session opens", first_session() == 0);
     open_both();
     lock_and_hold();
     ask_and_answer();
+    watch_readings();
+    allowed_commands();
     return verdict();
 }

@@ -1,19 +1,24 @@
 //! The two sides. Each pays one call that is not inlined, with the same numbers in and out.
 
 use hislip::sys;
-use reference::{Mode, Reply};
+use reference::{Mode, Reply, Watch};
 
 pub trait Contender {
     fn new() -> Self;
     fn open(&mut self, connection: u32);
     fn deliver(&mut self, connection: u32, bytes: &[u8], out: &mut [u8]) -> Reply;
-    fn answer(&mut self, session: u32, payload: &[u8], out: &mut [u8]) -> Reply;
+    fn answer(&mut self, session: u32, payload: &[u8], end: bool, out: &mut [u8]) -> Reply;
+    /// A watch that the readings of the workloads do not trip.
+    fn watch(&mut self, session: u32) -> Reply;
+    /// The list of allowed commands.
+    fn allow(&mut self, text: &[u8]) -> Reply;
 }
 
 /// "AA".
 const VENDOR: u16 = 0x4141;
-/// The answers end.
-const END: u8 = 1;
+/// No reading is beyond these.
+const LOW: f32 = -10.0;
+const HIGH: f32 = 10.0;
 
 pub struct Library {
     words: Vec<u64>,
@@ -52,12 +57,13 @@ impl Contender for Library {
             taken: told.taken,
             output: told.output,
             missing: told.missing,
-            withheld: 0,
+            ..Reply::default()
         }
     }
 
     #[inline(always)]
-    fn answer(&mut self, session: u32, payload: &[u8], out: &mut [u8]) -> Reply {
+    fn answer(&mut self, session: u32, payload: &[u8], end: bool, out: &mut [u8]) -> Reply {
+        let end = end.into();
         let (words, strings) = (self.words.as_mut_ptr(), self.strings.as_mut_ptr());
         let (bytes, len) = (payload.as_ptr(), payload.len());
         let (out, out_len) = (out.as_mut_ptr(), out.len());
@@ -65,7 +71,7 @@ impl Contender for Library {
         let (unread, none) = (shown.as_ptr(), shown.len());
         let answered = unsafe {
             sys::hislip_answer(
-                words, strings, session, bytes, len, END, unread, none, out, out_len,
+                words, strings, session, bytes, len, end, unread, none, out, out_len,
             )
         };
         Reply {
@@ -73,6 +79,22 @@ impl Contender for Library {
             output: answered.output,
             withheld: answered.withheld,
             ..Reply::default()
+        }
+    }
+
+    fn watch(&mut self, session: u32) -> Reply {
+        let (words, strings) = (self.words.as_mut_ptr(), self.strings.as_mut_ptr());
+        let told = unsafe { sys::hislip_watch_outside(words, strings, session, LOW, HIGH) };
+        Reply::refused(told.refusal)
+    }
+
+    fn allow(&mut self, text: &[u8]) -> Reply {
+        let (words, strings) = (self.words.as_mut_ptr(), self.strings.as_mut_ptr());
+        let told = unsafe { sys::hislip_patterns(words, strings, text.as_ptr(), text.len()) };
+        Reply {
+            pattern: told.pattern,
+            place: told.place,
+            ..Reply::refused(told.refusal)
         }
     }
 }
@@ -95,7 +117,15 @@ impl Contender for Ordinary {
     }
 
     #[inline(always)]
-    fn answer(&mut self, session: u32, payload: &[u8], out: &mut [u8]) -> Reply {
-        self.0.answer(session, payload, END, &[], out)
+    fn answer(&mut self, session: u32, payload: &[u8], end: bool, out: &mut [u8]) -> Reply {
+        self.0.answer(session, payload, end.into(), &[], out)
+    }
+
+    fn watch(&mut self, session: u32) -> Reply {
+        self.0.watch(session, Watch::outside(LOW, HIGH))
+    }
+
+    fn allow(&mut self, text: &[u8]) -> Reply {
+        self.0.patterns(text)
     }
 }

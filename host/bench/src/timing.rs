@@ -10,7 +10,7 @@ use reference::Reply;
 
 use crate::contender::{Contender, Library, Ordinary};
 use crate::figures::Figures;
-use crate::script::{Part, Step};
+use crate::script::{voltmeter, Part, Step};
 use crate::workload::Workload;
 
 /// Events between two looks at the clock.
@@ -42,7 +42,10 @@ fn one<C: Contender>(server: &mut C, workload: &Workload, step: Step, out: &mut 
     let bytes = |Part { start, length }| &workload.bytes[start as usize..][..length as usize];
     match step {
         Step::Deliver(connection, part) => server.deliver(connection, bytes(part), out),
-        Step::Answer(session, part) => server.answer(session, bytes(part), out),
+        Step::Answer(session, part) => server.answer(session, bytes(part), true, out),
+        Step::PartOfAnswer(session, part) => server.answer(session, bytes(part), false, out),
+        Step::Watch(session) => server.watch(session),
+        Step::Allow => server.allow(&voltmeter()),
     }
 }
 
@@ -52,7 +55,9 @@ pub type Outcomes = BTreeMap<&'static str, usize>;
 fn outcome(step: Step, told: Reply) -> &'static str {
     match step {
         _ if told.refusal != 0 => "refused",
-        Step::Answer(..) => "answers sent",
+        Step::Answer(..) | Step::PartOfAnswer(..) => "answers sent",
+        Step::Watch(..) => "watches set",
+        Step::Allow => "lists set",
         Step::Deliver(..) => Reply::OUTCOMES[told.outcome as usize],
     }
 }
@@ -152,6 +157,11 @@ mod tests {
             let workload = plan.make(EVENTS);
             let (outcomes, sent) = run(&workload);
             let name = &workload.name;
+            if name.contains("not allowed") {
+                assert_eq!(outcomes, Outcomes::from([("Error sent", EVENTS)]), "{name}");
+                assert!(sent.iter().all(|told| *told == (kind::ERROR, 128)));
+                continue;
+            }
             let wanted = ["acted on", "more needed", "held", "answers sent"];
             assert!(
                 outcomes.keys().all(|told| wanted.contains(told)),
@@ -163,8 +173,8 @@ mod tests {
                 "{name}"
             );
             let locks = sent.iter().filter(|told| told.0 == kind::LOCK_RESPONSE);
-            let ours =
-                |told: &(u8, u8)| told.0 == kind::DATA_END || told.0 == kind::STATUS_RESPONSE;
+            let answers = [kind::DATA, kind::DATA_END, kind::STATUS_RESPONSE];
+            let ours = |told: &(u8, u8)| answers.contains(&told.0);
             assert!(locks.clone().all(|told| matches!(told.1, 1 | 2)), "{name}");
             assert!(
                 sent.iter()

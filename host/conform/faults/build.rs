@@ -8,9 +8,13 @@ use std::collections::BTreeMap;
 use std::path::{Path, PathBuf};
 use std::{env, fmt::Write, fs};
 
-const MODULES: [&str; 8] = [
-    "acts", "delivery", "holders", "limits", "locks", "reply", "server", "wire",
+const MODULES: [&str; 13] = [
+    "acts", "commands", "delivery", "grammar", "holders", "limits", "locks", "readings", "reply",
+    "server", "spelling", "watching", "wire",
 ];
+/// Those that know nothing of the server: a copy that does not change them has the reference's own, which is
+/// compiled once. `limits` is in some of them.
+const SHARED: [&str; 3] = ["grammar", "readings", "spelling"];
 /// What stands before the names of lines: nothing, and for a second change.
 const CHANGES: [&str; 2] = ["", "also "];
 
@@ -39,9 +43,16 @@ fn parse(block: &str) -> Entry<'_> {
     pairs.map(|(key, value)| (key.trim(), value)).collect()
 }
 
+/// Whether a copy has the reference's own module.
+fn is_shared(module: &str, entry: &Entry) -> bool {
+    let files = CHANGES.map(|change| entry.get(&*format!("{change}file")).copied());
+    let names = |name: &str| files.contains(&Some(&*format!("{name}.rs")));
+    SHARED.contains(&module) && !names(module) && !names("limits")
+}
+
 fn copy(directory: &Path, entry: &Entry) {
     fs::create_dir_all(directory).expect("created");
-    for module in MODULES {
+    for module in MODULES.iter().filter(|module| !is_shared(module, entry)) {
         let file = format!("{module}.rs");
         let path = Path::new("../../reference/src").join(&file);
         let mut source = fs::read_to_string(path).expect("the reference's source");
@@ -77,8 +88,16 @@ fn changed<'a>(source: &str, name: &str, line: impl Fn(&str) -> Option<&'a str>)
 fn module(code: &mut String, out: &Path, entry: &Entry) {
     let name = entry["name"];
     writeln!(code, "#[allow(warnings)]\nmod {name} {{").expect("string");
-    writeln!(code, "    pub use reference::{{event, lock_view, mode}};").expect("string");
+    writeln!(
+        code,
+        "    pub use reference::{{event, lock_view, mode, watch}};"
+    )
+    .expect("string");
     for module in MODULES {
+        if is_shared(module, entry) {
+            writeln!(code, "    pub use reference::{module};").expect("string");
+            continue;
+        }
         let path = out.join(name).join(module).with_extension("rs");
         writeln!(code, "    #[path = {path:?}]\n    pub mod {module};").expect("string");
     }

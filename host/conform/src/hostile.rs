@@ -1,13 +1,16 @@
 //! Random lists, seeded. A list has a temper: some are calm with many locks, some throw rubbish,
 //! some run out of sessions; most get deep before they get wild.
 
+use reference::commands::lines;
 use reference::limits::{CONNECTIONS, LOCK_STRING};
 use reference::{Event, Fresh, Mode, Reply, Subject};
 
 use crate::bout::{Bout, Difference, Failed, Pair};
+use crate::floats::{any_block, any_watch};
 use crate::messages::{header, message, BEFORE_FIRST, ROOM};
 use crate::numbers::Numbers;
 use crate::reach::Reach;
+use crate::scpi::{any_command, any_list};
 use crate::watch::{Side, LONGEST};
 use crate::world::{Known, Role, World};
 
@@ -41,11 +44,13 @@ const MOST_UNREAD: usize = 3000;
 struct Temper {
     /// Sessions wanted before anything else.
     sessions: usize,
-    weights: [usize; 12],
+    weights: [usize; 14],
     /// Of a thousand deliveries, how many show a part of the bytes.
     pieces: usize,
     /// Of a thousand messages, how many are of any type, code and length.
     rubbish: usize,
+    /// Of a thousand answers, how many are blocks of readings, good or bad.
+    blocks: usize,
     /// Of a thousand buffers, how many have an odd length.
     odd_room: usize,
 }
@@ -116,6 +121,8 @@ pub struct Author {
     numbers: Numbers,
     temper: Temper,
     world: World,
+    /// The patterns of the list that is set.
+    allowed: Option<Vec<Vec<u8>>>,
     /// The bytes of the last delivery were the wire's unread ones.
     own: bool,
     pub fresh: Fresh,
@@ -135,6 +142,7 @@ impl Author {
             numbers,
             temper,
             world: World::new(fresh.prefers),
+            allowed: None,
             own: false,
             fresh,
             length,
@@ -161,11 +169,19 @@ impl Author {
             },
             9 => self.odd_call(),
             10 => self.odd_bytes(),
-            _ => self.opening_message(),
+            11 => self.opening_message(),
+            12 => self.watch(),
+            _ => Event::Patterns {
+                text: any_list(&mut self.numbers),
+            },
         }
     }
 
     pub fn learn(&mut self, event: &Event, reply: &Reply) {
+        if let (Event::Patterns { text }, 0) = (event, reply.refusal) {
+            let list = lines(text).into_iter();
+            self.allowed = Some(list.map(<[u8]>::to_vec).collect());
+        }
         self.world.learn(event, reply, self.own);
     }
 
@@ -289,6 +305,14 @@ impl Author {
         (0..length).map(|i| first.wrapping_add(i as u8)).collect()
     }
 
+    /// What a DataEND carries: with a list set, mostly a command that it allows.
+    fn command(&mut self) -> Vec<u8> {
+        match &self.allowed {
+            Some(allowed) => any_command(&mut self.numbers, allowed),
+            None => self.payload(),
+        }
+    }
+
     fn synchronous_message(&mut self) -> Event {
         let Some(known) = self.any_established() else {
             return self.towards_a_session();
@@ -305,7 +329,7 @@ impl Author {
         let code = self.numbers.pick(&[right, right, right, right, 0, 1, 1, 2]);
         let bytes = match self.numbers.below(20) {
             0..=4 => message(6, code, number, &self.payload()),
-            5..=12 => message(7, code, number, &self.payload()),
+            5..=12 => message(7, code, number, &self.command()),
             13..=15 => message(12, code, number, b""),
             16..=17 => message(8, code, 0, b""),
             18 => message(3, code, 0, &self.payload()),
@@ -473,14 +497,11 @@ impl Author {
         if asked.is_empty() && self.numbers.permille(800) {
             return self.synchronous_message();
         }
-        let session = match self.numbers.below(30) {
-            0 => self.numbers.pick(&[0, 65_536, 65_537, u32::MAX]),
-            1 => self.numbers.below(70_000) as u32,
-            2 => self.any_session_number() | 0x1_0000,
-            3..=26 if !asked.is_empty() => self.numbers.pick(&asked),
-            _ => self.any_session_number(),
+        let session = self.session(&asked);
+        let mut payload = match self.numbers.permille(self.temper.blocks) {
+            true => any_block(&mut self.numbers),
+            false => self.payload(),
         };
-        let mut payload = self.payload();
         if self.numbers.permille(150) {
             let length = self.numbers.pick(&[3, 4, 20, 21, 1024, 1025, 1500]);
             payload.resize(length, 7);
@@ -491,6 +512,27 @@ impl Author {
             end: self.numbers.pick(&[0, 0, 1, 1, 1, 2, 255]),
             shown: self.shown(session),
             room: self.room(),
+        }
+    }
+
+    /// Mostly one of these, if there are any; sometimes one that cannot be.
+    fn session(&mut self, wanted: &[u32]) -> u32 {
+        match self.numbers.below(30) {
+            0 => self.numbers.pick(&[0, 65_536, 65_537, u32::MAX]),
+            1 => self.numbers.below(70_000) as u32,
+            2 => self.any_session_number() | 0x1_0000,
+            3..=26 if !wanted.is_empty() => self.numbers.pick(wanted),
+            _ => self.any_session_number(),
+        }
+    }
+
+    /// The watch over a session's readings, half-open or not.
+    fn watch(&mut self) -> Event {
+        let sessions = self.world.sessions.iter();
+        let live: Vec<u32> = sessions.map(|known| known.number.into()).collect();
+        Event::Watch {
+            session: self.session(&live),
+            watch: any_watch(&mut self.numbers),
         }
     }
 
@@ -562,13 +604,14 @@ impl Temper {
     fn any(numbers: &mut Numbers) -> Temper {
         let sessions = numbers.pick(&[0, 1, 2, 3, 3, 4, 4, 5, 6, 8, 12, 20, 31, 32, 33, 33]);
         let wild = numbers.permille(250);
-        let mut weights = [1, 8, 14, 6, 10, 1, 6, 6, 1, 1, 0, 1];
+        let mut weights = [1, 8, 14, 6, 10, 1, 6, 7, 1, 1, 0, 1, 4, 0];
         for weight in &mut weights {
             *weight *= numbers.pick(&[1, 1, 2, 2, 6]);
         }
         if numbers.permille(500) {
             weights[5] = 0;
         }
+        weights[13] = numbers.pick(&[0, 0, 0, 1, 3]);
         if wild {
             weights[9] += 6;
             weights[10] += 3;
@@ -583,6 +626,7 @@ impl Temper {
             } else {
                 numbers.pick(&[0, 20, 60])
             },
+            blocks: numbers.pick(&[0, 300, 800]),
             odd_room: numbers.pick(&[0, 5, 60]),
         }
     }

@@ -5,7 +5,10 @@ use std::time::Instant;
 use crate::bout::{Failed, Pair};
 use crate::reach::Reach;
 use crate::tally::Tally;
-use crate::{bench_examples, cables, hostile, interrupts, orders, sizes, systematic, wrap};
+use crate::{
+    bench_examples, cables, commands, corners, hostile, interrupts, orders, readings, sizes,
+    systematic, wrap,
+};
 
 /// Events of random lists.
 const EVENTS: usize = 1_000_000;
@@ -16,11 +19,14 @@ const ORDERS_THIN: u64 = 100;
 
 pub fn run(pair: Pair, tally: &mut Tally) -> Result<(), Failed> {
     tally.suite("bench examples", || bench_examples::check(pair))?;
+    tally.suite("corners", || corners::check(pair))?;
     tally.suite("systematic", || systematic::check(pair, THIN))?;
     tally.suite("standing releases in many orders", || {
         orders::check(pair, ORDERS_THIN)
     })?;
     tally.suite("answers beside unread bytes", || interrupts::check(pair))?;
+    tally.suite("readings under watch", || readings::check(pair))?;
+    tally.suite("allowed commands", || commands::check(pair))?;
     tally.suite("cables dropped after every byte", || cables::check(pair))?;
     tally.suite("answers and strings of every size", || sizes::check(pair))?;
     tally.suite("SessionID wrap", || wrap::check(pair))?;

@@ -1,6 +1,7 @@
 //! What lists have reached: a run that never sees a lock granted proves little about locks.
 
 use reference::event::{frames, Frame};
+use reference::wire::error::NOT_ALLOWED;
 use reference::{Event, Reply};
 
 use crate::json;
@@ -8,7 +9,8 @@ use crate::watch::Log;
 
 #[derive(Clone, Debug, Default)]
 pub struct Reach {
-    pub refusals: [usize; 9],
+    /// By number; 9 is no event's.
+    pub refusals: [usize; 13],
     pub outcomes: [usize; 7],
     /// Frames by message type, server's types only.
     pub frames: [usize; 26],
@@ -19,6 +21,10 @@ pub struct Reach {
     pub interrupted: [usize; 2],
     /// Releases that stood, that a message let act, and that a clear let act.
     pub standing: [usize; 3],
+    /// Watches set, blocks of readings sent, and service requests.
+    pub watching: [usize; 3],
+    /// Lists of allowed commands set, and commands that were not allowed.
+    pub commands: [usize; 2],
     /// Most lock answers in one event.
     pub most_lock_answers: usize,
     /// Events after which sessions held locks, and the most that did.
@@ -26,6 +32,14 @@ pub struct Reach {
     pub most_holders: usize,
     /// Strings of closed sessions that were looked for in the memory.
     pub sought: usize,
+}
+
+/// An answer that is a block with at least one reading.
+fn has_readings(event: &Event) -> bool {
+    let Event::Answer { payload, .. } = event else {
+        return false;
+    };
+    reference::readings::block(payload).is_some_and(|mut readings| readings.next().is_some())
 }
 
 fn bump(counts: &mut [usize], place: usize) {
@@ -51,12 +65,19 @@ impl Reach {
             bump(&mut self.outcomes, reply.outcome as usize);
         }
         self.interrupted[0] += reply.withheld as usize;
+        if reply.refusal == 0 && reply.withheld == 0 {
+            self.commands[0] += usize::from(matches!(event, Event::Patterns { .. }));
+            self.watching[0] += usize::from(matches!(event, Event::Watch { .. }));
+            self.watching[1] += usize::from(has_readings(event));
+        }
         let mut answers = 0;
         for frame in frames(output).unwrap_or_default() {
             bump(&mut self.frames, frame.kind.into());
             match frame.kind {
                 2 => bump(&mut self.fatal_errors, frame.code.into()),
+                3 if frame.code == NOT_ALLOWED => self.commands[1] += 1,
                 3 => bump(&mut self.errors, frame.code.into()),
+                20 => self.watching[2] += 1,
                 13 => self.interrupted[1] += 1 - reply.withheld as usize,
                 5 => {
                     bump(&mut self.lock_answers, frame.code.into());
@@ -93,9 +114,9 @@ impl Reach {
     }
 
     /// In words, a line for each kind.
-    pub fn lines(&self) -> [String; 10] {
+    pub fn lines(&self) -> [String; 12] {
         [
-            format!("reached: refusals 1 to 8 {:?}", &self.refusals[1..]),
+            format!("reached: refusals 1 to 12 {:?}", &self.refusals[1..]),
             format!(
                 "reached: more needed, skipped, held, ignored, Error, closed, acted on {:?}",
                 self.outcomes
@@ -114,6 +135,14 @@ impl Reach {
             format!(
                 "reached: releases that stood, acted with a message, acted in a clear {:?}",
                 self.standing
+            ),
+            format!(
+                "reached: watches set, blocks of readings sent, service requests {:?}",
+                self.watching
+            ),
+            format!(
+                "reached: lists of allowed commands set, commands not allowed {:?}",
+                self.commands
             ),
             format!(
                 "reached: {} events after which locks were held, at most by {} sessions",
@@ -137,6 +166,8 @@ impl Reach {
             ("lock_answers", json::numbers(&self.lock_answers)),
             ("interrupted", json::numbers(&self.interrupted)),
             ("standing_releases", json::numbers(&self.standing)),
+            ("commands", json::numbers(&self.commands)),
+            ("watching", json::numbers(&self.watching)),
             ("most_lock_answers", self.most_lock_answers.to_string()),
             ("holding", self.holding.to_string()),
             ("most_holders", self.most_holders.to_string()),

@@ -3,7 +3,7 @@
 use std::fmt::Write;
 use std::time::Duration;
 
-use reference::{Event, Fresh, Reply};
+use reference::{Event, Fresh, Refusal, Reply};
 
 use crate::bout::{Bout, Difference, Failed, Pair};
 use crate::shrink::shrink;
@@ -17,6 +17,10 @@ const SHOWN: usize = 80;
 const FEW: usize = 5;
 
 pub fn describe_reply(event: &Event, reply: &Reply) -> String {
+    if reply.refusal == Refusal::BadPattern as u64 {
+        let (pattern, place) = (reply.pattern, reply.place);
+        return format!("refusal 11, pattern {pattern}, place {place}");
+    }
     if reply.refusal != 0 {
         return format!("refusal {}", reply.refusal);
     }
@@ -36,7 +40,7 @@ pub fn describe_reply(event: &Event, reply: &Reply) -> String {
 
 pub fn describe_event(event: &Event) -> String {
     let short = match event.room() {
-        0 if matches!(event, Event::Open { .. } | Event::Status { .. }) => String::new(),
+        0 if !event.is_lent_a_buffer() => String::new(),
         2048 => String::new(),
         room => format!(" (buffer of {room})"),
     };
@@ -59,6 +63,8 @@ pub fn describe_event(event: &Event) -> String {
             describe_bytes(shown)
         ),
         Event::Status { status } => format!("status {status:02x}"),
+        Event::Watch { session, watch } => format!("watch of session {session}: {watch:?}"),
+        Event::Patterns { text } => format!("patterns \"{}\"", text.escape_ascii()),
     }
 }
 

@@ -2,10 +2,12 @@
 
 use std::ops::Range;
 
-use reference::event::frames;
+use reference::commands::lines;
+use reference::event::{frames, Frame};
 use reference::history::omitted;
-use reference::limits::SESSIONS;
+use reference::limits::{PATTERN, SESSIONS};
 use reference::lock_view::LockView;
+use reference::wire::kind::SERVICE_REQUEST;
 use reference::wire::Header;
 use reference::{Counted, Deadline, Event, Fresh, Refusal, Reply, Row, Subject};
 
@@ -17,6 +19,11 @@ pub const LONGEST: usize = 4096;
 const BESIDE: usize = 64;
 /// Buffers begin at any of so many places, so that nothing relies on alignment.
 const SHIFTS: usize = 8;
+
+/// Refusals that an event may have, and none.
+const EVENT_REFUSALS: [u64; 12] = [0, 1, 2, 3, 4, 5, 6, 7, 8, 10, 11, 12];
+/// The values that every service request has in its code.
+const REQUESTED: u8 = 16 | 64;
 
 /// Longest list of rows that is lent.
 const ROWS: usize = SESSIONS + 1;
@@ -232,6 +239,7 @@ impl Watch {
         let (first, second) = match event {
             Event::Deliver { bytes, .. } => (&bytes[..], &[][..]),
             Event::Answer { payload, shown, .. } => (&payload[..], &shown[..]),
+            Event::Patterns { text } => (&text[..], &[][..]),
             _ => return Ok(self.subject.apply(event, out)),
         };
         let shift = self.calls / SHIFTS % SHIFTS;
@@ -245,6 +253,7 @@ impl Watch {
                 self.subject.answer(*session, input, *end, shown, out)
             }
             Event::Deliver { connection, .. } => self.subject.deliver(*connection, input, out),
+            Event::Patterns { .. } => self.subject.patterns(input),
             _ => Reply::default(),
         };
         if (input, shown) != (first, second) {
@@ -267,15 +276,20 @@ impl Watch {
 }
 
 fn check_reply(event: &Event, reply: &Reply, output: &[u8]) -> Result<(), Complaint> {
-    let refused = Reply::refused(reply.refusal);
+    let refused = Reply {
+        pattern: reply.pattern,
+        place: reply.place,
+        ..Reply::refused(reply.refusal)
+    };
     if reply.refusal != 0 && *reply != refused {
         return Err("a refusal with other fields that are not 0".into());
     }
+    check_place(event, reply)?;
     let answer = matches!(event, Event::Answer { .. });
     if reply.withheld > u64::from(answer) {
         return Err("withheld, though it is no answer".into());
     }
-    if reply.refusal > 8 || reply.outcome > 6 {
+    if !EVENT_REFUSALS.contains(&reply.refusal) || reply.outcome > 6 {
         return Err("a refusal or an outcome that does not exist".into());
     }
     if omitted(event, reply) && reply.output != 0 {
@@ -284,10 +298,46 @@ fn check_reply(event: &Event, reply: &Reply, output: &[u8]) -> Result<(), Compla
     if let Event::Deliver { bytes, .. } = event {
         check_taken(bytes, reply)?;
     }
-    if frames(output).is_none() {
-        return Err("the output is not a row of whole frames".into());
+    match frames(output) {
+        Some(sent) => check_service_request(event, reply, &sent),
+        None => Err("the output is not a row of whole frames".into()),
     }
-    Ok(())
+}
+
+/// A bad pattern is one of the list, and its place is in it or at its end; nothing else has a place.
+fn check_place(event: &Event, reply: &Reply) -> Result<(), Complaint> {
+    const BAD_PATTERN: u64 = Refusal::BadPattern as u64;
+    let (pattern, place) = (reply.pattern as usize, reply.place as usize);
+    let right = match (event, reply.refusal) {
+        (Event::Patterns { text }, BAD_PATTERN) => {
+            let list = lines(text);
+            let bad = list.get(pattern);
+            bad.is_some_and(|bad| place <= bad.len().min(PATTERN))
+        }
+        (_, BAD_PATTERN) => false,
+        _ => (pattern, place) == (0, 0),
+    };
+    match right {
+        true => Ok(()),
+        false => Err(format!("pattern {pattern}, place {place}")),
+    }
+}
+
+/// Service is requested once at most, behind an answer that was sent, on the other connection, with the values
+/// 16 and 64 in the code.
+fn check_service_request(event: &Event, reply: &Reply, sent: &[Frame]) -> Result<(), Complaint> {
+    let requests = |frame: &Frame| frame.kind == SERVICE_REQUEST;
+    let behind = match (event, sent) {
+        (Event::Answer { .. }, [answer, request]) if reply.withheld == 0 => {
+            let right = request.code & REQUESTED == REQUESTED && request.payload.is_empty();
+            right && !requests(answer) && request.connection != answer.connection
+        }
+        _ => false,
+    };
+    match behind || !sent.iter().any(requests) {
+        true => Ok(()),
+        false => Err(format!("service requested in {sent:?}")),
+    }
 }
 
 /// The answer to the question for the holders: 9 and no rows, or no more rows than were lent.

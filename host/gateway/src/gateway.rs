@@ -6,7 +6,7 @@ use std::net::{SocketAddr, TcpListener, ToSocketAddrs};
 use std::sync::mpsc::{channel, Receiver, Sender};
 use std::time::{Duration, Instant, SystemTime};
 
-use hislip::{Frames, Mode, Server, CONNECTIONS};
+use hislip::{Frames, Mode, Server, Watch, CONNECTIONS};
 use query::names;
 
 use crate::arrive::Newcomer;
@@ -36,6 +36,10 @@ pub struct Settings {
     pub initialize_within: Duration,
     /// Time for the instrument to do one request.
     pub instrument_within: Duration,
+    /// The watch over every session's readings.
+    pub watch: Watch,
+    /// Patterns of the commands that are allowed; without a list, all are.
+    pub allow: Option<Vec<Vec<u8>>>,
 }
 
 impl Default for Settings {
@@ -46,6 +50,8 @@ impl Default for Settings {
             prefers: Mode::Synchronized,
             initialize_within: Duration::from_secs(10),
             instrument_within: Duration::from_secs(10),
+            watch: Watch::Off,
+            allow: None,
         }
     }
 }
@@ -78,6 +84,7 @@ pub struct Gateway {
     /// The instrument's status byte as the server knows it.
     pub(crate) status: u8,
     pub(crate) initialize_within: Duration,
+    pub(crate) watch: Watch,
     listening: Listening,
     address: SocketAddr,
     log: Log,
@@ -99,6 +106,16 @@ fn bind(listen: &str) -> std::io::Result<TcpListener> {
     TcpListener::bind(&addresses[..])
 }
 
+/// A fresh server with the allowed commands of the settings.
+fn server(settings: &Settings) -> std::io::Result<Server> {
+    let mut server = Server::new(settings.vendor, settings.prefers);
+    if let Some(patterns) = &settings.allow {
+        let set = server.patterns(patterns);
+        set.map_err(|bad| std::io::Error::new(std::io::ErrorKind::InvalidInput, bad))?;
+    }
+    Ok(server)
+}
+
 impl Gateway {
     /// Listens; programs are served when it runs.
     pub fn new(
@@ -112,7 +129,7 @@ impl Gateway {
         let (name, trigger_answers) = (instrument.name(), instrument.trigger_answers());
         log.say(|| format!("gateway listens on {address} for {name}"));
         Ok(Gateway {
-            server: Server::new(settings.vendor, settings.prefers),
+            server: server(settings)?,
             start: Instant::now(),
             started: SystemTime::now(),
             queue,
@@ -127,6 +144,7 @@ impl Gateway {
             next_ticket: 0,
             status: 0,
             initialize_within: settings.initialize_within,
+            watch: settings.watch,
             listening: Listening::start(listener, events.clone())?,
             address,
             log,

@@ -4,6 +4,7 @@
 
 #![deny(missing_docs)]
 
+pub mod allow;
 mod answer;
 mod arrive;
 mod connection;
@@ -22,6 +23,7 @@ mod refuse;
 mod session;
 pub mod signals;
 mod utc;
+pub mod watch;
 mod writer;
 
 pub use gateway::{Gateway, Settings, Stopper};

@@ -3,11 +3,12 @@
 use crate::frame::Frames;
 use crate::numbers::{Connection, SessionId};
 use crate::outcome::{Answered, Delivery};
+use crate::readings::Watch;
 use crate::refusal::Refusal;
 use crate::server::Server;
 
 /// What the host tells the server.
-#[derive(Clone, Copy, Debug, PartialEq, Eq)]
+#[derive(Clone, Copy, Debug, PartialEq)]
 pub enum Event<'a> {
     /// A connection opens.
     Open {
@@ -47,13 +48,25 @@ pub enum Event<'a> {
         /// The new one.
         status: u8,
     },
+    /// The watch over a session's readings is set.
+    Watch {
+        /// Its number.
+        session: SessionId,
+        /// The new one.
+        watch: Watch,
+    },
+    /// The list of allowed commands is set.
+    Patterns {
+        /// The new one.
+        list: &'a [&'a [u8]],
+    },
 }
 
 /// The answer to an [`Event`] that was not refused.
 #[derive(Clone, Debug)]
 #[must_use = "what is in it is to be sent"]
 pub enum Answer<'a> {
-    /// An opening or a status change: nothing to send.
+    /// An opening, a status change, a watch or a list of patterns: nothing to send.
     Done,
     /// A cut or a clock reading.
     Frames(Frames<'a>),
@@ -64,7 +77,8 @@ pub enum Answer<'a> {
 }
 
 impl Server {
-    /// Any event. A refusal is that of the event's own method.
+    /// Any event. A refusal is that of the event's own method; where a pattern is bad, only
+    /// [`Server::patterns`] tells.
     ///
     /// # Panics
     ///
@@ -89,6 +103,11 @@ impl Server {
             Event::Status { status } => {
                 self.status(status);
                 Ok(Answer::Done)
+            }
+            Event::Watch { session, watch } => self.watch(session, watch).map(|()| Answer::Done),
+            Event::Patterns { list } => {
+                let set = self.patterns(list).map_err(Refusal::from);
+                set.map(|()| Answer::Done)
             }
         }
     }

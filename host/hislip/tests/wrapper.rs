@@ -1,10 +1,10 @@
 //! The safe wrapper: typed answers, and nothing that is passed can do harm.
 
 use hislip::{
-    sys, Answer, Answered, Connection, Deadline, Event, Frame, Frames, Holder, MessageType, Mode,
-    Outcome, Refusal, Server, OUTPUT,
+    sys, Answer, Answered, BadList, Connection, Deadline, Event, Frame, Frames, Holder,
+    MessageType, Mode, Outcome, Readings, Refusal, Server, Watch, OUTPUT,
 };
-use reference::compose::message;
+use reference::compose::{block, message};
 
 /// A server with session 1 on connections 0 and 1.
 fn with_session() -> Server {
@@ -186,6 +186,195 @@ fn a_list_that_is_too_short_is_refused() {
     assert_eq!(Refusal::ListTooShort.number(), 9);
 }
 
+/// Types and codes of an answer's frames.
+fn sends(server: &mut Server, readings: &[f32]) -> Vec<(u8, u8)> {
+    let answered = server.answer(1, &block(readings), false, b"");
+    let frames = answered.expect("asked").frames();
+    frames.map(|frame| (frame.kind, frame.code)).collect()
+}
+
+#[test]
+fn a_reading_beyond_the_watch_requests_service() {
+    const SENT: (u8, u8) = (6, 0);
+    const REQUESTED: (u8, u8) = (20, 0x51);
+    let mut server = with_session();
+    server.status(0x41);
+    let asks = server.deliver(0, &message(12, 0, 0xffff_ff00, b""));
+    assert_eq!(asks.expect("open").taken, 16);
+    assert_eq!(sends(&mut server, &[f32::NAN, 9.0]), [SENT], "off at first");
+    let above = Watch::Above { limit: 1.0 };
+    server.watch(1, above).expect("a number");
+    assert_eq!(sends(&mut server, &[1.0, 0.5]), [SENT]);
+    assert_eq!(sends(&mut server, &[0.5, 1.5]), [SENT, REQUESTED]);
+    assert_eq!(sends(&mut server, &[2.0]), [SENT], "the first trip alone");
+    server.watch(1, above).expect("a number");
+    assert_eq!(sends(&mut server, &[2.0]), [SENT, REQUESTED], "set again");
+    let (low, high) = (-1.0, f32::INFINITY);
+    server.watch(1, Watch::Outside { low, high }).expect("good");
+    assert_eq!(sends(&mut server, &[f32::INFINITY, -1.0]), [SENT]);
+    assert_eq!(sends(&mut server, &[f32::NAN]), [SENT, REQUESTED]);
+    server.watch(1, Watch::Off).expect("live");
+    assert_eq!(sends(&mut server, &[-2.0]), [SENT]);
+}
+
+#[test]
+fn watches_are_refused_with_their_cause() {
+    let mut server = with_session();
+    let bad = [
+        Watch::Above { limit: f32::NAN },
+        Watch::Outside {
+            low: 1.0,
+            high: 0.5,
+        },
+        Watch::Outside {
+            low: f32::NAN,
+            high: 0.5,
+        },
+        Watch::Outside {
+            low: 0.5,
+            high: f32::NAN,
+        },
+    ];
+    for watch in bad {
+        assert_eq!(server.watch(1, watch), Err(Refusal::BadLimits));
+        assert_eq!(server.watch(2, watch), Err(Refusal::NoSession));
+    }
+    assert_eq!(
+        Refusal::BadLimits.to_string(),
+        "refusal 10: a limit is not a number, or low is above high"
+    );
+    let (low, high) = (0.0, -0.0);
+    let zeros = Watch::Outside { low, high };
+    assert_eq!(server.watch(1, zeros), Ok(()), "the two zeros are equal");
+}
+
+#[test]
+fn the_record_of_readings_is_told() {
+    let mut server = with_session();
+    assert_eq!(server.readings(1), Ok(None));
+    assert_eq!(server.readings(2), Err(Refusal::NoSession));
+    let asks = server.deliver(0, &message(12, 0, 0xffff_ff00, b""));
+    assert_eq!(asks.expect("open").taken, 16);
+    assert_eq!(sends(&mut server, &[f32::NAN]).len(), 1);
+    assert_eq!(server.readings(1), Ok(None), "no number yet");
+    assert_eq!(sends(&mut server, &[0.0, 2.0, -0.0, f32::NAN]).len(), 1);
+    let told = server.readings(1).expect("live").expect("three numbers");
+    let [last, lowest, highest] = [-0.0_f32, 0.0, 2.0];
+    assert_eq!(
+        told,
+        Readings {
+            last,
+            lowest,
+            highest
+        }
+    );
+    let signs = [told.last, told.lowest].map(f32::is_sign_negative);
+    assert_eq!(signs, [true, false], "of equal extremes the first");
+    let no_block = server.answer(1, b"#14\x7f", true, b"").expect("asked");
+    assert_eq!(no_block.frames().count(), 1);
+    assert_eq!(server.readings(1), Ok(Some(told)));
+    assert_eq!(server.cut(1).expect("open").count(), 0);
+    assert_eq!(server.readings(1), Err(Refusal::NoSession));
+}
+
+/// What becomes of a DataEND with this payload: its type, or the code of the Error.
+fn commanded(server: &mut Server, number: u32, payload: &[u8]) -> Result<(), u8> {
+    let delivered = server.deliver(0, &message(7, 0, number, payload));
+    let mut delivered = delivered.expect("open");
+    match delivered.outcome {
+        Outcome::ActedOn { .. } => Ok(()),
+        _ => Err(delivered.frames.next().expect("an Error").code),
+    }
+}
+
+#[test]
+fn only_allowed_commands_act() {
+    let mut server = with_session();
+    let mut numbers = (0xffff_ff00_u32..).step_by(2);
+    let mut tried = |server: &mut Server, payload: &[u8]| {
+        commanded(server, numbers.next().expect("enough"), payload)
+    };
+    assert_eq!(tried(&mut server, b"anything"), Ok(()), "no list yet");
+    let list = ["*IDN?", "MEASure[:VOLTage[:DC]]?", "SYSTem:ERRor[:NEXT]?"];
+    server.patterns(&list).expect("patterns");
+    for good in [
+        "*idn?",
+        "MEAS? 10,1",
+        "measure:volt:dc?",
+        "SYST:ERR:NEXT?\n",
+    ] {
+        assert_eq!(tried(&mut server, good.as_bytes()), Ok(()), "{good}");
+    }
+    for bad in [
+        "",
+        "*IDN",
+        "MEASU?",
+        "MEAS:DC?",
+        ":MEAS?",
+        "SYST:ERR",
+        "MEAS?;*RST",
+    ] {
+        let told = tried(&mut server, bad.as_bytes());
+        assert_eq!(told, Err(hislip::NOT_ALLOWED), "{bad}");
+    }
+    server.patterns::<&str>(&[]).expect("an empty list");
+    assert_eq!(tried(&mut server, b"*IDN?"), Err(128), "allows nothing");
+}
+
+#[test]
+fn bad_lists_are_told_with_a_caret() {
+    let mut server = with_session();
+    server.patterns(&["*RST"]).expect("a pattern");
+    let mut told = |list: &[&str]| server.patterns(list).unwrap_err();
+    let lines = |bad: &BadList| {
+        bad.to_string()
+            .lines()
+            .map(String::from)
+            .collect::<Vec<_>>()
+    };
+    let first = told(&["*IDN?", "A[:B?]"]);
+    assert_eq!(
+        lines(&first),
+        [
+            "refusal 11: command pattern 1 goes wrong at byte 4",
+            "A[:B?]",
+            "    ^"
+        ]
+    );
+    let short = told(&["", "*"]);
+    assert_eq!(
+        lines(&short)[..2],
+        ["refusal 11: command pattern 0 stops short", ""]
+    );
+    let long = "A".repeat(129);
+    let too_long = told(&[&long]);
+    assert_eq!(
+        lines(&too_long)[0],
+        "refusal 11: command pattern 0 is longer than 128 bytes"
+    );
+    assert_eq!(lines(&too_long)[2].len(), 129);
+    let two_in_one = told(&["*IDN?\n*RST", "bad"]);
+    let place = BadList::Pattern {
+        number: 0,
+        place: 5,
+        pattern: b"*IDN?\n*RST".to_vec(),
+    };
+    assert_eq!(two_in_one, place);
+    let many = told(&["bad"; 33]);
+    assert_eq!(
+        (many.clone(), many.refusal()),
+        (BadList::TooMany, Refusal::TooManyPatterns)
+    );
+    assert_eq!(many.to_string(), "refusal 12: above 32 command patterns");
+    let event = Event::Patterns { list: &[b"x"] };
+    assert_eq!(server.apply(event).unwrap_err(), Refusal::BadPattern);
+    assert_eq!(
+        commanded(&mut server, 0xffff_ff00, b"*rst"),
+        Ok(()),
+        "the first list"
+    );
+}
+
 #[test]
 fn the_clients_size_is_told() {
     let mut server = with_session();
@@ -264,6 +453,8 @@ fn events_as_values() {
     let connection = Connection::new(5);
     assert_eq!(frames_of(Event::Open { connection }), 0);
     assert_eq!(frames_of(Event::Status { status: 3 }), 0);
+    let (session, watch) = (1.into(), Watch::Off);
+    assert_eq!(frames_of(Event::Watch { session, watch }), 0);
     let deliver = Event::Deliver {
         connection: Connection::new(1),
         bytes,

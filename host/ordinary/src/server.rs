@@ -2,10 +2,12 @@
 
 use reference::limits::{CLOCK, CONNECTIONS, GRANTS, OUTPUT, PAYLOAD, SESSIONS};
 use reference::wire::{kind, HEADER};
-use reference::{Mode, Refusal, Reply};
+use reference::{Mode, Refusal, Reply, Watch};
 
+use crate::commands::Allowed;
 use crate::frames::Frames;
 use crate::locks::{Locks, Released};
+use crate::readings::Record;
 use crate::replies::{done, refused, withheld};
 
 #[derive(Clone, Copy, PartialEq, Eq, Hash)]
@@ -68,6 +70,11 @@ pub struct Session {
     /// The reading of the clock at its last grant, and the locks granted to it since it opened.
     pub granted_at: u64,
     pub grants: u64,
+    pub watch: Watch,
+    /// A reading has tripped the watch since it was set.
+    pub tripped: bool,
+    /// None while no numeric reading was sent.
+    pub record: Option<Record>,
 }
 
 /// Where every count of messages starts.
@@ -90,6 +97,9 @@ const NOBODY: Session = Session {
     client_size: PAYLOAD as u64,
     granted_at: 0,
     grants: 0,
+    watch: Watch::Off,
+    tripped: false,
+    record: None,
 };
 
 impl Session {
@@ -171,6 +181,8 @@ pub struct Server {
     pub(crate) connections: [Connection; CONNECTIONS],
     pub(crate) sessions: [Session; SESSIONS],
     pub(crate) locks: Locks,
+    /// None while the host has set no list: then all is allowed.
+    pub(crate) allowed: Option<Allowed>,
 }
 
 impl Server {
@@ -185,6 +197,7 @@ impl Server {
             connections: [NOT_OPEN; CONNECTIONS],
             sessions: [NOBODY; SESSIONS],
             locks: Locks::new(),
+            allowed: None,
         }
     }
 
@@ -266,6 +279,7 @@ impl Server {
         live.answered(number, end != 0);
         let kind = if end == 0 { kind::DATA } else { kind::DATA_END };
         frames.send_with(live.synchronous, kind, 0, number, payload);
+        live.read(payload, self.status, &mut frames);
         done(frames.used())
     }
 

@@ -88,7 +88,11 @@ impl LockModel {
                 }
                 _ => {}
             },
-            Event::Open { .. } | Event::Answer { .. } | Event::Status { .. } => {}
+            Event::Open { .. }
+            | Event::Answer { .. }
+            | Event::Status { .. }
+            | Event::Watch { .. }
+            | Event::Patterns { .. } => {}
         }
         self.look(answers);
     }

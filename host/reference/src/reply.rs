@@ -12,6 +12,11 @@ pub enum Refusal {
     ShortBuffer = 7,
     NoSession = 8,
     ListTooShort = 9,
+    /// A watch's limit is not a number, or low is above high.
+    BadLimits = 10,
+    ///
+    BadPattern = 11,
+    TooManyPatterns = 12,
 }
 
 /// What became of a delivery.
@@ -31,6 +36,24 @@ pub enum Outcome {
 pub struct Answered {
     pub withheld: bool,
     pub output: usize,
+}
+
+impl Answered {
+    pub const fn sent(output: usize) -> Answered {
+        Answered {
+            withheld: false,
+            output,
+        }
+    }
+}
+
+/// Why a list of patterns was refused. A bad pattern is told by its number and the place in it, both from 0;
+/// otherwise they are 0.
+#[derive(Clone, Copy, Debug, PartialEq, Eq)]
+pub struct RefusedList {
+    pub refusal: Refusal,
+    pub pattern: usize,
+    pub place: usize,
 }
 
 /// An accepted delivery: `session` is 0 unless it closed one or was acted on, `missing` 0 unless more is

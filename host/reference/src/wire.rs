@@ -25,6 +25,7 @@ pub mod kind {
     pub const ASYNC_INITIALIZE: u8 = 17;
     pub const ASYNC_INITIALIZE_RESPONSE: u8 = 18;
     pub const DEVICE_CLEAR: u8 = 19;
+    pub const SERVICE_REQUEST: u8 = 20;
     pub const STATUS_QUERY: u8 = 21;
     pub const STATUS_RESPONSE: u8 = 22;
     pub const DEVICE_CLEAR_ACKNOWLEDGE: u8 = 23;
@@ -47,6 +48,8 @@ pub mod error {
     pub const CONTROL_CODE: u8 = 2;
     pub const VENDOR_MESSAGE: u8 = 3;
     pub const TOO_LARGE: u8 = 4;
+    /// The first that is the device's own: the command is not allowed.
+    pub const NOT_ALLOWED: u8 = 128;
 }
 
 #[derive(Clone, Copy, Debug, PartialEq, Eq)]

@@ -153,8 +153,18 @@ fn the_servers_events_are_recorded_as_far_as_they_count() {
     let beside = answer_beside(1, b"+1", 255, vec![9; 40]);
     let again = replayable(recorded(&beside));
     assert_eq!(again, Some(answer_beside(1, b"+1", 1, vec![9; 16])));
-    assert_eq!(replayable(above(1.0)), None, "for Q-11 to fill in");
-    assert_eq!(replayable(patterns(&[])), None, "for Q-12 to fill in");
+    for limits in [above(1.0), outside(f32::NAN, -0.0)] {
+        let event = replayable(limits.clone()).expect("an event");
+        assert_eq!(recorded(&event), limits);
+    }
+    for list in [&[][..], &["*IDN?", "MEASure?"], &[""], &["A", ""]] {
+        let event = replayable(patterns(list)).expect("an event");
+        assert_eq!(recorded(&event), patterns(list));
+    }
+    assert_eq!(replayable(patterns(&["A\nB"])), None, "not two patterns");
+    let text = b"*IDN?\nMEASure?".to_vec();
+    let unended = recorded(&Event::Patterns { text });
+    assert_eq!(unended, patterns(&["*IDN?", "MEASure?"]));
 }
 
 #[test]

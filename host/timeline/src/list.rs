@@ -11,6 +11,11 @@
 //! answer 1 - more                                   -> refused 5
 //! cut 0                                             -> done
 //! status 41                                         -> done
+//! watch 1 off                                       -> done
+//! watch 1 above 3f800000                            -> done
+//! watch 1 outside 3f800000 40000000                 -> refused 8
+//! patterns 2a49444e3f0a4d454153757265               -> done
+//! patterns 2a49444e3f0a4d654153                     -> refused 11, pattern 1, place 2
 //! ```
 //!
 //! Connections, sessions, milliseconds, counts and refusals are decimal; bytes and the status byte
@@ -20,7 +25,7 @@
 //! buffer is not told.
 
 use reference::compose::ROOM;
-use reference::{Event, Reply};
+use reference::{Event, Refusal, Reply, Single, Watch};
 
 use crate::words::{bytes, hex, number, Reader};
 
@@ -39,6 +44,12 @@ pub struct Entry {
 const MORE: &str = "more";
 /// With END.
 const END: &str = "end";
+/// The refusal that names a pattern and a place in it.
+const BAD_PATTERN: u64 = Refusal::BadPattern as u64;
+/// The cases of a watch.
+const OFF: &str = "off";
+const ABOVE: &str = "above";
+const OUTSIDE: &str = "outside";
 /// The answer was not sent.
 const WITHHELD: &str = "withheld";
 
@@ -65,10 +76,25 @@ fn event_text(event: &Event) -> String {
             }
         }
         Event::Status { status } => format!("status {status:02x}"),
+        Event::Watch { session, watch } => format!("watch {session} {}", limits(*watch)),
+        Event::Patterns { text } => format!("patterns {}", hex(text)),
+    }
+}
+
+/// A watch with the bits of its limits.
+fn limits(watch: Watch) -> String {
+    match watch {
+        Watch::Off => OFF.into(),
+        Watch::Above { limit } => format!("{ABOVE} {:08x}", limit.bits()),
+        Watch::Outside { low, high } => format!("{OUTSIDE} {:08x} {:08x}", low.bits(), high.bits()),
     }
 }
 
 fn reply_text(event: &Event, reply: &Reply) -> String {
+    if reply.refusal == BAD_PATTERN {
+        let (pattern, place) = (reply.pattern, reply.place);
+        return format!("refused {BAD_PATTERN}, pattern {pattern}, place {place}");
+    }
     if reply.refusal != 0 {
         return format!("refused {}", reply.refusal);
     }
@@ -130,10 +156,47 @@ fn event(text: &str) -> Result<Event, String> {
         "status" => Event::Status {
             status: status(words.next("a status byte")?)?,
         },
-        other => return Err(format!("no event `{other}`")),
+        other => setting(other, &mut words)?,
     };
     words.end()?;
     Ok(event)
+}
+
+/// A watch or a list of patterns.
+fn setting(word: &str, words: &mut Reader) -> Result<Event, String> {
+    match word {
+        "watch" => Ok(Event::Watch {
+            session: number(words.next("a session")?)?,
+            watch: watch(words)?,
+        }),
+        "patterns" => Ok(Event::Patterns {
+            text: bytes(words.next("bytes")?)?,
+        }),
+        other => Err(format!("no event `{other}`")),
+    }
+}
+
+fn watch(words: &mut Reader) -> Result<Watch, String> {
+    match words.next("a watch")? {
+        OFF => Ok(Watch::Off),
+        ABOVE => Ok(Watch::Above {
+            limit: limit(words)?,
+        }),
+        OUTSIDE => Ok(Watch::Outside {
+            low: limit(words)?,
+            high: limit(words)?,
+        }),
+        other => Err(format!("no watch `{other}`")),
+    }
+}
+
+/// The bits of an IEEE 754 single.
+fn limit(words: &mut Reader) -> Result<Single, String> {
+    let word = words.next("a limit")?;
+    match <[u8; 4]>::try_from(&bytes(word)?[..]) {
+        Ok(four) => Ok(Single::of_bits(u32::from_be_bytes(four))),
+        Err(_) => Err(format!("`{word}` is not four bytes")),
+    }
 }
 
 fn end(word: &str) -> Result<u8, String> {
@@ -174,6 +237,8 @@ fn reply(text: &str) -> Result<Reply, String> {
             Some(("session", session)) => reply.session = number(session)?,
             Some(("taken", taken)) => reply.taken = number(taken)?,
             Some(("missing", missing)) => reply.missing = number(missing)?,
+            Some(("pattern", pattern)) => reply.pattern = number(pattern)?,
+            Some(("place", place)) => reply.place = number(place)?,
             _ => return Err(format!("`{part}` is no part of an answer")),
         }
     }
@@ -219,6 +284,13 @@ answer 1 312e30 end 4853 -> withheld | 0148
 answer 1 - more -> refused 5
 cut 31 -> done
 status 41 -> done
+watch 1 off -> done
+watch 1 above 7fc00001 -> refused 10
+watch 65536 outside bf800000 00000000 -> done
+patterns - -> done
+patterns 2a49444e3f0a -> done
+patterns 0a -> refused 11, pattern 0, place 0
+patterns 41 -> refused 12
 ";
 
     #[test]
@@ -253,6 +325,11 @@ status 41 -> done
         assert_eq!(
             told("answer 1 - yes -> done"),
             "line 1: `yes` is neither `end` nor `more`"
+        );
+        assert_eq!(told("watch 1 on -> done"), "line 1: no watch `on`");
+        assert_eq!(
+            told("watch 1 above 00 -> done"),
+            "line 1: `00` is not four bytes"
         );
     }
 }

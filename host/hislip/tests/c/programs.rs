@@ -24,13 +24,20 @@ fn the_c_example_runs() {
         text.contains("to connection 0: 16 bytes, type 1\n"),
         "{text}"
     );
-    assert_eq!(checks(&text), 27, "{text}");
+    assert_eq!(checks(&text), 41, "{text}");
 }
 
 #[test]
 fn every_bench_example_runs_in_c() {
     let text = printed("bench_examples");
     assert_eq!(checks(&text), 24, "{text}");
+}
+
+/// With the deepest and the widest patterns and commands.
+#[test]
+fn patterns_take_little_stack() {
+    let text = printed("stack");
+    assert_eq!(checks(&text), 16, "{text}");
 }
 
 /// The lines of the header's example, without the comment's star and indent.
