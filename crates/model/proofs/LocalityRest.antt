@@ -19,7 +19,7 @@ use Rattle.model.specs.Exchange
 use Rattle.model.specs.Exchange.{controlled}
 use Rattle.model.specs.Step.{channels, shutAll, closing}
 use Rattle.model.specs.Happening.{Heard, Action, Happening, Happening.unmoved, Happening.connected, Happening.disconnected, Happening.skipped-over, Happening.errored, Happening.message-acted, Happening.clock-read, Happening.status-set, Happening.answer-sent, Happening.answer-withheld}
-use Rattle.model.specs.LocalityRows.{kindOf, concerns, connectionsOf, Single, singly, status-row, made-row, issued-row, enable-row, lockout-row, remote-row}
+use Rattle.model.specs.LocalityRows.{kindOf, concerns, connectionsOf, Single, singly, status-row, made-row, allowed-row, issued-row, enable-row, lockout-row, remote-row}
 use Rattle.model.proofs.Basics.{or→, or-of, or-r}
 use Rattle.model.proofs.Place.{place-sound}
 use Rattle.model.proofs.LocalityLists.{set-at, touch, row-message, row-kept, exchangeRow}
@@ -50,7 +50,7 @@ as-it-was r (status-set b) x s = absurd s
 as-it-was r (answer-sent n p end) x s = refl
 as-it-was r (answer-withheld n m) x s = refl
 
-singles-still : (d : Server) (h : Happening) → Still h → Singles d h (d .rest .status) (d .rest .made) (d .rest .lastIssued) (d .rest .remoteLocal)
+singles-still : (d : Server) (h : Happening) → Still h → Singles d h (d .rest .status) (d .rest .made) (d .rest .lastIssued) (d .rest .remoteLocal) (d .rest .allowed)
 singles-still d h s =
     record {
       status = as-it-was status-row h (d .rest .status) s;
@@ -59,6 +59,7 @@ singles-still d h s =
       enable = as-it-was enable-row h (d .rest .remoteLocal .enable) s;
       lockout = as-it-was lockout-row h (d .rest .remoteLocal .lockout) s;
       remote = as-it-was remote-row h (d .rest .remoteLocal .remote) s;
+      allowed = as-it-was allowed-row h (d .rest .allowed) s;
     }
 
 -- calls that leave all of it
@@ -73,7 +74,7 @@ rest-unmoved d =
 pub rest-clock : (d : Server) (t : ℕ) → RestPart d (clock-read t) (d .rest)
 rest-clock d t =
     record {
-      singles = record { status = refl; made = refl; last-issued = refl; enable = refl; lockout = refl; remote = refl };
+      singles = record { status = refl; made = refl; last-issued = refl; enable = refl; lockout = refl; remote = refl; allowed = refl };
       exchanges = record { size = refl; each = λ i l. refl };
       connections = record { size = refl; each = λ x l. refl };
     }
@@ -81,7 +82,7 @@ rest-clock d t =
 pub rest-status : (d : Server) (b : ℕ) → RestPart d (status-set b) (withStatus (d .rest) b)
 rest-status d b =
     record {
-      singles = record { status = refl; made = refl; last-issued = refl; enable = refl; lockout = refl; remote = refl };
+      singles = record { status = refl; made = refl; last-issued = refl; enable = refl; lockout = refl; remote = refl; allowed = refl };
       exchanges = record { size = refl; each = λ i l. refl };
       connections = record { size = refl; each = λ x l. refl };
     }
@@ -267,8 +268,8 @@ module _ (d : Server) (c : ℕ) (real : c ≡ noConnection → ⊥) where
 
 -- a message that acted, of a session: of the single fields the flags alone, by type 10
 module _ (d : Server) (a : Action) (q0 : eqb (kindOf a) 0 ≡ false) where
-  no-singles : eqb (kindOf a) 10 ≡ false → Singles d (message-acted a) (d .rest .status) (d .rest .made) (d .rest .lastIssued) (d .rest .remoteLocal)
-  no-singles q = record { status = refl; made = refl; last-issued = rw q0; enable = rw q; lockout = rw q; remote = rw q }
+  no-singles : eqb (kindOf a) 10 ≡ false → Singles d (message-acted a) (d .rest .status) (d .rest .made) (d .rest .lastIssued) (d .rest .remoteLocal) (d .rest .allowed)
+  no-singles q = record { status = refl; made = refl; last-issued = rw q0; enable = rw q; lockout = rw q; remote = rw q; allowed = refl }
 
   -- one that changes its session's exchange
   pub rest-touched : eqb (kindOf a) 17 ≡ false → eqb (kindOf a) 10 ≡ false → (y : Exchange) → y ≡ (exchangeRow (d .rest .made .prefersOverlap)) .by-message a (exchangeAt (d .rest) (slotOf d (a .connection)))
@@ -324,6 +325,7 @@ rest-flags d a e l =
             enable = rw e (ap (λ (x : RemoteLocal). x .enable) f);
             lockout = rw e (ap (λ (x : RemoteLocal). x .lockout) f);
             remote = rw e (ap (λ (x : RemoteLocal). x .remote) f);
+            allowed = refl;
           };
       exchanges = row-kept freshExchange (exchangeRow (d .rest .made .prefersOverlap)) (d .locks .entries) (d .rest .exchanges) a (λ x. rw e);
       connections = record { size = refl; each = λ x l. refl };
@@ -333,7 +335,7 @@ rest-flags d a e l =
 pub rest-enter : (d : Server) (a : Action) → kindOf a ≡ 0 → RestPart d (message-acted a) (withSession (d .rest) (slotOfNumber (d .locks .entries) 0) (a .session))
 rest-enter d a e =
     record {
-      singles = record { status = refl; made = refl; last-issued = rw e; enable = rw e; lockout = rw e; remote = rw e };
+      singles = record { status = refl; made = refl; last-issued = rw e; enable = rw e; lockout = rw e; remote = rw e; allowed = refl };
       exchanges = row-message freshExchange (exchangeRow (d .rest .made .prefersOverlap)) (d .locks .entries) (d .rest .exchanges) a (slotOfNumber (d .locks .entries) 0) (openExchange (d .rest .made .prefersOverlap)) (rw e) (rw e);
       connections = record { size = refl; each = λ x l. refl };
     }

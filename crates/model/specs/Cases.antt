@@ -101,7 +101,7 @@ withLast n b =
     let d = final (fresh benchMaking) b in
     record {
       locks = d .locks;
-      rest = record { exchanges = d .rest .exchanges; connections = d .rest .connections; lastIssued = n; made = d .rest .made; status = d .rest .status; remoteLocal = d .rest .remoteLocal };
+      rest = record { exchanges = d .rest .exchanges; connections = d .rest .connections; lastIssued = n; made = d .rest .made; status = d .rest .status; remoteLocal = d .rest .remoteLocal; allowed = d .rest .allowed };
     }
 
 pub number-cases : List Case

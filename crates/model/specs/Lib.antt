@@ -2,6 +2,7 @@ pub mod Sizes
 pub mod MessageTypes
 pub mod Lists
 pub mod State
+pub mod Allowing
 pub mod Interface
 pub mod Scan
 pub mod Place

@@ -9,7 +9,7 @@ use Rattle.wire.specs.Field.{number}
 use Rattle.wire.specs.Class.{one-of}
 use Rattle.model.specs.Sizes.{noConnection}
 use Rattle.model.specs.Lists.{isNil, keep}
-use Rattle.model.specs.State.{Making, Granted, noGrants, Entry, Waiting, Kind.exclusive-lock, Kind.shared-lock, Standing, Standing.no-release, Standing.release-of, Asked, Asked.none, Asked.some, Exchange, at, live, slotOfNumber}
+use Rattle.model.specs.State.{Making, Allowed, Granted, noGrants, Entry, Waiting, Kind.exclusive-lock, Kind.shared-lock, Standing, Standing.no-release, Standing.release-of, Asked, Asked.none, Asked.some, Exchange, at, live, slotOfNumber}
 use Rattle.model.specs.Place.{slotIn}
 use Rattle.model.specs.Happening.{Heard, Heard.silence, Heard.with-code, Action, Happening, Happening.unmoved, Happening.connected, Happening.disconnected, Happening.skipped-over, Happening.errored, Happening.message-acted, Happening.clock-read, Happening.status-set, Happening.answer-sent, Happening.answer-withheld}
 
@@ -354,6 +354,10 @@ status-row = record { on-message = λ a x. x; on-clock = λ t x. x; on-status = 
 -- how the server was made: its vendor number and the mode that the host prefers
 abbrev pub made-row : Single Making
 made-row = record { on-message = λ a x. x; on-clock = λ t x. x; on-status = λ b x. x }
+
+-- 02, Q-12: the allowed commands
+abbrev pub allowed-row : Single Allowed
+allowed-row = record { on-message = λ a x. x; on-clock = λ t x. x; on-status = λ b x. x }
 
 -- the SessionID issued last: Initialize (0), the number in its reply
 abbrev pub issued-row : Single ℕ
