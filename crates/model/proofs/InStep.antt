@@ -156,7 +156,7 @@ module _ (d : Server) (c : ℕ) (bs : List ℕ) (room : ℕ) (o : one-of command
       told (roleOf (d .locks .entries) c) _ refl (x .verdict-is ∙ ap v-error zero) f
 
 -- storing what stands there
-set-same : {A : Type 0} (xs : List A) (i : ℕ) (z : A) → set xs i (getD xs i z) ≡ xs
+pub set-same : {A : Type 0} (xs : List A) (i : ℕ) (z : A) → set xs i (getD xs i z) ≡ xs
 set-same [] i z = refl
 set-same (x ∷ xs) zero z = refl
 set-same (x ∷ xs) (suc i) z = ap (λ ys. x ∷ ys) (set-same xs i z)
@@ -174,7 +174,7 @@ module _ (d : Server) (c : ℕ) (bs : List ℕ) (room : ℕ) where
   abbrev y₁ : Connection
   y₁ = connectionAt (d .rest) c
 
-  open-now : refusal d (delivery c bs room) ≡ 0 → y₁ .isOpen ≡ true
+  pub open-now : refusal d (delivery c bs room) ≡ 0 → y₁ .isOpen ≡ true
   unfolding refusal causes
   open-now z = not-off _ ((uncaused (causes d (delivery c bs room)) refl z) .1 .1 .0)
 

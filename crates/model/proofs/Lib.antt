@@ -24,6 +24,7 @@ pub mod Isolation
 pub mod Tying
 pub mod Tied
 pub mod Replies
+pub mod FirstRule
 pub mod Access
 pub mod SessionId
 pub mod Fewer
@@ -67,6 +68,7 @@ pub mod Missing
 pub mod NextQuestion
 pub mod Numbering
 pub mod InStep
+pub mod AllowedOnly
 pub mod WaitingOne
 pub mod AnsweredFrames
 pub mod AnsweredQuiet

@@ -57,6 +57,7 @@ pub mod Outcomes
 pub mod Missing
 pub mod NextQuestion
 pub mod InStep
+pub mod AllowedOnly
 pub mod AnsweredOnce
 pub mod Asking
 pub mod Holders
