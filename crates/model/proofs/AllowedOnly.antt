@@ -15,13 +15,14 @@ use Rattle.wire.specs.Frame.{Frame, frameOf}
 use Rattle.wire.specs.MessageId.{next}
 use Rattle.model.specs.MessageTypes.{FatalError, Error, DataEND, commands}
 use Rattle.model.specs.Lists.{all}
-use Rattle.model.specs.State.{Server, Entry, Exchange, Connection, at, slotOfNumber, exchangeAt, connectionAt, openConnection, closedConnection}
+use Rattle.model.specs.State.{Server, Entry, Exchange, Connection, at, slotOfNumber, exchangeAt, connectionAt, sensingAt, openConnection, closedConnection}
 use Rattle.model.specs.Allowing.{admits, admits-is}
-use Rattle.model.specs.Interface.{Event, Event.opening, Event.delivery, Event.cut, Event.clock, Event.answer, Event.status, Outcome.error-sent, Outcome.acted, Reply.took}
+use Rattle.model.specs.Interface.{Event, Event.opening, Event.delivery, Event.cut, Event.clock, Event.answer, Event.status, Event.setting, Outcome.error-sent, Outcome.acted, Reply.took}
 use Rattle.model.specs.Scan.{Scan, Scan.empty, Scan.few, Scan.wrong, Scan.skipping, Scan.long, Scan.part, Scan.whole, scan}
 use Rattle.model.specs.Place.{slotOf, entryOf, Role, Role.r-none, Role.r-halfOpen, Role.r-synchronous, Role.r-asynchronous, roleOf}
 use Rattle.model.specs.Locks.{Answer, access, change, frees, settle}
 use Rattle.model.specs.Exchange.{stepped, outOfTurn, answerNumber}
+use Rattle.model.specs.Sensing.{requested, tripsFirst, serviceAfter}
 use Rattle.model.specs.Checks
 use Rattle.model.specs.Checks.{Verdict, Verdict.v-more, Verdict.v-skipped, Verdict.v-held, Verdict.v-ignored, Verdict.v-closed, Verdict.v-acts, Verdict.v-error, Verdict.v-fatal, Rule, first, verdict, judged, either}
 use Rattle.model.specs.Acts
@@ -120,7 +121,7 @@ module _ (d : Server) (c : ℕ) (bs : List ℕ) (room : ℕ) where
   abbrev left : List Exchange → List Connection → Result
   left xs ks =
       record {
-        server = record { locks = d .locks; rest = record { exchanges = xs; connections = ks; lastIssued = d .rest .lastIssued; made = d .rest .made; status = d .rest .status; remoteLocal = d .rest .remoteLocal; allowed = d .rest .allowed } };
+        server = record { locks = d .locks; rest = record { exchanges = xs; sensings = d .rest .sensings; connections = ks; lastIssued = d .rest .lastIssued; made = d .rest .made; status = d .rest .status; remoteLocal = d .rest .remoteLocal; allowed = d .rest .allowed } };
         reply = took error-sent (16 + (header bs) .len) 0;
         frames = frameOf c Error 128 0 [] ∷ [];
       }
@@ -250,11 +251,16 @@ finish-silent d x s e =
     silent-128 _ (silent-append (x .first) _ (s .first) (silent-append (map lockFrame ((change (d .locks) (x .event)) .answers)) _ (silent-locks ((change (d .locks) (x .event)) .answers))
     (silent-append (x .said) _ (s .said) (silent-locks ((settle (frees (d .locks) (x .event)) ((change (d .locks) (x .event)) .locks)) .answers))))) e
 
-answer-silent : (w end : Bool) (e : Entry) (x k : ℕ) (p : List ℕ) → Silent (cond w (Acts.interruptions e x) (frameOf (e .synchronous) (answerType end) 0 k p ∷ []))
+service-silent : (t : Bool) (e : Entry) (b : ℕ) → Silent (requested t e b)
+unfolding Silent requested
+service-silent true e b = refl
+service-silent false e b = refl
+
+answer-silent : (w end : Bool) (e : Entry) (x k : ℕ) (p : List ℕ) (fs : List Frame) → Silent fs → Silent (cond w (Acts.interruptions e x) (frameOf (e .synchronous) (answerType end) 0 k p ∷ fs))
 unfolding Silent
-answer-silent true end e x k p = refl
-answer-silent false true e x k p = refl
-answer-silent false false e x k p = refl
+answer-silent true end e x k p fs q = refl
+answer-silent false true e x k p fs q = q
+answer-silent false false e x k p fs q = q
 
 module _ (d : Server) (c : ℕ) where
   error-not : (s : Scan) (r : Role) (x : ℕ) → eqb x 128 ≡ false → sends128 ((finish d (effect (v-error x) s r d (slotOf d c) c)) .frames) ≡ true → ⊥
@@ -354,5 +360,6 @@ only-128 d e = record { only = λ q. go (refusal d e) e q }
     go zero (clock t room) q = absurd (finish-silent d _ (record { first = refl; said = refl }) q)
     go zero (answer n p end sh room) q =
         let i = slotOfNumber (d .locks .entries) n in
-        absurd (finish-silent d _ (record { first = refl; said = answer-silent (withholds d n end sh) end (at (d .locks .entries) i) ((header sh) .param) (answerNumber (exchangeAt (d .rest) i)) p }) q)
+        absurd (finish-silent d _ (record { first = refl; said = answer-silent (withholds d n end sh) end (at (d .locks .entries) i) ((header sh) .param) (answerNumber (exchangeAt (d .rest) i)) p (serviceAfter d n p) (service-silent (tripsFirst p (sensingAt (d .rest) i)) (at (d .locks .entries) i) (d .rest .status)) }) q)
     go zero (status b) q = absurd (finish-silent d _ (record { first = refl; said = refl }) q)
+    go zero (setting s) q = absurd (finish-silent d _ (record { first = refl; said = refl }) q)

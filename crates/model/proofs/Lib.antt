@@ -69,6 +69,7 @@ pub mod NextQuestion
 pub mod Numbering
 pub mod InStep
 pub mod AllowedOnly
+pub mod Listing
 pub mod WaitingOne
 pub mod AnsweredFrames
 pub mod AnsweredQuiet

@@ -11,7 +11,7 @@ use Rattle.wire.specs.Frame.{Frame, frameOf}
 use Rattle.model.specs.Sizes.{noConnection}
 use Rattle.model.specs.Lists.{all, any, keep}
 use Rattle.model.specs.State.{Server, Entry, Waiting, Connection, at, live, slotOfNumber, exchangeAt, connectionAt, closedConnection, fresh, Making}
-use Rattle.model.specs.Interface.{Event, Event.opening, Event.delivery, Event.cut, Event.clock, Event.answer, Event.status, Outcome.more-needed, Outcome.skipped, Outcome.held, Outcome.ignored, Outcome.error-sent, Outcome.closed, Outcome.acted, Reply, Reply.refused, Reply.done, Reply.withheld, Reply.took}
+use Rattle.model.specs.Interface.{Event, Event.opening, Event.delivery, Event.cut, Event.clock, Event.answer, Event.status, Event.setting, Outcome.more-needed, Outcome.skipped, Outcome.held, Outcome.ignored, Outcome.error-sent, Outcome.closed, Outcome.acted, Reply, Reply.refused, Reply.done, Reply.withheld, Reply.took}
 use Rattle.model.specs.Scan.{Scan, Scan.empty, Scan.few, Scan.wrong, Scan.skipping, Scan.long, Scan.part, Scan.whole}
 use Rattle.model.specs.Place.{Role}
 use Rattle.model.specs.Locks.{change}
@@ -27,11 +27,12 @@ use Rattle.model.specs.LockModel.{Session, own, secondConnection}
 use Rattle.model.specs.Agreement.{asSession}
 use Rattle.model.specs.Deciding.{modelAfter}
 use Rattle.model.specs.Tie.{Track, said}
-use Rattle.model.specs.Happening.{Heard, Heard.silence, Heard.with-code, Action, Happening, Happening.unmoved, Happening.connected, Happening.disconnected, Happening.skipped-over, Happening.errored, Happening.message-acted, Happening.clock-read, Happening.status-set, Happening.answer-sent, Happening.answer-withheld, seenDelivery, happened}
+use Rattle.model.specs.Happening.{Heard, Heard.silence, Heard.with-code, Action, Happening, Happening.unmoved, Happening.connected, Happening.disconnected, Happening.skipped-over, Happening.errored, Happening.message-acted, Happening.clock-read, Happening.status-set, Happening.setting-made, Happening.answer-sent, Happening.answer-withheld, seenDelivery, happened}
 use Rattle.model.specs.LocalityRows.{kindOf, slotActed, endedWith, interruptedBy, requestsOf, reachedBy}
 use Rattle.model.specs.LocalityReplies.{plainTo, ReplyTo, replyIn, replies, saidTo, fatalTo, pairTo, saidFirst, direct, answeredFirst, answerTo}
 use Rattle.model.specs.Locality.{atCall}
 use Rattle.model.specs.NextQuestion.{isAnswer, questionUnread, firstConnection, synchronousOf, asynchronousOf, owes, Answered, NextQuestion}
+use Rattle.model.specs.Sensing.{serviceAfter}
 use Rattle.model.proofs.Basics.{and-l, and-r, both, not-of, not-off, not-not, all-set}
 use Rattle.model.proofs.Fits.{uncaused, inv-run}
 use Rattle.model.proofs.Numbers.{live-found}
@@ -87,6 +88,7 @@ plan-shut d (cut c room) a = shut-all (d .rest .connections) (channels d c) a
 plan-shut d (clock t room) a = a
 plan-shut d (answer n p end sh room) a = a
 plan-shut d (status b) a = a
+plan-shut d (setting s) a = a
 
 step-shut : (d : Server) (e : Event) → all shut (d .rest .connections) ≡ true → all shut ((step d e) .server .rest .connections) ≡ true
 unfolding step answered finish
@@ -181,6 +183,7 @@ Mute (errored c h k) = Unit {0}
 Mute (message-acted a) = Unit {0}
 Mute (clock-read t) = Unit {0}
 Mute (status-set b) = Unit {0}
+Mute (setting-made s) = Unit {0}
 Mute (answer-sent n p end) = ⊥
 Mute (answer-withheld n m) = Unit {0}
 
@@ -198,6 +201,7 @@ module _ (d : Server) where
       go false = refl
   none-first (clock-read t) = refl
   none-first (status-set b) = refl
+  none-first (setting-made s) = refl
   none-first (answer-sent n p end) = refl
   none-first (answer-withheld n m) = refl
 
@@ -227,6 +231,7 @@ module _ (d : Server) where
       go false y = none-append (cond y zeros []) (saidTo (endedWith a (e .standing)) 5 (e .asynchronous ∷ [])) (cleared y) (none-said (endedWith a (e .standing)) 5 (e .asynchronous ∷ []) refl)
   none-answered (clock-read t) = none-to 0 (d .locks .entries) (keep (reachedBy t) (d .locks .waiting))
   none-answered (status-set b) = refl
+  none-answered (setting-made s) = refl
   none-answered (answer-sent n p end) = refl
   none-answered (answer-withheld n m) = refl
 
@@ -239,6 +244,7 @@ module _ (d : Server) where
   none-direct (message-acted a) q = none-in (replies d a) (kindOf a) refl
   none-direct (clock-read t) q = refl
   none-direct (status-set b) q = refl
+  none-direct (setting-made s) q = refl
   none-direct (answer-sent n p end) q = absurd q
   none-direct (answer-withheld n m) q = refl
 
@@ -257,7 +263,7 @@ module _ (d : Server) where
   unfolding step answered plan finish change
   sends n x end sh room a = go (refusal d (answer n x end sh room)) a
     where
-      by : (w : Bool) → any isAnswer (cond w (Acts.interruptions (sessionOf d n) ((header sh) .param)) (frameOf ((sessionOf d n) .synchronous) (answerType end) 0 (answerNumber (exchangeAt (d .rest) (slotOfNumber (d .locks .entries) n))) x ∷ []) ++ []) ≡ true
+      by : (w : Bool) → any isAnswer (cond w (Acts.interruptions (sessionOf d n) ((header sh) .param)) (frameOf ((sessionOf d n) .synchronous) (answerType end) 0 (answerNumber (exchangeAt (d .rest) (slotOfNumber (d .locks .entries) n))) x ∷ serviceAfter d n x) ++ []) ≡ true
           → (cond w withheld done ≡ done) × (w ≡ false)
       by true a = absurd (false≢true a)
       by false a = (refl, refl)
@@ -283,6 +289,7 @@ NoAnswer (cut c room) = Unit {0}
 NoAnswer (clock t room) = Unit {0}
 NoAnswer (answer n p end sh room) = ⊥
 NoAnswer (status b) = Unit {0}
+NoAnswer (setting s) = Unit {0}
 
 other : (e : Event) (r : Reply) (fs : List Frame) → NoAnswer e → Mute (happened e r fs)
 other (answer n p end sh room) r fs q = absurd q
@@ -303,9 +310,13 @@ other (clock t room) done fs q = tt
 other (clock t room) withheld fs q = tt
 other (clock t room) (took o k n) fs q = tt
 other (status b) (refused n) fs q = tt
+other (setting s) (refused n) fs q = tt
 other (status b) done fs q = tt
+other (setting s) done fs q = tt
 other (status b) withheld fs q = tt
+other (setting s) withheld fs q = tt
 other (status b) (took o k n) fs q = tt
+other (setting s) (took o k n) fs q = tt
 
 module _ (v : Making) (es : List Event) where
   abbrev d : Server
@@ -332,6 +343,7 @@ module _ (v : Making) (es : List Event) where
   answers-in (cut c room) a = not-answer (cut c room) tt a
   answers-in (clock t room) a = not-answer (clock t room) tt a
   answers-in (status b) a = not-answer (status b) tt a
+  answers-in (setting s) a = not-answer (setting s) tt a
   answers-in (answer n x end sh room) a =
       let s = sends d n x end sh room a in
       record {
@@ -352,7 +364,7 @@ module _ (v : Making) (es : List Event) where
   withheld-so n x sh room q w = (
     ap (λ k. (answered k d (answer n x true sh room)) .reply) q ∙ ap (λ b. cond b withheld done) w,
     ap (λ k. (answered k d (answer n x true sh room)) .frames) q
-        ∙ ap (λ b. cond b (Acts.interruptions (sessionOf d n) ((header sh) .param)) (frameOf ((sessionOf d n) .synchronous) (answerType true) 0 (answerNumber (exchangeAt (d .rest) (slotOfNumber (d .locks .entries) n))) x ∷ []) ++ []) w,
+        ∙ ap (λ b. cond b (Acts.interruptions (sessionOf d n) ((header sh) .param)) (frameOf ((sessionOf d n) .synchronous) (answerType true) 0 (answerNumber (exchangeAt (d .rest) (slotOfNumber (d .locks .entries) n))) x ∷ serviceAfter d n x) ++ []) w,
   )
 
   pub next-question : NextQuestion v es

@@ -9,13 +9,15 @@ use Rattle.wire.specs.Message.{header, payloadOf}
 use Rattle.wire.specs.Frame.{Frame, frameOf}
 use Rattle.model.specs.MessageTypes.{Error, DataEND}
 use Rattle.model.specs.Lists.{any}
-use Rattle.model.specs.State.{Server, exchangeAt, withExchange}
+use Rattle.commands.specs.Lists.{linesOf, Listed}
+use Rattle.model.specs.State.{Server, Making, Allowed, Allowed.any-command, Allowed.only, fresh, exchangeAt, withExchange}
 use Rattle.model.specs.Allowing.{Admits}
-use Rattle.model.specs.Interface.{Event, Event.delivery, Outcome.error-sent, Outcome.acted, Reply.took}
+use Rattle.model.specs.Interface.{Event, Event.opening, Event.delivery, Event.cut, Event.clock, Event.answer, Event.status, Event.setting, Outcome.error-sent, Outcome.acted, Reply, Reply.refused, Reply.done, Reply.withheld, Reply.took}
 use Rattle.model.specs.Place.{slotOf, entryOf}
 use Rattle.model.specs.Exchange.{stepped}
 use Rattle.model.specs.Refusals.{refusal}
-use Rattle.model.specs.Step.{Result, step}
+use Rattle.model.specs.Step.{Result, Line, step, final, log}
+use Rattle.model.specs.LocalityRows.{listBy}
 use Rattle.model.specs.Access.{Command, accessOf}
 
 -- a whole DataEND that passes every check before the list's
@@ -67,3 +69,45 @@ pub record Refused128 (d : Server) (e : Event) : Type 0 where
 
 pub record Only128 (d : Server) (e : Event) : Type 0 where
   pub only : sends128 ((step d e) .frames) ≡ true → Refused128 d e
+
+-- ---- after any list of calls: the list that is set is read off what the host saw
+
+-- a call that was not refused and set a list
+abbrev pub setOn : Event → Allowed → Allowed
+setOn (setting s) a = listBy s a
+setOn (opening c) a = a
+setOn (delivery c bs room) a = a
+setOn (cut c room) a = a
+setOn (clock t room) a = a
+setOn (answer n p end sh room) a = a
+setOn (status b) a = a
+
+abbrev pub listAfter : Event → Reply → Allowed → Allowed
+listAfter e (refused n) a = a
+listAfter e done a = setOn e a
+listAfter e withheld a = a
+listAfter e (took o k n) a = a
+
+unfoldable pub listRead : List Line → Allowed → Allowed
+listRead [] a = a
+listRead (l ∷ ls) a = listRead ls (listAfter (l .event) (l .reply) a)
+
+abbrev pub listSet : Making → List Event → Allowed
+listSet v es = listRead (log (fresh v) es) any-command
+
+-- what is set is a list of up to 32 good patterns
+abbrev pub GoodList : Allowed → Type 0
+GoodList any-command = Unit {0}
+GoodList (only text) = Listed (linesOf text)
+
+pub record AllowedRun (v : Making) (es : List Event) : Type 0 where
+  pub reads : (final (fresh v) es) .rest .allowed ≡ listSet v es
+  pub good : GoodList (listSet v es)
+  -- "With a list set, a DataEND .. not acted on": of the last list that was not refused
+  pub acts : (c : ℕ) (bs : List ℕ) (room k n : ℕ) → (step (final (fresh v) es) (delivery c bs room)) .reply ≡ took acted k n → (header bs) .kind ≡ DataEND
+      → Admits (listSet v es) (payloadOf (header bs) bs)
+  -- "is answered Error 128"
+  pub refuses : (c : ℕ) (bs : List ℕ) (room : ℕ) → refusal (final (fresh v) es) (delivery c bs room) ≡ 0 → PassesBefore (final (fresh v) es) c bs
+      → (Admits (listSet v es) (payloadOf (header bs) bs) → ⊥) → step (final (fresh v) es) (delivery c bs room) ≡ answered-128 (final (fresh v) es) c bs
+  -- and no other call of the list, or after it, sends Error 128
+  pub only : (e : Event) → sends128 ((step (final (fresh v) es) e) .frames) ≡ true → Refused128 (final (fresh v) es) e

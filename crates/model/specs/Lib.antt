@@ -10,6 +10,7 @@ pub mod Locks
 pub mod Exchange
 pub mod Checks
 pub mod Acts
+pub mod Sensing
 pub mod Refusals
 pub mod Step
 pub mod Table
@@ -58,6 +59,7 @@ pub mod Missing
 pub mod NextQuestion
 pub mod InStep
 pub mod AllowedOnly
+pub mod Listing
 pub mod AnsweredOnce
 pub mod Asking
 pub mod Holders

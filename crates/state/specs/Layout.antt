@@ -50,9 +50,17 @@ CONNECTION = 3
 abbrev pub HOME : ℕ
 HOME = 2
 
+-- 02, Q-11: a row for each slot: its watch, whether it has tripped, whether a reading was seen, the last, the lowest, the highest
+abbrev pub SENSINGS : ℕ
+SENSINGS = CONNECTIONS + connectionLimit * CONNECTION
+
+-- words a row
+abbrev pub SENSING : ℕ
+SENSING = 6
+
 -- 02, Q-12: the length of the text of the allowed commands, plus 1; 0: no list is set
 abbrev pub LISTED : ℕ
-LISTED = CONNECTIONS + connectionLimit * CONNECTION
+LISTED = SENSINGS + sessionLimit * SENSING
 
 -- here the words of the locks begin
 abbrev pub LOCKS : ℕ

@@ -19,8 +19,13 @@ pub const CONNECTION: usize = 3;
 // the place of the home in the row
 pub const HOME: usize = 2;
 
+// a row for each slot: its watch, whether it has tripped, whether a reading was seen, the last, the lowest, the highest
+pub const SENSINGS: usize = CONNECTIONS + CONNECTION_LIMIT * CONNECTION;
+
+pub const SENSING: usize = 6;
+
 // the length of the text of the allowed commands, plus 1; 0: no list is set
-pub const LISTED: usize = CONNECTIONS + CONNECTION_LIMIT * CONNECTION;
+pub const LISTED: usize = SENSINGS + SESSION_LIMIT * SENSING;
 
 pub const CLOCK: usize = LISTED + 1;
 
