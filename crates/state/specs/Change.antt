@@ -103,6 +103,7 @@ onExchange d i g =
         made = d .rest .made;
         status = d .rest .status;
         remoteLocal = d .rest .remoteLocal;
+        allowed = d .rest .allowed;
       };
     }
 
@@ -349,6 +350,7 @@ module _ (w s : List ℕ) (i f v : ℕ) (long : length w ≡ WORDS) where
           made = record { vendor = off w a v VENDOR (omega arith) k % 65536; prefersOverlap = flag (off w a v PREFERENCE (omega arith) k) };
           status = off w a v STATUS (omega arith) k % 256;
           remoteLocal = record { enable = flag (off w a v ENABLE (omega arith) k); lockout = flag (off w a v LOCKOUT (omega arith) k); remote = flag (off w a v REMOTE (omega arith) k) };
+          allowed = allowed-off w s s a v (omega arith) refl k;
         };
       }
 

@@ -199,6 +199,7 @@ module _ (w s : List ℕ) (i f v : ℕ) (t : Tidy (memory w s)) where
         shared = λ e. absurd (omega arith);
         no-home = λ c x e. omega arith;
         no-key = λ e. omega arith;
+        no-list = λ e. omega arith;
         no-count = λ e. omega arith;
         no-row = inl (omega arith);
         before = omega arith;
