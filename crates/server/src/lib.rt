@@ -19,6 +19,7 @@ ghost use Rattle.state.specs.Layout.{STRINGS, WORDS};
 mod asking;
 mod deliver;
 mod holders;
+mod listing;
 
 use effects::Delivery;
 use effects::answer;
