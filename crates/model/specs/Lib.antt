@@ -17,6 +17,7 @@ pub mod Table
 pub mod Bench
 pub mod Figures
 pub mod Corners
+pub mod WatchCorners
 pub mod Canonical
 pub mod Post
 pub mod LockModel
@@ -64,3 +65,4 @@ pub mod AnsweredOnce
 pub mod Asking
 pub mod Holders
 pub mod GrantsSeen
+pub mod Watching

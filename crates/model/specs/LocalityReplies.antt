@@ -84,8 +84,11 @@ abbrev pub pairTo : Entry → ℕ → List Frame
 pairTo e n = plainTo (e .asynchronous) 14 0 n ∷ plainTo (e .synchronous) 13 0 n ∷ []
 
 -- 02, Q-11: the first trip since the watch was set: AsyncServiceRequest (20), "whose code is the meter's byte with values 16 and 64 set"
+abbrev pub serviceFrom : ℕ → Sensing → List ℕ → ℕ → List Frame
+serviceFrom c s p b = cond (not (s .tripped) && tripsBy p s) (plainTo c 20 (requestCode b) 0 ∷ []) []
+
 abbrev pub serviceTo : Entry → Sensing → List ℕ → ℕ → List Frame
-serviceTo e s p b = cond (not (s .tripped) && tripsBy p s) (plainTo (e .asynchronous) 20 (requestCode b) 0 ∷ []) []
+serviceTo e s p b = serviceFrom (e .asynchronous) s p b
 
 -- what stands before the lock answers: the pair of a message that interrupts
 abbrev pub saidFirst : Server → Happening → List Frame
