@@ -14,15 +14,15 @@ verdictNumber v-held = 2
 verdictNumber v-ignored = 3
 verdictNumber v-closed = 4
 verdictNumber v-acts = 5
-verdictNumber (v-error k) = 16 + k
-verdictNumber (v-fatal k) = 32 + k
+verdictNumber (v-fatal k) = 16 + k
+verdictNumber (v-error k) = 32 + k
 
 -- and back. (Skipping is decided before there is a message.)
 abbrev pub verdictOf : ℕ → Verdict
 verdictOf n =
     cond (ltb n 16)
     (cond (eqb n 2) v-held (cond (eqb n 3) v-ignored (cond (eqb n 4) v-closed (cond (eqb n 5) v-acts v-more))))
-    (cond (ltb n 32) (v-error (n - 16)) (v-fatal (n - 32)))
+    (cond (ltb n 32) (v-fatal (n - 16)) (v-error (n - 32)))
 
 -- n is the number of y, and y is read off it
 pub record Numbered (y : Verdict) (n : ℕ) : Type 0 where

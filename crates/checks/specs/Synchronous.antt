@@ -1,13 +1,14 @@
 -- The synchronous channel's row of rules, by the tests of the code: one law for each way out. Assumes nothing.
 use mathlib.Core.Path.{_≡_, sym, ap}
-use mathlib.Core.Bool.{Bool, true, false, _&&_, cond}
+use mathlib.Core.Bool.{Bool, true, false, not, _&&_, cond}
 use mathlib.Core.List.{List}
 use Prim.Native.Nat.{ℕ, _%_, _^_, _≤_, _<_}
 use lib.Dec.{eqb, ltb, leb}
 use borrow.Author.Tests.{lt-ltb, le-ltb, ne-eqb}
 use Rattle.wire.specs.Class.{classOf, synchronous, one-of, actedOn}
-use Rattle.model.specs.MessageTypes.{FatalError, Error, DeviceClearComplete, Initialize, Trigger, commands}
+use Rattle.model.specs.MessageTypes.{FatalError, Error, DataEND, DeviceClearComplete, Initialize, Trigger, commands}
 use Rattle.model.specs.State.{Server, Exchange, exchangeAt}
+use Rattle.model.specs.Allowing.{admits}
 use Rattle.model.specs.Locks.{access}
 use Rattle.model.specs.Checks.{Verdict, Verdict.v-held, Verdict.v-ignored, Verdict.v-closed, Verdict.v-acts, Verdict.v-error, Verdict.v-fatal, first, isVendor, isUnrecognised, synchronousRules}
 use Rattle.state.specs.Change.{exchangeWith}
@@ -38,37 +39,49 @@ module _ (clearing : Bool) (len : ℕ) where
   unfolding completed
   complete-outside l q = rw (le-ltb 0 len l, q)
 
--- checks 9 and 10 of Data, DataEND and Trigger; 02, Q-10: the number between them
-unfoldable pub commanded : Bool → Bool → ℕ → ℕ → ℕ → Verdict
-commanded may expected kind code len =
-    cond may (cond expected (cond (ltb 1 code) (v-error 2) (cond (eqb kind Trigger && ltb 0 len) (v-error 0) v-acts)) (v-error 0)) v-held
+-- checks 9 and 10 of Data, DataEND and Trigger; 02, Q-10: the number between them; 02, Q-12: the list behind them
+unfoldable pub commanded : Bool → Bool → Bool → ℕ → ℕ → ℕ → Verdict
+commanded may expected listed kind code len =
+    cond may
+    (cond expected
+    (cond (ltb 1 code) (v-error 2) (cond (eqb kind Trigger && ltb 0 len) (v-error 0) (cond (eqb kind DataEND && not listed) (v-error 128) v-acts)))
+    (v-error 0))
+    v-held
 
-module _ (may expected : Bool) (kind code len : ℕ) where
-  pub command-held : may ≡ false → commanded may expected kind code len ≡ v-held
+module _ (may expected listed : Bool) (kind code len : ℕ) where
+  pub command-held : may ≡ false → commanded may expected listed kind code len ≡ v-held
   unfolding commanded
   command-held a = rw a
 
   module _ (a : may ≡ true) where
-    pub command-number : expected ≡ false → commanded may expected kind code len ≡ v-error 0
+    pub command-number : expected ≡ false → commanded may expected listed kind code len ≡ v-error 0
     unfolding commanded
     command-number o = rw (a, o)
 
     module _ (o : expected ≡ true) where
-      pub command-code : 1 < code → commanded may expected kind code len ≡ v-error 2
+      pub command-code : 1 < code → commanded may expected listed kind code len ≡ v-error 2
       unfolding commanded
       command-code l = rw (a, o, lt-ltb 1 code l)
 
       module _ (l : code ≤ 1) where
-        pub command-acts : (kind ≡ Trigger → ⊥) → commanded may expected kind code len ≡ v-acts
+        pub command-listed : kind ≡ DataEND → listed ≡ true → commanded may expected listed kind code len ≡ v-acts
         unfolding commanded
-        command-acts n = rw (a, o, le-ltb 1 code l, ne-eqb kind 12 n)
+        command-listed e g = rw (a, o, le-ltb 1 code l, e, g)
+
+        pub command-unlisted : kind ≡ DataEND → listed ≡ false → commanded may expected listed kind code len ≡ v-error 128
+        unfolding commanded
+        command-unlisted e g = rw (a, o, le-ltb 1 code l, e, g)
+
+        pub command-acts : (kind ≡ DataEND → ⊥) → (kind ≡ Trigger → ⊥) → commanded may expected listed kind code len ≡ v-acts
+        unfolding commanded
+        command-acts m n = rw (a, o, le-ltb 1 code l, ne-eqb kind 7 m, ne-eqb kind 12 n)
 
         module _ (e : kind ≡ Trigger) where
-          pub trigger-payload : 0 < len → commanded may expected kind code len ≡ v-error 0
+          pub trigger-payload : 0 < len → commanded may expected listed kind code len ≡ v-error 0
           unfolding commanded
           trigger-payload m = rw (a, o, le-ltb 1 code l, e, lt-ltb 0 len m)
 
-          pub trigger-acts : len ≤ 0 → commanded may expected kind code len ≡ v-acts
+          pub trigger-acts : len ≤ 0 → commanded may expected listed kind code len ≡ v-acts
           unfolding commanded
           trigger-acts m = rw (a, o, le-ltb 1 code l, e, le-ltb 0 len m)
 
@@ -113,8 +126,9 @@ module _ (d : Server) (i kind code param len : ℕ) (p : List ℕ) where
                   rw (ne-eqb kind 0 n0, ne-eqb kind 2 n2, ne-eqb kind 3 n3, ne-eqb kind 8 n8) at
                   (acts-on (leb 128 kind) (one-of (actedOn synchronous) kind) v u)
 
-              pub sync-command : (b m : Bool) → access (d .locks .entries) i ≡ b → eqb param ((exchangeAt (d .rest) i) .numberExpected) ≡ m → row ≡ commanded b m kind code len
+              pub sync-command : (b m g : Bool) → access (d .locks .entries) i ≡ b → eqb param ((exchangeAt (d .rest) i) .numberExpected) ≡ m → admits (d .rest .allowed) p ≡ g
+                  → row ≡ commanded b m g kind code len
               unfolding commanded
-              sync-command true true a o = rw (is-command, ne-eqb kind 2 n2, ne-eqb kind 3 n3, q, v, u, ne-eqb kind 0 n0, ne-eqb kind 8 n8, a, o)
-              sync-command true false a o = rw (is-command, ne-eqb kind 2 n2, ne-eqb kind 3 n3, q, v, u, ne-eqb kind 0 n0, a, o)
-              sync-command false m a o = rw (is-command, ne-eqb kind 2 n2, ne-eqb kind 3 n3, q, v, u, ne-eqb kind 0 n0, a)
+              sync-command true true g a o l = rw (is-command, ne-eqb kind 2 n2, ne-eqb kind 3 n3, q, v, u, ne-eqb kind 0 n0, ne-eqb kind 8 n8, a, o, l)
+              sync-command true false g a o l = rw (is-command, ne-eqb kind 2 n2, ne-eqb kind 3 n3, q, v, u, ne-eqb kind 0 n0, a, o)
+              sync-command false m g a o l = rw (is-command, ne-eqb kind 2 n2, ne-eqb kind 3 n3, q, v, u, ne-eqb kind 0 n0, a)

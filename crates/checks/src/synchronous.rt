@@ -2,10 +2,11 @@
 ghost use Prim.Native.Nat.{ℕ, _<_};
 ghost use Rattle.checks.specs.Numbers.{Numbered, message};
 ghost use Rattle.checks.specs.Synchronous.{commanded, completed};
+ghost use Rattle.model.specs.Allowing.{admits};
 ghost use Rattle.model.specs.Checks.{first, synchronousRules};
 ghost use Rattle.model.specs.Locks.{access};
 ghost use Rattle.model.specs.State.{exchangeAt};
-ghost use Rattle.state.specs.View.{locksOf, memory, restOf, view};
+ghost use Rattle.state.specs.View.{allowedOf, locksOf, memory, restOf, view};
 ghost use lib.Dec.{eqb};
 ghost use mathlib.Core.List.{List};
 ghost use mathlib.Core.Path.{_≡_};
@@ -14,6 +15,7 @@ use crate::verdict::ACTS;
 use crate::verdict::CLOSED;
 use crate::verdict::ERROR_0;
 use crate::verdict::ERROR_1;
+use crate::verdict::ERROR_128;
 use crate::verdict::ERROR_2;
 use crate::verdict::ERROR_3;
 use crate::verdict::FATAL_3;
@@ -21,6 +23,8 @@ use crate::verdict::HELD;
 use crate::verdict::IGNORED;
 use locks::access;
 use locks::standing::NUMBERS;
+use state::listing;
+use state::sizes::Strings;
 use state::sizes::Words;
 use state::tables;
 use wire::class;
@@ -55,10 +59,19 @@ fn complete_verdict(clearing: bool, len: u64) -> u8
     ERROR_0
 }
 
-// Checks 9 and 10 of Data, DataEND and Trigger (12), and that of the number between them.
-fn command_verdict(w: &Words, i: usize, kind: u8, code: u8, param: u32, len: u64) -> u8
+// Checks 9 and 10 of Data, DataEND and Trigger, that of the number between them, and that of the list behind them.
+fn command_verdict(
+    w: &Words,
+    strings: &Strings,
+    i: usize,
+    kind: u8,
+    code: u8,
+    param: u32,
+    len: u64,
+    payload: &[u8],
+) -> u8
     requires { ⌜ i < sessionLimit ⌝ }
-    ensures { λ r. ⌜ ((s : List ℕ) → Numbered (commanded (access (locksOf (now (w .entry)) s .entries) i) (eqb param ((exchangeAt (restOf (now (w .entry))) i) .numberExpected)) kind code len) r) ⌝ }
+    ensures { λ r. ⌜ ((s : List ℕ) → Numbered (commanded (access (locksOf (now (w .entry)) s .entries) i) (eqb param ((exchangeAt (restOf (now (w .entry))) i) .numberExpected)) (admits (allowedOf (now (w .entry)) (now (strings .entry))) (now (payload .entry))) kind code len) r) ⌝ }
 {
     if !access::has_access(w, i) {
         return HELD;
@@ -69,6 +82,12 @@ fn command_verdict(w: &Words, i: usize, kind: u8, code: u8, param: u32, len: u64
     if code > 1 {
         return ERROR_2;
     }
+    if kind == types::DATA_END {
+        if listing::is_allowed(w, strings, payload) {
+            return ACTS;
+        }
+        return ERROR_128;
+    }
     if kind != types::TRIGGER {
         return ACTS;
     }
@@ -78,10 +97,19 @@ fn command_verdict(w: &Words, i: usize, kind: u8, code: u8, param: u32, len: u64
     ACTS
 }
 
-// Checks 6 to 10 of a message for the session in slot `i`.
-pub fn synchronous_verdict(w: &Words, i: usize, kind: u8, code: u8, param: u32, len: u64) -> u8
+// Checks 6 to 10 of a message for the session in slot `i`, and that of the list.
+pub fn synchronous_verdict(
+    w: &Words,
+    strings: &Strings,
+    i: usize,
+    kind: u8,
+    code: u8,
+    param: u32,
+    len: u64,
+    payload: &[u8],
+) -> u8
     requires { ⌜ i < sessionLimit ⌝ }
-    ensures { λ r. ⌜ ((s p : List ℕ) → Numbered (first (synchronousRules (view (memory (now (w .entry)) s)) i (message kind code param len) p)) r) ⌝ }
+    ensures { λ r. ⌜ ((s : List ℕ) → allowedOf (now (w .entry)) s ≡ allowedOf (now (w .entry)) (now (strings .entry)) → Numbered (first (synchronousRules (view (memory (now (w .entry)) s)) i (message kind code param len) (now (payload .entry)))) r) ⌝ }
 {
     // check 6
     if kind == types::FATAL_ERROR {
@@ -110,5 +138,5 @@ pub fn synchronous_verdict(w: &Words, i: usize, kind: u8, code: u8, param: u32, 
         return FATAL_3;
     }
     // checks 9 and 10: 6, 7 and 12 are left
-    command_verdict(w, i, kind, code, param, len)
+    command_verdict(w, strings, i, kind, code, param, len, payload)
 }

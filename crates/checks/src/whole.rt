@@ -4,7 +4,7 @@ ghost use Rattle.checks.specs.Numbers.{Numbered, message};
 ghost use Rattle.model.specs.Checks.{judged, partly, tooLong};
 ghost use Rattle.model.specs.Place.{Role};
 ghost use Rattle.state.specs.Search.{roleNumber};
-ghost use Rattle.state.specs.View.{memory, view};
+ghost use Rattle.state.specs.View.{allowedOf, memory, view};
 ghost use mathlib.Core.List.{List};
 ghost use mathlib.Core.Path.{_≡_};
 ghost use Rattle.model.specs.Sizes.{sessionLimit};
@@ -18,6 +18,7 @@ use crate::verdict::MORE;
 use state::search::HALF_OPEN;
 use state::search::NO_ROLE;
 use state::search::ON_SYNCHRONOUS;
+use state::sizes::Strings;
 use state::sizes::Words;
 use wire::types;
 
@@ -49,9 +50,10 @@ pub fn partial_verdict(role: u8, kind: u8) -> u8
     }
 }
 
-// Checks 3 and 6 to 10 of a message that is all here, payload and all; `i` is the slot of an established session.
+// Checks 3 and 6 to 10 of a message that is all here, payload and all, and that of the list; `i` is the slot of an established session.
 pub fn whole_verdict(
     w: &Words,
+    strings: &Strings,
     role: u8,
     i: usize,
     kind: u8,
@@ -61,12 +63,14 @@ pub fn whole_verdict(
     payload: &[u8],
 ) -> u8
     requires { ⌜ (role ≡ 2 → i < sessionLimit) ⌝ }
-    ensures { λ r. ⌜ ((s : List ℕ) (ro : Role) → roleNumber ro ≡ role → Numbered (judged ro (view (memory (now (w .entry)) s)) i (message kind code param len) (now (payload .entry))) r) ⌝ }
+    ensures { λ r. ⌜ ((s : List ℕ) (ro : Role) → roleNumber ro ≡ role → (role ≡ 2 → allowedOf (now (w .entry)) s ≡ allowedOf (now (w .entry)) (now (strings .entry))) → Numbered (judged ro (view (memory (now (w .entry)) s)) i (message kind code param len) (now (payload .entry))) r) ⌝ }
 {
     match role {
         NO_ROLE => opening::opening_verdict(w, kind, param, len, payload),
         HALF_OPEN => FATAL_2,
-        ON_SYNCHRONOUS => synchronous::synchronous_verdict(w, i, kind, code, param, len),
+        ON_SYNCHRONOUS => {
+            synchronous::synchronous_verdict(w, strings, i, kind, code, param, len, payload)
+        }
         _ => asynchronous::asynchronous_verdict(kind, code, len),
     }
 }

@@ -66,7 +66,7 @@ pub renewed : (i v : ℕ) (d d₁ d₂ d₃ d₄ d₅ d₆ d₇ d₈ : Server) �
     → d₇ ≡ onExchange d₆ i (exchangeWith 8 start) → d₈ ≡ onExchange d₇ i (withCount start false) → d₈ ≡ onRest d (λ (r : Rest). withExchange r i (openExchange (eqb v 1)))
 renewed i v d d₁ d₂ d₃ d₄ d₅ d₆ d₇ d₈ e₁ e₂ e₃ e₄ e₅ e₆ e₇ e₈ =
     rw (e₈, e₇, e₆, e₅, e₄, e₃, e₂, e₁, upd-upd, upd-upd, upd-upd, upd-upd, upd-upd, upd-upd, upd-upd)
-    (ap (λ (l : List Exchange). onRest d (λ (r : Rest). record { exchanges = l; sensings = r .sensings; connections = r .connections; lastIssued = r .lastIssued; made = r .made; status = r .status; remoteLocal = r .remoteLocal }))
+    (ap (λ (l : List Exchange). onRest d (λ (r : Rest). record { exchanges = l; sensings = r .sensings; connections = r .connections; lastIssued = r .lastIssued; made = r .made; status = r .status; remoteLocal = r .remoteLocal; allowed = r .allowed }))
     (sym (upd-set (d .rest .exchanges) i freshExchange (λ (x : Exchange). openExchange (eqb v 1)))))
 
 -- what a search finds passes
@@ -140,14 +140,14 @@ module _ (w s : List ℕ) (c i : ℕ) (found : slotIn (locksOf w s .entries) c �
   -- no session: the connection alone
   pub closed-alone : sessionLimit ≤ i → (d : Server) → d ≡ onRest (view (memory w s)) (shut c) → d ≡ closedServer (view (memory w s)) c i
   closed-alone h d e =
-      let r : Rest = shut c (restOf w) in
+      let r : Rest = shut c (view (memory w s) .rest) in
       let l : length (r .exchanges) ≤ i = rw (exchanges-held w) h in
       let n : length (r .sensings) ≤ i = rw (sensings-held w) h in
       e
       ∙ (λ k. record { locks = sym (close-past w s i h) k; rest = r })
       ∙ ap (λ (x : Rest). record { locks = (change (locksOf w s) (close i)) .locks; rest = x })
-      ((λ k. record { exchanges = sym (set-out (r .exchanges) i freshExchange l) k; sensings = sym (set-out (r .sensings) i freshSensing n) k; connections = r .connections; lastIssued = r .lastIssued; made = r .made; status = r .status; remoteLocal = r .remoteLocal })
-      ∙ ap₂ (λ (x : List ℕ) (j : ℕ). withSensing (withExchange (withConnections (restOf w) (shutAll (restOf w .connections) x)) j freshExchange) j freshSensing) (sym (channels-none w s c i found h)) (sym found))
+      ((λ k. record { exchanges = sym (set-out (r .exchanges) i freshExchange l) k; sensings = sym (set-out (r .sensings) i freshSensing n) k; connections = r .connections; lastIssued = r .lastIssued; made = r .made; status = r .status; remoteLocal = r .remoteLocal; allowed = r .allowed })
+      ∙ ap₂ (λ (x : List ℕ) (j : ℕ). withSensing (withExchange (withConnections (view (memory w s) .rest) (shutAll (restOf w .connections) x)) j freshExchange) j freshSensing) (sym (channels-none w s c i found h)) (sym found))
 
   -- a session: its connections, its exchange, its readings (02, Q-11), its slot and its request
   pub closed-session : i < sessionLimit → (d₁ d₁′ d₂ d₃ : Server)

@@ -125,8 +125,8 @@ pub release-told : (w s w′ s′ out out′ : List ℕ) (i c n code param len r
     → DidKind k-lock i c code param len p told (memory w s) (memory w′ s′) out out′
 unfolding asynchronousRest asynchronousSaid asynchronousEvent
 release-told w s w′ s′ out out′ i c n code param len r p told q e z x t =
-    let g : Did (finish (view (memory w s)) (planWith (view (memory w s)) i len (restOf w) [] (release i param))) told (memory w s) (memory w′ s′) out out′ =
-    did-settled (memory w s) (memory w s) (memory w′ s′) out out′ i n len r (restOf w) (release i param) told q e refl (λ t. t) x in
+    let g : Did (finish (view (memory w s)) (planWith (view (memory w s)) i len (view (memory w s) .rest) [] (release i param))) told (memory w s) (memory w′ s′) out out′ =
+    did-settled (memory w s) (memory w s) (memory w′ s′) out out′ i n len r (view (memory w s) .rest) (release i param) told q e refl (λ t. t) x in
     rw (eq-eqb code 0 z) g
 
 pub request-told : (w s w′ s′ out out′ : List ℕ) (i c n code param len r : ℕ) (p : List ℕ) (told : Delivery) → told ≡ delivered n len r → entryWith 0 n (at (locksOf w s .entries) i) ≡ at (locksOf w s .entries) i
@@ -136,7 +136,7 @@ unfolding finish asynchronousRest asynchronousSaid asynchronousEvent
 request-told w s w′ s′ out out′ i c n code param len r p told q e z x t =
     let d : Server = view (memory w s) in
     let xs : List Frame = map lockFrame ((change (locksOf w s) (request i param p)) .answers) in
-    let g : Did (finish d (planWith d i len (restOf w) [] (request i param p))) told (memory w s) (memory w′ s′) out out′ =
-    did-with d i n len r (restOf w) [] (request i param p) told (memory w s) (memory w′ s′) out out′ xs q e (append-nil xs)
+    let g : Did (finish d (planWith d i len (d .rest) [] (request i param p))) told (memory w s) (memory w′ s′) out out′ =
+    did-with d i n len r (d .rest) [] (request i param p) told (memory w s) (memory w′ s′) out out′ xs q e (append-nil xs)
     (λ j. record { locks = x .locks j; rest = x .rest j }) (x .buffer) (x .place ∙ omega arith) (x .tidy) in
     rw (ne-eqb code 0 z) g

@@ -31,7 +31,7 @@ use wire::types;
 // Session n opens in slot i over connection c, in the mode that the host prefers.
 fn enter_session(w: &mut Words, strings: &mut Strings, i: usize, n: u64, c: u64)
     requires { ⌜ (i < sessionLimit) × (n < 65536) × (n ≡ 0 → ⊥) × (c < connectionLimit) × Unshown (now w) c × (rowWord (now w) i 0 ≡ 0) ⌝ }
-    ensures { λ _. ⌜ (view (memory (now (w .exit)) (now (strings .exit))) ≡ changed (view (memory (now (w .entry)) (now (strings .entry)))) (enter i n c) (withSession (restOf (now (w .entry))) i n)) × (Tidy (memory (now (w .entry)) (now (strings .entry))) → Tidy (memory (now (w .exit)) (now (strings .exit)))) ⌝ }
+    ensures { λ _. ⌜ (view (memory (now (w .exit)) (now (strings .exit))) ≡ changed (view (memory (now (w .entry)) (now (strings .entry)))) (enter i n c) (withSession (view (memory (now (w .entry)) (now (strings .entry))) .rest) i n)) × (Tidy (memory (now (w .entry)) (now (strings .entry))) → Tidy (memory (now (w .exit)) (now (strings .exit)))) ⌝ }
 {
     sessions::enter_slot(w, strings, i, n, c);
     let mode = tables::single(w, tables::PREFERENCE);

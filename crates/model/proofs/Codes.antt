@@ -1,10 +1,10 @@
--- The codes of Error and FatalError: of a whole message below 4, of any verdict at most 4.
+-- The codes of Error and FatalError: of a whole message below 4 or 128, of any verdict at most 4 or 128.
 use mathlib.Core.Path.{_≡_, refl}
-use mathlib.Core.Bool.{Bool, true, false, cond}
+use mathlib.Core.Bool.{Bool, true, false, _||_, cond}
 use mathlib.Core.List.{List, [], _∷_}
 use Prim.Native.Nat.{ℕ}
 use native.Mathlib.Omega.{arith}
-use lib.Dec.{ltb}
+use lib.Dec.{eqb, ltb}
 use borrow.Author.Tests.{ltb-true, lt-ltb}
 use Rattle.wire.specs.declared.Header.{Header}
 use Rattle.model.specs.Lists.{all}
@@ -15,7 +15,7 @@ use Rattle.model.specs.Checks
 use Rattle.model.specs.Checks.{Verdict, Verdict.v-more, Verdict.v-skipped, Verdict.v-held, Verdict.v-ignored, Verdict.v-closed, Verdict.v-acts, Verdict.v-error, Verdict.v-fatal, Rule, first, judged, partly, verdict, either}
 use Rattle.model.proofs.Basics.{and-l, and-r}
 
--- what any delivery may be answered: codes at most 4
+-- what any delivery may be answered: codes at most 4; 02, Q-12: or Error 128
 abbrev pub coded : Verdict → Bool
 coded v-more = true
 coded v-skipped = true
@@ -23,10 +23,10 @@ coded v-held = true
 coded v-ignored = true
 coded v-closed = true
 coded v-acts = true
-coded (v-error n) = ltb n 5
+coded (v-error n) = ltb n 5 || eqb n 128
 coded (v-fatal n) = ltb n 5
 
--- what a whole message may be answered: Error below 4; it waits for nothing, and no bytes are skipped
+-- what a whole message may be answered: Error below 4, or 128; it waits for nothing, and no bytes are skipped
 abbrev pub ofMessage : Verdict → Bool
 ofMessage v-more = false
 ofMessage v-skipped = false
@@ -34,7 +34,7 @@ ofMessage v-held = true
 ofMessage v-ignored = true
 ofMessage v-closed = true
 ofMessage v-acts = true
-ofMessage (v-error n) = ltb n 4
+ofMessage (v-error n) = ltb n 4 || eqb n 128
 ofMessage (v-fatal n) = ltb n 5
 
 first-of : (rs : List Rule) → all (λ r. ofMessage (r .then)) rs ≡ true → ofMessage (first rs) ≡ true
@@ -51,6 +51,10 @@ judged-of r-halfOpen d i h p = refl
 judged-of r-synchronous d i h p = first-of (Checks.synchronousRules d i h p) refl
 judged-of r-asynchronous d i h p = first-of (Checks.asynchronousRules h p) refl
 
+or-true : (b : Bool) → (b || true) ≡ true
+or-true true = refl
+or-true false = refl
+
 weaker : (v : Verdict) → ofMessage v ≡ true → coded v ≡ true
 weaker v-more e = refl
 weaker v-skipped e = refl
@@ -58,7 +62,11 @@ weaker v-held e = refl
 weaker v-ignored e = refl
 weaker v-closed e = refl
 weaker v-acts e = refl
-weaker (v-error n) e = lt-ltb n 5 (omega (arith, ltb-true n 4 e))
+weaker (v-error n) e = go (ltb n 4) refl e
+  where
+    go : (b : Bool) → ltb n 4 ≡ b → (b || eqb n 128) ≡ true → (ltb n 5 || eqb n 128) ≡ true
+    go true q e = rw (lt-ltb n 5 (omega (arith, ltb-true n 4 q)))
+    go false q e = rw e (or-true (ltb n 5))
 weaker (v-fatal n) e = e
 
 long-coded : (r : Role) → coded (Checks.tooLong r) ≡ true

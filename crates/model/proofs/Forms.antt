@@ -11,6 +11,8 @@ use Rattle.wire.specs.declared.Header.{Header}
 use Rattle.wire.specs.Class.{one-of, classOf, synchronous, asynchronous}
 use Rattle.model.specs.Lists.{isNil, same, all}
 use Rattle.model.specs.State.{at, live, halfOpen, slotOfNumber, Server, exchangeAt}
+use Rattle.model.specs.MessageTypes.{DataEND}
+use Rattle.model.specs.Allowing.{admits}
 use Rattle.model.specs.Locks.{access}
 use Rattle.model.specs.Checks
 use Rattle.model.specs.Checks.{Verdict.v-acts, first, either, hislip0}
@@ -77,21 +79,25 @@ module _ (d : Server) (i : ℕ) (p : List ℕ) where
   abbrev expecting : ℕ
   expecting = (exchangeAt (d .rest) i) .numberExpected
 
-  pub command-passes : clearing ≡ false → access (d .locks .entries) i ≡ true → (h : Header) → h .param ≡ expecting → permits commandForms h ≡ true → first (Checks.synchronousRules d i h p) ≡ v-acts
+  -- the list allows it
+  abbrev pub Listed : Header → Type 0
+  Listed h = h .kind ≡ DataEND → admits (d .rest .allowed) p ≡ true
+
+  pub command-passes : clearing ≡ false → access (d .locks .entries) i ≡ true → (h : Header) → h .param ≡ expecting → permits commandForms h ≡ true → Listed h → first (Checks.synchronousRules d i h p) ≡ v-acts
   unfolding classOf
-  command-passes n a h e f =
-      form-of (λ h. eqb (h .param) expecting ≡ true → first (Checks.synchronousRules d i h p) ≡ v-acts) commandForms
-      ((λ h t k l m. rw (t, n, a, m, above 1 (h .code) k))
-      also (λ h t k l m. rw (t, n, a, m, above 1 (h .code) k))
-      also (λ h t k l m. rw (t, n, a, m, above 1 (h .code) k, eqb-true (h .len) 0 l))
-      also tt) h f (eq-eqb (h .param) expecting e)
+  command-passes n a h e f g =
+      form-of (λ h. eqb (h .param) expecting ≡ true → Listed h → first (Checks.synchronousRules d i h p) ≡ v-acts) commandForms
+      ((λ h t k l m q. rw (t, n, a, m, above 1 (h .code) k))
+      also (λ h t k l m q. rw (t, n, a, m, above 1 (h .code) k, q t))
+      also (λ h t k l m q. rw (t, n, a, m, above 1 (h .code) k, eqb-true (h .len) 0 l))
+      also tt) h f (eq-eqb (h .param) expecting e) g
 
   pub clear-passes : clearing ≡ true → (h : Header) → permits clearForms h ≡ true → first (Checks.synchronousRules d i h p) ≡ v-acts
   unfolding classOf
   clear-passes n = form-of (λ h. first (Checks.synchronousRules d i h p) ≡ v-acts) clearForms ((λ h t k l. rw (t, n, eqb-true (h .len) 0 l)), tt)
 
   abbrev pub Synchronous : Header → Type 0
-  Synchronous h = ((clearing ≡ false) × (access (d .locks .entries) i ≡ true) × (h .param ≡ expecting) × (permits commandForms h ≡ true)) ⊎ ((clearing ≡ true) × (permits clearForms h ≡ true))
+  Synchronous h = ((clearing ≡ false) × (access (d .locks .entries) i ≡ true) × (h .param ≡ expecting) × (permits commandForms h ≡ true) × Listed h) ⊎ ((clearing ≡ true) × (permits clearForms h ≡ true))
 
   -- by type
   abbrev Lets : Header → ℕ → Type 0
@@ -104,10 +110,10 @@ module _ (d : Server) (i : ℕ) (p : List ℕ) where
       ((λ q. absurd (true≢false (q .1 .1 .1 .1 .1 .0)))
       also (λ q. absurd (true≢false (q .0)))
       also (λ q. absurd (true≢false (q .1 .0)))
-      also (λ q. inl (sym (and-true _) ∙ q .1 .1 .0, not-off _ (q .1 .1 .1 .1 .1 .1 .0), eqb-true _ _ (not-off _ (q .1 .1 .1 .1 .1 .1 .1 .0)), rw (below 1 (h .code) (q .1 .1 .1 .1 .1 .1 .1 .1 .0))))
-      also (λ q. inl (sym (and-true _) ∙ q .1 .1 .0, not-off _ (q .1 .1 .1 .1 .1 .1 .0), eqb-true _ _ (not-off _ (q .1 .1 .1 .1 .1 .1 .1 .0)), rw (below 1 (h .code) (q .1 .1 .1 .1 .1 .1 .1 .1 .0))))
+      also (λ q. inl (sym (and-true _) ∙ q .1 .1 .0, not-off _ (q .1 .1 .1 .1 .1 .1 .0), eqb-true _ _ (not-off _ (q .1 .1 .1 .1 .1 .1 .1 .0)), rw (below 1 (h .code) (q .1 .1 .1 .1 .1 .1 .1 .1 .0)), λ e. absurd (omega (arith, e))))
+      also (λ q. inl (sym (and-true _) ∙ q .1 .1 .0, not-off _ (q .1 .1 .1 .1 .1 .1 .0), eqb-true _ _ (not-off _ (q .1 .1 .1 .1 .1 .1 .1 .0)), rw (below 1 (h .code) (q .1 .1 .1 .1 .1 .1 .1 .1 .0)), λ e. not-off _ (q .1 .1 .1 .1 .1 .1 .1 .1 .1 .1 .1 .0)))
       also (λ q. inr (not-off _ (q .1 .1 .1 .1 .1 .1 .1 .1 .1 .1 .0), rw (empty (h .len) (q .1 .1 .1 .1 .1 .1 .1 .1 .1 .0))))
-      also (λ q. inl (sym (and-true _) ∙ q .1 .1 .0, not-off _ (q .1 .1 .1 .1 .1 .1 .0), eqb-true _ _ (not-off _ (q .1 .1 .1 .1 .1 .1 .1 .0)), rw (below 1 (h .code) (q .1 .1 .1 .1 .1 .1 .1 .1 .0), empty (h .len) (q .1 .1 .1 .1 .1 .1 .1 .1 .1 .0))))
+      also (λ q. inl (sym (and-true _) ∙ q .1 .1 .0, not-off _ (q .1 .1 .1 .1 .1 .1 .0), eqb-true _ _ (not-off _ (q .1 .1 .1 .1 .1 .1 .1 .0)), rw (below 1 (h .code) (q .1 .1 .1 .1 .1 .1 .1 .1 .0), empty (h .len) (q .1 .1 .1 .1 .1 .1 .1 .1 .1 .0)), λ e. absurd (omega (arith, e))))
       also tt)
 
   pub sync-permitted : (h : Header) → first (Checks.synchronousRules d i h p) ≡ v-acts → Synchronous h

@@ -18,6 +18,7 @@ use Rattle.model.specs.State.{Server, Exchange, Connection, at, exchange
 use Rattle.model.specs.Interface.{Event, Event.delivery, Outcome.error-sent, Reply, Reply.took}
 use Rattle.model.specs.Scan.{Scan, Scan.empty, Scan.few, Scan.wrong, Scan.skipping, Scan.long, Scan.part, Scan.whole, scan}
 use Rattle.model.specs.Place.{slotOf, entryOf, Role, Role.r-none, Role.r-halfOpen, Role.r-synchronous, Role.r-asynchronous, roleOf}
+use Rattle.model.specs.Allowing.{admits, admits-is}
 use Rattle.model.specs.Locks.{access, change}
 use Rattle.model.specs.Exchange.{withNumber}
 use Rattle.model.specs.Checks
@@ -44,6 +45,12 @@ in-order false k e = let z : _≡_ {A = ℕ} 0 1 = cc in omega arith
 in-order true true e = let z : _≡_ {A = ℕ} 2 0 = cc in omega arith
 in-order true false e = let z : _≡_ {A = ℕ} 0 1 = cc in omega arith
 
+not-listed : (a k l : Bool) → cond (not a) v-held (cond k (v-error 2) (cond l (v-error 128) v-acts)) ≡ v-error 0 → ⊥
+not-listed false k l e = let z : _≡_ {A = ℕ} 0 1 = cc in omega arith
+not-listed true true l e = let z : _≡_ {A = ℕ} 2 0 = cc in omega arith
+not-listed true false true e = let z : _≡_ {A = ℕ} 128 0 = cc in omega arith
+not-listed true false false e = let z : _≡_ {A = ℕ} 0 1 = cc in omega arith
+
 with-payload : (a k l : Bool) → cond (not a) v-held (cond k (v-error 2) (cond l (v-error 0) v-acts)) ≡ v-error 0 → l ≡ true
 with-payload false k l e = absurd (let z : _≡_ {A = ℕ} 0 1 = cc in omega arith)
 with-payload true true l e = absurd (let z : _≡_ {A = ℕ} 2 0 = cc in omega arith)
@@ -68,7 +75,7 @@ module _ (d : Server) (i : ℕ) (p : List ℕ) (h : Header) where
       let k = ltb 1 (h .code) in
       each-of (λ t. Judged t ≡ v-error 0 → (t ≡ Trigger) × (0 < h .len)) commands
       ((λ e. absurd (in-order a k (rw (n, m) at e)))
-      also (λ e. absurd (in-order a k (rw (n, m) at e)))
+      also (λ e. absurd (not-listed a k (not (admits (d .rest .allowed) p)) (rw (n, m) at e)))
       also (λ e. (refl, ltb-true 0 (h .len) (with-payload a k (ltb 0 (h .len)) (rw (n, m) at e))))
       also tt)
 
@@ -149,7 +156,7 @@ module _ (d : Server) (c : ℕ) (bs : List ℕ) (room : ℕ) (o : one-of command
       told (roleOf (d .locks .entries) c) _ refl (x .verdict-is ∙ ap v-error zero) f
 
 -- storing what stands there
-set-same : {A : Type 0} (xs : List A) (i : ℕ) (z : A) → set xs i (getD xs i z) ≡ xs
+pub set-same : {A : Type 0} (xs : List A) (i : ℕ) (z : A) → set xs i (getD xs i z) ≡ xs
 set-same [] i z = refl
 set-same (x ∷ xs) zero z = refl
 set-same (x ∷ xs) (suc i) z = ap (λ ys. x ∷ ys) (set-same xs i z)
@@ -167,7 +174,7 @@ module _ (d : Server) (c : ℕ) (bs : List ℕ) (room : ℕ) where
   abbrev y₁ : Connection
   y₁ = connectionAt (d .rest) c
 
-  open-now : refusal d (delivery c bs room) ≡ 0 → y₁ .isOpen ≡ true
+  pub open-now : refusal d (delivery c bs room) ≡ 0 → y₁ .isOpen ≡ true
   unfolding refusal causes
   open-now z = not-off _ ((uncaused (causes d (delivery c bs room)) refl z) .1 .1 .0)
 
@@ -175,7 +182,7 @@ module _ (d : Server) (c : ℕ) (bs : List ℕ) (room : ℕ) where
   told-so s = record { server = s; reply = took error-sent (16 + (header bs) .len) 0; frames = error-0 c }
 
   abbrev left : List Exchange → List Connection → Result
-  left ns ks = told-so record { locks = d .locks; rest = record { exchanges = ns; sensings = d .rest .sensings; connections = ks; lastIssued = d .rest .lastIssued; made = d .rest .made; status = d .rest .status; remoteLocal = d .rest .remoteLocal } }
+  left ns ks = told-so record { locks = d .locks; rest = record { exchanges = ns; sensings = d .rest .sensings; connections = ks; lastIssued = d .rest .lastIssued; made = d .rest .made; status = d .rest .status; remoteLocal = d .rest .remoteLocal; allowed = d .rest .allowed } }
 
   errs : finish d (effect (v-error 0) (Scan.whole (header bs) p₀) r-synchronous d i₀ c) ≡ left (set (d .rest .exchanges) i₀ (counted r-synchronous (Scan.whole (header bs) p₀) x₁)) (set (d .rest .connections) c (openConnection 0))
   unfolding finish effect change
@@ -263,10 +270,10 @@ in-steps v es =
             ap (λ (m : ℕ). (numbering v es m) .inClear) (sym own) ∙ w .in-clear ∙ a .0 .not-in-clear,
             carries-it d c bs room k n e o ∙ sym (w .number) ∙ ap (λ (m : ℕ). expected ((numbering v es m) .taken)) own,
           );
-      goes-on = λ c bs room k z w a f t m.
+      goes-on = λ c bs room k z w a f l t m.
           let s = w .on-synchronous in
           let e = m ∙ sym (counts-on k) ∙ ap expected (sym t) ∙ (g .knows (slotOf d c) (s .alive)) .number in
-          ap (λ (x : Result). x .reply) (whole-does d c bs room z (w .message) r-synchronous (role-sync d c s) (command-passes d (slotOf d c) (payloadOf (header bs) bs) (w .not-in-clear) a (header bs) e f));
+          ap (λ (x : Result). x .reply) (whole-does d c bs room z (w .message) r-synchronous (role-sync d c s) (command-passes d (slotOf d c) (payloadOf (header bs) bs) (w .not-in-clear) a (header bs) e f (λ t. admits-is (d .rest .allowed) (payloadOf (header bs) bs) .1 (l t))));
       never = λ n c. never-out es (fresh v) (λ n. opened noConnection) (fresh-reads v) n c;
     }
   where

@@ -24,6 +24,7 @@ pub mod Isolation
 pub mod Tying
 pub mod Tied
 pub mod Replies
+pub mod FirstRule
 pub mod Access
 pub mod SessionId
 pub mod Fewer
@@ -68,6 +69,8 @@ pub mod SentTypes
 pub mod NextQuestion
 pub mod Numbering
 pub mod InStep
+pub mod AllowedOnly
+pub mod Listing
 pub mod WaitingOne
 pub mod AnsweredFrames
 pub mod AnsweredQuiet

@@ -28,7 +28,7 @@ use Rattle.model.specs.Refusals.{causes, refusal}
 use Rattle.model.specs.Step.{counted, effect, received, plan, answered, finish, step, final, log, channels, closing, answerType, withholds}
 use Rattle.model.specs.Happening.{Heard, Heard.silence, Heard.with-code, Happening, Happening.unmoved, Happening.disconnected, Happening.message-acted, heard, happened}
 use Rattle.model.specs.LocalityReplies.{saidTo, askedNumber, numberSent}
-use Rattle.model.specs.LocalityRows.{step-row, isSilence, Single, singly, clock-row, status-row, made-row, issued-row, enable-row, lockout-row, remote-row}
+use Rattle.model.specs.LocalityRows.{step-row, isSilence, Single, singly, clock-row, status-row, made-row, allowed-row, issued-row, enable-row, lockout-row, remote-row}
 use Rattle.model.specs.Locality.{atCall, Local, clientsFatalError, Locality, EachLocal, overLog, LocalRun}
 use Rattle.model.specs.Sensing.{sensed, serviceAfter}
 use Rattle.model.proofs.Basics.{and-l, and-r, or→, not-off}
@@ -345,6 +345,7 @@ local-run d es =
       status = read-off (λ (d : Server). d .rest .status) status-row (λ d e. (local-call d e) .status) es d;
       made = same-made es d;
       last-issued = read-off (λ (d : Server). d .rest .lastIssued) issued-row (λ d e. (local-call d e) .last-issued) es d;
+      allowed = read-off (λ (d : Server). d .rest .allowed) allowed-row (λ d e. (local-call d e) .allowed) es d;
       enable = read-off (λ (d : Server). d .rest .remoteLocal .enable) enable-row (λ d e. (local-call d e) .enable) es d;
       lockout = read-off (λ (d : Server). d .rest .remoteLocal .lockout) lockout-row (λ d e. (local-call d e) .lockout) es d;
       remote = read-off (λ (d : Server). d .rest .remoteLocal .remote) remote-row (λ d e. (local-call d e) .remote) es d;

@@ -3,11 +3,11 @@ use mathlib.Core.Path.{_≡_, refl, ap, _∙_}
 use mathlib.Core.List.{List, _++_, map}
 use Prim.Native.Nat.{ℕ, _<_}
 use lib.ListN.{getD, length}
-use Rattle.model.specs.State.{Making, Server, Locks, Rest, Entry, Waiting, Exchange, Connection, RemoteLocal, at, blank, freshExchange, closedConnection, connectionAt, Sensing, freshSensing, sensingAt}
+use Rattle.model.specs.State.{Making, Allowed, Server, Locks, Rest, Entry, Waiting, Exchange, Connection, RemoteLocal, at, blank, freshExchange, closedConnection, connectionAt, Sensing, freshSensing, sensingAt}
 use Rattle.model.specs.Interface.{Outcome, Reply.took}
 use Rattle.model.specs.Step.{Result}
 use Rattle.model.specs.Happening.{Happening}
-use Rattle.model.specs.LocalityRows.{clear-row, asked-row, available-row, size-row, mode-row, count-row, sent-row, expected-row, step-row, requestsLeft, looksAfter, open-row, remainder-row, singly, clock-row, status-row, made-row, issued-row, enable-row, lockout-row, remote-row, sensing-row}
+use Rattle.model.specs.LocalityRows.{clear-row, asked-row, available-row, size-row, mode-row, count-row, sent-row, expected-row, step-row, requestsLeft, looksAfter, open-row, remainder-row, singly, clock-row, status-row, made-row, allowed-row, issued-row, enable-row, lockout-row, remote-row, sensing-row}
 use Rattle.model.specs.LocalityReplies.{saidFirst, direct, answeredFirst, answerTo, sessionSaid}
 use Rattle.model.specs.Locality.{entryDue, Look, Local}
 use Rattle.model.proofs.LocalityLists.{Rowed, project, exchangeRow, entryRow, due-entry, lookedAt, look-sized, look-each}
@@ -19,14 +19,15 @@ pub record Places (d : Server) (h : Happening) (cs : List Connection) : Type 0 w
   pub size : length cs ≡ length (d .rest .connections)
   pub each : (x : ℕ) → x < length (d .rest .connections) → getD cs x closedConnection ≡ connectionDue (d .locks .entries) h x (connectionAt (d .rest) x)
 
--- of the rest, what stands once: status byte, how the server was made, the number issued last, flags
-pub record Singles (d : Server) (h : Happening) (b : ℕ) (v : Making) (n : ℕ) (f : RemoteLocal) : Type 0 where
+-- of the rest, what stands once: status byte, how the server was made, the number issued last, flags, allowed commands
+pub record Singles (d : Server) (h : Happening) (b : ℕ) (v : Making) (n : ℕ) (f : RemoteLocal) (a : Allowed) : Type 0 where
   pub status : b ≡ singly status-row h (d .rest .status)
   pub made : v ≡ singly made-row h (d .rest .made)
   pub last-issued : n ≡ singly issued-row h (d .rest .lastIssued)
   pub enable : f .enable ≡ singly enable-row h (d .rest .remoteLocal .enable)
   pub lockout : f .lockout ≡ singly lockout-row h (d .rest .remoteLocal .lockout)
   pub remote : f .remote ≡ singly remote-row h (d .rest .remoteLocal .remote)
+  pub allowed : a ≡ singly allowed-row h (d .rest .allowed)
 
 -- of readings
 pub record Sensings (d : Server) (h : Happening) (ss : List Sensing) : Type 0 where
@@ -34,7 +35,7 @@ pub record Sensings (d : Server) (h : Happening) (ss : List Sensing) : Type 0 wh
   pub each : (i : ℕ) → i < length (d .rest .sensings) → getD ss i freshSensing ≡ sensing-row (d .locks .entries) i h (sensingAt (d .rest) i)
 
 pub record RestPart (d : Server) (h : Happening) (r : Rest) : Type 0 where
-  pub singles : Singles d h (r .status) (r .made) (r .lastIssued) (r .remoteLocal)
+  pub singles : Singles d h (r .status) (r .made) (r .lastIssued) (r .remoteLocal) (r .allowed)
   pub exchanges : Rowed freshExchange (exchangeRow (d .rest .made .prefersOverlap)) (d .locks .entries) h (d .rest .exchanges) (r .exchanges)
   pub sensings : Sensings d h (r .sensings)
   pub connections : Places d h (r .connections)
@@ -55,6 +56,7 @@ assemble d h r due granted p l f s =
       enable = p .singles .enable;
       lockout = p .singles .lockout;
       remote = p .singles .remote;
+      allowed = p .singles .allowed;
       exchange-slots = p .exchanges .size;
       in-clear = λ i q. ap (λ (x : Exchange). x .inClear) (p .exchanges .each i q) ∙ project (λ (x : Exchange). x .inClear) (exchangeRow (d .rest .made .prefersOverlap)) (λ x. clear-row) (λ a x. refl) (λ b x. refl) (λ x. refl) (λ k x. refl) (λ x. refl) es i h _;
       asked = λ i q. ap (λ (x : Exchange). x .asked) (p .exchanges .each i q) ∙ project (λ (x : Exchange). x .asked) (exchangeRow (d .rest .made .prefersOverlap)) asked-row (λ a x. refl) (λ b x. refl) (λ x. refl) (λ k x. refl) (λ x. refl) es i h _;

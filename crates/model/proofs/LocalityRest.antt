@@ -22,18 +22,18 @@ use Rattle.model.specs.Scan.{Scan, Scan.skipping, Scan.part, sorted, fre
 use Rattle.model.specs.Exchange
 use Rattle.model.specs.Exchange.{controlled}
 use Rattle.model.specs.Step.{channels, shutAll, closing}
-use Rattle.model.specs.Happening.{Heard, Action, Happening, Happening.unmoved, Happening.connected, Happening.disconnected, Happening.skipped-over, Happening.errored, Happening.message-acted, Happening.clock-read, Happening.status-set, Happening.setting-made, Happening.answer-sent, Happening.answer-withheld}
-use Rattle.model.specs.LocalityRows.{kindOf, concerns, connectionsOf, Single, singly, status-row, made-row, issued-row, enable-row, lockout-row, remote-row, tripsBy, notedAll}
+use Rattle.model.specs.Happening.{Heard, Action, Happening, Happening.unmoved, Happening.connected, Happening.disconnected, Happening.skipped-over, Happening.errored, Happening.message-acted, Happening.clock-read, Happening.status-set, Happening.answer-sent, Happening.answer-withheld, Happening.setting-made}
+use Rattle.model.specs.LocalityRows.{kindOf, concerns, connectionsOf, Single, singly, status-row, made-row, allowed-row, issued-row, enable-row, lockout-row, remote-row, tripsBy, notedAll}
 use Rattle.model.specs.Sensing.{armed, sensed, requested, serviceAfter, settingSensings, settingRest}
 use Rattle.model.specs.LocalityReplies.{serviceTo}
-use Rattle.model.specs.Interface.{Setting, Setting.watch}
+use Rattle.model.specs.Interface.{Setting, Setting.watch, Setting.patterns}
 use Rattle.model.specs.Acts.{say}
 use Rattle.model.proofs.Basics.{or→, or-of, or-r}
 use Rattle.model.proofs.Place.{place-sound}
 use Rattle.model.proofs.LocalityLists.{set-at, touch, row-message, row-kept, exchangeRow}
 use Rattle.model.proofs.LocalityParts.{Singles, RestPart}
 
--- what stands once changes by messages, clock readings and status changes alone
+-- what stands once changes by messages, clock readings, status changes and settings alone
 abbrev Still : Happening → Type 0
 Still unmoved = Unit {0}
 Still (connected c) = Unit {0}
@@ -43,7 +43,7 @@ Still (errored c h k) = Unit {0}
 Still (message-acted a) = ⊥
 Still (clock-read t) = ⊥
 Still (status-set b) = ⊥
-Still (setting-made s) = Unit {0}
+Still (setting-made s) = ⊥
 Still (answer-sent n p end) = Unit {0}
 Still (answer-withheld n m) = Unit {0}
 
@@ -56,11 +56,11 @@ as-it-was r (errored c h k) x s = refl
 as-it-was r (message-acted a) x s = absurd s
 as-it-was r (clock-read t) x s = absurd s
 as-it-was r (status-set b) x s = absurd s
-as-it-was r (setting-made u) x s = refl
+as-it-was r (setting-made u) x s = absurd s
 as-it-was r (answer-sent n p end) x s = refl
 as-it-was r (answer-withheld n m) x s = refl
 
-singles-still : (d : Server) (h : Happening) → Still h → Singles d h (d .rest .status) (d .rest .made) (d .rest .lastIssued) (d .rest .remoteLocal)
+singles-still : (d : Server) (h : Happening) → Still h → Singles d h (d .rest .status) (d .rest .made) (d .rest .lastIssued) (d .rest .remoteLocal) (d .rest .allowed)
 singles-still d h s =
     record {
       status = as-it-was status-row h (d .rest .status) s;
@@ -69,6 +69,7 @@ singles-still d h s =
       enable = as-it-was enable-row h (d .rest .remoteLocal .enable) s;
       lockout = as-it-was lockout-row h (d .rest .remoteLocal .lockout) s;
       remote = as-it-was remote-row h (d .rest .remoteLocal .remote) s;
+      allowed = as-it-was allowed-row h (d .rest .allowed) s;
     }
 
 -- calls that leave all of it
@@ -84,7 +85,7 @@ rest-unmoved d =
 pub rest-clock : (d : Server) (t : ℕ) → RestPart d (clock-read t) (d .rest)
 rest-clock d t =
     record {
-      singles = record { status = refl; made = refl; last-issued = refl; enable = refl; lockout = refl; remote = refl };
+      singles = record { status = refl; made = refl; last-issued = refl; enable = refl; lockout = refl; remote = refl; allowed = refl };
       exchanges = record { size = refl; each = λ i l. refl };
       sensings = record { size = refl; each = λ i l. refl };
       connections = record { size = refl; each = λ x l. refl };
@@ -93,7 +94,7 @@ rest-clock d t =
 pub rest-status : (d : Server) (b : ℕ) → RestPart d (status-set b) (withStatus (d .rest) b)
 rest-status d b =
     record {
-      singles = record { status = refl; made = refl; last-issued = refl; enable = refl; lockout = refl; remote = refl };
+      singles = record { status = refl; made = refl; last-issued = refl; enable = refl; lockout = refl; remote = refl; allowed = refl };
       exchanges = record { size = refl; each = λ i l. refl };
       sensings = record { size = refl; each = λ i l. refl };
       connections = record { size = refl; each = λ x l. refl };
@@ -134,9 +135,16 @@ unfolding settingSensings
 rest-setting d (watch n l) =
     let i = slotOfNumber (d .locks .entries) n in
     record {
-      singles = singles-still d (setting-made (watch n l)) tt;
+      singles = record { status = refl; made = refl; last-issued = refl; enable = refl; lockout = refl; remote = refl; allowed = refl };
       exchanges = record { size = refl; each = λ i l. refl };
       sensings = record { size = length-set (d .rest .sensings) i _; each = λ j q. touch (d .rest .sensings) i (armed l) _ freshSensing j q refl };
+      connections = record { size = refl; each = λ x l. refl };
+    }
+rest-setting d (patterns text) =
+    record {
+      singles = record { status = refl; made = refl; last-issued = refl; enable = refl; lockout = refl; remote = refl; allowed = refl };
+      exchanges = record { size = refl; each = λ i l. refl };
+      sensings = record { size = refl; each = λ j q. refl };
       connections = record { size = refl; each = λ x l. refl };
     }
 
@@ -323,8 +331,8 @@ module _ (d : Server) (c : ℕ) (real : c ≡ noConnection → ⊥) where
 
 -- a message that acted, of a session: of the single fields the flags alone, by type 10
 module _ (d : Server) (a : Action) (q0 : eqb (kindOf a) 0 ≡ false) where
-  no-singles : eqb (kindOf a) 10 ≡ false → Singles d (message-acted a) (d .rest .status) (d .rest .made) (d .rest .lastIssued) (d .rest .remoteLocal)
-  no-singles q = record { status = refl; made = refl; last-issued = rw q0; enable = rw q; lockout = rw q; remote = rw q }
+  no-singles : eqb (kindOf a) 10 ≡ false → Singles d (message-acted a) (d .rest .status) (d .rest .made) (d .rest .lastIssued) (d .rest .remoteLocal) (d .rest .allowed)
+  no-singles q = record { status = refl; made = refl; last-issued = rw q0; enable = rw q; lockout = rw q; remote = rw q; allowed = refl }
 
   -- one that changes its session's exchange
   pub rest-touched : eqb (kindOf a) 17 ≡ false → eqb (kindOf a) 10 ≡ false → (y : Exchange) → y ≡ (exchangeRow (d .rest .made .prefersOverlap)) .by-message a (exchangeAt (d .rest) (slotOf d (a .connection)))
@@ -382,6 +390,7 @@ rest-flags d a e l =
             enable = rw e (ap (λ (x : RemoteLocal). x .enable) f);
             lockout = rw e (ap (λ (x : RemoteLocal). x .lockout) f);
             remote = rw e (ap (λ (x : RemoteLocal). x .remote) f);
+            allowed = refl;
           };
       exchanges = row-kept freshExchange (exchangeRow (d .rest .made .prefersOverlap)) (d .locks .entries) (d .rest .exchanges) a (λ x. rw e);
       sensings = record { size = refl; each = λ i l. refl };
@@ -392,7 +401,7 @@ rest-flags d a e l =
 pub rest-enter : (d : Server) (a : Action) → kindOf a ≡ 0 → RestPart d (message-acted a) (withSession (d .rest) (slotOfNumber (d .locks .entries) 0) (a .session))
 rest-enter d a e =
     record {
-      singles = record { status = refl; made = refl; last-issued = rw e; enable = rw e; lockout = rw e; remote = rw e };
+      singles = record { status = refl; made = refl; last-issued = rw e; enable = rw e; lockout = rw e; remote = rw e; allowed = refl };
       exchanges = row-message freshExchange (exchangeRow (d .rest .made .prefersOverlap)) (d .locks .entries) (d .rest .exchanges) a (slotOfNumber (d .locks .entries) 0) (openExchange (d .rest .made .prefersOverlap)) (rw e) (rw e);
       sensings = record { size = refl; each = λ i l. refl };
       connections = record { size = refl; each = λ x l. refl };

@@ -90,6 +90,7 @@ module _ (d : Server) (h : Happening) (r r′ : Result) (a : Local d h r) (b : L
           made = (a .made ∙ sym (b .made)) j;
           status = (a .status ∙ sym (b .status)) j;
           remoteLocal = record { enable = (a .enable ∙ sym (b .enable)) j; lockout = (a .lockout ∙ sym (b .lockout)) j; remote = (a .remote ∙ sym (b .remote)) j };
+          allowed = (a .allowed ∙ sym (b .allowed)) j;
         };
       }
 

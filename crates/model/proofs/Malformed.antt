@@ -16,7 +16,7 @@ use Rattle.model.specs.Scan.{Scan}
 use Rattle.model.specs.Place.{slotOf, Role, Role.r-synchronous, Role.r-asynchronous, roleOf}
 use Rattle.model.specs.Locks.{access, change}
 use Rattle.model.specs.Checks
-use Rattle.model.specs.Checks.{Verdict.v-acts, Verdict.v-error, first, judged}
+use Rattle.model.specs.Checks.{Verdict, Verdict.v-acts, Verdict.v-error, first, judged}
 use Rattle.model.specs.Refusals.{refusal}
 use Rattle.model.specs.Step.{Result, effect, finish}
 use Rattle.model.specs.Access.{WholeMessage}
@@ -33,6 +33,10 @@ stages : (k l : Bool) → ((not k && not l) || false) ≡ false → cond k (v-er
 stages true l e = refl
 stages false true e = refl
 stages false false e = absurd (true≢false e)
+
+before-list : (k : Bool) (x : Verdict) → ((not k && true) || false) ≡ false → cond k (v-error 2) x ≡ v-error (cond (not k || false) 0 2)
+before-list true x e = refl
+before-list false x e = absurd (true≢false e)
 
 exact : (l : Bool) → (l || false) ≡ false → cond (not l) (v-error 0) v-acts ≡ v-error 0
 exact true e = absurd (true≢false e)
@@ -57,7 +61,7 @@ module _ (d : Server) (i : ℕ) (p : List ℕ) (h : Header) where
       let m : eqb (h .param) ((exchangeAt (d .rest) i) .numberExpected) ≡ true = eq-eqb _ _ m in
       each-of (Errs commandForms) (map (λ f. f .kind) commandForms)
       ((λ e. rw (n, a, m, limit 1 (h .code)) (stages (ltb 1 (h .code)) false (rw (limit 1 (h .code)) at e)))
-      also (λ e. rw (n, a, m, limit 1 (h .code)) (stages (ltb 1 (h .code)) false (rw (limit 1 (h .code)) at e)))
+      also (λ e. rw (n, a, m, limit 1 (h .code)) (before-list (ltb 1 (h .code)) _ (rw (limit 1 (h .code)) at e)))
       also (λ e. rw (n, a, m, limit 1 (h .code)) (stages (ltb 1 (h .code)) (ltb 0 (h .len)) (rw (limit 1 (h .code), none (h .len)) at e)))
       also tt)
 

@@ -1,14 +1,14 @@
 -- Only whole messages are taken, proved: by what the bytes show, then by the verdict.
 use mathlib.Core.Path.{_≡_, refl, sym, ap, subst, _∙_}
-use mathlib.Core.Bool.{Bool, true, false, cond, false≢true, true≢false}
+use mathlib.Core.Bool.{Bool, true, false, _||_, cond, false≢true, true≢false}
 use mathlib.Core.List.{List, [], _∷_, _++_, map}
 use mathlib.Core.Logic.{_⊎_, inl, inr}
-use Prim.Native.Nat.{ℕ, zero, suc, _+_, _-_, _≤_}
+use Prim.Native.Nat.{ℕ, zero, suc, _+_, _-_, _≤_, _<_}
 use native.Mathlib.Omega.{arith}
 use lib.Dec.{eqb, ltb}
 use lib.ListN.{length, take, getD, replicate}
 use lib.Seq.{length-take-le}
-use borrow.Author.Tests.{ltb-true, lt-ltb, le-ltb}
+use borrow.Author.Tests.{eqb-true, ltb-true, lt-ltb, le-ltb}
 use Rattle.wire.specs.declared.Header.{Header}
 use Rattle.wire.specs.Field.{Bytes}
 use Rattle.wire.specs.Message.{Message, header, headerBytes, encode, Decoded, decode}
@@ -141,6 +141,13 @@ module _ (d : Server) (c : ℕ) (bs : List ℕ) (b : Bytes bs) where
         let n : h .len ≤ payloadLimit = subst (λ (k : ℕ). k ≤ payloadLimit) (ap (λ (z : Header). z .len) (w .head)) (w .within) in
         ap (λ (z : Header). cond (ltb payloadLimit (z .len)) (z .len) 0) g ∙ ap (λ (z : Bool). cond z (h .len) 0) (le-ltb payloadLimit (h .len) n)
 
+    error-code : (n : ℕ) → ofMessage (v-error n) ≡ true → (n < 4) ⊎ (n ≡ 128)
+    error-code n e = go (ltb n 4) refl e
+      where
+        go : (b : Bool) → ltb n 4 ≡ b → (b || eqb n 128) ≡ true → (n < 4) ⊎ (n ≡ 128)
+        go true q e = inl (ltb-true n 4 q)
+        go false q e = inr (eqb-true n 128 e)
+
     by-verdict : (v : Verdict) (r : Role) (h : Header) (p : List ℕ) → scan q bs ≡ Scan.whole h p → ofMessage v ≡ true
         → omits ((effect v (Scan.whole h p) r d i c) .reply) ≡ false → Here (effect v (Scan.whole h p) r d i c)
     unfolding effect finish change
@@ -150,7 +157,7 @@ module _ (d : Server) (c : ℕ) (bs : List ℕ) (b : Bytes bs) where
     by-verdict v-ignored r h p e m o = record { shows = (none-owed (Scan.whole h p) e refl, message-shown h p e); tracks = tracks-same (d .rest) owed t (d .rest) _ refl (no-change c owed) }
     by-verdict (v-error n) r h p e m o =
         record {
-          shows = (none-owed (Scan.whole h p) e refl, inl record { shown = message-shown h p e; code = n; below = ltb-true n 4 m; sent = refl });
+          shows = (none-owed (Scan.whole h p) e refl, inl record { shown = message-shown h p e; code = n; permitted = error-code n m; sent = refl });
           tracks = tracks-store (d .rest) owed t c 0 _ (sym (nothing-left h p e) ∙ here c _ _) (λ j f. elsewhere c _ (owed j) j f);
         }
     by-verdict (v-fatal n) r h p e m o =

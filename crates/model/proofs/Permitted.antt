@@ -11,12 +11,13 @@ use borrow.Author.Tests.{eqb-false, eq-eqb, ne-eqb, le-ltb}
 use Rattle.wire.specs.declared.Header.{Header}
 use Rattle.wire.specs.Message.{header, payloadOf}
 use Rattle.model.specs.Sizes.{payloadLimit, noConnection, sessionLimit}
-use Rattle.model.specs.MessageTypes.{Initialize}
+use Rattle.model.specs.MessageTypes.{Initialize, DataEND}
 use Rattle.model.specs.Lists.{all, tally}
 use Rattle.model.specs.State.{Entry, blank, at, live, halfOpen, slotOfNumber, Server, connectionAt, fresh, Making}
 use Rattle.model.specs.Interface.{Event, Event.delivery, Outcome.acted, Reply.took}
 use Rattle.model.specs.Scan.{Scan, freshScan, scan}
 use Rattle.model.specs.Place.{onConnection, slotOf, entryOf, Role, Role.r-none, Role.r-halfOpen, Role.r-synchronous, Role.r-asynchronous, roleBy, roleIn, roleOf}
+use Rattle.model.specs.Allowing.{admits-is}
 use Rattle.model.specs.Locks.{issued}
 use Rattle.model.specs.Checks.{Verdict.v-acts, verdict, judged}
 use Rattle.model.specs.Acts
@@ -25,7 +26,7 @@ use Rattle.model.specs.Step.{Result, effect, received, plan, answered, f
 use Rattle.model.specs.Access.{WholeMessage}
 use Rattle.model.specs.SessionId.{FirstFree, inUse, onward, lastInLog}
 use Rattle.model.specs.Permitted
-use Rattle.model.specs.Permitted.{permits, initializeForms, asyncInitializeForms, OnAsynchronous, WithoutRole, Permitted, ActsExactly, PermittedActs}
+use Rattle.model.specs.Permitted.{permits, clearForms, asynchronousForms, initializeForms, asyncInitializeForms, OnAsynchronous, WithoutRole, Permitted, ActsExactly, PermittedActs}
 use Rattle.model.proofs.Basics.{and-l, and-r, both, isn't}
 use Rattle.model.proofs.Place.{place-sound, place-role, no-role}
 use Rattle.model.proofs.Invariant.{Firm}
@@ -36,7 +37,7 @@ use Rattle.model.proofs.Replies.{acting}
 use Rattle.model.proofs.Access.{whole-read, sync-role, role-sync}
 use Rattle.model.proofs.SessionId.{session-ids}
 use Rattle.model.proofs.Deciding.{async-own}
-use Rattle.model.proofs.Forms.{form-of, command-passes, clear-passes, sync-permitted, async-passes, async-permitted, initialize-passes, join-passes, opening-permitted, Synchronous, Opens, Joins}
+use Rattle.model.proofs.Forms.{_also_, form-of, command-passes, clear-passes, sync-permitted, async-passes, async-permitted, initialize-passes, join-passes, opening-permitted, Synchronous, Opens, Joins}
 
 -- a whole message is scanned as one
 read-whole : (r : ℕ) (bs : List ℕ) → WholeMessage r bs → scan r bs ≡ Scan.whole (header bs) (payloadOf (header bs) bs)
@@ -70,6 +71,22 @@ module _ (d : Server) (c : ℕ) where
       go : (onConnection c (entryOf d c) ≡ true) ⊎ (entryOf d c ≡ blank) → roleIn c (entryOf d c) ≡ r-none
       go (inl h) = absurd (w .no-session (slotOf d c) h)
       go (inr h) = ap (roleIn c) h
+
+-- of these forms none is a DataEND's
+no-clear : (h : Header) → permits clearForms h ≡ true → h .kind ≡ DataEND → ⊥
+no-clear = form-of (λ h. h .kind ≡ DataEND → ⊥) clearForms ((λ h t k l e. omega (arith, t, e)), tt)
+
+no-async : (h : Header) → permits asynchronousForms h ≡ true → h .kind ≡ DataEND → ⊥
+no-async =
+    form-of (λ h. h .kind ≡ DataEND → ⊥) asynchronousForms
+    ((λ h t k l e. omega (arith, t, e))
+    also (λ h t k l e. omega (arith, t, e))
+    also (λ h t k l e. omega (arith, t, e))
+    also (λ h t k l e. omega (arith, t, e))
+    also (λ h t k l e. omega (arith, t, e))
+    also (λ h t k l e. omega (arith, t, e))
+    also (λ h t k l e. omega (arith, t, e))
+    also tt)
 
 -- live sessions counted
 module _ (p : Entry → Bool) where
@@ -165,9 +182,9 @@ module _ (d : Server) (c : ℕ) (bs : List ℕ) (room : ℕ) where
 
     acts : (n : ℕ) → refusal d (delivery c bs room) ≡ 0 → Permitted d last c bs n → Acted n
     unfolding finish Acts.acts
-    acts n z (Permitted.established fs w (Permitted.commands s q a m) f) = ap (λ (x : Result). x .reply) (whole-does z w r-synchronous (role-sync d c s) (command-passes d (slotOf d c) p q a (header bs) m f))
-    acts n z (Permitted.established fs w (Permitted.clear-complete s q) f) = ap (λ (x : Result). x .reply) (whole-does z w r-synchronous (role-sync d c s) (clear-passes d (slotOf d c) p q (header bs) f))
-    acts n z (Permitted.established fs w (Permitted.on-asynchronous s) f) = ap (λ (x : Result). x .reply) (whole-does z w r-asynchronous (role-async d c s) (async-passes p (header bs) f))
+    acts n z (Permitted.established fs w (Permitted.commands s q a m) f l) = ap (λ (x : Result). x .reply) (whole-does z w r-synchronous (role-sync d c s) (command-passes d (slotOf d c) p q a (header bs) m f (λ t. admits-is (d .rest .allowed) p .1 (l t))))
+    acts n z (Permitted.established fs w (Permitted.clear-complete s q) f l) = ap (λ (x : Result). x .reply) (whole-does z w r-synchronous (role-sync d c s) (clear-passes d (slotOf d c) p q (header bs) f))
+    acts n z (Permitted.established fs w (Permitted.on-asynchronous s) f l) = ap (λ (x : Result). x .reply) (whole-does z w r-asynchronous (role-async d c s) (async-passes p (header bs) f))
     acts n z (Permitted.initialize m w o f s l x) =
         let free : all live (d .locks .entries) ≡ false = isn't _ (λ a. omega (arith, all-count live (d .locks .entries) a, firm .slots)) in
         let r = opens-as f (whole-does z w r-none (role-none d c o) (initialize-passes d p s free (header bs) f)) in
@@ -205,9 +222,9 @@ module _ (d : Server) (c : ℕ) (bs : List ℕ) (room : ℕ) where
     by-role r-synchronous k n w er q e f = same-reply k n _ e (go (sync-permitted d (slotOf d c) p (header bs) q))
       where
         go : Synchronous d (slotOf d c) p (header bs) → Permitted d last c bs ((entryOf d c) .number)
-        go (inl x) = Permitted.established _ w (Permitted.commands (sync-role d c er) (x .0) (x .1) (x .2)) (x .3)
-        go (inr x) = Permitted.established _ w (Permitted.clear-complete (sync-role d c er) (x .0)) (x .1)
-    by-role r-asynchronous k n w er q e f = same-reply k n _ e (Permitted.established _ w (Permitted.on-asynchronous (async-role d c er)) (async-permitted p (header bs) q))
+        go (inl x) = Permitted.established _ w (Permitted.commands (sync-role d c er) (x .0) (x .1) (x .2)) (x .3) (λ t. admits-is (d .rest .allowed) p .0 (x .4 t))
+        go (inr x) = Permitted.established _ w (Permitted.clear-complete (sync-role d c er) (x .0)) (x .1) (λ t. absurd (no-clear (header bs) (x .1) t))
+    by-role r-asynchronous k n w er q e f = same-reply k n _ e (Permitted.established _ w (Permitted.on-asynchronous (async-role d c er)) (async-permitted p (header bs) q) (λ t. absurd (no-async (header bs) (async-permitted p (header bs) q) t)))
 
     pub acts-exactly : ActsExactly d last c bs room
     unfolding finish

@@ -6,7 +6,7 @@ use Prim.Native.Nat.{ℕ, zero, suc, _+_, _*_, _/_, _^_, _≤_, _<_, min, _%_}
 use native.Mathlib.Omega.{arith}
 use lib.Dec.{eqb, leb, ltb, lit<}
 use lib.ListN.{getD, length, take, drop, length-take, length-drop, set}
-use borrow.Author.Tests.{ltb-true, ltb-false, lt-ltb, leb-true, leb-false, eq-eqb}
+use borrow.Author.Tests.{eqb-true, ltb-true, ltb-false, lt-ltb, leb-true, leb-false, eq-eqb}
 use Rattle.wire.specs.declared.Header.{Header}
 use Rattle.wire.specs.Field.{Bytes, length-field, number-bound}
 use Rattle.wire.specs.Message.{Fits, header}
@@ -295,6 +295,13 @@ module _ (d : Server) (g : InRange d) (c : ℕ) (small : c < 256) where
   closing-fits : RestFits (closing d c)
   closing-fits = record { asked = all-set exchangeFits (d .rest .exchanges) _ freshExchange refl (g .rest .asked); vendor = g .rest .vendor; status = g .rest .status }
 
+  error-code : (n : ℕ) → coded (v-error n) ≡ true → n < 256
+  error-code n e = go (ltb n 5) refl e
+    where
+      go : (b : Bool) → ltb n 5 ≡ b → (b || eqb n 128) ≡ true → n < 256
+      go true q e = omega (arith, ltb-true n 5 q)
+      go false q e = omega (arith, eqb-true n 128 e)
+
   effect-fits : (v : Verdict) (s : Scan) (r : Role) (i : ℕ) → coded v ≡ true → Parameter s → PlanFits (effect v s r d i c)
   unfolding effect
   effect-fits v-more s r i e q = record { first = tt; said = tt; rest = g .rest; brings = tt }
@@ -302,7 +309,7 @@ module _ (d : Server) (g : InRange d) (c : ℕ) (small : c < 256) where
   effect-fits v-skipped s r i e q = record { first = tt; said = tt; rest = record { asked = g .rest .asked; vendor = g .rest .vendor; status = g .rest .status }; brings = tt }
   effect-fits v-ignored s r i e q = record { first = tt; said = tt; rest = g .rest; brings = tt }
   effect-fits (v-error n) s r i e q =
-      record { first = tt; said = one 3 n 0 (lit< tt) (let l = ltb-true n 5 e in omega arith) (lit< tt); rest = record { asked = all-set exchangeFits (d .rest .exchanges) i _ (own-exchange i) (g .rest .asked); vendor = g .rest .vendor; status = g .rest .status }; brings = tt }
+      record { first = tt; said = one 3 n 0 (lit< tt) (error-code n e) (lit< tt); rest = record { asked = all-set exchangeFits (d .rest .exchanges) i _ (own-exchange i) (g .rest .asked); vendor = g .rest .vendor; status = g .rest .status }; brings = tt }
   effect-fits (v-fatal n) s r i e q =
       let x = entryOf d c in
       record { first = tt; said = fatal-fits n (live x) (eqb (x .asynchronous) noConnection) x (let l = ltb-true n 5 e in omega arith) (all-at reachable (d .locks .entries) (slotOf d c) refl (g .entries)); rest = closing-fits; brings = tt }

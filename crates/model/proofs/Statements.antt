@@ -12,6 +12,8 @@ use Rattle.model.proofs.Sending.{sending}
 use Rattle.model.proofs.GrantingRule.{may-exclusive, exclusive-may, may-shared, shared-may}
 use Rattle.model.proofs.Access.{accessed}
 use Rattle.model.proofs.InStep.{out, in-steps}
+use Rattle.model.proofs.AllowedOnly.{allowed-only, only-128}
+use Rattle.model.proofs.Listing.{tells-bad, allowed-run}
 use Rattle.model.proofs.Canonical.{canonical-history}
 use Rattle.model.proofs.FixedPoint.{fixed-point}
 use Rattle.model.proofs.OnlyWhole.{taken-whole}
@@ -56,6 +58,10 @@ statements =
         access = accessed;
         out-of-step = out;
         in-step = in-steps;
+        allowed-only = allowed-only;
+        only-128 = only-128;
+        allowed-run = allowed-run;
+        tells-bad = tells-bad;
         standing = stands-on;
         missing = λ d c bs room. tells-missing d c room bs;
       };

@@ -14,7 +14,7 @@ use Rattle.readings.specs.Request.{requestCode}
 use Rattle.model.specs.Sizes.{sessionLimit}
 use Rattle.model.specs.Lists.{all, keep}
 use Rattle.model.specs.State.{Server, Entry, Sensing, at, live, slotOfNumber, freshSensing, sensingAt, exchangeAt, fresh, Making}
-use Rattle.model.specs.Interface.{Event, Event.opening, Event.delivery, Event.cut, Event.clock, Event.answer, Event.status, Event.setting, Setting, Setting.watch, Outcome, Outcome.more-needed, Outcome.skipped, Outcome.held, Outcome.ignored, Outcome.error-sent, Outcome.closed, Outcome.acted, Reply, Reply.refused, Reply.done, Reply.withheld, Reply.took}
+use Rattle.model.specs.Interface.{Event, Event.opening, Event.delivery, Event.cut, Event.clock, Event.answer, Event.status, Event.setting, Setting, Setting.watch, Setting.patterns, Outcome, Outcome.more-needed, Outcome.skipped, Outcome.held, Outcome.ignored, Outcome.error-sent, Outcome.closed, Outcome.acted, Reply, Reply.refused, Reply.done, Reply.withheld, Reply.took}
 use Rattle.model.specs.Place.{slotIn}
 use Rattle.model.specs.Refusals.{causes, refusal}
 use Rattle.model.specs.Step.{Result, answered, step, final, log}
@@ -48,6 +48,7 @@ ForLive d (message-acted a) = Unit {0}
 ForLive d (clock-read t) = Unit {0}
 ForLive d (status-set b) = Unit {0}
 ForLive d (setting-made (watch n l)) = isLive d n
+ForLive d (setting-made (patterns text)) = Unit {0}
 ForLive d (answer-sent n p end) = isLive d n
 ForLive d (answer-withheld n m) = Unit {0}
 
@@ -92,6 +93,7 @@ for-live d (clock t room) done fs q = tt
 for-live d (answer m x end sh room) done fs q = not-off _ ((uncaused (causes d (answer m x end sh room)) refl (accepted d (answer m x end sh room) q)) .1 .0)
 for-live d (status b) done fs q = tt
 for-live d (setting (watch n l)) done fs q = not-off _ ((uncaused (causes d (setting (watch n l))) refl (accepted d (setting (watch n l)) q)) .0)
+for-live d (setting (patterns text)) done fs q = tt
 
 -- of each live slot; a free one has nothing
 record Reads (d : Server) (f : ℕ → Sensing) : Type 0 where
@@ -232,6 +234,7 @@ module _ (d : Server) (f : ℕ → Sensing) (g : Reads d f) (r : Result) where
   call-at (setting-made (watch m w)) l k v i q =
       let t = table (setting-made (watch m w)) l i q in
       changed-at m v (setting-made (watch m w)) (λ y. record { watch = w; tripped = false; recorded = y .recorded }) (λ n y. refl) i q (t .0) (t .1)
+  call-at (setting-made (patterns text)) l k v i q = let t = table (setting-made (patterns text)) l i q in kept (setting-made (patterns text)) i q (t .0) (t .1) (λ n. refl)
   call-at (answer-sent m p end) l k v i q =
       let t = table (answer-sent m p end) l i q in
       changed-at m v (answer-sent m p end) (toldBy p) (λ n y. refl) i q (both-same (eqb i (slotOfNumber es m)) _ _ (t .0)) (t .1)

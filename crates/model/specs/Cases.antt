@@ -15,7 +15,7 @@ use Rattle.readings.specs.Block.{blockOf}
 use Rattle.model.specs.Sizes.{stringLimit, outputMinimum, lastSessionId}
 use Rattle.model.specs.Lists.{isNil, same, all, any, keep}
 use Rattle.model.specs.State.{Server, Entry, at, fresh}
-use Rattle.model.specs.Interface.{Event, Event.opening, Event.delivery, Event.cut, Event.clock, Event.answer, Event.status, Event.setting, Setting.watch, Outcome.more-needed, Outcome.skipped, Outcome.held, Outcome.ignored, Outcome.error-sent, Outcome.closed, Outcome.acted, Reply, Reply.refused, Reply.done, Reply.withheld, Reply.took}
+use Rattle.model.specs.Interface.{Event, Event.opening, Event.delivery, Event.cut, Event.clock, Event.answer, Event.status, Event.setting, Setting.watch, Setting.patterns, Outcome.more-needed, Outcome.skipped, Outcome.held, Outcome.ignored, Outcome.error-sent, Outcome.closed, Outcome.acted, Reply, Reply.refused, Reply.done, Reply.withheld, Reply.took}
 use Rattle.model.specs.Scan.{freshScan, scan}
 use Rattle.model.specs.Place.{placeOf}
 use Rattle.model.specs.Locks.{mayGrant, access, elsewhere, opened, joined, withLocks, passOver, grantPass, change}
@@ -104,7 +104,7 @@ withLast n b =
     let d = final (fresh benchMaking) b in
     record {
       locks = d .locks;
-      rest = record { exchanges = d .rest .exchanges; sensings = d .rest .sensings; connections = d .rest .connections; lastIssued = n; made = d .rest .made; status = d .rest .status; remoteLocal = d .rest .remoteLocal };
+      rest = record { exchanges = d .rest .exchanges; sensings = d .rest .sensings; connections = d .rest .connections; lastIssued = n; made = d .rest .made; status = d .rest .status; remoteLocal = d .rest .remoteLocal; allowed = d .rest .allowed };
     }
 
 pub number-cases : List Case
@@ -217,6 +217,7 @@ shapes (clock t room ∷ es) = 4 ∷ t ∷ shapes es
 shapes (answer n p end sh room ∷ es) = 5 ∷ n ∷ shapes es
 shapes (status b ∷ es) = 6 ∷ b ∷ shapes es
 shapes (setting (watch n l) ∷ es) = 7 ∷ n ∷ shapes es
+shapes (setting (patterns text) ∷ es) = 8 ∷ length text ∷ shapes es
 
 pub fixed-case : Bool
 fixed-case =

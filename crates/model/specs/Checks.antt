@@ -6,8 +6,9 @@ use lib.Dec.{eqb, ltb}
 use Rattle.wire.specs.declared.Header.{Header}
 use Rattle.wire.specs.Class.{Class, Class.acted-on, Class.vendor, Class.unrecognised, classOf, synchronous, asynchronous, one-of}
 use Rattle.model.specs.Lists.{isNil, same, all}
-use Rattle.model.specs.MessageTypes.{Initialize, FatalError, Error, AsyncLock, DeviceClearComplete, AsyncRemoteLocalControl, Trigger, AsyncMaximumMessageSize, AsyncInitialize, AsyncDeviceClear, AsyncStatusQuery, AsyncLockInfo, commands}
+use Rattle.model.specs.MessageTypes.{Initialize, FatalError, Error, AsyncLock, DataEND, DeviceClearComplete, AsyncRemoteLocalControl, Trigger, AsyncMaximumMessageSize, AsyncInitialize, AsyncDeviceClear, AsyncStatusQuery, AsyncLockInfo, commands}
 use Rattle.model.specs.State.{Server, at, live, halfOpen, slotOfNumber, exchangeAt}
+use Rattle.model.specs.Allowing.{admits}
 use Rattle.model.specs.Scan.{Scan, Scan.empty, Scan.few, Scan.wrong, Scan.skipping, Scan.long, Scan.part, Scan.whole}
 use Rattle.model.specs.Place.{Role, Role.r-none, Role.r-halfOpen, Role.r-synchronous, Role.r-asynchronous}
 use Rattle.model.specs.Locks.{access}
@@ -83,6 +84,8 @@ synchronousRules d i h p =
     ∷ record { test = either DeviceClearComplete Trigger t && ltb 0 (h .len); then = v-error 0 }
     -- DeviceClearComplete outside a clear
     ∷ record { test = eqb t DeviceClearComplete && not clearing; then = v-error 0 }
+    -- 02, Q-12, "after the code check": "With a list set, a DataEND whose payload, up to its first space, newline or end, matches no pattern"
+    ∷ record { test = eqb t DataEND && not (admits (d .rest .allowed) p); then = v-error 128 }
     ∷ []
 
 -- the asynchronous channel

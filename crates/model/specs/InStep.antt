@@ -21,8 +21,8 @@ use Rattle.model.specs.Place.{slotOf, entryOf}
 use Rattle.model.specs.Refusals.{refusal}
 use Rattle.model.specs.Step.{Line, step, final, log}
 use Rattle.model.specs.Access.{Command, accessOf}
-use Rattle.model.specs.Permitted.{commandForms, permits}
-use Rattle.model.specs.Happening.{Happening, Happening.unmoved, Happening.connected, Happening.disconnected, Happening.skipped-over, Happening.errored, Happening.message-acted, Happening.clock-read, Happening.status-set, Happening.setting-made, Happening.answer-sent, Happening.answer-withheld, happened}
+use Rattle.model.specs.Permitted.{commandForms, permits, ListAllows}
+use Rattle.model.specs.Happening.{Happening, Happening.unmoved, Happening.connected, Happening.disconnected, Happening.skipped-over, Happening.errored, Happening.message-acted, Happening.clock-read, Happening.status-set, Happening.answer-sent, Happening.answer-withheld, happened, Happening.setting-made}
 
 -- what the taken messages say of a session: its synchronous connection, whether it is in a device clear, and the numbers of its Data, DataEND
 -- and Trigger messages since it opened or was last cleared, the last one first
@@ -128,9 +128,9 @@ pub record InStep (v : Making) (es : List Event) : Type 0 where
   -- "must carry the number expected": one that acts does
   pub acts : (c : ℕ) (bs : List ℕ) (room k n : ℕ) → (step (final (fresh v) es) (delivery c bs room)) .reply ≡ took acted k n → one-of commands ((header bs) .kind) ≡ true
       → ((numbering v es n) .connection ≡ c) × ((numbering v es n) .inClear ≡ false) × ((header bs) .param ≡ expected ((numbering v es n) .taken))
-  -- a client that has counted expects what the server does; what it sends next in good form acts, if it has access
+  -- a client that has counted expects what the server does; what it sends next in good form acts, if it has access (02, Q-12: and the list allows it)
   pub goes-on : (c : ℕ) (bs : List ℕ) (room k : ℕ) → refusal (final (fresh v) es) (delivery c bs room) ≡ 0 → Command (final (fresh v) es) c bs → accessOf (final (fresh v) es) c ≡ true
-      → permits commandForms (header bs) ≡ true → (numbering v es ((entryOf (final (fresh v) es) c) .number)) .taken ≡ countUp k → (header bs) .param ≡ nth k
+      → permits commandForms (header bs) ≡ true → ListAllows (final (fresh v) es) bs → (numbering v es ((entryOf (final (fresh v) es) c) .number)) .taken ≡ countUp k → (header bs) .param ≡ nth k
       → (step (final (fresh v) es) (delivery c bs room)) .reply ≡ took acted (16 + (header bs) .len) ((entryOf (final (fresh v) es) c) .number)
   -- and it never meets this Error 0
   pub never : (n : ℕ) → Counts (log (fresh v) es) n (opened noConnection) → NeverOut (log (fresh v) es) n (opened noConnection)

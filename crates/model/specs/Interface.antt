@@ -9,8 +9,10 @@ use Rattle.readings.specs.Watch.{Limits}
 pub data Setting : Type 0 where
   -- 02, Q-11: the watch of a session: its number, and the watch by its limits' bits
   watch : ℕ → Limits → Setting
+  -- 02, Q-12: the list of allowed commands, as a text: a pattern a line
+  patterns : List ℕ → Setting
 
--- 01: six events; 02 adds what the host sets (Q-11: "Setting a watch is an event for demand 3"). ROOM is the length of the lent output buffer
+-- 01: six events; 02 adds what the host sets (Q-11: "Setting a watch is an event for demand 3"; Q-12: so is setting a list). ROOM is the length of the lent output buffer
 pub data Event : Type 0 where
   -- a connection opens
   opening : ℕ → Event
@@ -84,6 +86,14 @@ noSuchSession = 8
 -- 02, Q-11: a limit that is not a number, or low above high
 abbrev pub badLimits : ℕ
 badLimits = 10
+
+-- 02, Q-12: the first bad pattern of a list
+abbrev pub badPattern : ℕ
+badPattern = 11
+
+-- a list of more than 32 patterns
+abbrev pub tooManyPatterns : ℕ
+tooManyPatterns = 12
 
 -- what hislip_deliver returns, from the reply, the bytes written and the bytes missing (specs/Missing.antt): on a refusal every other
 -- number is 0

@@ -2,6 +2,7 @@ pub mod Sizes
 pub mod MessageTypes
 pub mod Lists
 pub mod State
+pub mod Allowing
 pub mod Interface
 pub mod Scan
 pub mod Place
@@ -58,6 +59,8 @@ pub mod Outcomes
 pub mod Missing
 pub mod NextQuestion
 pub mod InStep
+pub mod AllowedOnly
+pub mod Listing
 pub mod AnsweredOnce
 pub mod Asking
 pub mod Holders

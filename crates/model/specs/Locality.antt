@@ -15,7 +15,7 @@ use Rattle.model.specs.Interface.{Event, Event.delivery, Outcome, Outcom
 use Rattle.model.specs.Step.{Line, Result, step, final, log}
 use Rattle.model.specs.Closing.{OldestFirst}
 use Rattle.model.specs.Happening.{Happening, heard, happened}
-use Rattle.model.specs.LocalityRows.{Row, inSlot, clear-row, asked-row, available-row, size-row, mode-row, count-row, sent-row, expected-row, step-row, number-row, synchronous-row, asynchronous-row, exclusive-row, shared-row, last-row, standing-row, moreGranted, granted-row, sensing-row, requestsLeft, looksAfter, open-row, remainder-row, isSilence, Single, singly, clock-row, status-row, made-row, issued-row, enable-row, lockout-row, remote-row}
+use Rattle.model.specs.LocalityRows.{Row, inSlot, clear-row, asked-row, available-row, size-row, mode-row, count-row, sent-row, expected-row, step-row, number-row, synchronous-row, asynchronous-row, exclusive-row, shared-row, last-row, standing-row, moreGranted, granted-row, requestsLeft, looksAfter, open-row, remainder-row, isSilence, Single, singly, clock-row, status-row, made-row, allowed-row, issued-row, enable-row, lockout-row, remote-row, sensing-row}
 use Rattle.model.specs.LocalityReplies.{saidFirst, direct, answeredFirst, answerTo, sessionSaid}
 
 -- what happened at a call, as the host sees it
@@ -80,6 +80,7 @@ pub record Local (d : Server) (h : Happening) (r : Result) : Type 0 where
   pub status : Once d h r (λ s. s .rest .status) status-row
   pub made : Once d h r (λ s. s .rest .made) made-row
   pub last-issued : Once d h r (λ s. s .rest .lastIssued) issued-row
+  pub allowed : Once d h r (λ s. s .rest .allowed) allowed-row
   pub enable : Once d h r (λ s. s .rest .remoteLocal .enable) enable-row
   pub lockout : Once d h r (λ s. s .rest .remoteLocal .lockout) lockout-row
   pub remote : Once d h r (λ s. s .rest .remoteLocal .remote) remote-row
@@ -149,6 +150,7 @@ pub record LocalRun (d : Server) (es : List Event) : Type 0 where
   pub status : (final d es) .rest .status ≡ overLog status-row (log d es) (d .rest .status)
   pub made : (final d es) .rest .made ≡ d .rest .made
   pub last-issued : (final d es) .rest .lastIssued ≡ overLog issued-row (log d es) (d .rest .lastIssued)
+  pub allowed : (final d es) .rest .allowed ≡ overLog allowed-row (log d es) (d .rest .allowed)
   pub enable : (final d es) .rest .remoteLocal .enable ≡ overLog enable-row (log d es) (d .rest .remoteLocal .enable)
   pub lockout : (final d es) .rest .remoteLocal .lockout ≡ overLog lockout-row (log d es) (d .rest .remoteLocal .lockout)
   pub remote : (final d es) .rest .remoteLocal .remote ≡ overLog remote-row (log d es) (d .rest .remoteLocal .remote)

@@ -13,8 +13,8 @@ use Rattle.readings.specs.Payload.{readingsOf}
 use Rattle.readings.specs.Some as Some
 use Rattle.model.specs.Sizes.{noConnection}
 use Rattle.model.specs.Lists.{isNil, keep}
-use Rattle.model.specs.State.{Making, Granted, noGrants, Entry, Waiting, Kind.exclusive-lock, Kind.shared-lock, Standing, Standing.no-release, Standing.release-of, Asked, Asked.none, Asked.some, Exchange, Sensing, at, live, slotOfNumber}
-use Rattle.model.specs.Interface.{Setting, Setting.watch}
+use Rattle.model.specs.State.{Making, Allowed, Allowed.only, Granted, noGrants, Entry, Waiting, Kind.exclusive-lock, Kind.shared-lock, Standing, Standing.no-release, Standing.release-of, Asked, Asked.none, Asked.some, Exchange, at, live, slotOfNumber, Sensing}
+use Rattle.model.specs.Interface.{Setting, Setting.watch, Setting.patterns}
 use Rattle.model.specs.Place.{slotIn}
 use Rattle.model.specs.Happening.{Heard, Heard.silence, Heard.with-code, Action, Happening, Happening.unmoved, Happening.connected, Happening.disconnected, Happening.skipped-over, Happening.errored, Happening.message-acted, Happening.clock-read, Happening.status-set, Happening.setting-made, Happening.answer-sent, Happening.answer-withheld}
 
@@ -275,6 +275,7 @@ notedAll (b ∷ bs) r = notedAll bs (noted r b)
 
 abbrev pub setBy : List Entry → ℕ → Setting → Sensing → Sensing
 setBy es i (watch n l) s = cond (eqb i (slotOfNumber es n)) (record { watch = l; tripped = false; recorded = s .recorded }) s
+setBy es i (patterns text) s = s
 
 abbrev pub sensing-row : List Entry → ℕ → Happening → Sensing → Sensing
 sensing-row es i unmoved s = s
@@ -363,11 +364,12 @@ remainder-row es x (setting-made s) r = r
 remainder-row es x (answer-sent n p end) r = r
 remainder-row es x (answer-withheld n m) r = r
 
--- SINGLE FIELDS: what a message makes of it, a clock reading, a status change; nothing else changes it
+-- SINGLE FIELDS: what a message makes of it, a clock reading, a status change, what the host sets; nothing else changes it
 pub record Single (A : Type 0) : Type 0 where
   pub on-message : Action → A → A
   pub on-clock : ℕ → A → A
   pub on-status : ℕ → A → A
+  pub on-setting : Setting → A → A
 
 abbrev pub singly : {A : Type 0} → Single A → Happening → A → A
 singly r unmoved x = x
@@ -378,23 +380,31 @@ singly r (errored c h k) x = x
 singly r (message-acted a) x = r .on-message a x
 singly r (clock-read t) x = r .on-clock t x
 singly r (status-set b) x = r .on-status b x
-singly r (setting-made s) x = x
+singly r (setting-made s) x = r .on-setting s x
 singly r (answer-sent n p end) x = x
 singly r (answer-withheld n m) x = x
 
 abbrev pub clock-row : Single ℕ
-clock-row = record { on-message = λ a x. x; on-clock = λ t x. t; on-status = λ b x. x }
+clock-row = record { on-message = λ a x. x; on-clock = λ t x. t; on-status = λ b x. x; on-setting = λ s x. x }
 
 abbrev pub status-row : Single ℕ
-status-row = record { on-message = λ a x. x; on-clock = λ t x. x; on-status = λ b x. b }
+status-row = record { on-message = λ a x. x; on-clock = λ t x. x; on-status = λ b x. b; on-setting = λ s x. x }
 
 -- how the server was made: its vendor number and the mode that the host prefers
 abbrev pub made-row : Single Making
-made-row = record { on-message = λ a x. x; on-clock = λ t x. x; on-status = λ b x. x }
+made-row = record { on-message = λ a x. x; on-clock = λ t x. x; on-status = λ b x. x; on-setting = λ s x. x }
+
+-- 02, Q-12: the allowed commands: those of the list set last
+abbrev pub listBy : Setting → Allowed → Allowed
+listBy (watch n l) x = x
+listBy (patterns text) x = only text
+
+abbrev pub allowed-row : Single Allowed
+allowed-row = record { on-message = λ a x. x; on-clock = λ t x. x; on-status = λ b x. x; on-setting = listBy }
 
 -- the SessionID issued last: Initialize (0), the number in its reply
 abbrev pub issued-row : Single ℕ
-issued-row = record { on-message = λ a x. cond (eqb (kindOf a) 0) (a .session) x; on-clock = λ t x. x; on-status = λ b x. x }
+issued-row = record { on-message = λ a x. cond (eqb (kindOf a) 0) (a .session) x; on-clock = λ t x. x; on-status = λ b x. x; on-setting = λ s x. x }
 
 -- a flag: AsyncRemoteLocalControl (10), with the codes that set it and those that clear it
 abbrev pub flag : List ℕ → List ℕ → Single Bool
@@ -403,6 +413,7 @@ flag ons offs =
       on-message = λ a b. cond (eqb (kindOf a) 10) (cond (one-of ons (a .message .code)) true (cond (one-of offs (a .message .code)) false b)) b;
       on-clock = λ t b. b;
       on-status = λ s b. b;
+      on-setting = λ s b. b;
     }
 
 -- 01: codes 0 and 2 clear all three; 1 sets enable; 3 sets enable and remote; 4 enable and lockout; 5 all; 6 clears remote

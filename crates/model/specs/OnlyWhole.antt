@@ -36,11 +36,11 @@ pub record ShowsLong (c : ℕ) (bs : List ℕ) (k : ℕ) (fs : List Frame) : Typ
   pub taken : k ≡ length bs
   pub sent : fs ≡ frameOf c Error 4 0 [] ∷ []
 
--- a whole message that is answered Error; never 4
+-- a whole message that is answered Error, 0 to 3, or 128 (02, Q-12); never 4
 pub record AnsweredError (c : ℕ) (bs : List ℕ) (k : ℕ) (fs : List Frame) : Type 0 where
   pub shown : ShowsMessage bs k
   pub code : ℕ
-  pub below : code < 4
+  pub permitted : (code < 4) ⊎ (code ≡ 128)
   pub sent : fs ≡ frameOf c Error code 0 [] ∷ []
 
 -- they are some bytes, no more than the connection owes

@@ -12,6 +12,7 @@ use Rattle.model.specs.Sizes.{sessionLimit, noConnection}
 use Rattle.model.specs.MessageTypes.{Initialize, AsyncLock, Data, DataEND, DeviceClearComplete, AsyncRemoteLocalControl, Trigger, AsyncMaximumMessageSize, AsyncInitialize, AsyncDeviceClear, AsyncStatusQuery, AsyncLockInfo}
 use Rattle.model.specs.Lists.{tally}
 use Rattle.model.specs.State.{at, live, halfOpen, Server, exchangeAt, connectionAt, fresh, Making}
+use Rattle.model.specs.Allowing.{Admits}
 use Rattle.model.specs.Interface.{Event, Event.delivery, Outcome.acted, Reply.took}
 use Rattle.model.specs.Place.{onConnection, slotOf, entryOf}
 use Rattle.model.specs.Checks.{hislip0}
@@ -94,10 +95,14 @@ pub data Takes (d : Server) (c n : ℕ) : List Form → Type 0 where
   -- 01: "Asynchronous messages are not held"
   on-asynchronous : OnAsynchronous d c → Takes d c n asynchronousForms
 
+-- 02, Q-12: "With a list set", a DataEND must be allowed by it
+abbrev pub ListAllows : Server → List ℕ → Type 0
+ListAllows d bs = (header bs) .kind ≡ DataEND → Admits (d .rest .allowed) (payloadOf (header bs) bs)
+
 -- what a delivery must show on connection c to act as a message of session n; LAST is the SessionID issued last
 pub data Permitted (d : Server) (last c : ℕ) (bs : List ℕ) : ℕ → Type 0 where
   established : (fs : List Form) → WholeMessage ((connectionAt (d .rest) c) .remainder) bs → Takes d c ((header bs) .param) fs → permits fs (header bs) ≡ true
-      → Permitted d last c bs ((entryOf d c) .number)
+      → ListAllows d bs → Permitted d last c bs ((entryOf d c) .number)
   -- Initialize: fewer than 32 live sessions, half-open ones included; n is the next SessionID
   initialize : (n : ℕ) → WholeMessage ((connectionAt (d .rest) c) .remainder) bs → WithoutRole d c → permits initializeForms (header bs) ≡ true
       → SubAddress (payloadOf (header bs) bs) → tally live (d .locks .entries) < sessionLimit → FirstFree (d .locks .entries) last n → Permitted d last c bs n

@@ -94,8 +94,13 @@ pub record Making : Type 0 where
   pub vendor : ℕ
   pub prefersOverlap : Bool
 
+-- 02, Q-12: which commands are allowed: any, while no list is set, or those of a list, kept as the host gave it: a text, a pattern a line
+pub data Allowed : Type 0 where
+  any-command : Allowed
+  only : List ℕ → Allowed
+
 -- all of the server but its locks: an exchange for each slot, a sensing for each slot, the connections by number, the SessionID issued last, how the server was
--- made, the instrument's (01: meter's) status byte, the flags
+-- made, the instrument's (01: meter's) status byte, the flags, the allowed commands
 pub record Rest : Type 0 where
   pub exchanges : List Exchange
   pub sensings : List Sensing
@@ -104,6 +109,7 @@ pub record Rest : Type 0 where
   pub made : Making
   pub status : ℕ
   pub remoteLocal : RemoteLocal
+  pub allowed : Allowed
 
 pub record Server : Type 0 where
   pub locks : Locks
@@ -162,6 +168,7 @@ fresh v =
         made = v;
         status = 0;
         remoteLocal = record { enable = false; lockout = false; remote = false };
+        allowed = any-command;
       };
     }
 
@@ -191,26 +198,29 @@ slotOfNumber es n = position (λ e. eqb (e .number) n) es
 
 -- a change of one part of the rest
 abbrev pub withConnections : Rest → List Connection → Rest
-withConnections r cs = record { exchanges = r .exchanges; sensings = r .sensings; connections = cs; lastIssued = r .lastIssued; made = r .made; status = r .status; remoteLocal = r .remoteLocal }
+withConnections r cs = record { exchanges = r .exchanges; sensings = r .sensings; connections = cs; lastIssued = r .lastIssued; made = r .made; status = r .status; remoteLocal = r .remoteLocal; allowed = r .allowed }
 
 abbrev pub withConnection : Rest → ℕ → Connection → Rest
 withConnection r c x = withConnections r (set (r .connections) c x)
 
 abbrev pub withExchange : Rest → ℕ → Exchange → Rest
-withExchange r i x = record { exchanges = set (r .exchanges) i x; sensings = r .sensings; connections = r .connections; lastIssued = r .lastIssued; made = r .made; status = r .status; remoteLocal = r .remoteLocal }
+withExchange r i x = record { exchanges = set (r .exchanges) i x; sensings = r .sensings; connections = r .connections; lastIssued = r .lastIssued; made = r .made; status = r .status; remoteLocal = r .remoteLocal; allowed = r .allowed }
 
 abbrev pub withSensings : Rest → List Sensing → Rest
-withSensings r ss = record { exchanges = r .exchanges; sensings = ss; connections = r .connections; lastIssued = r .lastIssued; made = r .made; status = r .status; remoteLocal = r .remoteLocal }
+withSensings r ss = record { exchanges = r .exchanges; sensings = ss; connections = r .connections; lastIssued = r .lastIssued; made = r .made; status = r .status; remoteLocal = r .remoteLocal; allowed = r .allowed }
 
 abbrev pub withSensing : Rest → ℕ → Sensing → Rest
 withSensing r i x = withSensings r (set (r .sensings) i x)
 
 abbrev pub withRemoteLocal : Rest → RemoteLocal → Rest
-withRemoteLocal r x = record { exchanges = r .exchanges; sensings = r .sensings; connections = r .connections; lastIssued = r .lastIssued; made = r .made; status = r .status; remoteLocal = x }
+withRemoteLocal r x = record { exchanges = r .exchanges; sensings = r .sensings; connections = r .connections; lastIssued = r .lastIssued; made = r .made; status = r .status; remoteLocal = x; allowed = r .allowed }
 
 abbrev pub withStatus : Rest → ℕ → Rest
-withStatus r b = record { exchanges = r .exchanges; sensings = r .sensings; connections = r .connections; lastIssued = r .lastIssued; made = r .made; status = b; remoteLocal = r .remoteLocal }
+withStatus r b = record { exchanges = r .exchanges; sensings = r .sensings; connections = r .connections; lastIssued = r .lastIssued; made = r .made; status = b; remoteLocal = r .remoteLocal; allowed = r .allowed }
+
+abbrev pub withAllowed : Rest → Allowed → Rest
+withAllowed r a = record { exchanges = r .exchanges; sensings = r .sensings; connections = r .connections; lastIssued = r .lastIssued; made = r .made; status = r .status; remoteLocal = r .remoteLocal; allowed = a }
 
 -- session n opens in slot i
 abbrev pub withSession : Rest → ℕ → ℕ → Rest
-withSession r i n = record { exchanges = set (r .exchanges) i (openExchange (r .made .prefersOverlap)); sensings = r .sensings; connections = r .connections; lastIssued = n; made = r .made; status = r .status; remoteLocal = r .remoteLocal }
+withSession r i n = record { exchanges = set (r .exchanges) i (openExchange (r .made .prefersOverlap)); sensings = r .sensings; connections = r .connections; lastIssued = n; made = r .made; status = r .status; remoteLocal = r .remoteLocal; allowed = r .allowed }

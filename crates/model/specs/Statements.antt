@@ -24,6 +24,8 @@ use Rattle.model.specs.Sending.{Sending}
 use Rattle.model.specs.Granting.{MayExclusive, MayShared}
 use Rattle.model.specs.Access.{Access}
 use Rattle.model.specs.InStep.{OutOfStep, InStep}
+use Rattle.model.specs.AllowedOnly.{AllowedOnly, Only128, AllowedRun}
+use Rattle.model.specs.Listing.{TellsBad}
 use Rattle.model.specs.Canonical.{Canonical}
 use Rattle.model.specs.FixedPoint.{FixedPoint}
 use Rattle.model.specs.OnlyWhole.{TakenWhole}
@@ -82,6 +84,14 @@ pub record Demand2 : Type 0 where
   -- known from the taken messages alone, and a client that counts never meets this Error 0
   pub out-of-step : (d : Server) (c : ℕ) (bs : List ℕ) (room : ℕ) → OutOfStep d c bs room
   pub in-step : (v : Making) (es : List Event) → InStep v es
+  -- 02, Q-12: with a list set a DataEND acts only if it is allowed; one that is not, and passes the checks before, gets exactly Error 128; and
+  -- nothing else is answered so
+  pub allowed-only : (d : Server) (c : ℕ) (bs : List ℕ) (room : ℕ) → AllowedOnly d c bs room
+  pub only-128 : (d : Server) (e : Event) → Only128 d e
+  -- and the list set last is known from what the host saw; a list that is refused, 12 before 11 with the first bad pattern and the place in it,
+  -- changes nothing
+  pub allowed-run : (v : Making) (es : List Event) → AllowedRun v es
+  pub tells-bad : (d : Server) (text : List ℕ) → TellsBad d text
   -- 02, Q-3: a release that is not answered at once stands until its message acts, a device clear acts or its session closes, and until
   -- then every AsyncLock of the session gets 3
   pub standing : (v : Making) (es : List Event) (j : ℕ) (k : Kind) (m : ℕ) → StandsOn (final (fresh v) es) j k m

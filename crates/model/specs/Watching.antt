@@ -10,7 +10,7 @@ use Rattle.readings.specs.Payload.{readingsOf}
 use Rattle.model.specs.MessageTypes.{AsyncServiceRequest}
 use Rattle.model.specs.Lists.{keep}
 use Rattle.model.specs.State.{Server, Sensing, at, live, freshSensing, sensingAt, fresh, Making}
-use Rattle.model.specs.Interface.{Event, Event.answer, Setting, Setting.watch, Reply.done}
+use Rattle.model.specs.Interface.{Event, Event.answer, Setting, Setting.watch, Setting.patterns, Reply.done}
 use Rattle.model.specs.Step.{Line, step, final, log, answerType}
 use Rattle.model.specs.Happening.{Action, Happening, Happening.unmoved, Happening.connected, Happening.disconnected, Happening.skipped-over, Happening.errored, Happening.message-acted, Happening.clock-read, Happening.status-set, Happening.setting-made, Happening.answer-sent, Happening.answer-withheld, happened}
 use Rattle.model.specs.LocalityRows.{kindOf, tripsBy, notedAll, status-row}
@@ -24,6 +24,7 @@ begins a n = eqb (kindOf a) 0 && eqb (a .session) n
 
 abbrev pub setFor : Setting → ℕ → Sensing → Sensing
 setFor (watch m l) n s = cond (eqb m n) (record { watch = l; tripped = false; recorded = s .recorded }) s
+setFor (patterns text) n s = s
 
 abbrev pub toldBy : List ℕ → Sensing → Sensing
 toldBy p s = record { watch = s .watch; tripped = s .tripped || tripsBy p s; recorded = notedAll (readingsOf p) (s .recorded) }

@@ -8,14 +8,14 @@ use lib.ListN.{length, take}
 use contract.Lifetimes.{Lfts}
 use borrow.Fn.Kinds.{Dens, resT, endedOf}
 use denote.Triple.Clauses.{AtExit}
+use Rattle.model.specs.Interface.{Event.opening, Event.delivery, Event.cut, Event.clock, Event.answer, Event.status, Event.setting, Setting.patterns, Reply.done, Setting.watch}
 use Rattle.readings.specs.Bits.{bits}
 use Rattle.readings.specs.Watch.{Limits.off, Limits.above, Limits.outside}
-use Rattle.model.specs.Interface.{Event.opening, Event.delivery, Event.cut, Event.clock, Event.answer, Event.status, Reply.done, Event.setting, Setting.watch}
 use Rattle.model.specs.State.{Making}
 use Rattle.model.specs.Demand3.{Seen}
 use Rattle.state.specs.View.{Memory, memory}
 use Rattle.server.specs.Events.{Fresh}
-use Rattle.server.specs.Program.{deliveryReply, doneReply, answeredReply, Run, Run.stop, Run.hislip-open as ran-open, Run.hislip-deliver as ran-deliver, Run.hislip-cut as ran-cut, Run.hislip-clock as ran-clock, Run.hislip-answer as ran-answer, Run.hislip-watch as ran-watch, Run.hislip-status as ran-status, Program}
+use Rattle.server.specs.Program.{deliveryReply, doneReply, answeredReply, listedReply, Run, Run.stop, Run.hislip-open as ran-open, Run.hislip-deliver as ran-deliver, Run.hislip-cut as ran-cut, Run.hislip-clock as ran-clock, Run.hislip-answer as ran-answer, Run.hislip-status as ran-status, Run.hislip-patterns as ran-patterns, Program, Run.hislip-watch as ran-watch}
 use Rattle.server.proofs.Program.{program}
 use Rattle.server.proofs.hislip_new.Reads as new-says
 use Rattle.server.proofs.hislip_new.Kinds as new-kinds
@@ -37,6 +37,8 @@ use Rattle.server.proofs.watches.hislip_watch_outside.Reads as watch-ou
 use Rattle.server.proofs.watches.hislip_watch_outside.Kinds as watch-outside-kinds
 use Rattle.server.proofs.hislip_status.Reads as status-says
 use Rattle.server.proofs.hislip_status.Kinds as status-kinds
+use Rattle.server.proofs.listing.hislip_patterns.Reads as patterns-says
+use Rattle.server.proofs.listing.hislip_patterns.Kinds as patterns-kinds
 
 -- memory that hislip_new wrote, for a server made as v says
 pub data Written : Making → Memory → Type 0 where
@@ -75,6 +77,9 @@ pub data Executed : Memory → List Seen → Memory → Type 0 where
   hislip-status : {m″ : Memory} {ss : List Seen} (κs : Lfts 2) (a : Dens κs status-kinds.ps) (r : resT status-kinds.r κs .Denot) (s : AtExit (endedOf 2 status-kinds.ps status-kinds.r) κs)
       → status-says.Post κs a r s → Executed (memory (s .0 .now) (s .1 .0 .now)) ss m″
       → Executed (memory (a .0 .now) (a .1 .0 .now)) (record { event = status (a .1 .1 .0); reply = done; output = [] } ∷ ss) m″
+  hislip-patterns : {m″ : Memory} {ss : List Seen} (κs : Lfts 3) (a : Dens κs patterns-kinds.ps) (r : resT patterns-kinds.r κs .Denot) (s : AtExit (endedOf 3 patterns-kinds.ps patterns-kinds.r) κs)
+      → patterns-says.Post κs a r s → Executed (memory (s .0 .now) (s .1 .0 .now)) ss m″
+      → Executed (memory (a .0 .now) (a .1 .0 .now)) (record { event = setting (patterns (a .1 .1 .0 .now)); reply = listedReply r; output = [] } ∷ ss) m″
 
 -- each contract is the premise of `Fresh` and `Run`, word for word
 fresh : {v : Making} {m : Memory} → Written v m → Fresh v m
@@ -91,6 +96,7 @@ runs (hislip-watch-off κs a r s p g) = ran-watch (a .1 .1 .0) off r p (runs g)
 runs (hislip-watch-above κs a r s p g) = ran-watch (a .1 .1 .0) (above (bits (a .1 .1 .1 .0))) r p (runs g)
 runs (hislip-watch-outside κs a r s p g) = ran-watch (a .1 .1 .0) (outside (bits (a .1 .1 .1 .0)) (bits (a .1 .1 .1 .1 .0))) r p (runs g)
 runs (hislip-status κs a r s p g) = ran-status (a .1 .1 .0) p (runs g)
+runs (hislip-patterns κs a r s p g) = ran-patterns (a .1 .1 .0 .now) r p (runs g)
 
 pub about-the-code : Program Written Executed
 about-the-code =
@@ -113,6 +119,11 @@ about-the-code =
       number-carried = λ v m m′ m″ ss s f g g′. program .number-carried v m m′ m″ ss s (fresh f) (runs g) (runs g′);
       out-of-step = λ m m′ s g. program .out-of-step m m′ s (runs g);
       in-step = λ v m m′ ss f g. program .in-step v m m′ ss (fresh f) (runs g);
+      list-read = λ v m m′ ss f g. program .list-read v m m′ ss (fresh f) (runs g);
+      allowed-only = λ v m m′ m″ ss s f g g′. program .allowed-only v m m′ m″ ss s (fresh f) (runs g) (runs g′);
+      not-allowed = λ v m m′ m″ ss s f g g′. program .not-allowed v m m′ m″ ss s (fresh f) (runs g) (runs g′);
+      only-128 = λ m m′ s g. program .only-128 m m′ s (runs g);
+      refused-same = λ m m′ s g. program .refused-same m m′ s (runs g);
       standing = λ v m m′ ss f g. program .standing v m m′ ss (fresh f) (runs g);
       isolation = λ v m m′ m″ ss rs f g j h g′. program .isolation v m m′ m″ ss rs (fresh f) (runs g) j h (runs g′);
       fewer-locks = λ m m′ n n′ a b g g′. program .fewer-locks m m′ n n′ a b (runs g) (runs g′);

@@ -10,13 +10,13 @@ use lib.ListN.{getD, length, take}
 use lib.Seq.{take-nil}
 use Rattle.wire.specs.declared.Header.{Header}
 use Rattle.wire.specs.Class.{one-of}
-use Rattle.wire.specs.Message.{header, encode, headerBytes}
+use Rattle.wire.specs.Message.{header, payloadOf, encode, headerBytes}
 use Rattle.wire.specs.Frame.{bytesOf, bytes-one, frameBytes, frameOf, Frame}
 use Rattle.model.specs.Sizes.{noConnection}
-use Rattle.model.specs.State.{Making, Server, at, exchangeAt, fresh, live, slotOfNumber, Entry, Rest, freshSensing, sensingAt}
+use Rattle.model.specs.State.{Making, Allowed, Allowed.any-command, Server, at, exchangeAt, fresh, live, slotOfNumber, Entry, Rest, freshSensing, sensingAt}
 use Rattle.wire.proofs.ReadFrames.{read-frames}
 use Rattle.model.specs.Lists.{any, tally, keep}
-use Rattle.model.specs.Interface.{Event, Event.opening, Event.delivery, Event.cut, Event.clock, Event.answer, Event.status, Outcome, Outcome.more-needed, Outcome.skipped, Outcome.held, Outcome.ignored, Outcome.error-sent, Outcome.closed, Outcome.acted, Reply, Reply.refused, Reply.done, Reply.withheld, Reply.took, outcomeNumber, DeliveryAnswer, deliveryAnswer, DoneAnswer, doneAnswer, AnsweredAnswer, answeredAnswer, Event.setting, Setting.watch}
+use Rattle.model.specs.Interface.{Event, Event.opening, Event.delivery, Event.cut, Event.clock, Event.answer, Event.status, Event.setting, Setting.patterns, Outcome, Outcome.more-needed, Outcome.skipped, Outcome.held, Outcome.ignored, Outcome.error-sent, Outcome.closed, Outcome.acted, Reply, Reply.refused, Reply.done, Reply.withheld, Reply.took, outcomeNumber, DeliveryAnswer, deliveryAnswer, DoneAnswer, doneAnswer, AnsweredAnswer, answeredAnswer, Setting.watch}
 use Rattle.model.specs.Scan.{Scan, Scan.empty, Scan.few, Scan.wrong, Scan.skipping, Scan.long, Scan.part, Scan.whole}
 use Rattle.model.specs.Place.{slotOf, Role, Role.r-none, Role.r-halfOpen, Role.r-synchronous, Role.r-asynchronous}
 use Rattle.model.specs.Checks.{Verdict, Verdict.v-more, Verdict.v-skipped, Verdict.v-held, Verdict.v-ignored, Verdict.v-closed, Verdict.v-acts, Verdict.v-error, Verdict.v-fatal}
@@ -44,10 +44,17 @@ use Rattle.model.proofs.Standing.{stands-on}
 use Rattle.model.proofs.Tied.{tie}
 use Rattle.model.proofs.NextQuestion.{next-question}
 use Rattle.model.specs.NextQuestion.{questionUnread, synchronousOf, asynchronousOf, owes}
-use Rattle.model.specs.MessageTypes.{Interrupted, AsyncInterrupted, commands, AsyncLock, AsyncLockResponse}
+use Rattle.model.specs.MessageTypes.{Error, DataEND, Interrupted, AsyncInterrupted, commands, AsyncLock, AsyncLockResponse}
 use Rattle.model.specs.Access.{Command, accessOf}
 use Rattle.model.specs.InStep.{Numbering, Knows, opened, expected, error-0, numbering}
 use Rattle.model.proofs.InStep.{in-steps, out}
+use Rattle.commands.specs.Lists.{linesOf}
+use Rattle.commands.specs.Rulings.{judged}
+use Rattle.model.specs.Allowing.{Admits}
+use Rattle.model.specs.AllowedOnly.{PassesBefore, answered-128, sends128, Refused128, listAfter, listRead, listSet, GoodList}
+use Rattle.model.specs.Listing.{ListedAnswer, listedAnswer}
+use Rattle.model.proofs.AllowedOnly as Allowing
+use Rattle.model.proofs.Listing.{allowed-run}
 use Rattle.model.specs.Possible.{AllPossible}
 use Rattle.model.specs.SentFits.{LinesFit}
 use Rattle.model.proofs.SentFits.{sent-fits}
@@ -62,7 +69,7 @@ use Rattle.model.proofs.Holders.{holders-shown}
 use Rattle.model.specs.GrantsSeen.{noneYet, grantsOf, Shows}
 use Rattle.model.proofs.GrantsSeen.{grants-seen}
 use Rattle.model.proofs.IsolationRun.{isolation-run}
-use Rattle.model.specs.Canonical.{canonical}
+use Rattle.model.specs.Canonical.{canonical, omits}
 use Rattle.model.specs.Sensing.{serviceAfter}
 use Rattle.model.specs.Watching.{isService, servedBy}
 use Rattle.model.proofs.Watching.{watches}
@@ -77,9 +84,11 @@ use Rattle.effects.specs.declared.Delivery.{Delivery}
 use Rattle.effects.specs.Did.{numbersOf}
 use Rattle.server.specs.declared.Answered.{Answered}
 use Rattle.server.specs.declared.Done.{Done}
+use Rattle.server.specs.declared.Listed.{Listed}
 use Rattle.server.specs.Calls.{Delivered}
 use Rattle.server.specs.Events.{Called, Fresh, Replied, doneNumbers, answeredNumbers}
-use Rattle.server.specs.Program.{outcomeOf, refusedOr, deliveryReply, doneReply, answeredReply, Run, Run.stop, Run.hislip-open, Run.hislip-deliver, Run.hislip-cut, Run.hislip-clock, Run.hislip-answer, Run.hislip-watch, Run.hislip-status, sensingSeen, trackIn, shownOf, Tied, takenOf, CountsIn, NeverOutIn, OnlyOf, Program, NoWorseSeen, lineSeen}
+use Rattle.server.specs.Listing.{SetsList, listedNumbers}
+use Rattle.server.specs.Program.{outcomeOf, refusedOr, deliveryReply, doneReply, answeredReply, listedReply, listIn, listShown, Run, Run.stop, Run.hislip-patterns, Run.hislip-open, Run.hislip-deliver, Run.hislip-cut, Run.hislip-clock, Run.hislip-answer, Run.hislip-status, trackIn, shownOf, Tied, takenOf, CountsIn, NeverOutIn, OnlyOf, Program, NoWorseSeen, lineSeen, Run.hislip-watch, sensingSeen}
 use Rattle.server.proofs.Numbering.{noted-seen, counts-seen, never-seen}
 use Rattle.server.proofs.Watching.{served-same, sensing-lines}
 
@@ -190,6 +199,20 @@ answer-post n x end sh room m m′ out out′ r p =
     let t = told-answer (view m) n x end sh room r (p .numbers) in
     retold (answer n x end sh room) m m′ out out′ (answeredReply r) (r .output) (t .0) (t .1) (p .post)
 
+-- a list: done, or refused; nothing is sent
+told-list : (d : Server) (text : List ℕ) (r : Listed) → listedNumbers r ≡ listedAnswer ((step d (setting (patterns text))) .reply) (judged (linesOf text))
+    → (listedReply r ≡ (step d (setting (patterns text))) .reply) × (0 ≡ length (bytesOf ((step d (setting (patterns text))) .frames)))
+unfolding step answered plan finish bytesOf Rattle.model.specs.Locks.change
+told-list d text r q = go (refusal d (setting (patterns text))) q
+  where
+    reply-of : ListedAnswer → Reply
+    reply-of a = refusedOr (a .refusal) done
+
+    go : (z : ℕ) → listedNumbers r ≡ listedAnswer ((answered z d (setting (patterns text))) .reply) (judged (linesOf text))
+        → (listedReply r ≡ (answered z d (setting (patterns text))) .reply) × (0 ≡ length (bytesOf ((answered z d (setting (patterns text))) .frames)))
+    go zero q = (ap reply-of q, refl)
+    go (suc z) q = (ap reply-of q, refl)
+
 -- a run is a list of calls
 calls : {m m′ : Memory} {ss : List Seen} → Run m ss m′ → Calls view m ss m′
 unfolding plan
@@ -209,6 +232,9 @@ calls {m = m} (hislip-watch {m′ = m′} {m″ = m″} {ss = ss} n l r p g) =
     subst (λ (o : List ℕ). Calls view m (record { event = setting (watch n l); reply = doneReply r; output = o } ∷ ss) m″) (take-nil (r .output))
     (call (setting (watch n l)) [] [] (doneReply r) (r .output) (call-post (setting (watch n l)) m m′ [] [] refl r p) (calls g))
 calls (hislip-status b p g) = call (status b) [] [] done 0 (p .0) (calls g)
+calls {m = m} (hislip-patterns {m′ = m′} text r p g) =
+    let t = told-list (view m) text r (p .numbers) in
+    call (setting (patterns text)) [] [] (listedReply r) 0 (retold (setting (patterns text)) m m′ [] [] (listedReply r) 0 (t .0) (t .1) (p .post)) (calls g)
 
 -- memory in order stays so over a run
 tidies : {m m′ : Memory} {ss : List Seen} → Run m ss m′ → Tidy m → Tidy m′
@@ -220,6 +246,7 @@ tidies (hislip-clock k out out′ r p g) t = tidies g (p .tidy t)
 tidies (hislip-answer n q end sh out out′ r p g) t = tidies g (p .tidy t)
 tidies (hislip-watch n l r p g) t = tidies g (p .tidy t)
 tidies (hislip-status b p g) t = tidies g (p .1 t)
+tidies (hislip-patterns text r p g) t = tidies g (p .tidy t)
 
 orderly : (v : Making) (m m′ : Memory) (ss : List Seen) → v .vendor < 2 ^ 16 → Fresh v m → Run m ss m′ → Tidy m′
 orderly v m m′ ss h f g =
@@ -250,6 +277,12 @@ not-refused d e q = go (refusal d e) q
     go : (k : ℕ) → (answered k d e) .reply ≡ done → k ≡ 0
     go zero q = refl
     go (suc k) q = absurd (done≢refused k q)
+
+-- the list that is set, by what the host saw and by the log
+list-seen : (ls : List Line) (a : Allowed) → listIn (map seen ls) a ≡ listRead ls a
+unfolding listRead
+list-seen [] a = refl
+list-seen (l ∷ ls) a = list-seen ls (listAfter (l .event) (l .reply) a)
 
 -- 02, Q-10: a run by the log, and the reader of what the host saw by that of the log
 module _ (v : Making) (m m′ : Memory) (ss : List Seen) (f : Fresh v m) (g : Run m ss m′) where
@@ -353,6 +386,30 @@ module _ (v : Making) (m m′ m″ : Memory) (ss : List Seen) (s : Seen) (f : Fr
       in-steps v es .acts c bs room k n (sym (ap (λ (a : Seen). a .reply) (then (delivery c bs room) x)) ∙ y) o .2
       ∙ ap (λ (a : Numbering). expected (a .taken)) (sym (took-seen v m m′ ss f g n))
 
+  -- 02, Q-12: what acts is allowed by the list that was set, and what is not gets Error 128
+  abbrev listed : Allowed
+  listed = listShown ss
+
+  list-is : listed ≡ listSet v es
+  list-is = ap listShown (by-log v m m′ ss f g) ∙ list-seen (log (fresh v) es) any-command
+
+  allowed-then : (c : ℕ) (bs : List ℕ) (room k n : ℕ) → s .event ≡ delivery c bs room → s .reply ≡ took acted k n → (header bs) .kind ≡ DataEND → Admits listed (payloadOf (header bs) bs)
+  allowed-then c bs room k n x y o =
+      subst (λ (a : Allowed). Admits a (payloadOf (header bs) bs)) (sym list-is)
+      (allowed-run v es .acts c bs room k n (sym (ap (λ (a : Seen). a .reply) (then (delivery c bs room) x)) ∙ y) o)
+
+  not-allowed-then : (c : ℕ) (bs : List ℕ) (room : ℕ) → s .event ≡ delivery c bs room → refusal (view m′) (delivery c bs room) ≡ 0 → PassesBefore (view m′) c bs → (Admits listed (payloadOf (header bs) bs) → ⊥)
+      → (s .reply ≡ took error-sent (16 + (header bs) .len) 0) × (s .output ≡ frameBytes (frameOf c Error 128 0 [])) × (view m″ ≡ (answered-128 (view m′) c bs) .server)
+  unfolding final
+  not-allowed-then c bs room x z w n =
+      let q : step d (delivery c bs room) ≡ answered-128 d c bs =
+      allowed-run v es .refuses c bs room (ap (λ (a : Server). refusal a (delivery c bs room)) (sym there) ∙ z) (subst (λ (a : Server). PassesBefore a c bs) there w)
+      (λ a. n (subst (λ (b : Allowed). Admits b (payloadOf (header bs) bs)) (sym list-is) a)) in
+      let h = then (delivery c bs room) x in
+      (ap (λ (a : Seen). a .reply) h ∙ ap (λ (a : Result). a .reply) q,
+      ap (λ (a : Seen). a .output) h ∙ ap (λ (a : Result). bytesOf (a .frames)) q ∙ bytes-one _,
+      made view (calls g′) .1 ∙ ap₂ (λ (a : Server) (b : Event). (step a b) .server) there x ∙ ap (λ (a : Result). a .server) q ∙ ap (λ (a : Server). (answered-128 a c bs) .server) (sym there))
+
 decided : (m m′ n n′ : Memory) (ss rs : List Seen) → view m ≡ view n → Run m ss m′ → Run n rs n′ → seenEvents ss ≡ seenEvents rs → (ss ≡ rs) × (view m′ ≡ view n′)
 decided m m′ n n′ ss rs v f g e =
     let h = made view (calls f) in
@@ -407,6 +464,28 @@ granted-in c (f ∷ fs) e =
     let t : f .message .kind ≡ AsyncLockResponse = ap (λ (bs : List ℕ). getD bs 3 0) e in
     let k : f .message .code ≡ 1 = ap (λ (bs : List ℕ). getD bs 4 0) e in
     rw (t, k)
+
+-- an output that is an Error 128
+told-128 : (c : ℕ) (fs : List Frame) → bytesOf fs ≡ frameBytes (frameOf c Error 128 0 []) → sends128 fs ≡ true
+unfolding bytesOf frameBytes encode headerBytes
+told-128 c [] e = absurd (let z : _≡_ {A = ℕ} 0 1 = ap some-byte e in omega arith)
+told-128 c (f ∷ fs) e =
+    let t : f .message .kind ≡ Error = ap (λ (bs : List ℕ). getD bs 3 0) e in
+    let k : f .message .code ≡ 128 = ap (λ (bs : List ℕ). getD bs 4 0) e in
+    rw (t, k)
+
+told-only : (m m′ : Memory) (s : Seen) → Run m (s ∷ []) m′ → (c : ℕ) → s .output ≡ frameBytes (frameOf c Error 128 0 []) → Refused128 (view m) (s .event)
+told-only m m′ s g c o =
+    let h = one-call m m′ s g (s .event) refl in
+    (Allowing.only-128 (view m) (s .event)) .only (told-128 c ((step (view m) (s .event)) .frames) (sym (ap (λ (a : Seen). a .output) (h .0)) ∙ o))
+
+-- a refused call leaves every byte
+same-left : {m m′ : Memory} {ss : List Seen} {s : Seen} → Calls view m (s ∷ ss) m′ → ss ≡ [] → (n : ℕ) → s .reply ≡ refused n → m′ ≡ m
+same-left (call e out out′ reply output p g) z n q = ended g z ∙ p .same-memory (ap omits q)
+  where
+    ended : {m m′ : Memory} {ss : List Seen} → Calls view m ss m′ → ss ≡ [] → m′ ≡ m
+    ended no-call z = refl
+    ended (call e out out′ reply output p g) z = absurd (let y : _≡_ {A = ℕ} 1 0 = ap length z in omega arith)
 
 -- one delivery to each of two memories
 module _ (m m′ n n′ : Memory) (a b : Seen) (g : Run m (a ∷ []) m′) (g′ : Run n (b ∷ []) n′) (c : ℕ) (bs : List ℕ) (room : ℕ) (x : a .event ≡ delivery c bs room) (y : b .event ≡ delivery c bs room) (f : FewerLocks (slotOf (view m) c) (view m) (view n)) where
@@ -579,6 +658,14 @@ program =
       number-carried = carried;
       out-of-step = out-of-step;
       in-step = in-step;
+      list-read = λ v m m′ ss f g.
+          let e = seenEvents ss in
+          let q : listSet v e ≡ listShown ss = sym (ap listShown (by-log v m m′ ss f g) ∙ list-seen (log (fresh v) e) any-command) in
+          (ap (λ (d : Server). d .rest .allowed) (left v m m′ ss f g) ∙ allowed-run v e .reads ∙ q, subst GoodList q (allowed-run v e .good));
+      allowed-only = allowed-then;
+      not-allowed = not-allowed-then;
+      only-128 = told-only;
+      refused-same = λ m m′ s g n q. same-left (calls g) refl n q;
       standing = λ v m m′ ss f g j k n. subst (λ (d : Server). StandsOn d j k n) (sym (left v m m′ ss f g)) (stands-on v (seenEvents ss) j k n);
       isolation = isolated;
       fewer-locks = λ m m′ n n′ a b g g′ c bs room x y f. no-worse m m′ n n′ a b g g′ c bs room x y f;

@@ -51,7 +51,7 @@ pub record Fresh (v : Making) (m : Memory) : Type 0 where
   pub shows : view m ≡ fresh v
 
 -- a refused call's post-condition, a taken one's
-refused-post : (e : Event) (n : ℕ) (m : Memory) (out : List ℕ) → step (view m) e ≡ record { server = view m; reply = refused (suc n); frames = [] }
+pub refused-post : (e : Event) (n : ℕ) (m : Memory) (out : List ℕ) → step (view m) e ≡ record { server = view m; reply = refused (suc n); frames = [] }
     → Post view e m m out out ((step (view m) e) .reply) (length (bytesOf ((step (view m) e) .frames)))
 unfolding bytesOf
 refused-post e n m out x =
@@ -64,7 +64,7 @@ refused-post e n m out x =
       same-buffer = λ z. refl;
     }
 
-taken-post : (e : Event) (x : Result) (m m′ : Memory) (out out′ : List ℕ) → step (view m) e ≡ x → omits (x .reply) ≡ false → view m′ ≡ x .server → out′ ≡ written out (x .frames)
+pub taken-post : (e : Event) (x : Result) (m m′ : Memory) (out out′ : List ℕ) → step (view m) e ≡ x → omits (x .reply) ≡ false → view m′ ≡ x .server → out′ ≡ written out (x .frames)
     → Post view e m m′ out out′ ((step (view m) e) .reply) (length (bytesOf ((step (view m) e) .frames)))
 taken-post e x m m′ out out′ s o v b =
     record {

@@ -5,6 +5,7 @@ pub mod Scanning
 pub mod Causes
 pub mod Calls
 pub mod Events
+pub mod Listing
 pub mod Answers
 pub mod Program
 pub mod Asking

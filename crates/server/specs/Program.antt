@@ -9,19 +9,21 @@ use lib.Dec.{eqb}
 use lib.ListN.{length, take}
 use Rattle.wire.specs.Class.{one-of}
 use Rattle.wire.specs.Frame.{frameOf, frameBytes, bytesOf}
-use Rattle.wire.specs.Message.{header}
-use Rattle.readings.specs.Watch.{Limits}
-use Rattle.model.specs.Interface.{Event.opening, Event.delivery, Event.cut, Event.clock, Event.answer, Event.status, Outcome, Outcome.more-needed, Outcome.skipped, Outcome.held, Outcome.ignored, Outcome.error-sent, Outcome.closed, Outcome.acted, Reply, Reply.refused, Reply.done, Reply.withheld, Reply.took, Event.setting, Setting.watch}
+use Rattle.wire.specs.Message.{header, payloadOf}
+use Rattle.model.specs.Interface.{Event.opening, Event.delivery, Event.cut, Event.clock, Event.answer, Event.status, Event.setting, Setting.patterns, Outcome, Outcome.more-needed, Outcome.skipped, Outcome.held, Outcome.ignored, Outcome.error-sent, Outcome.closed, Outcome.acted, Reply, Reply.refused, Reply.done, Reply.withheld, Reply.took, Setting.watch}
 use Rattle.model.specs.Sizes.{noConnection}
 use Rattle.model.specs.Lists.{tally, keep}
-use Rattle.model.specs.State.{Asked.some, Kind, Making, at, exchangeAt, fresh, live, slotOfNumber, Server, Sensing, freshSensing, sensingAt}
+use Rattle.model.specs.State.{Asked.some, Allowed, Allowed.any-command, Kind, Making, at, exchangeAt, fresh, live, slotOfNumber, Server, Sensing, freshSensing, sensingAt}
+use Rattle.readings.specs.Watch.{Limits}
 use Rattle.model.specs.Step.{final, log, answerType, Line}
 use Rattle.model.specs.Post.{Post}
-use Rattle.model.specs.MessageTypes.{Trigger, Interrupted, AsyncInterrupted, commands, AsyncLock, AsyncLockResponse}
+use Rattle.model.specs.MessageTypes.{Error, DataEND, Trigger, Interrupted, AsyncInterrupted, commands, AsyncLock, AsyncLockResponse}
 use Rattle.model.specs.Place.{slotOf, entryOf}
 use Rattle.model.specs.Access.{Command, accessOf}
 use Rattle.model.specs.Happening.{happened}
 use Rattle.model.specs.InStep.{Numbering, Knows, opened, expected, noted, countUp, error-0}
+use Rattle.model.specs.Allowing.{Admits}
+use Rattle.model.specs.AllowedOnly.{PassesBefore, answered-128, Refused128, listAfter, GoodList}
 use Rattle.model.specs.IsolationRun.{Undisturbed}
 use Rattle.model.specs.Tie.{Track, nothingYet, track}
 use Rattle.model.specs.Demand3.{Seen, seen, seenEvents, Demand3}
@@ -49,8 +51,10 @@ use Rattle.state.specs.View.{Memory, view}
 use Rattle.effects.specs.declared.Delivery.{Delivery}
 use Rattle.server.specs.declared.Answered.{Answered}
 use Rattle.server.specs.declared.Done.{Done}
+use Rattle.server.specs.declared.Listed.{Listed}
 use Rattle.server.specs.Calls.{Delivered}
 use Rattle.server.specs.Events.{Called, Fresh, Replied}
+use Rattle.server.specs.Listing.{SetsList}
 
 -- the reply that a returned struct tells: a refusal, else the outcome by its number, the bytes taken and the session
 abbrev pub outcomeOf : ℕ → Outcome
@@ -76,6 +80,10 @@ doneReply r = refusedOr (r .refusal) done
 abbrev pub answeredReply : Answered → Reply
 answeredReply r = refusedOr (r .refusal) (cond (eqb (r .withheld) 1) withheld done)
 
+-- 02, Q-12: of a list that the host sets
+abbrev pub listedReply : Listed → Reply
+listedReply r = refusedOr (r .refusal) done
+
 -- from one memory to another; nobody else writes it, and each call lends whatever buffer
 pub data Run : Memory → List Seen → Memory → Type 0 where
   stop : {m : Memory} → Run m [] m
@@ -94,6 +102,8 @@ pub data Run : Memory → List Seen → Memory → Type 0 where
       → Run m (record { event = setting (watch n l); reply = doneReply r; output = [] } ∷ ss) m″
   hislip-status : {m m′ m″ : Memory} {ss : List Seen} (b : ℕ) → (Post view (status b) m m′ [] [] done 0 × (Tidy m → Tidy m′)) → Run m′ ss m″
       → Run m (record { event = status b; reply = done; output = [] } ∷ ss) m″
+  hislip-patterns : {m m′ m″ : Memory} {ss : List Seen} (text : List ℕ) (r : Listed) → SetsList text r m m′ → Run m′ ss m″
+      → Run m (record { event = setting (patterns text); reply = listedReply r; output = [] } ∷ ss) m″
 
 -- from any memory, whatever bits it holds: a run is the one of the definitions, so what is proved of `log` and `final` is proved of the
 -- program
@@ -147,6 +157,14 @@ NeverOutIn (s ∷ ss) n p =
     ((bs : List ℕ) (room k m : ℕ) → s .event ≡ delivery (p .connection) bs room → s .reply ≡ took error-sent k m → p .inClear ≡ false → one-of commands ((header bs) .kind) ≡ true
     → s .output ≡ bytesOf (error-0 (p .connection)) → ((header bs) .kind ≡ Trigger) × (0 < (header bs) .len))
     × NeverOutIn ss n (notedSeen s n p)
+
+-- 02, Q-12: the list that is set, read off what the host saw: that of the last setting that was not refused (the rule is the model's reader's)
+abbrev pub listIn : List Seen → Allowed → Allowed
+listIn [] a = a
+listIn (s ∷ ss) a = listIn ss (listAfter (s .event) (s .reply) a)
+
+abbrev pub listShown : List Seen → Allowed
+listShown ss = listIn ss any-command
 
 -- every Data, DataEND and Trigger that acted is session n's
 abbrev pub OnlyOf : ℕ → List Seen → Type 0
@@ -219,6 +237,20 @@ pub record Program (New : Making → Memory → Type 0) (Ran : Memory → List S
       → (s .reply ≡ took error-sent (16 + (header bs) .len) 0) × (s .output ≡ bytesOf (error-0 c)) × (view m′ ≡ view m)
   -- a client that counts as 003 says never meets this Error 0, whatever of it is held, cut, too large or refused in between
   pub in-step : (v : Making) (m m′ : Memory) (ss : List Seen) → New v m → Ran m ss m′ → (n : ℕ) → CountsIn ss n (opened noConnection) → NeverOutIn ss n (opened noConnection)
+  -- 02, Q-12: the list that is set is known from what the host saw, and has at most 32 patterns, each of them good
+  pub list-read : (v : Making) (m m′ : Memory) (ss : List Seen) → New v m → Ran m ss m′ → (view m′ .rest .allowed ≡ listShown ss) × GoodList (listShown ss)
+  -- a DataEND acts only if that list allows it
+  pub allowed-only : (v : Making) (m m′ m″ : Memory) (ss : List Seen) (s : Seen) → New v m → Ran m ss m′ → Ran m′ (s ∷ []) m″
+      → (c : ℕ) (bs : List ℕ) (room k n : ℕ) → s .event ≡ delivery c bs room → s .reply ≡ took acted k n → (header bs) .kind ≡ DataEND
+      → Admits (listShown ss) (payloadOf (header bs) bs)
+  -- one that it does not allow, and that passes the checks before, gets exactly Error 128
+  pub not-allowed : (v : Making) (m m′ m″ : Memory) (ss : List Seen) (s : Seen) → New v m → Ran m ss m′ → Ran m′ (s ∷ []) m″
+      → (c : ℕ) (bs : List ℕ) (room : ℕ) → s .event ≡ delivery c bs room → refusal (view m′) (delivery c bs room) ≡ 0 → PassesBefore (view m′) c bs
+      → (Admits (listShown ss) (payloadOf (header bs) bs) → ⊥)
+      → (s .reply ≡ took error-sent (16 + (header bs) .len) 0) × (s .output ≡ frameBytes (frameOf c Error 128 0 [])) × (view m″ ≡ (answered-128 (view m′) c bs) .server)
+  -- from any memory: nothing else is answered Error 128, and a list that is refused, as any call, leaves every lent byte as it was
+  pub only-128 : (m m′ : Memory) (s : Seen) → Ran m (s ∷ []) m′ → (c : ℕ) → s .output ≡ frameBytes (frameOf c Error 128 0 []) → Refused128 (view m) (s .event)
+  pub refused-same : (m m′ : Memory) (s : Seen) → Ran m (s ∷ []) m′ → (n : ℕ) → s .reply ≡ refused n → m′ ≡ m
   -- Q about the program: a release that is not answered at once stands until its message, a device clear or its session's closing
   pub standing : (v : Making) (m m′ : Memory) (ss : List Seen) → New v m → Ran m ss m′ → (j : ℕ) (k : Kind) (n : ℕ) → StandsOn (view m′) j k n
   -- N about the program: from where a session holds exclusive until its release is answered or its closing, nobody else's command acts

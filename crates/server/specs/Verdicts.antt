@@ -36,24 +36,24 @@ module _ (d : Server) (c i : ℕ) (x : Scan) (ro : Role) (r : Delivery) (m m′ 
   by-verdict y z e q = subst Done (sym e) q
 
   module _ (v : ℕ) where
-    pub fatal-done : 32 ≤ v → Did (finish d (closePlan d c i (fatals (v - 32) (channels d c)))) r m m′ out out′ → Done (verdictOf v)
+    pub fatal-done : 16 ≤ v → v < 32 → Did (finish d (closePlan d c i (fatals (v - 16) (channels d c)))) r m m′ out out′ → Done (verdictOf v)
     unfolding effect
-    fatal-done l q = by-verdict (verdictOf v) (v-fatal (v - 32)) (rw (le-ltb v 16 (omega arith), le-ltb v 32 l)) q
+    fatal-done l u q = by-verdict (verdictOf v) (v-fatal (v - 16)) (rw (le-ltb v 16 l, lt-ltb v 32 u)) q
 
     -- an Error that takes k bytes, leaves l to skip, and n as the number expected
     abbrev Erred : ℕ → ℕ → ℕ → Type 0
     Erred k l n =
-        Did (finish d (plainly (took error-sent k 0) (withConnection (withExchange (d .rest) i (withNumber n (exchangeAt (d .rest) i))) c (openConnection l)) (say c Error (v - 16) 0))) r m m′ out out′
+        Did (finish d (plainly (took error-sent k 0) (withConnection (withExchange (d .rest) i (withNumber n (exchangeAt (d .rest) i))) c (openConnection l)) (say c Error (v - 32) 0))) r m m′ out out′
 
-    pub error-done : 16 ≤ v → v < 32 → (k l : ℕ) → size x ≡ k → leftover x ≡ l → (b : Bool) → numberTaken ro x (exchangeAt (d .rest) i) ≡ (movedBy b (exchangeAt (d .rest) i)) .numberExpected
-        → (d₁ : Server) (m₁ : Memory) → d₁ ≡ onRest d (withSlot i (movedBy b)) → (Tidy m → Tidy m₁) → Did (finish d₁ (errorPlan d₁ c (v - 16) k l)) r m₁ m′ out out′ → Done (verdictOf v)
+    pub error-done : 32 ≤ v → (k l : ℕ) → size x ≡ k → leftover x ≡ l → (b : Bool) → numberTaken ro x (exchangeAt (d .rest) i) ≡ (movedBy b (exchangeAt (d .rest) i)) .numberExpected
+        → (d₁ : Server) (m₁ : Memory) → d₁ ≡ onRest d (withSlot i (movedBy b)) → (Tidy m → Tidy m₁) → Did (finish d₁ (errorPlan d₁ c (v - 32) k l)) r m₁ m′ out out′ → Done (verdictOf v)
     unfolding effect
-    error-done h u k l e f b g d₁ m₁ p t q =
+    error-done h k l e f b g d₁ m₁ p t q =
         let n : ℕ = (movedBy b (exchangeAt (d .rest) i)) .numberExpected in
-        by-verdict (verdictOf v) (v-error (v - 16)) (rw (le-ltb v 16 h, lt-ltb v 32 u))
+        by-verdict (verdictOf v) (v-error (v - 32)) (rw (le-ltb v 16 (omega arith), le-ltb v 32 h))
         (subst (λ (a : ℕ). Erred (size x) (leftover x) a) (sym g)
         (subst (λ (a : ℕ). Erred (size x) a n) (sym f)
-        (subst (λ (a : ℕ). Erred a l n) (sym e) (error-moved d d₁ (withSlot i (movedBy b) (d .rest)) c (v - 16) k l r m m₁ m′ out out′ p t q))))
+        (subst (λ (a : ℕ). Erred a l n) (sym e) (error-moved d d₁ (withSlot i (movedBy b) (d .rest)) c (v - 32) k l r m m₁ m′ out out′ p t q))))
 
     pub closed-done : v ≡ 4 → Did (finish d (closePlan d c i [])) r m m′ out out′ → Done (verdictOf v)
     unfolding effect

@@ -16,7 +16,7 @@ ghost use Rattle.server.specs.Scanning.{DidOn};
 ghost use Rattle.model.specs.Step.{effect, finish, numberTaken, received};
 ghost use Rattle.state.specs.Channels.{Unshown};
 ghost use Rattle.state.specs.Search.{roleNumber};
-ghost use Rattle.state.specs.View.{locksOf, memory, restOf, view};
+ghost use Rattle.state.specs.View.{allowedOf, locksOf, memory, restOf, view};
 ghost use lib.ListN.{length};
 ghost use mathlib.Core.Bool.{false, true};
 ghost use mathlib.Core.List.{List};
@@ -91,12 +91,12 @@ fn apply(
     requires { ⌜ (c < connectionLimit) × (outputMinimum ≤ length (now out)) × ((s : List ℕ) → slotIn (locksOf (now w) s .entries) c ≡ i) × (v ≡ 5 → ⊥) × (v ≡ 2 → ⊥) × (moves ≡ true → i < sessionLimit) ⌝ }
     ensures { λ r. ⌜ ((ro : Role) (x : Scan) → size x ≡ taken → leftover x ≡ left → numberTaken ro x (exchangeAt (restOf (now (w .entry))) i) ≡ (movedBy moves (exchangeAt (restOf (now (w .entry))) i)) .numberExpected → Did (finish (view (memory (now (w .entry)) (now (strings .entry)))) (effect (verdictOf v) x ro (view (memory (now (w .entry)) (now (strings .entry)))) i c)) r (memory (now (w .entry)) (now (strings .entry))) (memory (now (w .exit)) (now (strings .exit))) (now (out .entry)) (now (out .exit))) ⌝ }
 {
-    if v >= FATAL_0 {
-        return replies::send_fatal(w, strings, out, c, i, v - FATAL_0);
-    }
     if v >= ERROR_0 {
         numbering::count_refused(w, i, moves);
         return replies::send_error(w, out, c, v - ERROR_0, taken, left);
+    }
+    if v >= FATAL_0 {
+        return replies::send_fatal(w, strings, out, c, i, v - FATAL_0);
     }
     if v == CLOSED {
         return replies::close_silently(w, strings, out, c, i);
@@ -121,7 +121,7 @@ fn act(
     len: u64,
     payload: &[u8],
 ) -> Delivery
-    requires { ⌜ (c < connectionLimit) × (len ≤ payloadLimit) × (length (now payload) ≡ len) × (outputMinimum ≤ length (now out)) × ((role ≡ 0 → ⊥) → i < sessionLimit) × ((s : List ℕ) (ro : Role) → roleNumber ro ≡ role → judged ro (view (memory (now w) s)) i (message kind code param len) (now payload) ≡ v-acts) × (role ≡ 0 → Unshown (now w) c) ⌝ }
+    requires { ⌜ (c < connectionLimit) × (len ≤ payloadLimit) × (length (now payload) ≡ len) × (outputMinimum ≤ length (now out)) × ((role ≡ 0 → ⊥) → i < sessionLimit) × ((s : List ℕ) (ro : Role) → roleNumber ro ≡ role → (role ≡ 2 → allowedOf (now w) s ≡ allowedOf (now w) (now strings)) → judged ro (view (memory (now w) s)) i (message kind code param len) (now payload) ≡ v-acts) × (role ≡ 0 → Unshown (now w) c) ⌝ }
     ensures { λ r. ⌜ ((ro : Role) → roleNumber ro ≡ role → Did (finish (view (memory (now (w .entry)) (now (strings .entry)))) (acts ro (view (memory (now (w .entry)) (now (strings .entry)))) i c (message kind code param len) (now (payload .entry)))) r (memory (now (w .entry)) (now (strings .entry))) (memory (now (w .exit)) (now (strings .exit))) (now (out .entry)) (now (out .exit))) ⌝ }
 {
     if role == ON_SYNCHRONOUS {
@@ -164,7 +164,7 @@ fn deliver_kind(
     requires { ⌜ (c < connectionLimit) × (len ≤ payloadLimit) × (length (now payload) ≡ len) × (outputMinimum ≤ length (now out)) × ((s : List ℕ) → slotIn (locksOf (now w) s .entries) c ≡ i) × ((role ≡ 0 → ⊥) → i < sessionLimit) × (role ≡ 0 → Unshown (now w) c) ⌝ }
     ensures { λ r. ⌜ ((ro : Role) → roleNumber ro ≡ role → Did (finish (view (memory (now (w .entry)) (now (strings .entry)))) (effect (judged ro (view (memory (now (w .entry)) (now (strings .entry)))) i (message kind code param len) (now (payload .entry))) (whole (message kind code param len) (now (payload .entry))) ro (view (memory (now (w .entry)) (now (strings .entry)))) i c)) r (memory (now (w .entry)) (now (strings .entry))) (memory (now (w .exit)) (now (strings .exit))) (now (out .entry)) (now (out .exit))) ⌝ }
 {
-    let v = whole::whole_verdict(w, role, i, kind, code, param, len, payload);
+    let v = whole::whole_verdict(w, strings, role, i, kind, code, param, len, payload);
     if v == ACTS {
         return act(w, strings, out, c, i, role, kind, code, param, len, payload);
     }
@@ -192,7 +192,7 @@ fn deliver_plain(
     requires { ⌜ (c < connectionLimit) × (len ≤ payloadLimit) × (length (now payload) ≡ len) × (outputMinimum ≤ length (now out)) × ((s : List ℕ) → slotIn (locksOf (now w) s .entries) c ≡ i) × (i < sessionLimit) × (isCommand kind ≡ true) × ((s : List ℕ) → stands ((at (locksOf (now w) s .entries) i) .standing) ≡ false) ⌝ }
     ensures { λ r. ⌜ Did (finish (view (memory (now (w .entry)) (now (strings .entry)))) (effect (judged r-synchronous (view (memory (now (w .entry)) (now (strings .entry)))) i (message kind code param len) (now (payload .entry))) (whole (message kind code param len) (now (payload .entry))) r-synchronous (view (memory (now (w .entry)) (now (strings .entry)))) i c)) r (memory (now (w .entry)) (now (strings .entry))) (memory (now (w .exit)) (now (strings .exit))) (now (out .entry)) (now (out .exit)) ⌝ }
 {
-    let v = on_synchronous::synchronous_verdict(w, i, kind, code, param, len);
+    let v = on_synchronous::synchronous_verdict(w, strings, i, kind, code, param, len, payload);
     if v == ACTS {
         return synchronous::act_plainly(w, out, i, kind, code, param, len);
     }

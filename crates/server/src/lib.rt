@@ -19,6 +19,7 @@ ghost use Rattle.state.specs.Layout.{STRINGS, WORDS};
 mod asking;
 mod deliver;
 mod holders;
+mod listing;
 mod watches;
 
 use effects::Delivery;

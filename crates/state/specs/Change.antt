@@ -11,16 +11,16 @@ use lib.Dec.{eqb, lit<}
 use lib.ListN.{length, getD, set, take}
 use lib.Seq.{getD-set-same, getD-set-other}
 use borrow.Author.Tests.{eqb-true, eqb-false}
+use Rattle.model.specs.Sizes.{sessionLimit, connectionLimit, stringLimit, listLimit}
+use Rattle.model.specs.State.{Entry, Waiting, Locks, Exchange, Connection, RemoteLocal, Allowed, Allowed.any-command, Rest, Server, withAllowed, blank, at, freshExchange, closedConnection, exchangeAt, connectionAt, Sensing, freshSensing, sensingAt}
 use Rattle.readings.specs.Record.{Recorded}
-use Rattle.model.specs.Sizes.{sessionLimit, connectionLimit, stringLimit}
-use Rattle.model.specs.State.{Entry, Waiting, Locks, Exchange, Connection, RemoteLocal, Rest, Server, blank, at, freshExchange, closedConnection, exchangeAt, connectionAt, Sensing, freshSensing, sensingAt}
 use Rattle.model.specs.Exchange.{withAnswering, withClear, withClientSize, withMode, withCount, withExpectation, withNumber}
 use Rattle.model.specs.Locks.{withOrder, withGranted}
 use Rattle.state.specs.Table.{tab, tab-same, tab-set, getD-tab, apart}
 use Rattle.state.specs.Grid.{upd, upd-set, part, grid, grid-set, grid-off, getD-grid, word-of}
 use Rattle.state.specs.Bits.{bit}
-use Rattle.state.specs.Layout.{LOCKS, CLOCK, VENDOR, PREFERENCE, STATUS, LAST, ENABLE, LOCKOUT, REMOTE, HOLDER, SHARERS, KEY, COUNT, ENTRIES, ENTRY, ORDERS, ORDER, EXCHANGES, EXCHANGE, CONNECTIONS, CONNECTION, HOME, REQUESTS, REQUEST, QUEUE, WORDS, SENSINGS, SENSING}
-use Rattle.state.specs.View.{Memory, memory, standingOf, word, flag, keyOf, rowWord, homeAt, homeOf, fieldOf, orderWord, entryFrom, entryAt, entriesOf, slotAt, requestAt, waitingOf, locksOf, askedOf, exchangeFrom, exchangeOf, connectionFrom, connectionOf, restFrom, restOf, view, watchOf, numeral, sensingFrom, sensingOf}
+use Rattle.state.specs.Layout.{LOCKS, CLOCK, VENDOR, PREFERENCE, STATUS, LAST, ENABLE, LOCKOUT, REMOTE, HOLDER, SHARERS, KEY, COUNT, ENTRIES, ENTRY, ORDERS, ORDER, EXCHANGES, EXCHANGE, CONNECTIONS, CONNECTION, HOME, LISTED, REQUESTS, REQUEST, QUEUE, WORDS, LIST, SENSINGS, SENSING}
+use Rattle.state.specs.View.{Memory, memory, standingOf, word, flag, keyOf, rowWord, homeAt, homeOf, fieldOf, orderWord, entryFrom, entryAt, entriesOf, slotAt, requestAt, waitingOf, locksOf, askedOf, exchangeFrom, exchangeOf, connectionFrom, connectionOf, restFrom, restOf, allowedFrom, allowedOf, view, watchOf, numeral, sensingFrom, sensingOf}
 use Rattle.state.specs.Confirmed.{field-same, field-small}
 
 -- the word of a field, in the row of a slot or of a connection
@@ -78,11 +78,11 @@ flagsWith (suc zero) v x = record { enable = x .enable; lockout = flag v; remote
 flagsWith (suc (suc f)) v x = record { enable = x .enable; lockout = x .lockout; remote = flag v }
 
 abbrev pub singleWith : ℕ → ℕ → Rest → Rest
-singleWith zero v r = record { exchanges = r .exchanges; sensings = r .sensings; connections = r .connections; lastIssued = r .lastIssued; made = record { vendor = v % 65536; prefersOverlap = r .made .prefersOverlap }; status = r .status; remoteLocal = r .remoteLocal }
-singleWith (suc zero) v r = record { exchanges = r .exchanges; sensings = r .sensings; connections = r .connections; lastIssued = r .lastIssued; made = record { vendor = r .made .vendor; prefersOverlap = flag v }; status = r .status; remoteLocal = r .remoteLocal }
-singleWith (suc (suc zero)) v r = record { exchanges = r .exchanges; sensings = r .sensings; connections = r .connections; lastIssued = r .lastIssued; made = r .made; status = v % 256; remoteLocal = r .remoteLocal }
-singleWith (suc (suc (suc zero))) v r = record { exchanges = r .exchanges; sensings = r .sensings; connections = r .connections; lastIssued = v % 65536; made = r .made; status = r .status; remoteLocal = r .remoteLocal }
-singleWith (suc (suc (suc (suc f)))) v r = record { exchanges = r .exchanges; sensings = r .sensings; connections = r .connections; lastIssued = r .lastIssued; made = r .made; status = r .status; remoteLocal = flagsWith f v (r .remoteLocal) }
+singleWith zero v r = record { exchanges = r .exchanges; sensings = r .sensings; connections = r .connections; lastIssued = r .lastIssued; made = record { vendor = v % 65536; prefersOverlap = r .made .prefersOverlap }; status = r .status; remoteLocal = r .remoteLocal; allowed = r .allowed }
+singleWith (suc zero) v r = record { exchanges = r .exchanges; sensings = r .sensings; connections = r .connections; lastIssued = r .lastIssued; made = record { vendor = r .made .vendor; prefersOverlap = flag v }; status = r .status; remoteLocal = r .remoteLocal; allowed = r .allowed }
+singleWith (suc (suc zero)) v r = record { exchanges = r .exchanges; sensings = r .sensings; connections = r .connections; lastIssued = r .lastIssued; made = r .made; status = v % 256; remoteLocal = r .remoteLocal; allowed = r .allowed }
+singleWith (suc (suc (suc zero))) v r = record { exchanges = r .exchanges; sensings = r .sensings; connections = r .connections; lastIssued = v % 65536; made = r .made; status = r .status; remoteLocal = r .remoteLocal; allowed = r .allowed }
+singleWith (suc (suc (suc (suc f)))) v r = record { exchanges = r .exchanges; sensings = r .sensings; connections = r .connections; lastIssued = r .lastIssued; made = r .made; status = r .status; remoteLocal = flagsWith f v (r .remoteLocal); allowed = r .allowed }
 
 abbrev pub withClock : Server → ℕ → Server
 withClock d t = record { locks = record { clock = t; entries = d .locks .entries; waiting = d .locks .waiting }; rest = d .rest }
@@ -103,6 +103,7 @@ onExchange d i g =
         made = d .rest .made;
         status = d .rest .status;
         remoteLocal = d .rest .remoteLocal;
+        allowed = d .rest .allowed;
       };
     }
 
@@ -118,6 +119,7 @@ onSensing d i g =
         made = d .rest .made;
         status = d .rest .status;
         remoteLocal = d .rest .remoteLocal;
+        allowed = d .rest .allowed;
       };
     }
 
@@ -133,6 +135,7 @@ onConnection d i g =
         made = d .rest .made;
         status = d .rest .status;
         remoteLocal = d .rest .remoteLocal;
+        allowed = d .rest .allowed;
       };
     }
 
@@ -227,9 +230,9 @@ module _ (w : List ℕ) where
         waiting = waiting-off s a v (omega arith) (omega arith) k;
       }
 
-  pub rest-off : (a v : ℕ) → LOCKS ≤ a → restOf (set w a v) ≡ restOf w
+  pub rest-words : (a v : ℕ) → LISTED ≤ a → restOf (set w a v) ≡ restOf w
   unfolding restOf
-  rest-off a v h =
+  rest-words a v h =
       λ k. record {
         exchanges = grid-off exchangeOf EXCHANGES EXCHANGE sessionLimit w a v (inr (omega arith)) k;
         sensings = grid-off sensingOf SENSINGS SENSING sessionLimit w a v (inr (omega arith)) k;
@@ -242,7 +245,16 @@ module _ (w : List ℕ) where
           lockout = flag (off a v LOCKOUT (omega arith) k);
           remote = flag (off a v REMOTE (omega arith) k);
         };
+        allowed = any-command;
       }
+
+  -- the allowed commands stay where their word and the bytes of their text do
+  pub allowed-off : (s s′ : List ℕ) (a v : ℕ) → (LISTED ≡ a → ⊥) → part s′ LIST listLimit ≡ part s LIST listLimit → allowedOf (set w a v) s′ ≡ allowedOf w s
+  unfolding allowedOf
+  allowed-off s s′ a v o e = ap₂ allowedFrom (off a v LISTED o) e
+
+  pub rest-off : (s s′ : List ℕ) (a v : ℕ) → LOCKS ≤ a → part s′ LIST listLimit ≡ part s LIST listLimit → view (memory (set w a v) s′) .rest ≡ view (memory w s) .rest
+  rest-off s s′ a v h e = ap₂ withAllowed (rest-words a v (omega arith)) (allowed-off s s′ a v (omega arith) e)
 
 -- a field of a row, stored: one law over the place for each table
 row-stored : (r : List ℕ) (f v g : ℕ) → f < length r → word (set r f v) g ≡ cond (eqb g f) v (word r g)
@@ -319,6 +331,7 @@ module _ (w s : List ℕ) (i f v : ℕ) (long : length w ≡ WORDS) where
           made = record { vendor = off w a v VENDOR (omega arith) k % 65536; prefersOverlap = flag (off w a v PREFERENCE (omega arith) k) };
           status = off w a v STATUS (omega arith) k % 256;
           remoteLocal = record { enable = flag (off w a v ENABLE (omega arith) k); lockout = flag (off w a v LOCKOUT (omega arith) k); remote = flag (off w a v REMOTE (omega arith) k) };
+          allowed = allowed-off w s s a v (omega arith) refl k;
         };
       }
 
@@ -337,6 +350,7 @@ module _ (w s : List ℕ) (i f v : ℕ) (long : length w ≡ WORDS) where
           made = record { vendor = off w a v VENDOR (omega arith) k % 65536; prefersOverlap = flag (off w a v PREFERENCE (omega arith) k) };
           status = off w a v STATUS (omega arith) k % 256;
           remoteLocal = record { enable = flag (off w a v ENABLE (omega arith) k); lockout = flag (off w a v LOCKOUT (omega arith) k); remote = flag (off w a v REMOTE (omega arith) k) };
+          allowed = allowed-off w s s a v (omega arith) refl k;
         };
       }
 
@@ -355,6 +369,7 @@ module _ (w s : List ℕ) (i f v : ℕ) (long : length w ≡ WORDS) where
           made = record { vendor = off w a v VENDOR (omega arith) k % 65536; prefersOverlap = flag (off w a v PREFERENCE (omega arith) k) };
           status = off w a v STATUS (omega arith) k % 256;
           remoteLocal = record { enable = flag (off w a v ENABLE (omega arith) k); lockout = flag (off w a v LOCKOUT (omega arith) k); remote = flag (off w a v REMOTE (omega arith) k) };
+          allowed = allowed-off w s s a v (omega arith) refl k;
         };
       }
 
@@ -430,7 +445,7 @@ order-stored w s i f v n h l =
         entries = (ap (entriesOf (set w a v)) (key-off w s a v (omega arith)) ∙ entries-change w (set w a v) key key i (orderWith f v) h (order-row w key i f v h l n) (order-other w key i f v h l)) k;
         waiting = waiting-off w s a v (omega arith) (omega arith) k;
       };
-      rest = rest-off w a v (omega arith) k;
+      rest = rest-off w s s a v (omega arith) refl k;
     }
 
 -- a field of a row, read: the word that stands there, stored again, changes nothing
@@ -521,7 +536,7 @@ module _ (w s : List ℕ) (v : ℕ) (long : length w ≡ WORDS) where
           entries = (ap (entriesOf (set w CLOCK v)) (key-off w s CLOCK v (omega arith)) ∙ entries-off w (keyOf w s) CLOCK v (omega arith) (omega arith) (past-homes w CLOCK (omega arith)) (inl (omega arith))) k;
           waiting = waiting-off w s CLOCK v (omega arith) (omega arith) k;
         };
-        rest = rest-off w CLOCK v (omega arith) k;
+        rest = rest-off w s s CLOCK v (omega arith) refl k;
       }
 
 -- the rest's single values
@@ -557,11 +572,19 @@ module _ (w : List ℕ) (v : ℕ) (long : length w ≡ WORDS) where
         made = record { vendor = t VENDOR k % 65536; prefersOverlap = flag (t PREFERENCE k) };
         status = t STATUS k % 256;
         remoteLocal = record { enable = flag (t ENABLE k); lockout = flag (t LOCKOUT k); remote = flag (t REMOTE k) };
+        allowed = any-command;
       })
       ∙ rest-by (grid exchangeOf EXCHANGES EXCHANGE sessionLimit w) (grid sensingOf SENSINGS SENSING sessionLimit w) (grid connectionOf CONNECTIONS CONNECTION connectionLimit w) (word w) f h
 
+  with-list : (f : ℕ) → f < EXCHANGES → (x : Allowed) → withAllowed (singleWith f v (restOf w)) x ≡ singleWith f v (withAllowed (restOf w) x)
+  with-list zero h x = refl
+  with-list (suc zero) h x = refl
+  with-list (suc (suc zero)) h x = refl
+  with-list (suc (suc (suc zero))) h x = refl
+  with-list (suc (suc (suc (suc f)))) h x = refl
+
   pub single-stored : (s : List ℕ) (f : ℕ) → f < EXCHANGES → view (memory (set w f v) s) ≡ onRest (view (memory w s)) (singleWith f v)
-  single-stored s f h = λ k. record { locks = locks-off w s f v (omega arith) (λ c x e. omega arith) k; rest = rest-row f h k }
+  single-stored s f h = λ k. record { locks = locks-off w s f v (omega arith) (λ c x e. omega arith) k; rest = ((λ j. withAllowed (rest-row f h j) (allowed-off w s s f v (omega arith) refl j)) ∙ with-list f h (allowedOf w s)) k }
 
 pub single-read : (w : List ℕ) (f : ℕ) → f < EXCHANGES → singleWith f (word w f) (restOf w) ≡ restOf w
 unfolding restOf

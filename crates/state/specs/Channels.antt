@@ -9,7 +9,7 @@ use lib.Dec.{eqb, lit<}
 use lib.ListN.{length, set, length-set}
 use borrow.Author.Tests.{eqb-true, eqb-false}
 use Rattle.model.specs.Sizes.{sessionLimit, connectionLimit, noConnection}
-use Rattle.model.specs.State.{Entry, Locks, Connection, Server}
+use Rattle.model.specs.State.{Entry, Locks, Connection, Allowed.any-command, Server, withAllowed}
 use Rattle.model.specs.Locks.{joined}
 use Rattle.state.specs.Table.{tab-same}
 use Rattle.state.specs.Grid.{upd, upd-same, grid, grid-set, grid-off}
@@ -17,7 +17,7 @@ use Rattle.state.specs.Bits.{bit}
 use Rattle.state.specs.Layout.{CLOCK, VENDOR, PREFERENCE, STATUS, LAST, ENABLE, LOCKOUT, REMOTE, HOLDER, SHARERS, ENTRIES, ENTRY, ORDERS, ORDER, EXCHANGES, EXCHANGE, CONNECTIONS, CONNECTION, HOME, WORDS, SENSINGS, SENSING}
 use Rattle.state.specs.View.{memory, standingOf, word, flag, keyOf, orderWord, rowWord, homeIn, homeAt, homeOf, fieldOf, entryAt, entriesOf, locksOf, exchangeOf, connectionOf, restOf, view, sensingOf}
 use Rattle.state.specs.Confirmed.{field-same, field-else, field-number, field-free, field-past, field-shown, Shows, shows}
-use Rattle.state.specs.Change.{onEntry, off, here, key-off, waiting-off, rest-off, entries-change}
+use Rattle.state.specs.Change.{onEntry, off, here, key-off, waiting-off, allowed-off, rest-off, entries-change}
 use Rattle.state.specs.Tidy.{Tidy, TidyHome, Shown}
 use Rattle.state.specs.Keeping.{table-tidy, live-row, same-row}
 
@@ -44,7 +44,7 @@ row-stored w s i f v h l =
         entries = entriesOf (set w a v) (key-off w s a v (omega arith) k);
         waiting = waiting-off w s a v (omega arith) (omega arith) k;
       };
-      rest = rest-off w a v (omega arith) k;
+      rest = rest-off w s s a v (omega arith) refl k;
     }
 
 home-row : (r : List ℕ) (v : ℕ) → connectionOf (set r HOME v) ≡ connectionOf r
@@ -63,6 +63,7 @@ home-rest w c v long h =
       made = record { vendor = off w a v VENDOR (omega arith) k % 65536; prefersOverlap = flag (off w a v PREFERENCE (omega arith) k) };
       status = off w a v STATUS (omega arith) k % 256;
       remoteLocal = record { enable = flag (off w a v ENABLE (omega arith) k); lockout = flag (off w a v LOCKOUT (omega arith) k); remote = flag (off w a v REMOTE (omega arith) k) };
+      allowed = any-command;
     }
 
 home-stored : (w s : List ℕ) (c v : ℕ) → length w ≡ WORDS → c < connectionLimit
@@ -76,7 +77,7 @@ home-stored w s c v long h =
         entries = entriesOf (set w a v) (key-off w s a v (omega arith) k);
         waiting = waiting-off w s a v (omega arith) (omega arith) k;
       };
-      rest = home-rest w c v long h k;
+      rest = withAllowed (home-rest w c v long h k) (allowed-off w s s a v (omega arith) refl k);
     }
 
 -- slot j by the fields that it shows

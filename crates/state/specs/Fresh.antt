@@ -11,11 +11,11 @@ use lib.Seq.{take-all, take-suc, take-suc-set}
 use Rattle.wire.specs.MessageId.{start}
 use Rattle.readings.specs.Bits.{notNumber}
 use Rattle.model.specs.Sizes.{sessionLimit, connectionLimit, payloadLimit, beforeFirst}
-use Rattle.model.specs.State.{Making, Server, Rest, fresh}
+use Rattle.model.specs.State.{Making, Allowed.any-command, Server, Rest, fresh}
 use Rattle.state.specs.Table.{tab, getD-tab}
 use Rattle.state.specs.Grid.{grid}
 use Rattle.state.specs.Layout.{EXCHANGES, EXCHANGE, CONNECTIONS, CONNECTION, ENTRY, ORDERS, ORDER, REQUESTS, REQUEST, WORDS, STRINGS, SENSING}
-use Rattle.state.specs.View.{memory, view, keyOf, fieldOf, entryAt, entriesOf, waitingOf, locksOf, restOf, watchOf, numeral}
+use Rattle.state.specs.View.{memory, view, keyOf, fieldOf, entryAt, entriesOf, waitingOf, locksOf, restOf, allowedOf, watchOf, numeral}
 
 -- n rows alike
 abbrev pub rows : ℕ → List ℕ → List ℕ
@@ -27,7 +27,8 @@ abbrev pub flagWord : Bool → ℕ
 flagWord b = cond b 1 0
 
 -- vendor number; preference; status, last SessionID and the flags; exchanges (the client's size is 1,024, the count and the number expected at their start);
--- connections; sensings (no watch, no reading); clock, holder, sharers, key, count; entries (free); orders (no message acted, no lock granted); requests; queue
+-- connections; sensings (no watch, no reading); no list of allowed commands; clock, holder, sharers, key, count; entries (free); orders (no message acted, no lock granted);
+-- requests; queue
 abbrev pub freshWords : Making → List ℕ
 freshWords v =
     v .vendor
@@ -36,7 +37,7 @@ freshWords v =
     ++ rows sessionLimit (0 ∷ 0 ∷ 0 ∷ payloadLimit ∷ 0 ∷ start ∷ 0 ∷ 0 ∷ start ∷ [])
     ++ replicate (connectionLimit * CONNECTION) 0
     ++ replicate (sessionLimit * SENSING) 0
-    ++ replicate 5 0
+    ++ replicate 6 0
     ++ replicate (sessionLimit * ENTRY) 0
     ++ rows sessionLimit (beforeFirst ∷ 0 ∷ 0 ∷ 0 ∷ [])
     ++ replicate (sessionLimit * REQUEST) 0
@@ -73,10 +74,10 @@ flag-back true = refl
 flag-back false = refl
 
 pub fresh-view : (v : Making) → v .vendor < 2 ^ 16 → view (memory (freshWords v) freshStrings) ≡ fresh v
-unfolding locksOf restOf keyOf entriesOf entryAt fieldOf waitingOf grid tab watchOf numeral notNumber
+unfolding locksOf restOf allowedOf keyOf entriesOf entryAt fieldOf waitingOf grid tab watchOf numeral notNumber
 fresh-view v h =
     let r : Rest = fresh v .rest in
-    ap₂ (λ (x : ℕ) (b : Bool). record { locks = fresh v .locks; rest = record { exchanges = r .exchanges; sensings = r .sensings; connections = r .connections; lastIssued = 0; made = record { vendor = x; prefersOverlap = b }; status = 0; remoteLocal = r .remoteLocal } })
+    ap₂ (λ (x : ℕ) (b : Bool). record { locks = fresh v .locks; rest = record { exchanges = r .exchanges; sensings = r .sensings; connections = r .connections; lastIssued = 0; made = record { vendor = x; prefersOverlap = b }; status = 0; remoteLocal = r .remoteLocal; allowed = any-command } })
     (mod-eq-of-lt h) (flag-back (v .prefersOverlap))
 
 -- copying element by element: a turn, and the end

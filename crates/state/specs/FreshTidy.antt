@@ -11,7 +11,7 @@ use borrow.Author.Tests.{lt-ltb, le-ltb, eq-eqb, ne-eqb}
 use Rattle.readings.specs.Bits.{notNumber}
 use Rattle.model.specs.Sizes.{sessionLimit, connectionLimit, stringLimit, beforeFirst}
 use Rattle.model.specs.State.{Making}
-use Rattle.state.specs.Layout.{EXCHANGES, EXCHANGE, CONNECTIONS, CONNECTION, HOME, ENTRIES, ENTRY, ORDERS, ORDER, REQUESTS, REQUEST, QUEUE, WORDS, STRINGS, SENSINGS, SENSING}
+use Rattle.state.specs.Layout.{EXCHANGES, EXCHANGE, CONNECTIONS, CONNECTION, HOME, ENTRIES, ENTRY, ORDERS, ORDER, REQUESTS, REQUEST, QUEUE, WORDS, LIST, STRINGS, SENSINGS, SENSING}
 use Rattle.state.specs.View.{memory, word, rowWord, fieldOf, watchOf, numeral}
 use Rattle.state.specs.Fresh.{freshWords, freshField, freshWord, flagWord, fresh-at, freshStrings}
 use Rattle.state.specs.Tidy.{Tidy, InRange, SingleRange, ExchangeRange, ConnectionRange, OrderRange, SensingRange}
@@ -158,4 +158,5 @@ module _ (v : Making) where
           no-length = λ o. refl;
           no-byte = λ o. refl;
         };
+        list = record { fits = omega arith; behind = λ j a b. byte-0 (LIST + j) (omega arith) };
       }

@@ -96,7 +96,7 @@ module _ (w s : List ℕ) (i : ℕ) (h : i < sessionLimit) (long : length w ≡ 
           entries = (ap (entriesOf (set w a v)) (key-off w s a v (omega arith)) ∙ e) k;
           waiting = waiting-off w s a v (omega arith) (omega arith) k;
         };
-        rest = rest-off w a v (omega arith) k;
+        rest = rest-off w s s a v (omega arith) refl k;
       }
 
   -- another holder v: slot i holds or not as g says, and nobody else did or does

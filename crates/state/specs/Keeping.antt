@@ -9,12 +9,12 @@ use native.Mathlib.Omega.{arith}
 use lib.Dec.{eqb, lit<}
 use lib.ListN.{length, set, length-set}
 use borrow.Author.Tests.{eqb-true, eqb-false, ne-eqb}
-use Rattle.model.specs.Sizes.{sessionLimit, connectionLimit, stringLimit}
-use Rattle.state.specs.Layout.{EXCHANGES, EXCHANGE, CONNECTIONS, CONNECTION, HOME, LOCKS, CLOCK, HOLDER, SHARERS, KEY, COUNT, ENTRIES, ENTRY, ORDERS, ORDER, REQUESTS, REQUEST, QUEUE, WORDS, STRINGS, SENSINGS, SENSING}
+use Rattle.model.specs.Sizes.{sessionLimit, connectionLimit, stringLimit, listLimit}
+use Rattle.state.specs.Layout.{EXCHANGES, EXCHANGE, CONNECTIONS, CONNECTION, HOME, LISTED, LOCKS, CLOCK, HOLDER, SHARERS, KEY, COUNT, ENTRIES, ENTRY, ORDERS, ORDER, REQUESTS, REQUEST, QUEUE, WORDS, LIST, STRINGS, SENSINGS, SENSING}
 use Rattle.state.specs.View.{memory, word, rowWord, homeAt, homeOf, fieldOf, slotAt}
 use Rattle.state.specs.Confirmed.{field-same}
 use Rattle.state.specs.Change.{off, here}
-use Rattle.state.specs.Tidy.{Tidy, TidyOver, Counted, Away, InRange, SingleRange, ExchangeRange, ConnectionRange, OrderRange, TidySingles, TidyRow, TidyHome, Shown, TidyRequest, TidyQueue, TidyKey, SensingRange}
+use Rattle.state.specs.Tidy.{Tidy, TidyOver, Counted, Away, InRange, SingleRange, ExchangeRange, ConnectionRange, OrderRange, TidySingles, TidyRow, TidyHome, Shown, TidyRequest, TidyQueue, TidyKey, TidyList, SensingRange}
 
 -- from memory w, s in order: the parts of w′, s′
 module _ (In : ℕ → Type 0) (w w′ s s′ : List ℕ) (t : TidyOver In (memory w s)) where
@@ -84,6 +84,13 @@ module _ (In : ℕ → Type 0) (w w′ s s′ : List ℕ) (t : TidyOver In (memo
         no-byte = λ z. b 0 (lit< tt) ∙ t .key .no-byte (o z);
       }
 
+  pub kept-list : word w′ LISTED ≡ word w LISTED → ((j : ℕ) → j < listLimit → word s′ (LIST + j) ≡ word s (LIST + j)) → TidyList w′ s′
+  kept-list e b =
+      record {
+        fits = subst (λ (x : ℕ). x ≤ listLimit + 1) (sym e) (t .list .fits);
+        behind = λ j a l. b j l ∙ t .list .behind j (subst (λ (x : ℕ). x ≤ j + 1) e a) l;
+      }
+
   -- the same places of the queue hold the same slots
   pub kept-away : (In′ : ℕ → Type 0) (i : ℕ) → ((j : ℕ) → word w′ (QUEUE + j) ≡ word w (QUEUE + j)) → ((j : ℕ) → In j → In′ j) → Away In′ w′ i → Away In w i
   unfolding slotAt
@@ -97,7 +104,7 @@ module _ (w w′ : List ℕ) (e : word w′ COUNT ≡ word w COUNT) where
   pub count-to : (j : ℕ) → Counted w j → Counted w′ j
   count-to j x = subst (λ (y : ℕ). j < y) (sym e) x
 
--- v may stand at a place a that is read as it is, behind no home, row of connections, request, count or length
+-- v may stand at a place a that is read as it is, behind no home, row of connections, request, count or length of a string or text
 pub record InPlace (w : List ℕ) (a v : ℕ) : Type 0 where
   pub value : (f : ℕ) → f < EXCHANGES → f ≡ a → SingleRange f v
   pub exchange : (i f : ℕ) → i < sessionLimit → f < EXCHANGE → EXCHANGES + i * EXCHANGE + f ≡ a → ExchangeRange f v
@@ -110,6 +117,7 @@ pub record InPlace (w : List ℕ) (a v : ℕ) : Type 0 where
   pub shared : SHARERS ≡ a → v ≡ 0 → word w SHARERS ≡ 0
   pub no-home : (c : ℕ) → c < connectionLimit → homeAt c ≡ a → ⊥
   pub no-key : KEY ≡ a → ⊥
+  pub no-list : LISTED ≡ a → ⊥
   pub no-count : COUNT ≡ a → ⊥
   pub no-row : (a < ENTRIES) ⊎ (ORDERS ≤ a)
   pub before : a < REQUESTS
@@ -171,6 +179,7 @@ module _ (w s : List ℕ) (a v : ℕ) (t : Tidy (memory w s)) (x : InPlace w a v
             (kept-away (Counted w) w w′ s s t (Counted w′) i queue-off (count-to w w′ count-off));
         queue = kept-queue (Counted w) w w′ s s t (Counted w′) queue-off (count-from w w′ count-off) (count-to w w′ count-off);
         key = kept-key (Counted w) w w′ s s t (off w a v KEY (x .no-key)) nobody (λ j l. refl);
+        list = kept-list (Counted w) w w′ s s t (off w a v LISTED (x .no-list)) (λ j l. refl);
       }
 
 -- a field of a table, a single value, the clock, a holder, a set of sharers that is not empty: each within its range
@@ -190,6 +199,7 @@ module _ (w s : List ℕ) (i f v : ℕ) (t : Tidy (memory w s)) where
         shared = λ e. absurd (omega arith);
         no-home = λ c x e. omega arith;
         no-key = λ e. omega arith;
+        no-list = λ e. omega arith;
         no-count = λ e. omega arith;
         no-row = inl (omega arith);
         before = omega arith;
@@ -210,6 +220,7 @@ module _ (w s : List ℕ) (i f v : ℕ) (t : Tidy (memory w s)) where
         shared = λ e. absurd (omega arith);
         no-home = λ c x e. omega arith;
         no-key = λ e. omega arith;
+        no-list = λ e. omega arith;
         no-count = λ e. omega arith;
         no-row = inl (omega arith);
         before = omega arith;
@@ -230,6 +241,7 @@ module _ (w s : List ℕ) (i f v : ℕ) (t : Tidy (memory w s)) where
         shared = λ e. absurd (omega arith);
         no-home = λ c x e. omega arith;
         no-key = λ e. omega arith;
+        no-list = λ e. omega arith;
         no-count = λ e. omega arith;
         no-row = inl (omega arith);
         before = omega arith;
@@ -250,6 +262,7 @@ module _ (w s : List ℕ) (i f v : ℕ) (t : Tidy (memory w s)) where
         shared = λ e. absurd (omega arith);
         no-home = λ c x e. omega arith;
         no-key = λ e. omega arith;
+        no-list = λ e. omega arith;
         no-count = λ e. omega arith;
         no-row = inr (omega arith);
         before = omega arith;
@@ -271,6 +284,7 @@ module _ (w s : List ℕ) (v : ℕ) (t : Tidy (memory w s)) where
         shared = λ e. absurd (omega arith);
         no-home = λ c x e. omega arith;
         no-key = λ e. omega arith;
+        no-list = λ e. omega arith;
         no-count = λ e. omega arith;
         no-row = inl (omega arith);
         before = omega arith;
@@ -293,6 +307,7 @@ module _ (w s : List ℕ) (v : ℕ) (t : Tidy (memory w s)) where
         shared = z;
         no-home = λ c x e. omega arith;
         no-key = λ e. omega arith;
+        no-list = λ e. omega arith;
         no-count = λ e. omega arith;
         no-row = inl (omega arith);
         before = omega arith;
@@ -332,6 +347,7 @@ module _ (w w′ s : List ℕ) (t : Tidy (memory w s)) (long : length w′ ≡ W
             (kept-away (Counted w) w w′ s s t (Counted w′) i queue (count-to w w′ count));
         queue = kept-queue (Counted w) w w′ s s t (Counted w′) queue (count-from w w′ count) (count-to w w′ count);
         key = kept-key (Counted w) w w′ s s t (same KEY (inl (omega arith)) (λ c l e. omega arith)) (λ z. sym sharers ∙ z) (λ j l. refl);
+        list = kept-list (Counted w) w w′ s s t (same LISTED (inl (omega arith)) (λ c l e. omega arith)) (λ j l. refl);
       }
 
 -- a word of a live slot's row that is shown

@@ -1,7 +1,7 @@
 -- Where each part of the server stands in the lent words and bytes: one part behind the other, each as long as its rows; docs/MEMORY.md draws it.
 -- The code's constants have these names.
 use Prim.Native.Nat.{ℕ, _+_, _*_}
-use Rattle.model.specs.Sizes.{sessionLimit, connectionLimit, stringLimit}
+use Rattle.model.specs.Sizes.{sessionLimit, connectionLimit, stringLimit, listLimit}
 
 -- the vendor number
 abbrev pub VENDOR : ℕ
@@ -58,9 +58,13 @@ SENSINGS = CONNECTIONS + connectionLimit * CONNECTION
 abbrev pub SENSING : ℕ
 SENSING = 6
 
+-- 02, Q-12: the length of the text of the allowed commands, plus 1; 0: no list is set
+abbrev pub LISTED : ℕ
+LISTED = SENSINGS + sessionLimit * SENSING
+
 -- here the words of the locks begin
 abbrev pub LOCKS : ℕ
-LOCKS = SENSINGS + sessionLimit * SENSING
+LOCKS = LISTED + 1
 
 abbrev pub CLOCK : ℕ
 CLOCK = LOCKS
@@ -114,6 +118,10 @@ QUEUE = REQUESTS + sessionLimit * REQUEST
 abbrev pub WORDS : ℕ
 WORDS = QUEUE + sessionLimit
 
--- bytes to lend: the shared string, then the string of each slot's request
+-- the bytes: the shared string, then the string of each slot's request, then the text of the allowed commands (02, Q-12)
+abbrev pub LIST : ℕ
+LIST = stringLimit + sessionLimit * stringLimit
+
+-- bytes to lend
 abbrev pub STRINGS : ℕ
-STRINGS = stringLimit + sessionLimit * stringLimit
+STRINGS = LIST + listLimit

@@ -16,19 +16,19 @@ use Rattle.model.specs.State.{Waiting, Server}
 use Rattle.state.specs.Table.{apart, below}
 use Rattle.state.specs.Grid.{part, word-of}
 use Rattle.state.specs.Bits.{bit, with-bit, with-same, with-other, empty-bits}
-use Rattle.state.specs.Layout.{EXCHANGES, EXCHANGE, CONNECTIONS, CONNECTION, HOME, CLOCK, HOLDER, SHARERS, KEY, COUNT, ENTRIES, ENTRY, ORDERS, ORDER, REQUESTS, REQUEST, QUEUE, WORDS, STRINGS, SENSINGS, SENSING}
+use Rattle.state.specs.Layout.{EXCHANGES, EXCHANGE, CONNECTIONS, CONNECTION, HOME, LISTED, CLOCK, HOLDER, SHARERS, KEY, COUNT, ENTRIES, ENTRY, ORDERS, ORDER, REQUESTS, REQUEST, QUEUE, WORDS, LIST, STRINGS, SENSINGS, SENSING}
 use Rattle.state.specs.View.{memory, word, homeAt, slotAt, view}
 use Rattle.state.specs.Change.{off, here}
 use Rattle.state.specs.Requests.{countOf, Idle, part-behind, part-before, slot-small, laid-view, laid-string}
 use Rattle.state.specs.Queue.{slot-off, past-count, onWaiting, queued}
 use Rattle.state.specs.Tidy.{Tidy, TidyOver, Counted, Away, ExchangeRange, ConnectionRange, OrderRange, TidyRequest, TidyQueue, TidyKey, SensingRange}
-use Rattle.state.specs.Keeping.{kept-values, kept-range, kept-singles, kept-rows, kept-homes, kept-request, kept-queue, kept-key}
+use Rattle.state.specs.Keeping.{kept-values, kept-range, kept-singles, kept-rows, kept-homes, kept-request, kept-queue, kept-key, kept-list}
 use Rattle.state.specs.Wiping.{Wiped, undated, emptied, request-wiped}
 
 -- memory that agrees with w, s in order in all but the queue, the count and the requests
 module _ (In In′ : ℕ → Type 0) (w w′ s s′ : List ℕ) (t : TidyOver In (memory w s)) (long : length w′ ≡ WORDS) (room : length s′ ≡ length s)
     (front : (a : ℕ) → a < REQUESTS → (a ≡ COUNT → ⊥) → word w′ a ≡ word w a)
-    (letters : (j : ℕ) → j < stringLimit → word s′ j ≡ word s j)
+    (letters : (j : ℕ) → (j < stringLimit) ⊎ (LIST ≤ j) → word s′ j ≡ word s j)
     (count : word w′ COUNT ≤ sessionLimit) where
   pub queue-tidy : ((i : ℕ) → i < sessionLimit → TidyRequest In′ w′ s′ i) → TidyQueue In′ w′ → TidyOver In′ (memory w′ s′)
   queue-tidy r q =
@@ -46,7 +46,8 @@ module _ (In In′ : ℕ → Type 0) (w w′ s s′ : List ℕ) (t : TidyOver In
         homes = kept-homes In w w′ s s′ t (λ i f h l. front (ENTRIES + i * ENTRY + f) (omega arith) (omega arith)) (λ c h. front (homeAt c) (omega arith) (omega arith));
         requests = r;
         queue = q;
-        key = kept-key In w w′ s s′ t (front KEY (omega arith) (omega arith)) (λ z. sym sharers ∙ z) letters;
+        key = kept-key In w w′ s s′ t (front KEY (omega arith) (omega arith)) (λ z. sym sharers ∙ z) (λ j l. letters j (inl l));
+        list = kept-list In w w′ s s′ t (front LISTED (omega arith) (omega arith)) (λ j l. letters (LIST + j) (inr (omega arith)));
       }
 
 -- a byte before or behind a splice
@@ -176,7 +177,7 @@ module _ (w s : List ℕ) (i d : ℕ) (x : List ℕ) (t : Tidy (memory w s)) (h 
       let y : n ≡ word w COUNT = counted in
       queue-tidy (Counted w) (Counted w₄) w w₄ s s₁ t (length-set w₃ COUNT (n + 1) ∙ long₃) (length-splice s (stringLimit + i * stringLimit) x there)
       (λ a l o. same a o (omega arith) (λ f m e. omega arith))
-      (λ j l. splice-off s (stringLimit + i * stringLimit) x j there (inl (omega arith)))
+      (λ j l. splice-off s (stringLimit + i * stringLimit) x j there (⊎-elim (λ (y : j < stringLimit). inl (omega arith)) (λ (y : LIST ≤ j). inr (omega arith)) l))
       (omega arith) every
       record {
         slots = λ j l. slots-now j l (eqb j n) refl;
@@ -310,7 +311,7 @@ module _ (w s w′ s′ : List ℕ) (n p m : ℕ) (t : TidyOver (Still n p m) (m
     (front : (a : ℕ) → a < REQUESTS → word w′ a ≡ word w a)
     (gone : word w′ (QUEUE + p) ≡ 0)
     (queue : (q : ℕ) → (q ≡ p → ⊥) → word w′ (QUEUE + q) ≡ word w (QUEUE + q))
-    (letters : (j : ℕ) → j < stringLimit → word s′ j ≡ word s j)
+    (letters : (j : ℕ) → (j < stringLimit) ⊎ (LIST ≤ j) → word s′ j ≡ word s j)
     (row : (i f : ℕ) → i < sessionLimit → f < REQUEST → (i ≡ slotAt w p → ⊥) → word w′ (REQUESTS + i * REQUEST + f) ≡ word w (REQUESTS + i * REQUEST + f))
     (bytes : (i j : ℕ) → i < sessionLimit → j < stringLimit → (i ≡ slotAt w p → ⊥) → word s′ (stringLimit + i * stringLimit + j) ≡ word s (stringLimit + i * stringLimit + j)) where
   fewer : (q : ℕ) → Still n (p + 1) m q → Still n p m q
@@ -502,7 +503,7 @@ module _ (w s : List ℕ) (p : ℕ) (few : p < sessionLimit) (long : length w �
               front-same
               (here u (QUEUE + p) 0 (omega (arith, long-2)))
               queue-same
-              (λ j l. x .others j (inl (omega arith)))
+              (λ j l. x .others j (⊎-elim (λ (y : j < stringLimit). inl (omega (arith, short))) (λ (y : LIST ≤ j). inr (omega (arith, short))) l))
               (λ j f l m o. same-word (REQUESTS + j * REQUEST + f) (omega arith) (λ g y e. ⊎-elim (λ (z : j < i). omega arith) (λ (z : i < j). omega arith) (apart j i o)))
               (λ j q l m o. x .others (stringLimit + j * stringLimit + q) (⊎-elim (λ (z : j < i). inl (omega arith)) (λ (z : i < j). inr (omega arith)) (apart j i o)))
               record {

@@ -24,3 +24,4 @@ pub mod Unsharing
 pub mod Closing
 pub mod OneMemory
 pub mod FreshTidy
+pub mod Listing

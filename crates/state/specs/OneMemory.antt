@@ -10,13 +10,13 @@ use lib.Dec.{eqb, ltb, lit<}
 use lib.ListN.{length, getD, take, length-take}
 use lib.Seq.{ext-getD, getD-take}
 use borrow.Author.Tests.{eq-eqb, ne-eqb, eqb-true, eqb-false, ltb-true, ltb-false}
-use Rattle.model.specs.Sizes.{sessionLimit, connectionLimit, stringLimit}
-use Rattle.model.specs.State.{Entry, Waiting, Locks, Kind, Kind.exclusive-lock, Kind.shared-lock, Standing, Standing.no-release, Standing.release-of, Asked, Asked.none, Asked.some, Exchange, Connection, Rest, Server, at, freshExchange, closedConnection, Sensing, sensingAt}
+use Rattle.model.specs.Sizes.{sessionLimit, connectionLimit, stringLimit, listLimit}
+use Rattle.model.specs.State.{Entry, Waiting, Locks, Kind, Kind.exclusive-lock, Kind.shared-lock, Standing, Standing.no-release, Standing.release-of, Asked, Asked.none, Asked.some, Exchange, Connection, Allowed, Allowed.any-command, Allowed.only, Rest, Server, withAllowed, at, freshExchange, closedConnection, Sensing, sensingAt}
 use Rattle.state.specs.Table.{below}
-use Rattle.state.specs.Grid.{part, word-of, grid, getD-grid}
+use Rattle.state.specs.Grid.{part, word-of, length-part, grid, getD-grid}
 use Rattle.state.specs.Bits.{bit, low-bits, Member, member}
-use Rattle.state.specs.Layout.{LOCKS, VENDOR, PREFERENCE, STATUS, LAST, ENABLE, LOCKOUT, REMOTE, EXCHANGES, EXCHANGE, CONNECTIONS, CONNECTION, HOME, CLOCK, HOLDER, SHARERS, KEY, COUNT, ENTRIES, ENTRY, ORDERS, ORDER, REQUESTS, REQUEST, QUEUE, WORDS, STRINGS, SENSINGS, SENSING}
-use Rattle.state.specs.View.{Memory, memory, word, keyOf, rowWord, homeIn, homeOf, fieldOf, standingOf, entryAt, slotAt, requestAt, locksOf, askedOf, exchangeOf, connectionOf, restOf, view, numeral, sensingFrom}
+use Rattle.state.specs.Layout.{LOCKS, VENDOR, PREFERENCE, STATUS, LAST, ENABLE, LOCKOUT, REMOTE, EXCHANGES, EXCHANGE, CONNECTIONS, CONNECTION, HOME, LISTED, CLOCK, HOLDER, SHARERS, KEY, COUNT, ENTRIES, ENTRY, ORDERS, ORDER, REQUESTS, REQUEST, QUEUE, WORDS, LIST, STRINGS, SENSINGS, SENSING}
+use Rattle.state.specs.View.{Memory, memory, word, keyOf, rowWord, homeIn, homeOf, fieldOf, standingOf, entryAt, slotAt, requestAt, locksOf, askedOf, exchangeOf, connectionOf, restOf, allowedFrom, allowedOf, view, numeral, sensingFrom}
 use Rattle.state.specs.Change.{entry-at, sensingWord, sensing-at}
 use Rattle.state.specs.Requests.{countOf, Idle, stringAt}
 use Rattle.state.specs.Queue.{noRequest, count-is, waiting-at}
@@ -106,6 +106,33 @@ standing-one (suc x) (suc y) h l e =
     let s = sym (standing-some x) ∙ e ∙ standing-some y in
     ap suc (halves-one x y (omega arith) (omega arith) (sym (kind-of (ltb x (2 ^ 32)) (x % 2 ^ 32)) ∙ ap isExclusive s ∙ kind-of (ltb y (2 ^ 32)) (y % 2 ^ 32)) (ap numberStanding s))
 
+isList : Allowed → Bool
+isList any-command = false
+isList (only text) = true
+
+textOf : Allowed → List ℕ
+textOf any-command = []
+textOf (only text) = text
+
+listed-some : (x : ℕ) (l : List ℕ) → allowedFrom (suc x) l ≡ only (take x l)
+listed-some x l =
+    let z : suc x - 1 ≡ x = omega arith in
+    ap (λ (b : Bool). cond b any-command (only (take (suc x - 1) l))) (ne-eqb (suc x) 0 (omega arith)) ∙ ap (λ (n : ℕ). only (take n l)) z
+
+-- a list that is read alike has one length, and its text is one
+listed-one : (x y : ℕ) (l k : List ℕ) → x ≤ length l + 1 → y ≤ length k + 1 → allowedFrom x l ≡ allowedFrom y k → (x ≡ y) × ((j : ℕ) → j + 1 < x → getD l j 0 ≡ getD k j 0)
+unfolding isList textOf
+listed-one zero zero l k h m e = (refl, λ j q. absurd (omega arith))
+listed-one zero (suc y) l k h m e = absurd (true≢false (sym (ap isList (e ∙ listed-some y k))))
+listed-one (suc x) zero l k h m e = absurd (true≢false (ap isList (sym (listed-some x l) ∙ e)))
+listed-one (suc x) (suc y) l k h m e =
+    let f : take x l ≡ take y k = ap textOf (sym (listed-some x l) ∙ e ∙ listed-some y k) in
+    let a : length (take x l) ≡ x = simp length-take (omega arith) in
+    let b : length (take y k) ≡ y = simp length-take (omega arith) in
+    let g : length (take x l) ≡ length (take y k) = ap length f in
+    let n : x ≡ y = omega arith in
+    (ap suc n, λ j q. sym (getD-take x l j 0 (omega arith)) ∙ ap (λ (t : List ℕ). getD t j 0) f ∙ getD-take y k j 0 (omega arith))
+
 holder-one : (a b n : ℕ) → a ≤ n → b ≤ n → ((i : ℕ) → i < n → eqb a (i + 1) ≡ eqb b (i + 1)) → a ≡ b
 holder-one zero zero n h l e = refl
 holder-one zero (suc b) n h l e =
@@ -178,7 +205,12 @@ some-key w s = omega arith
 
 module _ (w s w′ s′ : List ℕ) (t : Tidy (memory w s)) (t′ : Tidy (memory w′ s′)) (e : view (memory w s) ≡ view (memory w′ s′)) where
   rest-same : restOf w ≡ restOf w′
-  rest-same = ap (λ (d : Server). d .rest) e
+  unfolding restOf
+  rest-same = ap (λ (d : Server). withAllowed (d .rest) any-command) e
+
+  -- the allowed commands
+  list-same : allowedOf w s ≡ allowedOf w′ s′
+  list-same = ap (λ (d : Server). d .rest .allowed) e
 
   locks-same : locksOf w s ≡ locksOf w′ s′
   locks-same = ap (λ (d : Server). d .locks) e
@@ -378,6 +410,24 @@ module _ (w s w′ s′ : List ℕ) (t : Tidy (memory w s)) (t′ : Tidy (memory
       (below j (word w KEY + 1)))
       sharer
 
+  -- the list
+  listed-same : (word w LISTED ≡ word w′ LISTED) × ((j : ℕ) → j + 1 < word w LISTED → getD (part s LIST listLimit) j 0 ≡ getD (part s′ LIST listLimit) j 0)
+  unfolding allowedOf
+  listed-same =
+      let a : length (part s LIST listLimit) ≡ listLimit = length-part s LIST listLimit (let n : length s ≡ STRINGS = t .room in omega arith) in
+      let b : length (part s′ LIST listLimit) ≡ listLimit = length-part s′ LIST listLimit (let n : length s′ ≡ STRINGS = t′ .room in omega arith) in
+      let h : word w LISTED ≤ listLimit + 1 = t .list .fits in
+      let h′ : word w′ LISTED ≤ listLimit + 1 = t′ .list .fits in
+      listed-one (word w LISTED) (word w′ LISTED) (part s LIST listLimit) (part s′ LIST listLimit) (omega arith) (omega arith) list-same
+
+  list-byte : (j : ℕ) → j < listLimit → word s (LIST + j) ≡ word s′ (LIST + j)
+  list-byte j l =
+      let q : word w LISTED ≡ word w′ LISTED = listed-same .0 in
+      ⊎-elim
+      (λ (x : j + 1 < word w LISTED). sym (word-of s LIST listLimit j l) ∙ listed-same .1 j x ∙ word-of s′ LIST listLimit j l)
+      (λ (x : word w LISTED ≤ j + 1). t .list .behind j x l ∙ sym (t′ .list .behind j (omega arith) l))
+      (below (j + 1) (word w LISTED))
+
   -- the queue
   counts-same : countOf w ≡ countOf w′
   counts-same = count-is w s ∙ ap (λ (l : Locks). length (l .waiting)) locks-same ∙ sym (count-is w′ s′)
@@ -481,7 +531,9 @@ module _ (w s w′ s′ : List ℕ) (t : Tidy (memory w s)) (t′ : Tidy (memory
       (λ (b : CONNECTIONS ≤ p).
       ⊎-elim (λ (c : p < SENSINGS). rows-same w w′ CONNECTIONS CONNECTION connectionLimit connection-row p b (omega arith))
       (λ (c : SENSINGS ≤ p).
-      ⊎-elim (λ (k : p < LOCKS). rows-same w w′ SENSINGS SENSING sessionLimit sensing-word p c (omega arith))
+      ⊎-elim (λ (k : p < LISTED). rows-same w w′ SENSINGS SENSING sessionLimit sensing-word p c (omega arith))
+      (λ (l : LISTED ≤ p).
+      ⊎-elim (λ (k : p < LOCKS). let z : p ≡ LISTED = omega arith in ap (word w) z ∙ listed-same .0 ∙ ap (word w′) (sym z))
       (λ (k : LOCKS ≤ p).
       ⊎-elim (λ (d : p < ENTRIES). let z : p ≡ LOCKS + (p - LOCKS) = omega arith in ap (word w) z ∙ lock-word (p - LOCKS) (omega arith) ∙ ap (word w′) (sym z))
       (λ (d : ENTRIES ≤ p).
@@ -496,6 +548,7 @@ module _ (w s w′ s′ : List ℕ) (t : Tidy (memory w s)) (t′ : Tidy (memory
       (below p ORDERS))
       (below p ENTRIES))
       (below p LOCKS))
+      (below p LISTED))
       (below p SENSINGS))
       (below p CONNECTIONS))
       (below p EXCHANGES)
@@ -508,7 +561,10 @@ module _ (w s w′ s′ : List ℕ) (t : Tidy (memory w s)) (t′ : Tidy (memory
   byte-same p h =
       ⊎-elim
       (λ (a : p < stringLimit). key-byte p a)
-      (λ (a : stringLimit ≤ p). rows-same s s′ stringLimit stringLimit sessionLimit request-byte p a (omega arith))
+      (λ (a : stringLimit ≤ p).
+      ⊎-elim (λ (b : p < LIST). rows-same s s′ stringLimit stringLimit sessionLimit request-byte p a (omega arith))
+      (λ (b : LIST ≤ p). let z : p ≡ LIST + (p - LIST) = omega arith in ap (word s) z ∙ list-byte (p - LIST) (omega arith) ∙ ap (word s′) (sym z))
+      (below p LIST))
       (below p stringLimit)
 
   strings-one : s ≡ s′

@@ -46,7 +46,7 @@ module _ (w s : List ℕ) (a v : ℕ) (o : (a ≡ COUNT) ⊎ (QUEUE ≤ a)) wher
           entries = (ap (entriesOf (set w a v)) (key-off w s a v (p KEY (lit< tt))) ∙ entries-off w (keyOf w s) a v (p HOLDER (lit< tt)) (p SHARERS (lit< tt)) (past-homes w a r) t) k;
           waiting = e k;
         };
-        rest = rest-off w a v r k;
+        rest = rest-off w s s a v r refl k;
       }
 
   -- a request as its row has it
@@ -120,7 +120,7 @@ past-count w s p v h =
             ∙ tab-same (λ (j : ℕ). requestAt (set w a v) s (slotAt (set w a v) j)) (λ (j : ℕ). requestAt w s (slotAt w j)) 0 (countOf w)
             (λ j x y. ap (requestAt (set w a v) s) (slot-off w a v j (omega arith)) ∙ request-row w s a v (inr (omega arith)) (slotAt w j) (slot-small w j))) k;
       };
-      rest = rest-off w a v (omega arith) k;
+      rest = rest-off w s s a v (omega arith) refl k;
     }
 
 -- the first n are kept
@@ -155,7 +155,7 @@ module _ (w s : List ℕ) (i d : ℕ) (h : i < sessionLimit) (long : length w �
   dated = set w (REQUESTS + i * REQUEST + 0) d
 
   dated-view : view (memory dated s) ≡ view (memory w s)
-  dated-view = unseen w s s i 0 d h (lit< tt) long free (λ j l o. refl) refl
+  dated-view = unseen w s s i 0 d h (lit< tt) long free (λ j l o. refl) refl refl
 
   dated-request : requestAt dated s i ≡ record { slot = i; deadline = d; string = stringAt w s i }
   unfolding requestAt

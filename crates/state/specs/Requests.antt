@@ -12,13 +12,13 @@ use lib.ListN.{length, getD, set, take, drop, length-take, length-drop, length-a
 use lib.Seq.{take-take, take-at, drop-at, drop-drop, take-append-seam, drop-append-le, take-append-le}
 use borrow.Author.Tests.{eq-eqb, ne-eqb, eqb-false, not-true}
 use Rattle.wire.specs.Splice.{splice, drop-splice}
-use Rattle.model.specs.Sizes.{sessionLimit, stringLimit}
+use Rattle.model.specs.Sizes.{sessionLimit, stringLimit, listLimit}
 use Rattle.model.specs.Lists.{all}
 use Rattle.model.specs.State.{Entry, Waiting}
 use Rattle.model.specs.Locks.{elsewhere}
 use Rattle.state.specs.Table.{tab, tab-same, tab-more, all-tab-row, apart}
 use Rattle.state.specs.Grid.{part, word-of}
-use Rattle.state.specs.Layout.{LOCKS, CLOCK, HOLDER, SHARERS, KEY, COUNT, ENTRIES, REQUESTS, REQUEST, QUEUE, WORDS, STRINGS}
+use Rattle.state.specs.Layout.{LOCKS, CLOCK, HOLDER, SHARERS, KEY, COUNT, ENTRIES, REQUESTS, REQUEST, QUEUE, WORDS, LIST, STRINGS}
 use Rattle.state.specs.View.{Memory, memory, word, keyOf, entriesOf, slotAt, requestAt, waitingOf, locksOf, view}
 use Rattle.state.specs.Change.{off, here, key-off, past-homes, entries-off, rest-off}
 
@@ -114,10 +114,10 @@ module _ (w s s′ : List ℕ) (i f v : ℕ) (h : i < sessionLimit) (l : f < REQ
 
   pub unseen : Idle w i
       → ((j : ℕ) → j < sessionLimit → (j ≡ i → ⊥) → part s′ (stringLimit + j * stringLimit) stringLimit ≡ part s (stringLimit + j * stringLimit) stringLimit)
-      → keyOf w s′ ≡ keyOf w s
+      → keyOf w s′ ≡ keyOf w s → part s′ LIST listLimit ≡ part s LIST listLimit
       → view (memory (set w (REQUESTS + i * REQUEST + f) v) s′) ≡ view (memory w s)
   unfolding locksOf
-  unseen free e d =
+  unseen free e d q =
       let a : ℕ = REQUESTS + i * REQUEST + f in
       λ k. record {
         locks = record {
@@ -125,7 +125,7 @@ module _ (w s s′ : List ℕ) (i f v : ℕ) (h : i < sessionLimit) (l : f < REQ
           entries = (ap (entriesOf (set w a v)) (key-off w s′ a v (omega arith) ∙ d) ∙ entries-off w (keyOf w s) a v (omega arith) (omega arith) (past-homes w a (omega arith)) (inr (omega arith))) k;
           waiting = unseen-waiting free e k;
         };
-        rest = rest-off w a v (omega arith) k;
+        rest = rest-off w s s′ a v (omega arith) q k;
       }
 
 -- a string laid into slot i's place: the others' stay, so does the shared one, and it is there
@@ -153,6 +153,7 @@ module _ (w s : List ℕ) (i : ℕ) (x : List ℕ) (h : i < sessionLimit) (small
   pub laid-view : Idle w i
       → view (memory (set w (REQUESTS + i * REQUEST + 1) (length x)) (splice s (stringLimit + i * stringLimit) x)) ≡ view (memory w s)
   laid-view free = unseen w s (splice s (stringLimit + i * stringLimit) x) i 1 (length x) h (lit< tt) long free others-stay key-stays
+      (part-behind s (stringLimit + i * stringLimit) x there LIST listLimit (omega arith))
 
   pub laid-string : stringAt (set w (REQUESTS + i * REQUEST + 1) (length x)) (splice s (stringLimit + i * stringLimit) x) i ≡ x
   unfolding requestAt

@@ -10,13 +10,13 @@ use lib.ListN.{length, set, take}
 use lib.Seq.{take-take}
 use borrow.Author.Tests.{ne-eqb, eqb-true, eqb-false}
 use Rattle.wire.specs.Splice.{splice, length-splice}
-use Rattle.model.specs.Sizes.{sessionLimit, stringLimit}
+use Rattle.model.specs.Sizes.{sessionLimit, stringLimit, listLimit}
 use Rattle.model.specs.Lists.{all}
 use Rattle.model.specs.Locks.{noShared, fits, give}
 use Rattle.model.specs.State.{Server}
 use Rattle.state.specs.Table.{tab-same}
 use Rattle.state.specs.Bits.{bit, empty-bits}
-use Rattle.state.specs.Layout.{CLOCK, HOLDER, SHARERS, KEY, ENTRIES, ENTRY, WORDS, STRINGS}
+use Rattle.state.specs.Layout.{CLOCK, HOLDER, SHARERS, KEY, ENTRIES, ENTRY, WORDS, LIST, STRINGS}
 use Rattle.state.specs.View.{Memory, memory, word, keyOf, fieldOf, orderWord, entryFrom, entryAt, entriesOf, waitingOf, locksOf, view}
 use Rattle.state.specs.Change.{onEntry, off, here, past-homes, entries-off, waiting-off, rest-off}
 use Rattle.state.specs.Holders.{sharers-test, fits-some}
@@ -68,7 +68,7 @@ module _ (w s k : List ℕ) (some : 0 < length k) (small : length k ≤ stringLi
           entries = (entries-off w (keyOf keyed lettered) KEY (length k - 1) (omega arith) (omega arith) (past-homes w KEY (omega arith)) (inl (omega arith)) ∙ unshared-entries w (keyOf w s) (keyOf keyed lettered) z) j;
           waiting = (waiting-off w lettered KEY (length k - 1) (omega arith) (omega arith) ∙ waiting-strings w s lettered (λ i l. part-behind s 0 k inside (stringLimit + i * stringLimit) stringLimit (omega arith))) j;
         };
-        rest = rest-off w KEY (length k - 1) (omega arith) j;
+        rest = rest-off w s lettered KEY (length k - 1) (omega arith) (part-behind s 0 k inside LIST listLimit (omega arith)) j;
       }
 
 -- a string that fits those that share is theirs

@@ -17,7 +17,7 @@ use Rattle.state.specs.Layout.{KEY, REQUESTS, REQUEST, STRINGS}
 use Rattle.state.specs.View.{word, keyOf, requestAt}
 use Rattle.state.specs.Requests.{stringAt}
 
-take-least : (m n : ℕ) (l : List ℕ) → take m (take n l) ≡ take (min m n) l
+pub take-least : (m n : ℕ) (l : List ℕ) → take m (take n l) ≡ take (min m n) l
 take-least zero n l = let e : min 0 n ≡ 0 = omega arith in ap (λ (k : ℕ). take k l) (sym e)
 take-least (suc m) zero l = let e : min (suc m) 0 ≡ 0 = omega arith in ap (λ (k : ℕ). take k l) (sym e)
 take-least (suc m) (suc n) [] = let e : min (suc m) (suc n) ≡ suc (min m n) = omega arith in ap (λ (k : ℕ). take k []) (sym e)

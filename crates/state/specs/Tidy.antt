@@ -1,6 +1,6 @@
 -- Memory in order: every word within the range that it is read in, and in every place that nothing reads what a fresh server has there: the
 -- deadline, the length and the string of a slot that does not wait, queue places past the count, string bytes past a string's end, the
--- shared string when nobody shares, the connections of a free slot, the home of a connection that no slot shows: 0. Memory in order is a
+-- shared string when nobody shares, bytes past the end of the list's text, the connections of a free slot, the home of a connection that no slot shows: 0. Memory in order is a
 -- function of the server that it shows (`one-memory`, OneMemory.antt). Assumes nothing.
 use mathlib.Core.Path.{_≡_}
 use mathlib.Core.Logic.{_⊎_}
@@ -9,10 +9,10 @@ use mathlib.Core.List.{List}
 use Prim.Native.Nat.{ℕ, zero, suc, _+_, _*_, _^_, _≤_, _<_, _-_}
 use lib.Dec.{eqb}
 use lib.ListN.{length}
-use Rattle.readings.specs.Watch.{Limits, Limits.off, Limits.above, Limits.outside}
-use Rattle.model.specs.Sizes.{sessionLimit, connectionLimit, stringLimit}
-use Rattle.state.specs.Layout.{EXCHANGES, EXCHANGE, CONNECTIONS, CONNECTION, HOME, CLOCK, HOLDER, SHARERS, KEY, COUNT, ENTRY, ORDERS, ORDER, REQUESTS, REQUEST, QUEUE, WORDS, STRINGS, SENSINGS, SENSING}
+use Rattle.model.specs.Sizes.{sessionLimit, connectionLimit, stringLimit, listLimit}
+use Rattle.state.specs.Layout.{EXCHANGES, EXCHANGE, CONNECTIONS, CONNECTION, HOME, LISTED, CLOCK, HOLDER, SHARERS, KEY, COUNT, ENTRY, ORDERS, ORDER, REQUESTS, REQUEST, QUEUE, WORDS, LIST, STRINGS, SENSINGS, SENSING}
 use Rattle.state.specs.View.{Memory, word, rowWord, homeOf, fieldOf, slotAt, lastBits, watchOf, numeral}
+use Rattle.readings.specs.Watch.{Limits, Limits.off, Limits.above, Limits.outside}
 
 -- any word
 abbrev pub Any : ℕ → Type 0
@@ -125,6 +125,11 @@ pub record TidyKey (w s : List ℕ) : Type 0 where
   pub no-length : word w SHARERS ≡ 0 → word w KEY ≡ 0
   pub no-byte : word w SHARERS ≡ 0 → word s 0 ≡ 0
 
+-- 02, Q-12: the text of the list: no bytes behind it; where no list is set there is none
+pub record TidyList (w s : List ℕ) : Type 0 where
+  pub fits : word w LISTED ≤ listLimit + 1
+  pub behind : (j : ℕ) → word w LISTED ≤ j + 1 → j < listLimit → word s (LIST + j) ≡ 0
+
 -- memory in order whose queue has these places
 pub record TidyOver (In : ℕ → Type 0) (m : Memory) : Type 0 where
   pub long : length (m .words) ≡ WORDS
@@ -140,6 +145,7 @@ pub record TidyOver (In : ℕ → Type 0) (m : Memory) : Type 0 where
   pub requests : (i : ℕ) → i < sessionLimit → TidyRequest In (m .words) (m .strings) i
   pub queue : TidyQueue In (m .words)
   pub key : TidyKey (m .words) (m .strings)
+  pub list : TidyList (m .words) (m .strings)
 
 -- the places of the queue: as far as the count
 abbrev pub Counted : List ℕ → ℕ → Type 0

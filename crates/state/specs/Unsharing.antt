@@ -11,11 +11,11 @@ use Rattle.wire.specs.Splice.{splice, length-splice}
 use Rattle.model.specs.Sizes.{sessionLimit, connectionLimit, stringLimit}
 use Rattle.state.specs.Table.{below}
 use Rattle.state.specs.Bits.{bit, without, with-bit, with-small, with-some}
-use Rattle.state.specs.Layout.{EXCHANGES, EXCHANGE, CONNECTIONS, CONNECTION, HOME, CLOCK, HOLDER, SHARERS, KEY, COUNT, ENTRIES, ENTRY, ORDERS, ORDER, REQUESTS, REQUEST, QUEUE, WORDS, STRINGS, SENSINGS, SENSING}
+use Rattle.state.specs.Layout.{EXCHANGES, EXCHANGE, CONNECTIONS, CONNECTION, HOME, LISTED, CLOCK, HOLDER, SHARERS, KEY, COUNT, ENTRIES, ENTRY, ORDERS, ORDER, REQUESTS, REQUEST, QUEUE, WORDS, LIST, STRINGS, SENSINGS, SENSING}
 use Rattle.state.specs.View.{memory, word, homeAt}
 use Rattle.state.specs.Change.{off, here}
 use Rattle.state.specs.Tidy.{Tidy, Counted, ExchangeRange, ConnectionRange, OrderRange, TidyKey, SensingRange}
-use Rattle.state.specs.Keeping.{kept-values, kept-range, kept-singles, kept-rows, kept-homes, kept-request, kept-queue, kept-away, count-from, count-to, sharers-tidy}
+use Rattle.state.specs.Keeping.{kept-values, kept-range, kept-singles, kept-rows, kept-homes, kept-request, kept-queue, kept-list, kept-away, count-from, count-to, sharers-tidy}
 use Rattle.state.specs.Leaving.{splice-off}
 use Rattle.state.specs.Wiping.{Wiped}
 
@@ -44,6 +44,7 @@ module _ (w w′ s s′ : List ℕ) (t : Tidy (memory w s)) (long : length w′ 
             (kept-away (Counted w) w w′ s s′ t (Counted w′) i queue (count-to w w′ count));
         queue = kept-queue (Counted w) w w′ s s′ t (Counted w′) queue (count-from w w′ count) (count-to w w′ count);
         key = k;
+        list = kept-list (Counted w) w w′ s s′ t (same LISTED (omega arith) (omega arith)) (λ j l. letters (LIST + j) (omega arith));
       }
 
 without-less : (m i : ℕ) → without m i ≤ m

@@ -5,14 +5,14 @@ use mathlib.Core.List.{List, [], _∷_}
 use Prim.Native.Nat.{ℕ, zero, suc, _+_, _*_, _-_, _%_, _^_, min, _/_}
 use lib.Dec.{eqb, ltb}
 use lib.ListN.{getD, take}
-use Rattle.readings.specs.Bits.{notNumber}
-use Rattle.readings.specs.Watch.{Limits, Limits.off, Limits.above, Limits.outside}
-use Rattle.model.specs.Sizes.{sessionLimit, connectionLimit, stringLimit, noConnection}
-use Rattle.model.specs.State.{Entry, Kind.exclusive-lock, Kind.shared-lock, Standing, Standing.no-release, Standing.release-of, Waiting, Locks, Asked, Asked.none, Asked.some, Exchange, Connection, RemoteLocal, Rest, Server, Sensing}
+use Rattle.model.specs.Sizes.{sessionLimit, connectionLimit, stringLimit, listLimit, noConnection}
+use Rattle.model.specs.State.{Entry, Kind.exclusive-lock, Kind.shared-lock, Standing, Standing.no-release, Standing.release-of, Waiting, Locks, Asked, Asked.none, Asked.some, Exchange, Connection, RemoteLocal, Allowed, Allowed.any-command, Allowed.only, Rest, Server, withAllowed, Sensing}
 use Rattle.state.specs.Table.{tab}
 use Rattle.state.specs.Grid.{part, grid}
 use Rattle.state.specs.Bits.{bit}
-use Rattle.state.specs.Layout.{CLOCK, VENDOR, PREFERENCE, STATUS, LAST, ENABLE, LOCKOUT, REMOTE, HOLDER, SHARERS, KEY, COUNT, ENTRIES, ENTRY, ORDERS, ORDER, EXCHANGES, EXCHANGE, CONNECTIONS, CONNECTION, HOME, REQUESTS, REQUEST, QUEUE, SENSINGS, SENSING}
+use Rattle.state.specs.Layout.{CLOCK, VENDOR, PREFERENCE, STATUS, LAST, ENABLE, LOCKOUT, REMOTE, HOLDER, SHARERS, KEY, COUNT, ENTRIES, ENTRY, ORDERS, ORDER, EXCHANGES, EXCHANGE, CONNECTIONS, CONNECTION, HOME, LISTED, REQUESTS, REQUEST, QUEUE, LIST, SENSINGS, SENSING}
+use Rattle.readings.specs.Bits.{notNumber}
+use Rattle.readings.specs.Watch.{Limits, Limits.off, Limits.above, Limits.outside}
 
 -- all that the host lends
 pub record Memory : Type 0 where
@@ -144,6 +144,7 @@ sensingFrom t =
 abbrev pub sensingOf : List ℕ → Sensing
 sensingOf r = sensingFrom (word r)
 
+-- all but the allowed commands, whose text stands in the bytes
 abbrev pub restFrom : List Exchange → List Sensing → List Connection → (ℕ → ℕ) → Rest
 restFrom x z y t =
     record {
@@ -154,10 +155,18 @@ restFrom x z y t =
       made = record { vendor = t VENDOR % 65536; prefersOverlap = flag (t PREFERENCE) };
       status = t STATUS % 256;
       remoteLocal = record { enable = flag (t ENABLE); lockout = flag (t LOCKOUT); remote = flag (t REMOTE) };
+      allowed = any-command;
     }
 
 unfoldable pub restOf : List ℕ → Rest
 restOf w = restFrom (grid exchangeOf EXCHANGES EXCHANGE sessionLimit w) (grid sensingOf SENSINGS SENSING sessionLimit w) (grid connectionOf CONNECTIONS CONNECTION connectionLimit w) (word w)
 
+-- 02, Q-12: 0: no list is set; else the length of its text, plus 1
+abbrev pub allowedFrom : ℕ → List ℕ → Allowed
+allowedFrom x text = cond (eqb x 0) any-command (only (take (x - 1) text))
+
+unfoldable pub allowedOf : List ℕ → List ℕ → Allowed
+allowedOf w s = allowedFrom (word w LISTED) (part s LIST listLimit)
+
 abbrev pub view : Memory → Server
-view m = record { locks = locksOf (m .words) (m .strings); rest = restOf (m .words) }
+view m = record { locks = locksOf (m .words) (m .strings); rest = withAllowed (restOf (m .words)) (allowedOf (m .words) (m .strings)) }

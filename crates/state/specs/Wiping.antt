@@ -10,10 +10,10 @@ use lib.Dec.{eqb, lit<}
 use lib.ListN.{length, set, take, length-set}
 use lib.Seq.{ext-getD}
 use borrow.Author.Tests.{eqb-true, eqb-false}
-use Rattle.model.specs.Sizes.{sessionLimit, stringLimit}
+use Rattle.model.specs.Sizes.{sessionLimit, stringLimit, listLimit}
 use Rattle.state.specs.Table.{apart, below}
 use Rattle.state.specs.Grid.{part, word-of, length-part}
-use Rattle.state.specs.Layout.{CLOCK, HOLDER, SHARERS, KEY, COUNT, ENTRIES, REQUESTS, REQUEST, QUEUE, WORDS, STRINGS}
+use Rattle.state.specs.Layout.{CLOCK, HOLDER, SHARERS, KEY, COUNT, ENTRIES, REQUESTS, REQUEST, QUEUE, WORDS, LIST, STRINGS}
 use Rattle.state.specs.View.{memory, word, keyOf, slotAt, waitingOf, entriesOf, locksOf, view}
 use Rattle.state.specs.Change.{off, here, past-homes, entries-off, waiting-off, rest-off}
 use Rattle.state.specs.Requests.{countOf, Idle, unseen, waiting-strings}
@@ -77,6 +77,9 @@ module _ (w s s′ : List ℕ) (i n : ℕ) (h : i < sessionLimit) (long : length
       ap₂ (λ (a : ℕ) (b : List ℕ). a ∷ take (word undated KEY) b) (x .others 0 (inl (omega arith)))
       (part-same s s′ 1 (stringLimit - 1) (x .room) (omega arith) (λ p a b. x .others p (inl (omega arith))))
 
+  list-else : part s′ LIST listLimit ≡ part s LIST listLimit
+  list-else = part-same s s′ LIST listLimit (x .room) (omega arith) (λ p a b. x .others p (inr (omega arith)))
+
   idle-undated : Idle w i → Idle undated i
   idle-undated o j l e =
       let c : word undated COUNT ≡ word w COUNT = off w (REQUESTS + i * REQUEST + 0) 0 COUNT (omega arith) in
@@ -84,8 +87,8 @@ module _ (w s s′ : List ℕ) (i n : ℕ) (h : i < sessionLimit) (long : length
 
   pub request-wiped : Idle w i → view (memory emptied s′) ≡ view (memory w s)
   request-wiped o =
-      unseen undated s s′ i 1 0 h (lit< tt) (length-set w (REQUESTS + i * REQUEST + 0) 0 ∙ long) (idle-undated o) string-else key-else
-      ∙ unseen w s s i 0 0 h (lit< tt) long o (λ j l q. refl) refl
+      unseen undated s s′ i 1 0 h (lit< tt) (length-set w (REQUESTS + i * REQUEST + 0) 0 ∙ long) (idle-undated o) string-else key-else list-else
+      ∙ unseen w s s i 0 0 h (lit< tt) long o (λ j l q. refl) refl refl
 
 -- the shared string, where nobody shares
 pub key-wiped : (w s s′ : List ℕ) (n : ℕ) → length s ≡ STRINGS → n ≤ stringLimit → Wiped s s′ 0 n → word w SHARERS % 2 ^ sessionLimit ≡ 0
@@ -99,5 +102,5 @@ key-wiped w s s′ n room small x z =
         waiting = (waiting-off w s′ KEY 0 (omega arith) (omega arith)
             ∙ waiting-strings w s s′ (λ i l. part-same s s′ (stringLimit + i * stringLimit) stringLimit (x .room) (omega arith) (λ p a b. x .others p (inr (omega arith))))) k;
       };
-      rest = rest-off w KEY 0 (omega arith) k;
+      rest = rest-off w s s′ KEY 0 (omega arith) (part-same s s′ LIST listLimit (x .room) (omega arith) (λ p a b. x .others p (inr (omega arith)))) k;
     }

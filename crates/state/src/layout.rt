@@ -1,6 +1,7 @@
 // Where each part of the server stands in the lent words and bytes: one part behind the other, each as long as its rows; docs/MEMORY.md
 // draws it. A row's width stands beside it.
 use crate::sizes::CONNECTION_LIMIT;
+use crate::sizes::LIST_LIMIT;
 use crate::sizes::SESSION_LIMIT;
 use crate::sizes::STRING_LIMIT;
 
@@ -23,7 +24,10 @@ pub const SENSINGS: usize = CONNECTIONS + CONNECTION_LIMIT * CONNECTION;
 
 pub const SENSING: usize = 6;
 
-pub const CLOCK: usize = SENSINGS + SESSION_LIMIT * SENSING;
+// the length of the text of the allowed commands, plus 1; 0: no list is set
+pub const LISTED: usize = SENSINGS + SESSION_LIMIT * SENSING;
+
+pub const CLOCK: usize = LISTED + 1;
 
 // the slot of the exclusive holder, plus 1; 0 or a number past the slots: nobody
 pub const HOLDER: usize = CLOCK + 1;
@@ -59,5 +63,8 @@ pub const QUEUE: usize = REQUESTS + SESSION_LIMIT * REQUEST;
 // words to lend
 pub const WORDS: usize = QUEUE + SESSION_LIMIT;
 
-// bytes to lend: the shared string, then the string of each slot's request
-pub const STRINGS: usize = STRING_LIMIT + SESSION_LIMIT * STRING_LIMIT;
+// the bytes: the shared string, then the string of each slot's request, then the text of the allowed commands
+pub const LIST: usize = STRING_LIMIT + SESSION_LIMIT * STRING_LIMIT;
+
+// bytes to lend
+pub const STRINGS: usize = LIST + LIST_LIMIT;

@@ -9,7 +9,7 @@ ghost use Rattle.wire.specs.Splice.{splice};
 ghost use lib.ListN.{drop, getD, length, set, take};
 ghost use mathlib.Core.List.{List, [], _++_, _∷_};
 ghost use mathlib.Core.Path.{_≡_};
-ghost use Rattle.model.specs.Sizes.{sessionLimit, stringLimit};
+ghost use Rattle.model.specs.Sizes.{listLimit, sessionLimit, stringLimit};
 ghost use Rattle.state.specs.Layout.{STRINGS, WORDS};
 use crate::layout::COUNT;
 use crate::layout::KEY;
@@ -30,7 +30,7 @@ pub const KEY_REST: usize = STRING_LIMIT - 1;
 
 // The lesser of the two.
 pub fn least(a: u64, b: usize) -> usize
-    requires { ⌜ b ≤ stringLimit ⌝ }
+    requires { ⌜ b ≤ listLimit ⌝ }
     ensures { λ r. ⌜ (r ≡ min a b) × (r ≤ b) ⌝ }
 {
     if a < b as u64 {

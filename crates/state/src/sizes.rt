@@ -1,6 +1,6 @@
 // The sizes of 01's bench, with 02's Q-6: the one place in code, as `model/specs/Sizes.antt` is the one in definitions. Each function below
 // ties the two.
-ghost use Rattle.model.specs.Sizes.{beforeFirst, clockLimit, connectionLimit, noConnection, outputMinimum, payloadLimit, sessionLimit, stringLimit};
+ghost use Rattle.model.specs.Sizes.{beforeFirst, clockLimit, connectionLimit, listLimit, noConnection, outputMinimum, payloadLimit, sessionLimit, stringLimit};
 ghost use Rattle.state.specs.Layout.{STRINGS, WORDS};
 ghost use mathlib.Core.Path.{_≡_};
 use crate::layout;
@@ -12,6 +12,9 @@ pub const CONNECTION_LIMIT: usize = 64;
 pub const PAYLOAD_LIMIT: usize = 1024;
 
 pub const STRING_LIMIT: usize = 256;
+
+// 32 patterns, each of at most 128 bytes with a newline behind it
+pub const LIST_LIMIT: usize = 4128;
 
 pub const OUTPUT_MINIMUM: usize = 2048;
 
@@ -31,7 +34,7 @@ pub const NO_CONNECTION: u64 = 255;
 // fffffefe hex, the number before the first: the last message's where none acted
 pub const BEFORE_FIRST: u64 = 4294967038;
 
-// What the host lends: words for everything but lock strings, bytes for those.
+// What the host lends: words for everything but lock strings and the text of the allowed commands, bytes for those.
 pub const WORDS: usize = layout::WORDS;
 
 pub const STRINGS: usize = layout::STRINGS;
@@ -62,6 +65,12 @@ pub fn string_limit() -> usize
     ensures { λ r. ⌜ r ≡ stringLimit ⌝ }
 {
     STRING_LIMIT
+}
+
+pub fn list_limit() -> usize
+    ensures { λ r. ⌜ r ≡ listLimit ⌝ }
+{
+    LIST_LIMIT
 }
 
 pub fn output_minimum() -> usize

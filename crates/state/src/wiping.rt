@@ -15,7 +15,7 @@ use crate::requests::least;
 use crate::sizes::STRING_LIMIT;
 
 // The n bytes from a place on become 0.
-fn wipe(strings: &mut [u8], a: usize, n: usize)
+pub fn wipe(strings: &mut [u8], a: usize, n: usize)
     requires { ⌜ a + n ≤ length (now strings) ⌝ }
     ensures { λ _. ⌜ Wiped (now (strings .entry)) (now (strings .exit)) a n ⌝ }
 {

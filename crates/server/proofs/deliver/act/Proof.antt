@@ -1,6 +1,7 @@
 -- `deliver::act` meets its contract: each role has its function; what that requires, the verdict has tested.
-use mathlib.Core.Path.{_≡_, sym, _∙_}
+use mathlib.Core.Path.{_≡_, refl, sym, _∙_}
 use mathlib.Core.List.{[]}
+use Prim.Native.Nat.{ℕ}
 use native.Mathlib.Omega.{arith}
 use Rattle.checks.specs.Numbers.{message}
 use Rattle.model.specs.Place.{Role.r-none, Role.r-halfOpen, Role.r-synchronous, Role.r-asynchronous}
@@ -9,6 +10,9 @@ use Rattle.server.specs.Acting.{acts-as, half-acts, role-none, role-half
 use borrow.Author.Needs.{needs}
 use Rattle.server.proofs.deliver.act.Statement.{statement}
 use Rattle.server.proofs.deliver.act.Tie as tie
+
+not-both : {r : ℕ} → r ≡ 2 → r ≡ 0 → ⊥
+not-both a b = omega arith
 
 act-synchronous-requires : tie.Need-act-synchronous-requires
 act-synchronous-requires c κs = let a = c .before .before .before .before .before .before .args in
@@ -32,7 +36,7 @@ act-asynchronous-requires c κs = let a = c .before .before .before .before .bef
     let s = a .strings .now in
     let h = message (a .kind) (a .code) (a .param) (a .len) in
     let p = a .payload .now in
-    (q .4 (λ z. omega arith), search needs, search needs, q .2, search needs, λ k. size-eight h p (q .5 s r-asynchronous (sym (c .before .before .before .if2 .taken))) k)
+    (q .4 (λ z. omega arith), search needs, search needs, q .2, search needs, λ k. size-eight h p (q .5 s r-asynchronous (sym (c .before .before .before .if2 .taken)) (λ z. refl)) k)
 
 returns-2 : tie.Need-returns-2
 returns-2 c = let a = c .before .before .before .before .before .before .before .before .before .before .args in
@@ -48,7 +52,7 @@ act-opening-requires c κs = let a = c .before .before .before .before .before .
     let s = a .strings .now in
     let h = message (a .kind) (a .code) (a .param) (a .len) in
     let p = a .payload .now in
-    (search needs, search needs, search needs, λ t k. slot-free (a .w .now) t h p (q .5 t r-none (sym (c .before .before .before .if3 .taken))) k, λ t k. slot-named (a .w .now) t h p (q .5 t r-none (sym (c .before .before .before .if3 .taken))) k, λ t k. slot-half (a .w .now) t h p (q .5 t r-none (sym (c .before .before .before .if3 .taken))) k, q .6 (c .before .before .before .if3 .taken))
+    (search needs, search needs, search needs, λ t k. slot-free (a .w .now) t h p (q .5 t r-none (sym (c .before .before .before .if3 .taken)) (λ z. absurd (not-both z (c .before .before .before .if3 .taken)))) k, λ t k. slot-named (a .w .now) t h p (q .5 t r-none (sym (c .before .before .before .if3 .taken)) (λ z. absurd (not-both z (c .before .before .before .if3 .taken)))) k, λ t k. slot-half (a .w .now) t h p (q .5 t r-none (sym (c .before .before .before .if3 .taken)) (λ z. absurd (not-both z (c .before .before .before .if3 .taken)))) k, q .6 (c .before .before .before .if3 .taken))
 
 returns-3 : tie.Need-returns-3
 returns-3 c = let a = c .before .before .before .before .before .before .before .before .before .before .before .args in

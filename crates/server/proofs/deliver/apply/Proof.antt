@@ -6,24 +6,24 @@ use Rattle.wire.specs.Frame.{bytesOf}
 use Rattle.model.specs.Interface.{Reply.took, Outcome.more-needed, Outcome.ignored}
 use Rattle.effects.specs.Did.{numbersOf, did-nothing, did-plainly}
 use Rattle.effects.specs.Replies.{nothing-said}
-use Rattle.state.specs.View.{memory, restOf, view}
+use Rattle.state.specs.View.{memory, view}
 use Rattle.server.specs.Verdicts.{fatal-done, error-done, closed-done, ignored-done, more-done}
 use borrow.Author.Needs.{needs}
 use Rattle.server.proofs.deliver.apply.Statement.{statement}
 use Rattle.server.proofs.deliver.apply.Tie as tie
 
+count-refused-requires : tie.Need-count-refused-requires
+count-refused-requires c κs = c .before .before .before .pre .5
+
 returns : tie.Need-returns
 returns c =
-    let a = c .before .before .before .before .before .before .before .before .args in
-    λ ro x e f g. fatal-done (view (memory (a .w .now) (a .strings .now))) (a .c) (a .i) x ro _ _ _ _ _ (a .v) (c .before .before .before .before .before .before .if1 .taken) (c .before .before .send-fatal .ensures)
-
-count-refused-requires : tie.Need-count-refused-requires
-count-refused-requires c κs = c .before .before .before .before .pre .5
+    let a = c .before .before .before .before .before .before .before .before .before .args in
+    λ ro x e f g. error-done (view (memory (a .w .now) (a .strings .now))) (a .c) (a .i) x ro _ _ _ _ _ (a .v) (c .before .before .before .before .before .before .before .if1 .taken) (a .taken) (a .left) e f (a .moves) g _ _ (c .before .before .before .before .before .count-refused .ensures .0 (a .strings .now)) (c .before .before .before .before .before .count-refused .ensures .1 (a .strings .now)) (c .before .before .send-error .ensures (a .strings .now))
 
 returns-2 : tie.Need-returns-2
 returns-2 c =
-    let a = c .before .before .before .before .before .before .before .before .before .before .args in
-    λ ro x e f g. error-done (view (memory (a .w .now) (a .strings .now))) (a .c) (a .i) x ro _ _ _ _ _ (a .v) (c .before .before .before .before .before .before .before .if2 .taken) (omega arith) (a .taken) (a .left) e f (a .moves) g _ _ (c .before .before .before .before .before .count-refused .ensures .0 (a .strings .now)) (c .before .before .before .before .before .count-refused .ensures .1 (a .strings .now)) (c .before .before .send-error .ensures (a .strings .now))
+    let a = c .before .before .before .before .before .before .before .before .before .args in
+    λ ro x e f g. fatal-done (view (memory (a .w .now) (a .strings .now))) (a .c) (a .i) x ro _ _ _ _ _ (a .v) (c .before .before .before .before .before .before .if2 .taken) (c .before .before .before .before .before .before .before .if1 .left) (c .before .before .send-fatal .ensures)
 
 returns-3 : tie.Need-returns-3
 returns-3 c =
@@ -35,7 +35,7 @@ unfolding bytesOf
 returns-4 c =
     let a = c .before .before .before .before .before .before .args in
     let d = view (memory (a .w .now) (a .strings .now)) in
-    λ ro x e f g. ignored-done d (a .c) (a .i) x ro _ _ _ _ _ (a .v) (c .before .if4 .taken) (a .taken) e (did-plainly d (took ignored (a .taken) 0) (restOf (a .w .now)) [] _ _ _ _ _ (ap numbersOf (c .quiet .ensures)) refl (nothing-said (a .out .now)) refl (λ t. t))
+    λ ro x e f g. ignored-done d (a .c) (a .i) x ro _ _ _ _ _ (a .v) (c .before .if4 .taken) (a .taken) e (did-plainly d (took ignored (a .taken) 0) (d .rest) [] _ _ _ _ _ (ap numbersOf (c .quiet .ensures)) refl (nothing-said (a .out .now)) refl (λ t. t))
 
 returns-5 : tie.Need-returns-5
 returns-5 c =
@@ -47,10 +47,10 @@ pub apply-spec : {M : Type 1} → statement M
 apply-spec =
     tie.close
     (tie.spec
+    count-refused-requires
     (λ c κs. search needs)
     (λ c. search needs)
     returns
-    count-refused-requires
     (λ c κs. search needs)
     (λ c. search needs)
     returns-2

@@ -21,7 +21,7 @@ act-requires : tie.Need-act-requires
 act-requires c κs =
     let q = c .before .before .before .before .before .before .before .before .pre in
     let v = c .before .before .before .before .whole-verdict in
-    (search needs, search needs, q .2, search needs, q .5, λ t ro e. v .ensures t ro e .case ∙ ap verdictOf (c .before .before .before .if1 .taken), q .6)
+    (search needs, search needs, q .2, search needs, q .5, λ t ro e z. v .ensures t ro e z .case ∙ ap verdictOf (c .before .before .before .if1 .taken), q .6)
 
 returns : tie.Need-returns
 returns c =
@@ -30,7 +30,7 @@ returns c =
     let d = view (memory (a .w .now) (a .strings .now)) in
     let h = message (a .kind) (a .code) (a .param) (a .len) in
     λ ro e. acts-done d (a .c) (a .i) h (a .payload .now) ro _ _ _ _ _ (judged ro d (a .i) h (a .payload .now))
-    (v .ensures (a .strings .now) ro e .case ∙ ap verdictOf (c .before .before .before .before .before .before .if1 .taken)) (c .before .before .act .ensures ro e)
+    (v .ensures (a .strings .now) ro e (λ z. refl) .case ∙ ap verdictOf (c .before .before .before .before .before .before .if1 .taken)) (c .before .before .act .ensures ro e)
 
 returns-2 : tie.Need-returns-2
 returns-2 c =
@@ -39,7 +39,7 @@ returns-2 c =
     let d = view (memory (a .w .now) (a .strings .now)) in
     let h = message (a .kind) (a .code) (a .param) (a .len) in
     let x = whole h (a .payload .now) in
-    λ ro e. by-verdict d (a .c) (a .i) x ro _ _ _ _ _ (judged ro d (a .i) h (a .payload .now)) (verdictOf (v .result)) (v .ensures (a .strings .now) ro e .case)
+    λ ro e. by-verdict d (a .c) (a .i) x ro _ _ _ _ _ (judged ro d (a .i) h (a .payload .now)) (verdictOf (v .result)) (v .ensures (a .strings .now) ro e (λ z. refl) .case)
     (held-done d (a .c) (a .i) x ro _ _ _ _ _ (v .result) (c .before .if2 .taken) (did-nothing 0 (took held 0 0) _ _ _ (ap numbersOf (c .quiet .ensures))))
 
 carries-requires : tie.Need-carries-requires
@@ -52,7 +52,7 @@ returns-3 c =
     let d = view (memory (a .w .now) (a .strings .now)) in
     let h = message (a .kind) (a .code) (a .param) (a .len) in
     λ ro e. by-verdict d (a .c) (a .i) (whole h (a .payload .now)) ro _ _ _ _ _ (judged ro d (a .i) h (a .payload .now)) (verdictOf (v .result))
-    (v .ensures (a .strings .now) ro e .case) (c .before .before .apply .ensures ro (whole h (a .payload .now)) refl refl (moved-whole h (exchangeAt (restOf (a .w .now)) (a .i)) ro (a .payload .now) _ (c .before .before .before .before .before .before .carries .ensures .1 ro (a .code) (a .len) e)))
+    (v .ensures (a .strings .now) ro e (λ z. refl) .case) (c .before .before .apply .ensures ro (whole h (a .payload .now)) refl refl (moved-whole h (exchangeAt (restOf (a .w .now)) (a .i)) ro (a .payload .now) _ (c .before .before .before .before .before .before .carries .ensures .1 ro (a .code) (a .len) e)))
 
 pub deliver-kind-spec : {M : Type 1} → statement M
 deliver-kind-spec =
