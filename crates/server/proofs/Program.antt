@@ -84,7 +84,7 @@ use Rattle.effects.specs.declared.Delivery.{Delivery}
 use Rattle.effects.specs.Did.{numbersOf}
 use Rattle.server.specs.declared.Answered.{Answered}
 use Rattle.server.specs.declared.Done.{Done}
-use Rattle.server.specs.declared.Listed.{Listed}
+use Rattle.server.specs.declared.listing.Listed.{Listed}
 use Rattle.server.specs.Calls.{Delivered}
 use Rattle.server.specs.Events.{Called, Fresh, Replied, doneNumbers, answeredNumbers}
 use Rattle.server.specs.Listing.{SetsList, listedNumbers}
@@ -485,7 +485,7 @@ same-left (call e out out′ reply output p g) z n q = ended g z ∙ p .same-mem
   where
     ended : {m m′ : Memory} {ss : List Seen} → Calls view m ss m′ → ss ≡ [] → m′ ≡ m
     ended no-call z = refl
-    ended (call e out out′ reply output p g) z = absurd (let y : _≡_ {A = ℕ} 1 0 = ap length z in omega arith)
+    ended (call {ss = rs} e out out′ reply output p g) z = absurd (let y : suc (length rs) ≡ 0 = ap length z in omega arith)
 
 -- one delivery to each of two memories
 module _ (m m′ n n′ : Memory) (a b : Seen) (g : Run m (a ∷ []) m′) (g′ : Run n (b ∷ []) n′) (c : ℕ) (bs : List ℕ) (room : ℕ) (x : a .event ≡ delivery c bs room) (y : b .event ≡ delivery c bs room) (f : FewerLocks (slotOf (view m) c) (view m) (view n)) where
