@@ -66,6 +66,8 @@ rows =
     ∷ corner (watched ++ (setting (watch 1 off) ∷ [])) (answer 1 nan true [] 2048) done (answerSent 7 nan)
     -- a device clear keeps it
     ∷ corner (watched ++ (send 1 (message 19 0 0 []) ∷ send 0 (message 8 0 0 []) ∷ question ∷ [])) (answer 1 more true [] 2048) done (answerSent 7 more ++ service)
+    -- a closing forgets it: the next session in that slot has none
+    ∷ corner (watched ++ (cut 0 2048 ∷ opening 0 ∷ opening 1 ∷ send 0 initialize ∷ send 1 (asyncInitialize 4) ∷ question ∷ [])) (answer 4 more true [] 2048) done (answerSent 7 more)
     -- refusals: 8 before 10; a half-open session may have one; low above high
     ∷ corner three (setting (watch 9 (above 0x7fc00000))) (refused 8) []
     ∷ corner three (setting (watch 0 off)) (refused 8) []
