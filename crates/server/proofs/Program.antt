@@ -405,10 +405,11 @@ module _ (v : Making) (m m′ m″ : Memory) (ss : List Seen) (s : Seen) (f : Fr
       let q : step d (delivery c bs room) ≡ answered-128 d c bs =
       allowed-run v es .refuses c bs room (ap (λ (a : Server). refusal a (delivery c bs room)) (sym there) ∙ z) (subst (λ (a : Server). PassesBefore a c bs) there w)
       (λ a. n (subst (λ (b : Allowed). Admits b (payloadOf (header bs) bs)) (sym list-is) a)) in
-      let h = then (delivery c bs room) x in
-      (ap (λ (a : Seen). a .reply) h ∙ ap (λ (a : Result). a .reply) q,
-      ap (λ (a : Seen). a .output) h ∙ ap (λ (a : Result). bytesOf (a .frames)) q ∙ bytes-one _,
-      made view (calls g′) .1 ∙ ap₂ (λ (a : Server) (b : Event). (step a b) .server) there x ∙ ap (λ (a : Result). a .server) q ∙ ap (λ (a : Server). (answered-128 a c bs) .server) (sym there))
+      let h = then (delivery c bs room) x in (
+        ap (λ (a : Seen). a .reply) h ∙ ap (λ (a : Result). a .reply) q,
+        ap (λ (a : Seen). a .output) h ∙ ap (λ (a : Result). bytesOf (a .frames)) q ∙ bytes-one _,
+        made view (calls g′) .1 ∙ ap₂ (λ (a : Server) (b : Event). (step a b) .server) there x ∙ ap (λ (a : Result). a .server) q ∙ ap (λ (a : Server). (answered-128 a c bs) .server) (sym there),
+      )
 
 decided : (m m′ n n′ : Memory) (ss rs : List Seen) → view m ≡ view n → Run m ss m′ → Run n rs n′ → seenEvents ss ≡ seenEvents rs → (ss ≡ rs) × (view m′ ≡ view n′)
 decided m m′ n n′ ss rs v f g e =
