@@ -84,7 +84,7 @@ use Rattle.effects.specs.declared.Delivery.{Delivery}
 use Rattle.effects.specs.Did.{numbersOf}
 use Rattle.server.specs.declared.Answered.{Answered}
 use Rattle.server.specs.declared.Done.{Done}
-use Rattle.server.specs.declared.Listed.{Listed}
+use Rattle.server.specs.declared.listing.Listed.{Listed}
 use Rattle.server.specs.Calls.{Delivered}
 use Rattle.server.specs.Events.{Called, Fresh, Replied, doneNumbers, answeredNumbers}
 use Rattle.server.specs.Listing.{SetsList, listedNumbers}
@@ -405,10 +405,11 @@ module _ (v : Making) (m m′ m″ : Memory) (ss : List Seen) (s : Seen) (f : Fr
       let q : step d (delivery c bs room) ≡ answered-128 d c bs =
       allowed-run v es .refuses c bs room (ap (λ (a : Server). refusal a (delivery c bs room)) (sym there) ∙ z) (subst (λ (a : Server). PassesBefore a c bs) there w)
       (λ a. n (subst (λ (b : Allowed). Admits b (payloadOf (header bs) bs)) (sym list-is) a)) in
-      let h = then (delivery c bs room) x in
-      (ap (λ (a : Seen). a .reply) h ∙ ap (λ (a : Result). a .reply) q,
-      ap (λ (a : Seen). a .output) h ∙ ap (λ (a : Result). bytesOf (a .frames)) q ∙ bytes-one _,
-      made view (calls g′) .1 ∙ ap₂ (λ (a : Server) (b : Event). (step a b) .server) there x ∙ ap (λ (a : Result). a .server) q ∙ ap (λ (a : Server). (answered-128 a c bs) .server) (sym there))
+      let h = then (delivery c bs room) x in (
+        ap (λ (a : Seen). a .reply) h ∙ ap (λ (a : Result). a .reply) q,
+        ap (λ (a : Seen). a .output) h ∙ ap (λ (a : Result). bytesOf (a .frames)) q ∙ bytes-one _,
+        made view (calls g′) .1 ∙ ap₂ (λ (a : Server) (b : Event). (step a b) .server) there x ∙ ap (λ (a : Result). a .server) q ∙ ap (λ (a : Server). (answered-128 a c bs) .server) (sym there),
+      )
 
 decided : (m m′ n n′ : Memory) (ss rs : List Seen) → view m ≡ view n → Run m ss m′ → Run n rs n′ → seenEvents ss ≡ seenEvents rs → (ss ≡ rs) × (view m′ ≡ view n′)
 decided m m′ n n′ ss rs v f g e =
@@ -485,7 +486,7 @@ same-left (call e out out′ reply output p g) z n q = ended g z ∙ p .same-mem
   where
     ended : {m m′ : Memory} {ss : List Seen} → Calls view m ss m′ → ss ≡ [] → m′ ≡ m
     ended no-call z = refl
-    ended (call e out out′ reply output p g) z = absurd (let y : _≡_ {A = ℕ} 1 0 = ap length z in omega arith)
+    ended (call {ss = rs} e out out′ reply output p g) z = absurd (let y : suc (length rs) ≡ 0 = ap length z in omega arith)
 
 -- one delivery to each of two memories
 module _ (m m′ n n′ : Memory) (a b : Seen) (g : Run m (a ∷ []) m′) (g′ : Run n (b ∷ []) n′) (c : ℕ) (bs : List ℕ) (room : ℕ) (x : a .event ≡ delivery c bs room) (y : b .event ≡ delivery c bs room) (f : FewerLocks (slotOf (view m) c) (view m) (view n)) where

@@ -23,7 +23,7 @@ use Rattle.model.specs.Post.{Post}
 use Rattle.state.specs.Tidy.{Tidy}
 use Rattle.state.specs.View.{Memory, view}
 use Rattle.state.specs.Change.{onRest}
-use Rattle.server.specs.declared.Listed.{Listed}
+use Rattle.server.specs.declared.listing.Listed.{Listed}
 use Rattle.server.specs.Events.{refused-post, taken-post}
 
 abbrev pub listedNumbers : Listed → ListedAnswer

@@ -51,7 +51,7 @@ use Rattle.state.specs.View.{Memory, view}
 use Rattle.effects.specs.declared.Delivery.{Delivery}
 use Rattle.server.specs.declared.Answered.{Answered}
 use Rattle.server.specs.declared.Done.{Done}
-use Rattle.server.specs.declared.Listed.{Listed}
+use Rattle.server.specs.declared.listing.Listed.{Listed}
 use Rattle.server.specs.Calls.{Delivered}
 use Rattle.server.specs.Events.{Called, Fresh, Replied}
 use Rattle.server.specs.Listing.{SetsList}

@@ -15,17 +15,17 @@ use Rattle.server.proofs.deliver.deliver_kind.Statement.{statement}
 use Rattle.server.proofs.deliver.deliver_kind.Tie as tie
 
 whole-verdict-requires : tie.Need-whole-verdict-requires
-whole-verdict-requires c κs = λ e. c .before .before .before .pre .5 (λ z. omega arith)
+whole-verdict-requires c κs = λ e. c .before .before .before .before .pre .5 (λ z. omega arith)
 
 act-requires : tie.Need-act-requires
 act-requires c κs =
-    let q = c .before .before .before .before .before .before .before .before .pre in
+    let q = c .before .before .before .before .before .before .before .before .before .pre in
     let v = c .before .before .before .before .whole-verdict in
     (search needs, search needs, q .2, search needs, q .5, λ t ro e z. v .ensures t ro e z .case ∙ ap verdictOf (c .before .before .before .if1 .taken), q .6)
 
 returns : tie.Need-returns
 returns c =
-    let a = c .before .before .before .before .before .before .before .before .before .before .before .args in
+    let a = c .before .before .before .before .before .before .before .before .before .before .before .before .args in
     let v = c .before .before .before .before .before .before .before .whole-verdict in
     let d = view (memory (a .w .now) (a .strings .now)) in
     let h = message (a .kind) (a .code) (a .param) (a .len) in
@@ -34,7 +34,7 @@ returns c =
 
 returns-2 : tie.Need-returns-2
 returns-2 c =
-    let a = c .before .before .before .before .before .before .before .args in
+    let a = c .before .before .before .before .before .before .before .before .args in
     let v = c .before .before .before .whole-verdict in
     let d = view (memory (a .w .now) (a .strings .now)) in
     let h = message (a .kind) (a .code) (a .param) (a .len) in
@@ -43,11 +43,11 @@ returns-2 c =
     (held-done d (a .c) (a .i) x ro _ _ _ _ _ (v .result) (c .before .if2 .taken) (did-nothing 0 (took held 0 0) _ _ _ (ap numbersOf (c .quiet .ensures))))
 
 carries-requires : tie.Need-carries-requires
-carries-requires c κs = λ e. c .before .before .before .before .before .before .before .pre .5 (λ z. omega arith)
+carries-requires c κs = λ e. c .before .before .before .before .before .before .before .before .pre .5 (λ z. omega arith)
 
 returns-3 : tie.Need-returns-3
 returns-3 c =
-    let a = c .before .before .before .before .before .before .before .before .before .before .before .before .before .before .args in
+    let a = c .before .before .before .before .before .before .before .before .before .before .before .before .before .before .before .args in
     let v = c .before .before .before .before .before .before .before .before .before .before .whole-verdict in
     let d = view (memory (a .w .now) (a .strings .now)) in
     let h = message (a .kind) (a .code) (a .param) (a .len) in
