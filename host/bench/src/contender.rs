@@ -52,7 +52,7 @@ impl Contender for Library {
             taken: told.taken,
             output: told.output,
             missing: told.missing,
-            withheld: 0,
+            ..Reply::default()
         }
     }
 

@@ -8,8 +8,9 @@ use std::collections::BTreeMap;
 use std::path::{Path, PathBuf};
 use std::{env, fmt::Write, fs};
 
-const MODULES: [&str; 8] = [
-    "acts", "delivery", "holders", "limits", "locks", "reply", "server", "wire",
+const MODULES: [&str; 10] = [
+    "acts", "delivery", "holders", "limits", "locks", "readings", "reply", "server", "watching",
+    "wire",
 ];
 /// What stands before the names of lines: nothing, and for a second change.
 const CHANGES: [&str; 2] = ["", "also "];
@@ -77,7 +78,11 @@ fn changed<'a>(source: &str, name: &str, line: impl Fn(&str) -> Option<&'a str>)
 fn module(code: &mut String, out: &Path, entry: &Entry) {
     let name = entry["name"];
     writeln!(code, "#[allow(warnings)]\nmod {name} {{").expect("string");
-    writeln!(code, "    pub use reference::{{event, lock_view, mode}};").expect("string");
+    writeln!(
+        code,
+        "    pub use reference::{{event, lock_view, mode, watch}};"
+    )
+    .expect("string");
     for module in MODULES {
         let path = out.join(name).join(module).with_extension("rs");
         writeln!(code, "    #[path = {path:?}]\n    pub mod {module};").expect("string");

@@ -71,7 +71,7 @@ impl Subject for Library {
             taken: delivery.taken,
             output: delivery.output,
             missing: delivery.missing,
-            withheld: 0,
+            ..Reply::default()
         }
     }
 

@@ -46,7 +46,7 @@ mod tests {
                 *room = ROOM;
                 *end = (*end).min(1);
             }
-            Event::Open { .. } | Event::Status { .. } => {}
+            Event::Open { .. } | Event::Status { .. } | Event::Watch { .. } => {}
         }
         entry
     }

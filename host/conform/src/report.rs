@@ -36,7 +36,7 @@ pub fn describe_reply(event: &Event, reply: &Reply) -> String {
 
 pub fn describe_event(event: &Event) -> String {
     let short = match event.room() {
-        0 if matches!(event, Event::Open { .. } | Event::Status { .. }) => String::new(),
+        0 if !event.is_lent_a_buffer() => String::new(),
         2048 => String::new(),
         room => format!(" (buffer of {room})"),
     };
@@ -59,6 +59,7 @@ pub fn describe_event(event: &Event) -> String {
             describe_bytes(shown)
         ),
         Event::Status { status } => format!("status {status:02x}"),
+        Event::Watch { session, watch } => format!("watch of session {session}: {watch:?}"),
     }
 }
 

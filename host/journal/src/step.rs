@@ -3,7 +3,7 @@
 use query::message::Message;
 use query::{names, words};
 use reference::event::{Event, Frame};
-use reference::Reply;
+use reference::{Reply, Watch};
 
 use crate::walk::Step;
 
@@ -42,6 +42,7 @@ impl Step<'_> {
             Event::Clock { milliseconds, .. } => format!("clock {milliseconds} ms"),
             Event::Status { status } => format!("status byte {status:02x}"),
             Event::Answer { payload, end, .. } => self.answer(payload, *end),
+            Event::Watch { watch, .. } => format!("{}watch {}", self.who(), limits(*watch)),
             Event::Deliver {
                 connection, bytes, ..
             } => {
@@ -67,7 +68,13 @@ impl Step<'_> {
         }
         let number = self.frames.first().map_or(0, |frame| frame.parameter);
         let more = if end == 0 { ", more to come" } else { "" };
-        format!("{who}answer {number:08x} {text}{more}")
+        let service = self.sent(names::ASYNC_SERVICE_REQUEST);
+        let service =
+            service.map(|frame| format!("; service requested, status byte {:02x}", frame.code));
+        format!(
+            "{who}answer {number:08x} {text}{more}{}",
+            service.unwrap_or_default()
+        )
     }
 
     fn delivery(&self, connection: u32, bytes: &[u8]) -> String {
@@ -133,5 +140,13 @@ impl Step<'_> {
                 format!("; {} {name} {}", session_of(frame), frame.code)
             })
             .collect()
+    }
+}
+
+fn limits(watch: Watch) -> String {
+    match watch {
+        Watch::Off => "off".into(),
+        Watch::Above { limit } => format!("above {}", limit.0),
+        Watch::Outside { low, high } => format!("outside {} to {}", low.0, high.0),
     }
 }

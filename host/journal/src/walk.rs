@@ -59,7 +59,7 @@ impl Walk {
             Event::Deliver { connection, .. }
             | Event::Cut { connection, .. }
             | Event::Open { connection } => self.model.session_of(*connection),
-            Event::Answer { session, .. } => Some(*session as u16),
+            Event::Answer { session, .. } | Event::Watch { session, .. } => Some(*session as u16),
             Event::Clock { .. } | Event::Status { .. } => None,
         }
     }

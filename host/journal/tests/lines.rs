@@ -4,9 +4,11 @@ mod common;
 
 use common::kept;
 use journal::print::print;
-use reference::compose::{answer, answer_beside, clock, cut, deliver, header, message};
+use reference::compose::{
+    answer, answer_beside, block, clock, cut, deliver, header, message, watch,
+};
 use reference::verifier::Verdict;
-use reference::{Event, Fresh};
+use reference::{Event, Fresh, Watch};
 
 const SESSION: [&str; 4] = [
     "connection 0 opened; no locks",
@@ -138,5 +140,33 @@ fn locks_and_what_waits_for_them() {
             "session 1 Data ffffff00 \"X\"; session 1 AsyncLockResponse 2; no locks",
         ),
         (cut(1), "session 1 connection 1 cut; no locks"),
+    ]);
+}
+
+#[test]
+fn watches_and_what_trips_them() {
+    check(&[
+        (
+            watch(1, Watch::above(1.5)),
+            "session 1 watch above 1.5; no locks",
+        ),
+        (Event::Status { status: 0x41 }, "status byte 41; no locks"),
+        (
+            deliver(0, message(12, 0, 0xffff_ff00, b"")),
+            "session 1 Trigger ffffff00; no locks",
+        ),
+        (
+            answer(1, &block(&[2.0]), 0),
+            "session 1 answer ffffff00 \"#14@\\x00\\x00\\x00\", more to come; service requested, status byte 51; no locks",
+        ),
+        (
+            answer(1, &block(&[2.0]), 1),
+            "session 1 answer ffffff00 \"#14@\\x00\\x00\\x00\"; no locks",
+        ),
+        (
+            watch(1, Watch::outside(-1.0, f32::INFINITY)),
+            "session 1 watch outside -1 to inf; no locks",
+        ),
+        (watch(1, Watch::Off), "session 1 watch off; no locks"),
     ]);
 }

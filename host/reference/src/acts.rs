@@ -5,6 +5,7 @@ use crate::limits::{PAYLOAD, SESSIONS};
 use crate::locks::{LockString, Released, Request};
 use crate::mode::Mode;
 use crate::server::{answer_lock, RemoteLocal, Role, Server, Session, Standing};
+use crate::watch::Watch;
 use crate::wire::{fatal, kind, Frames};
 
 /// Highest protocol version spoken: 1.0.
@@ -55,6 +56,9 @@ impl Server {
             expected: FIRST,
             granted_at: 0,
             grants: 0,
+            watch: Watch::Off,
+            tripped: false,
+            record: None,
         });
         self.connections[usize::from(connection)].role = Role::Synchronous(slot);
         let version = VERSION.min((parameter >> 16) as u16);

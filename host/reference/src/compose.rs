@@ -2,6 +2,7 @@
 //! reader is not fed by a writer with the same mistake.
 
 use crate::event::Event;
+use crate::watch::Watch;
 
 /// Length of the output buffer that most events lend.
 pub const ROOM: usize = 2048;
@@ -56,4 +57,17 @@ pub fn answer_beside(session: u32, payload: &[u8], end: u8, shown: impl Into<Vec
         shown: shown.into(),
         room: ROOM,
     }
+}
+
+pub fn watch(session: u32, watch: Watch) -> Event {
+    Event::Watch { session, watch }
+}
+
+/// A block of readings, with the shortest count.
+pub fn block(readings: &[f32]) -> Vec<u8> {
+    let floats: Vec<u8> = readings.iter().flat_map(|one| one.to_be_bytes()).collect();
+    let count = floats.len().to_string();
+    let mut bytes = format!("#{}{count}", count.len()).into_bytes();
+    bytes.extend(floats);
+    bytes
 }

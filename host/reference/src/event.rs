@@ -1,4 +1,6 @@
-//! The six events and the answer to one, as plain values, so that lists of them can be kept.
+//! The events and the answer to one, as plain values, so that lists of them can be kept.
+
+use crate::watch::{Single, Watch};
 
 /// What the host tells the server. `room` is the length of the lent output buffer.
 #[derive(Clone, Debug, PartialEq, Eq)]
@@ -31,17 +33,29 @@ pub enum Event {
     Status {
         status: u8,
     },
+    Watch {
+        session: u32,
+        watch: Watch,
+    },
 }
 
 impl Event {
     /// Length of the lent output buffer; 0 for events that have none.
     pub fn room(&self) -> usize {
+        self.buffer().unwrap_or(0)
+    }
+
+    pub fn is_lent_a_buffer(&self) -> bool {
+        self.buffer().is_some()
+    }
+
+    fn buffer(&self) -> Option<usize> {
         match *self {
             Event::Deliver { room, .. }
             | Event::Cut { room, .. }
             | Event::Clock { room, .. }
-            | Event::Answer { room, .. } => room,
-            Event::Open { .. } | Event::Status { .. } => 0,
+            | Event::Answer { room, .. } => Some(room),
+            Event::Open { .. } | Event::Status { .. } | Event::Watch { .. } => None,
         }
     }
 }
@@ -128,6 +142,17 @@ pub struct Row {
 pub struct Counted {
     pub refusal: u64,
     pub rows: u64,
+}
+
+/// The answer to the question what a session's readings were; `seen` is 0 if there were none, and so are the
+/// readings then.
+#[derive(Clone, Copy, Debug, Default, PartialEq, Eq)]
+pub struct Readings {
+    pub refusal: u64,
+    pub seen: u64,
+    pub last: Single,
+    pub lowest: Single,
+    pub highest: Single,
 }
 
 /// One frame of an output.

@@ -23,14 +23,18 @@ pub mod locks;
 pub mod mode;
 #[cfg(test)]
 mod most_grants;
+pub mod readings;
 pub mod reply;
 pub mod server;
 pub mod subject;
 pub mod verifier;
+pub mod watch;
+pub mod watching;
 pub mod wire;
 
-pub use event::{Counted, Deadline, Event, Reply, Row, Size};
+pub use event::{Counted, Deadline, Event, Readings, Reply, Row, Size};
 pub use mode::{Fresh, Mode};
 pub use reply::{Answered, Delivery, Outcome, Refusal};
 pub use server::Server;
 pub use subject::Subject;
+pub use watch::{Single, Watch};

@@ -88,7 +88,10 @@ impl LockModel {
                 }
                 _ => {}
             },
-            Event::Open { .. } | Event::Answer { .. } | Event::Status { .. } => {}
+            Event::Open { .. }
+            | Event::Answer { .. }
+            | Event::Status { .. }
+            | Event::Watch { .. } => {}
         }
         self.look(answers);
     }

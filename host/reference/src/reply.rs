@@ -12,6 +12,8 @@ pub enum Refusal {
     ShortBuffer = 7,
     NoSession = 8,
     ListTooShort = 9,
+    /// A watch's limit is not a number, or low is above high.
+    BadLimits = 10,
 }
 
 /// What became of a delivery.
@@ -31,6 +33,15 @@ pub enum Outcome {
 pub struct Answered {
     pub withheld: bool,
     pub output: usize,
+}
+
+impl Answered {
+    pub const fn sent(output: usize) -> Answered {
+        Answered {
+            withheld: false,
+            output,
+        }
+    }
 }
 
 /// An accepted delivery: `session` is 0 unless it closed one or was acted on, `missing` 0 unless more is

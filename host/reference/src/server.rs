@@ -4,7 +4,9 @@ use crate::limits::{CLOCK, CONNECTIONS, OUTPUT, PAYLOAD, SESSIONS};
 use crate::lock_view::{LockView, SessionView, StandingView, WaitingView};
 use crate::locks::{Locks, Released, Request};
 use crate::mode::Mode;
+use crate::readings::Record;
 use crate::reply::{Answered, Refusal};
+use crate::watch::Watch;
 use crate::wire::{kind, Frames, Header};
 
 #[derive(Clone, Copy, Debug, PartialEq, Eq, Hash)]
@@ -62,6 +64,11 @@ pub(crate) struct Session {
     /// The reading of the clock at its last grant, and the locks granted to it since it opened.
     pub granted_at: u64,
     pub grants: u64,
+    pub watch: Watch,
+    /// A reading has tripped the watch since it was set.
+    pub tripped: bool,
+    /// None while no numeric reading was sent.
+    pub record: Option<Record>,
 }
 
 impl Session {
@@ -241,10 +248,8 @@ impl Server {
         session.answered(end);
         let kind = if end { kind::DATA_END } else { kind::DATA };
         frames.send_with(session.synchronous, kind, 0, number, payload);
-        Ok(Answered {
-            withheld: false,
-            output: frames.used(),
-        })
+        session.read(payload, self.status, &mut frames);
+        Ok(Answered::sent(frames.used()))
     }
 
     pub fn status(&mut self, status: u8) {

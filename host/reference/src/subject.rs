@@ -2,10 +2,11 @@
 
 use std::hash::{Hash, Hasher};
 
-use crate::event::{Counted, Deadline, Event, Reply, Row, Size};
+use crate::event::{Counted, Deadline, Event, Readings, Reply, Row, Size};
 use crate::lock_view::LockView;
 use crate::mode::Fresh;
 use crate::server::Server;
+use crate::watch::Watch;
 
 pub trait Subject {
     fn new(fresh: Fresh) -> Self
@@ -25,11 +26,19 @@ pub trait Subject {
     ) -> Reply;
     fn status(&mut self, status: u8);
 
+    /// A server that has no watches yet is given none.
+    fn watch(&mut self, _session: u32, _watch: Watch) -> Reply {
+        unimplemented!("watches")
+    }
+
     /// Questions, which change nothing.
     fn deadline(&self) -> Deadline;
     fn client_size(&self, session: u32) -> Size;
     /// The rows of the holders, into the front of a list.
     fn holders(&self, rows: &mut [Row]) -> Counted;
+    fn readings(&self, _session: u32) -> Readings {
+        unimplemented!("a record of readings")
+    }
 
     /// A second server in the same state.
     fn fork(&self) -> Box<dyn Subject>;
@@ -66,6 +75,7 @@ pub trait Subject {
                 self.status(*status);
                 Reply::default()
             }
+            Event::Watch { session, watch } => self.watch(*session, *watch),
         }
     }
 }
@@ -113,7 +123,7 @@ macro_rules! subject_of {
                         taken: delivery.taken as u64,
                         output: delivery.output as u64,
                         missing: delivery.missing,
-                        withheld: 0,
+                        ..$crate::Reply::default()
                     },
                     Err(refusal) => $crate::Reply::refused(refusal as u64),
                 }
@@ -154,6 +164,13 @@ macro_rules! subject_of {
                 <$server>::status(self, status);
             }
 
+            fn watch(&mut self, session: u32, watch: $crate::Watch) -> $crate::Reply {
+                match <$server>::watch(self, session, watch) {
+                    Ok(()) => $crate::Reply::default(),
+                    Err(refusal) => $crate::Reply::refused(refusal as u64),
+                }
+            }
+
             fn deadline(&self) -> $crate::Deadline {
                 let (waiting, deadline) = <$server>::deadline(self);
                 $crate::Deadline {
@@ -181,6 +198,23 @@ macro_rules! subject_of {
                     Err(refusal) => $crate::Counted {
                         refusal: refusal as u64,
                         rows: 0,
+                    },
+                }
+            }
+
+            fn readings(&self, session: u32) -> $crate::Readings {
+                match <$server>::readings(self, session) {
+                    Ok(Some(record)) => $crate::Readings {
+                        refusal: 0,
+                        seen: 1,
+                        last: record.last,
+                        lowest: record.lowest,
+                        highest: record.highest,
+                    },
+                    Ok(None) => $crate::Readings::default(),
+                    Err(refusal) => $crate::Readings {
+                        refusal: refusal as u64,
+                        ..$crate::Readings::default()
                     },
                 }
             }

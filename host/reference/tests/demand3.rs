@@ -1,9 +1,9 @@
 //! The canonical history and the lock model by themselves: what must not be simplified in them.
 
-use reference::compose::{clock, cut, deliver, header, message};
+use reference::compose::{clock, cut, deliver, header, message, watch};
 use reference::history::{canonical, omitted, trimmed};
 use reference::lock_model::{LockAnswer, LockModel};
-use reference::{Event, Reply};
+use reference::{Event, Reply, Watch};
 
 fn delivered(outcome: u64, session: u64, taken: u64) -> Reply {
     Reply {
@@ -51,9 +51,14 @@ fn more_needed_held_and_refused_are_omitted_and_nothing_else() {
         assert!(omitted(&clock(3), &Reply::refused(refusal)));
     }
     // An accepted event that is no delivery has outcome 0 too.
-    for event in [clock(3), cut(1), Event::Status { status: 0 }] {
+    let watched = watch(1, Watch::above(1.0));
+    let status = Event::Status { status: 0 };
+    for event in [clock(3), cut(1), status, watched] {
         assert!(!omitted(&event, &Reply::default()));
+        assert_eq!(trimmed(&event, &Reply::default()), event);
     }
+    let refused = Reply::refused(10);
+    assert!(omitted(&watch(1, Watch::above(f32::NAN)), &refused));
 }
 
 #[test]
@@ -240,6 +245,16 @@ fn the_lock_model_keeps_a_standing_release_by_the_messages_it_is_fed() {
     let count = fed.model.count();
     assert_eq!((count.granted, count.released, count.dropped), (3, 2, 0));
     assert_eq!(fed.model.view().held(), 1);
+}
+
+#[test]
+fn watches_are_nothing_to_the_lock_model() {
+    let mut fed = Fed::new(2);
+    fed.lock(1, b"", 0);
+    fed.lock(2, b"", 50);
+    let before = fed.model.view();
+    assert_eq!(fed.feed(&watch(1, Watch::Off), &Reply::default()), []);
+    assert_eq!(fed.model.view(), before);
 }
 
 #[test]

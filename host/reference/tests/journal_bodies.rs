@@ -153,7 +153,10 @@ fn the_servers_events_are_recorded_as_far_as_they_count() {
     let beside = answer_beside(1, b"+1", 255, vec![9; 40]);
     let again = replayable(recorded(&beside));
     assert_eq!(again, Some(answer_beside(1, b"+1", 1, vec![9; 16])));
-    assert_eq!(replayable(above(1.0)), None, "for Q-11 to fill in");
+    for limits in [above(1.0), outside(f32::NAN, -0.0)] {
+        let event = replayable(limits.clone()).expect("an event");
+        assert_eq!(recorded(&event), limits);
+    }
     assert_eq!(replayable(patterns(&[])), None, "for Q-12 to fill in");
 }
 

@@ -11,6 +11,9 @@
 //! answer 1 - more                                   -> refused 5
 //! cut 0                                             -> done
 //! status 41                                         -> done
+//! watch 1 off                                       -> done
+//! watch 1 above 3f800000                            -> done
+//! watch 1 outside 3f800000 40000000                 -> refused 8
 //! ```
 //!
 //! Connections, sessions, milliseconds, counts and refusals are decimal; bytes and the status byte
@@ -20,7 +23,7 @@
 //! buffer is not told.
 
 use reference::compose::ROOM;
-use reference::{Event, Reply};
+use reference::{Event, Reply, Single, Watch};
 
 use crate::words::{bytes, hex, number, Reader};
 
@@ -39,6 +42,10 @@ pub struct Entry {
 const MORE: &str = "more";
 /// With END.
 const END: &str = "end";
+/// The cases of a watch.
+const OFF: &str = "off";
+const ABOVE: &str = "above";
+const OUTSIDE: &str = "outside";
 /// The answer was not sent.
 const WITHHELD: &str = "withheld";
 
@@ -65,6 +72,16 @@ fn event_text(event: &Event) -> String {
             }
         }
         Event::Status { status } => format!("status {status:02x}"),
+        Event::Watch { session, watch } => format!("watch {session} {}", limits(*watch)),
+    }
+}
+
+/// A watch with the bits of its limits.
+fn limits(watch: Watch) -> String {
+    match watch {
+        Watch::Off => OFF.into(),
+        Watch::Above { limit } => format!("{ABOVE} {:08x}", limit.bits()),
+        Watch::Outside { low, high } => format!("{OUTSIDE} {:08x} {:08x}", low.bits(), high.bits()),
     }
 }
 
@@ -130,10 +147,37 @@ fn event(text: &str) -> Result<Event, String> {
         "status" => Event::Status {
             status: status(words.next("a status byte")?)?,
         },
+        "watch" => Event::Watch {
+            session: number(words.next("a session")?)?,
+            watch: watch(&mut words)?,
+        },
         other => return Err(format!("no event `{other}`")),
     };
     words.end()?;
     Ok(event)
+}
+
+fn watch(words: &mut Reader) -> Result<Watch, String> {
+    match words.next("a watch")? {
+        OFF => Ok(Watch::Off),
+        ABOVE => Ok(Watch::Above {
+            limit: limit(words)?,
+        }),
+        OUTSIDE => Ok(Watch::Outside {
+            low: limit(words)?,
+            high: limit(words)?,
+        }),
+        other => Err(format!("no watch `{other}`")),
+    }
+}
+
+/// The bits of an IEEE 754 single.
+fn limit(words: &mut Reader) -> Result<Single, String> {
+    let word = words.next("a limit")?;
+    match <[u8; 4]>::try_from(&bytes(word)?[..]) {
+        Ok(four) => Ok(Single::of_bits(u32::from_be_bytes(four))),
+        Err(_) => Err(format!("`{word}` is not four bytes")),
+    }
 }
 
 fn end(word: &str) -> Result<u8, String> {
@@ -219,6 +263,9 @@ answer 1 312e30 end 4853 -> withheld | 0148
 answer 1 - more -> refused 5
 cut 31 -> done
 status 41 -> done
+watch 1 off -> done
+watch 1 above 7fc00001 -> refused 10
+watch 65536 outside bf800000 00000000 -> done
 ";
 
     #[test]
@@ -253,6 +300,11 @@ status 41 -> done
         assert_eq!(
             told("answer 1 - yes -> done"),
             "line 1: `yes` is neither `end` nor `more`"
+        );
+        assert_eq!(told("watch 1 on -> done"), "line 1: no watch `on`");
+        assert_eq!(
+            told("watch 1 above 00 -> done"),
+            "line 1: `00` is not four bytes"
         );
     }
 }

@@ -3,6 +3,7 @@
 use crate::compose::ROOM;
 use crate::event::Event;
 use crate::journal::layout::{Recorded, MOST_DELIVERED, MOST_SHOWN};
+use crate::watch::{Single, Watch};
 
 /// With a journal kept, the server sees no more than is recorded: the first 1,040 bytes of a delivery, the
 /// first 16 shown with an answer.
@@ -36,6 +37,22 @@ pub fn recorded(event: &Event) -> Recorded {
             shown: first(shown, MOST_SHOWN),
         },
         Event::Status { status } => Recorded::Status { status: *status },
+        Event::Watch { session, watch } => recorded_watch(*session, *watch),
+    }
+}
+
+fn recorded_watch(session: u32, watch: Watch) -> Recorded {
+    match watch {
+        Watch::Off => Recorded::WatchOff { session },
+        Watch::Above { limit } => Recorded::WatchAbove {
+            session,
+            limit: limit.bits(),
+        },
+        Watch::Outside { low, high } => Recorded::WatchOutside {
+            session,
+            low: low.bits(),
+            high: high.bits(),
+        },
     }
 }
 
@@ -46,8 +63,8 @@ fn first(bytes: &[u8], most: usize) -> Vec<u8> {
 /// The server's event for a recorded one, with room enough for any output; None if the server has no such
 /// event yet, and to a verifier that is one that the server refuses.
 ///
-/// Watches and patterns are no events of this server yet: their requests give them their rows
-/// here and in `recorded`, and nothing else of the journal changes.
+/// Patterns are no events of this server yet: their request gives them their rows here and in
+/// `recorded`, and nothing else of the journal changes.
 pub fn replayable(recorded: Recorded) -> Option<Event> {
     let room = ROOM;
     Some(match recorded {
@@ -72,9 +89,26 @@ pub fn replayable(recorded: Recorded) -> Option<Event> {
             room,
         },
         Recorded::Status { status } => Event::Status { status },
-        Recorded::WatchOff { .. }
-        | Recorded::WatchAbove { .. }
-        | Recorded::WatchOutside { .. }
-        | Recorded::Patterns { .. } => return None,
+        setting => return replayable_setting(setting),
     })
+}
+
+/// Watches.
+fn replayable_setting(recorded: Recorded) -> Option<Event> {
+    Some(match recorded {
+        Recorded::WatchOff { session } => watching(session, Watch::Off),
+        Recorded::WatchAbove { session, limit } => {
+            let limit = Single::of_bits(limit);
+            watching(session, Watch::Above { limit })
+        }
+        Recorded::WatchOutside { session, low, high } => {
+            let (low, high) = (Single::of_bits(low), Single::of_bits(high));
+            watching(session, Watch::Outside { low, high })
+        }
+        _ => return None,
+    })
+}
+
+fn watching(session: u32, watch: Watch) -> Event {
+    Event::Watch { session, watch }
 }

@@ -4,11 +4,11 @@
 use reference::compose::{answer, answer_beside, clock, cut, deliver, header, message};
 use reference::journal::{layout, reader, Keeping, Kept, Recorded, Writer};
 use reference::verifier::{Fault, Verdict};
-use reference::{Event, Fresh, Reply, Server, Subject};
+use reference::{Event, Fresh, Reply, Server, Single, Subject, Watch};
 
 const ROOM: usize = 1 << 20;
 
-fn session(number: u32, connection: u32) -> Vec<Event> {
+pub fn session(number: u32, connection: u32) -> Vec<Event> {
     let other = connection + 1;
     vec![
         Event::Open { connection },
@@ -122,6 +122,15 @@ fn replayed(server: &mut Server, recorded: Recorded, out: &mut [u8]) -> Reply {
         Recorded::Status { status } => {
             server.status(status);
             Reply::default()
+        }
+        Recorded::WatchOff { session } => server.watch(session, Watch::Off),
+        Recorded::WatchAbove { session, limit } => {
+            let limit = Single::of_bits(limit);
+            server.watch(session, Watch::Above { limit })
+        }
+        Recorded::WatchOutside { session, low, high } => {
+            let (low, high) = (Single::of_bits(low), Single::of_bits(high));
+            server.watch(session, Watch::Outside { low, high })
         }
         other => panic!("no event of the server yet: {other:?}"),
     }

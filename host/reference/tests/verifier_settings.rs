@@ -1,0 +1,68 @@
+//! Books with watches: they are replayed like any other event.
+
+mod books;
+
+use books::{accepted, bodies, closed, kept, session, wrong};
+use reference::compose::{answer, block, deliver, message, watch};
+use reference::journal::layout::body;
+use reference::journal::Recorded;
+use reference::verifier::{judge, Fault, Verdict};
+use reference::{Event, Fresh, Watch};
+
+fn verdict(bodies: &[Vec<u8>]) -> Verdict {
+    let plain = books::plain_verdict(bodies);
+    let judged = judge(Fresh::BENCH, &closed(bodies));
+    assert_eq!(judged, plain);
+    judged
+}
+
+/// A session, a question, and watches around the answers; the last but one trips.
+fn watched() -> Vec<Event> {
+    let mut events = session(1, 0);
+    events.extend([
+        deliver(0, message(7, 0, 0xffff_ff00, b"READ?")),
+        watch(1, Watch::above(1.0)),
+        answer(1, &block(&[1.0]), 0),
+        watch(1, Watch::outside(-0.0, f32::INFINITY)),
+        answer(1, &block(&[-1.0]), 0),
+        watch(1, Watch::Off),
+    ]);
+    events
+}
+
+fn above(session: u32, limit: f32) -> Vec<u8> {
+    let limit = limit.to_bits();
+    body(&Recorded::WatchAbove { session, limit }, b"")
+}
+
+#[test]
+fn a_book_with_watches_is_replayed() {
+    let bodies = bodies(&kept(Fresh::BENCH, &watched()));
+    assert_eq!(bodies.len(), watched().len());
+    assert_eq!(verdict(&bodies), accepted(bodies.len()));
+    let tripping = bodies.len() - 2;
+    let without = &bodies[tripping][..bodies[tripping].len() - 17];
+    for (place, other) in [
+        (tripping, without.to_vec()),
+        (tripping - 1, above(1, f32::NAN)),
+        (tripping - 1, above(2, 1.0)),
+        (tripping + 1, [above(1, 1.0), vec![0]].concat()),
+    ] {
+        let mut changed = bodies.clone();
+        changed[place] = other;
+        assert_eq!(verdict(&changed), wrong(place, Fault::Parcels));
+    }
+    let mut unwatched = bodies;
+    unwatched[tripping - 1] = body(&Recorded::WatchOff { session: 1 }, b"");
+    let judged = verdict(&unwatched);
+    assert_eq!(judged, wrong(tripping, Fault::Parcels), "nothing trips");
+}
+
+/// The order of a swap shows: a watch set behind the reading that it would have told of.
+#[test]
+fn a_watch_set_too_late() {
+    let mut bodies = bodies(&kept(Fresh::BENCH, &watched()));
+    let tripping = bodies.len() - 2;
+    bodies.swap(tripping - 1, tripping);
+    assert_eq!(verdict(&bodies), wrong(tripping - 1, Fault::Parcels));
+}
