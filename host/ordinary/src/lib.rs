@@ -16,6 +16,7 @@ mod delivery;
 mod frames;
 mod holders;
 mod locks;
+mod readings;
 mod replies;
 mod server;
 mod subject;

@@ -2,10 +2,11 @@
 
 use reference::limits::{CLOCK, CONNECTIONS, GRANTS, OUTPUT, PAYLOAD, SESSIONS};
 use reference::wire::{kind, HEADER};
-use reference::{Mode, Refusal, Reply};
+use reference::{Mode, Refusal, Reply, Watch};
 
 use crate::frames::Frames;
 use crate::locks::{Locks, Released};
+use crate::readings::Record;
 use crate::replies::{done, refused, withheld};
 
 #[derive(Clone, Copy, PartialEq, Eq, Hash)]
@@ -68,6 +69,11 @@ pub struct Session {
     /// The reading of the clock at its last grant, and the locks granted to it since it opened.
     pub granted_at: u64,
     pub grants: u64,
+    pub watch: Watch,
+    /// A reading has tripped the watch since it was set.
+    pub tripped: bool,
+    /// None while no numeric reading was sent.
+    pub record: Option<Record>,
 }
 
 /// Where every count of messages starts.
@@ -90,6 +96,9 @@ const NOBODY: Session = Session {
     client_size: PAYLOAD as u64,
     granted_at: 0,
     grants: 0,
+    watch: Watch::Off,
+    tripped: false,
+    record: None,
 };
 
 impl Session {
@@ -266,6 +275,7 @@ impl Server {
         live.answered(number, end != 0);
         let kind = if end == 0 { kind::DATA } else { kind::DATA_END };
         frames.send_with(live.synchronous, kind, 0, number, payload);
+        live.read(payload, self.status, &mut frames);
         done(frames.used())
     }
 

@@ -2,7 +2,7 @@
 
 use reference::lock_view::{LockView, SessionView, StandingView, WaitingView};
 use reference::subject::image_of;
-use reference::{Counted, Deadline, Fresh, Refusal, Reply, Row, Size, Subject};
+use reference::{Counted, Deadline, Fresh, Readings, Refusal, Reply, Row, Size, Subject, Watch};
 
 use crate::locks::Request;
 use crate::server::Server;
@@ -43,6 +43,10 @@ impl Subject for Server {
         Server::status(self, status);
     }
 
+    fn watch(&mut self, session: u32, watch: Watch) -> Reply {
+        Server::watch(self, session, watch)
+    }
+
     fn deadline(&self) -> Deadline {
         let deadlines = || self.locks.waiting().map(|(_, request)| request.deadline);
         Deadline {
@@ -67,6 +71,10 @@ impl Subject for Server {
 
     fn holders(&self, rows: &mut [Row]) -> Counted {
         Server::holders(self, rows)
+    }
+
+    fn readings(&self, session: u32) -> Readings {
+        Server::readings(self, session)
     }
 
     fn fork(&self) -> Box<dyn Subject> {

@@ -26,19 +26,15 @@ pub trait Subject {
     ) -> Reply;
     fn status(&mut self, status: u8);
 
-    /// A server that has no watches yet is given none.
-    fn watch(&mut self, _session: u32, _watch: Watch) -> Reply {
-        unimplemented!("watches")
-    }
+    fn watch(&mut self, session: u32, watch: Watch) -> Reply;
 
     /// Questions, which change nothing.
     fn deadline(&self) -> Deadline;
     fn client_size(&self, session: u32) -> Size;
     /// The rows of the holders, into the front of a list.
     fn holders(&self, rows: &mut [Row]) -> Counted;
-    fn readings(&self, _session: u32) -> Readings {
-        unimplemented!("a record of readings")
-    }
+    /// The record of a session's readings.
+    fn readings(&self, session: u32) -> Readings;
 
     /// A second server in the same state.
     fn fork(&self) -> Box<dyn Subject>;
