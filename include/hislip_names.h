@@ -21,6 +21,7 @@ static inline const char *hislip_refusal_name(uint64_t refusal)
     case HISLIP_REFUSED_SHORT_BUFFER: return "the output buffer is under 2,048 bytes";
     case HISLIP_REFUSED_NO_SESSION: return "no live session has that number";
     case HISLIP_REFUSED_LIST_TOO_SHORT: return "the list of rows is shorter than the holders";
+    case HISLIP_REFUSED_BAD_LIMITS: return "a limit is not a number, or low is above high";
     default: return "no refusal has that number";
     }
 }

@@ -1,9 +1,10 @@
 /* hislip_server.h - the server side of HiSLIP protocol 1.0 (IVI-6.1), synchronized and overlap mode.
  *
  * The host owns sockets, clock and instrument; this library owns the protocol. The host tells the
- * server of six events: a connection opens, unread bytes of a connection are delivered, a connection
+ * server of seven events: a connection opens, unread bytes of a connection are delivered, a connection
  * is cut, the clock reads so many milliseconds, the instrument answers a session, the instrument's
- * status byte changes. What is to be sent comes back as frames in the host's output buffer.
+ * status byte changes, the watch over a session's readings is set. What is to be sent comes back as
+ * frames in the host's output buffer.
  *
  * LANGUAGE. C99, or C++ (C++11 or later). hislip_names.h has the numbers of this file in words.
  *
@@ -31,8 +32,8 @@
  *
  * WHAT IS WRITTEN. `words`, `strings` and the first `output` bytes of `out`; the bytes of `out` after
  * them keep their values, and `bytes`, `payload` and `shown` are only read. A refused call, a delivery
- * answered more needed or held, and the questions hislip_deadline and hislip_client_size write nothing
- * at all. hislip_holders, a question too, writes the first rows of its list, as many as it answers, and
+ * answered more needed or held, and the questions hislip_deadline, hislip_client_size and
+ * hislip_readings write nothing at all. hislip_holders, a question too, writes the first rows of its list, as many as it answers, and
  * nothing else.
  *
  * MESSAGE NUMBERS. A client counts its Data, DataEND and Trigger from ffffff00 hex by two, wrapping, from
@@ -49,6 +50,19 @@
  * answered with an Error, since that does not act. While a release stands every further AsyncLock of
  * the session is answered 3. It ends when a message of its number acts, at a device clear (it then acts
  * and is answered, before the acknowledgement), or unanswered when the session closes.
+ *
+ * READINGS. An answer of the instrument is a block of readings if its whole payload is an IEEE 488.2
+ * definite length block: "#", a digit from 1 to 9, that many decimal digits that give the count of the
+ * bytes after them, then IEEE 754 singles, most significant byte first; the count is a multiple of 4 and
+ * at most 1,000 (leading zeros are fine, and so is a count of 0, a block without readings). Any other
+ * payload is no block and means nothing here. Each answer that is sent, with END or without, is looked at
+ * by itself; one that is withheld is not. Of each session the server keeps the last, the lowest and the
+ * highest reading that was a number (infinities are), from its opening to its closing, and the watch that
+ * the host has set: off at the opening, above one limit, or outside a low and a high one. A reading trips
+ * a set watch if it is strictly beyond a limit, or not a number; the two zeros are equal, in this and for
+ * the extremes. The first trip since the watch was set sends one AsyncServiceRequest behind the answer, on
+ * the session's asynchronous connection; its code is the instrument's status byte with the values 16 and 64
+ * set. A device clear changes neither watch nor record.
  *
  * REFUSALS. A refused call has a number and one cause. It changes nothing: neither the server nor
  * any lent byte, and every other field of the answer is 0. If several causes hold, the first in the
@@ -92,9 +106,9 @@ extern "C" {
 /* The version of this interface. A change of the first number, or below 1.0 of the second, may ask
  * for changes in the host. */
 #define HISLIP_VERSION_MAJOR 0
-#define HISLIP_VERSION_MINOR 6
+#define HISLIP_VERSION_MINOR 7
 #define HISLIP_VERSION_PATCH 0
-#define HISLIP_VERSION "0.6.0"
+#define HISLIP_VERSION "0.7.0"
 
 /* Compilers that know these words warn; the others pass over them.
  * HISLIP_NOT_NULL: no pointer is null, see WHAT THE HOST OWES.
@@ -160,6 +174,7 @@ extern "C" {
 #define HISLIP_REFUSED_SHORT_BUFFER 7    /* output buffer under 2,048 bytes                             */
 #define HISLIP_REFUSED_NO_SESSION 8      /* no live session of that number                              */
 #define HISLIP_REFUSED_LIST_TOO_SHORT 9  /* the list of rows is shorter than the holders                */
+#define HISLIP_REFUSED_BAD_LIMITS 10     /* a watch's limit is not a number, or low is above high       */
 
 /* Modes, for hislip_new. */
 #define HISLIP_SYNCHRONIZED 0
@@ -192,7 +207,7 @@ typedef struct {
     uint64_t refusal, withheld, output;
 } hislip_answered;
 
-/* The answer to any other event that has one. An opening's `output` is 0. */
+/* The answer to any other event that has one. `output` of an opening or a watch is 0. */
 typedef struct {
     uint64_t refusal, output;
 } hislip_done;
@@ -220,6 +235,13 @@ typedef struct {
 typedef struct {
     uint64_t refusal, rows;
 } hislip_counted;
+
+/* The answer to hislip_readings. `seen`: 1 if the session was sent a reading that is a number, else 0 and
+ * then so are the others. `last`, `lowest`, `highest`: of these readings; of equal extremes the first. */
+typedef struct {
+    uint64_t refusal, seen;
+    float last, lowest, highest;
+} hislip_record;
 
 /* How many uint64_t to lend as `words`: HISLIP_WORDS, if header and archive are of one version. */
 uint64_t hislip_words(void);
@@ -279,7 +301,8 @@ hislip_done hislip_clock(uint64_t *words, uint8_t *strings, uint64_t millisecond
  * itself stays unread, to be delivered as any other. A host that shows nothing (`shown_len` 0) never has an
  * answer withheld. The server also looks at RMT-delivered of each Data, DataEND and Trigger: a client that
  * does not tell of an END sent to it, or tells of one that was not, is sent the same two messages with that
- * delivery. */
+ * delivery. Behind an answer that trips the session's watch (READINGS, above) there is one
+ * AsyncServiceRequest. */
 HISLIP_NOT_NULL HISLIP_USE_RESULT
 hislip_answered hislip_answer(uint64_t *words, uint8_t *strings, uint32_t session,
                               const uint8_t *payload, size_t len, uint8_t end,
@@ -289,6 +312,19 @@ hislip_answered hislip_answer(uint64_t *words, uint8_t *strings, uint32_t sessio
  * 16 is replaced by the session's own message available. */
 HISLIP_NOT_NULL
 void hislip_status(uint64_t *words, uint8_t *strings, uint8_t status);
+
+/* The watch over a session's readings is set, in place of the one before: off; tripped by a reading above
+ * `limit`; or by one below `low` or above `high`. READINGS, above, says what a reading is and what a trip
+ * sends. Whatever the watch before has done, this one has not tripped, so the same watch set again tells of
+ * the next trip. A half-open session may have one. Sends nothing. A limit may be infinite, and the two
+ * limits may be equal. Refusals, in this order: 8 (no live session of that number), 10 (a limit is not a
+ * number, or `low` is above `high`). */
+HISLIP_NOT_NULL
+hislip_done hislip_watch_off(uint64_t *words, uint8_t *strings, uint32_t session);
+HISLIP_NOT_NULL
+hislip_done hislip_watch_above(uint64_t *words, uint8_t *strings, uint32_t session, float limit);
+HISLIP_NOT_NULL
+hislip_done hislip_watch_outside(uint64_t *words, uint8_t *strings, uint32_t session, float low, float high);
 
 /* A question, no event: it changes nothing and may be asked at any time between two events. How many
  * lock requests wait, and the earliest of their deadlines, in milliseconds of hislip_clock: a reading
@@ -314,6 +350,12 @@ hislip_sized hislip_client_size(const uint64_t *words, const uint8_t *strings, u
  * below the number of holders; no row is written then). */
 HISLIP_NOT_NULL HISLIP_USE_RESULT
 hislip_counted hislip_holders(const uint64_t *words, const uint8_t *strings, hislip_row *rows, size_t rows_len);
+
+/* A question, no event: it changes nothing. The last, lowest and highest reading that a session was sent
+ * since it opened, watch or none, or that there is none yet. A half-open session is live too. Refusal: 8
+ * (no live session of that number). */
+HISLIP_NOT_NULL HISLIP_USE_RESULT
+hislip_record hislip_readings(const uint64_t *words, const uint8_t *strings, uint32_t session);
 
 /* The payload length of a message, from its 16 header bytes: a help for going through frames. */
 static inline uint64_t hislip_payload_length(const uint8_t *message)

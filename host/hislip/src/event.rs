@@ -3,11 +3,12 @@
 use crate::frame::Frames;
 use crate::numbers::{Connection, SessionId};
 use crate::outcome::{Answered, Delivery};
+use crate::readings::Watch;
 use crate::refusal::Refusal;
 use crate::server::Server;
 
 /// What the host tells the server.
-#[derive(Clone, Copy, Debug, PartialEq, Eq)]
+#[derive(Clone, Copy, Debug, PartialEq)]
 pub enum Event<'a> {
     /// A connection opens.
     Open {
@@ -47,13 +48,20 @@ pub enum Event<'a> {
         /// The new one.
         status: u8,
     },
+    /// The watch over a session's readings is set.
+    Watch {
+        /// Its number.
+        session: SessionId,
+        /// The new one.
+        watch: Watch,
+    },
 }
 
 /// The answer to an [`Event`] that was not refused.
 #[derive(Clone, Debug)]
 #[must_use = "what is in it is to be sent"]
 pub enum Answer<'a> {
-    /// An opening or a status change: nothing to send.
+    /// An opening, a status change or a watch: nothing to send.
     Done,
     /// A cut or a clock reading.
     Frames(Frames<'a>),
@@ -90,6 +98,7 @@ impl Server {
                 self.status(status);
                 Ok(Answer::Done)
             }
+            Event::Watch { session, watch } => self.watch(session, watch).map(|()| Answer::Done),
         }
     }
 }

@@ -1,8 +1,8 @@
 //! A safe wrapper over the proved HiSLIP server library.
 //!
-//! A [`Server`] owns the memory that the C interface wants lent and an output buffer. The six
-//! events are methods, or values of [`Event`] for [`Server::apply`]. Three questions change nothing:
-//! [`Server::deadline`], [`Server::client_size`] and [`Server::holders`].
+//! A [`Server`] owns the memory that the C interface wants lent and an output buffer. The seven
+//! events are methods, or values of [`Event`] for [`Server::apply`]. Four questions change nothing:
+//! [`Server::deadline`], [`Server::client_size`], [`Server::holders`] and [`Server::readings`].
 //!
 //! ```
 //! use hislip::{MessageType, Mode, Outcome, Server};
@@ -19,7 +19,7 @@
 //! # Ok::<(), hislip::Refusal>(())
 //! ```
 //!
-//! `examples/` has two whole programs. Memory, threads and what the proofs say of each call are told
+//! `examples/` has three whole programs. Memory, threads and what the proofs say of each call are told
 //! in `include/hislip_server.h`.
 
 #![deny(missing_docs)]
@@ -31,6 +31,7 @@ mod message_type;
 mod mode;
 mod numbers;
 mod outcome;
+mod readings;
 mod refusal;
 mod server;
 mod sizes;
@@ -43,6 +44,7 @@ pub use message_type::{type_name, MessageType};
 pub use mode::Mode;
 pub use numbers::{Connection, SessionId};
 pub use outcome::{Answered, Delivery, Outcome};
+pub use readings::{Readings, Watch};
 pub use refusal::Refusal;
 pub use server::{Deadline, Server};
 pub use sizes::{

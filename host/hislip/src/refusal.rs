@@ -25,11 +25,13 @@ pub enum Refusal {
     /// 9: the list of rows is shorter than the holders of locks. [`crate::Server::holders`] lends one that
     /// is long enough.
     ListTooShort,
+    /// 10: a watch's limit is not a number, or low is above high.
+    BadLimits,
 }
 
 impl Refusal {
     /// All of them, in the order of their numbers.
-    pub const ALL: [Refusal; 9] = [
+    pub const ALL: [Refusal; 10] = [
         Refusal::Connection,
         Refusal::AlreadyOpen,
         Refusal::ClockBackwards,
@@ -39,9 +41,10 @@ impl Refusal {
         Refusal::ShortBuffer,
         Refusal::NoSession,
         Refusal::ListTooShort,
+        Refusal::BadLimits,
     ];
 
-    /// The number in the C interface, 1 to 9.
+    /// The number in the C interface, 1 to 10.
     pub fn number(self) -> u64 {
         self as u64 + 1
     }
@@ -58,14 +61,15 @@ impl Refusal {
             Refusal::ShortBuffer => "the output buffer is under 2,048 bytes",
             Refusal::NoSession => "no live session has that number",
             Refusal::ListTooShort => "the list of rows is shorter than the holders",
+            Refusal::BadLimits => "a limit is not a number, or low is above high",
         }
     }
 
-    /// Ok for 0, the refusal for 1 to 9. Panics at any other number, as `Server` documents.
+    /// Ok for 0, the refusal for 1 to 10. Panics at any other number, as `Server` documents.
     pub(crate) fn check(number: u64) -> Result<(), Refusal> {
         match number {
             0 => Ok(()),
-            1..=9 => Err(Refusal::ALL[number as usize - 1]),
+            1..=10 => Err(Refusal::ALL[number as usize - 1]),
             _ => panic!("the library gave refusal {number}, which does not exist"),
         }
     }

@@ -25,7 +25,7 @@ pub struct Deadline {
 ///
 /// # Panics
 ///
-/// The methods panic if the archive answers what its interface does not have: a refusal above 9, an
+/// The methods panic if the archive answers what its interface does not have: a refusal above 10, an
 /// outcome above 6, a SessionID of more than 16 bits, more output than the buffer has, or more words
 /// than can be counted. Each is excluded by proof, so a panic means that another archive is linked. No
 /// input makes them panic.
@@ -202,9 +202,10 @@ impl Server {
     /// assert_eq!(server.deadline(), None);
     /// ```
     pub fn deadline(&self) -> Option<Deadline> {
+        let (words, strings) = self.shown();
         // SAFETY: both are the memory that `hislip_new` wrote, and `&self` keeps writers away; the
         // call only reads.
-        let told = unsafe { sys::hislip_deadline(self.words.as_ptr(), self.strings.as_ptr()) };
+        let told = unsafe { sys::hislip_deadline(words, strings) };
         (told.waiting > 0).then_some(Deadline {
             waiting: told.waiting as usize,
             milliseconds: told.deadline,
@@ -219,7 +220,7 @@ impl Server {
     ///
     /// As [`Server`] says: never, with the proved archive.
     pub fn client_size(&self, session: impl Into<SessionId>) -> Result<u64, Refusal> {
-        let (words, strings) = (self.words.as_ptr(), self.strings.as_ptr());
+        let (words, strings) = self.shown();
         // SAFETY: as for `deadline`.
         let told = unsafe { sys::hislip_client_size(words, strings, session.into().into()) };
         Refusal::check(told.refusal).map(|()| told.size)
@@ -239,7 +240,7 @@ impl Server {
     /// As [`Server`] says: never, with the proved archive.
     pub fn holders(&self) -> Vec<Holder> {
         let mut rows = [sys::hislip_row::default(); SESSIONS];
-        let (words, strings) = (self.words.as_ptr(), self.strings.as_ptr());
+        let (words, strings) = self.shown();
         // SAFETY: as for `deadline`; the rows are this function's own.
         let told = unsafe { sys::hislip_holders(words, strings, rows.as_mut_ptr(), rows.len()) };
         Refusal::check(told.refusal).expect("a row for every session");
@@ -247,8 +248,13 @@ impl Server {
         holding.iter().map(Holder::of).collect()
     }
 
-    fn memory(&mut self) -> (*mut u64, *mut u8) {
+    pub(crate) fn memory(&mut self) -> (*mut u64, *mut u8) {
         (self.words.as_mut_ptr(), self.strings.as_mut_ptr())
+    }
+
+    /// The same for a question.
+    pub(crate) fn shown(&self) -> (*const u64, *const u8) {
+        (self.words.as_ptr(), self.strings.as_ptr())
     }
 
     fn sent(&self, done: sys::hislip_done) -> Result<Frames<'_>, Refusal> {

@@ -77,6 +77,22 @@ pub struct hislip_counted {
     pub rows: u64,
 }
 
+/// The answer to `hislip_readings`.
+#[repr(C)]
+#[derive(Clone, Copy, Debug, PartialEq)]
+pub struct hislip_record {
+    /// 0, or 8 and then every other field is 0.
+    pub refusal: u64,
+    /// 1 if there is a reading; if 0, the others are 0.
+    pub seen: u64,
+    /// The last reading that was a number.
+    pub last: f32,
+    /// The first of the lowest.
+    pub lowest: f32,
+    /// The first of the highest.
+    pub highest: f32,
+}
+
 /// The answer to an instrument's answer.
 #[repr(C)]
 #[derive(Clone, Copy, Debug, PartialEq, Eq)]
@@ -143,6 +159,23 @@ extern "C" {
     ) -> hislip_answered;
     /// The instrument's status byte changes.
     pub fn hislip_status(words: *mut u64, strings: *mut u8, status: u8);
+    /// The watch over a session's readings is off.
+    pub fn hislip_watch_off(words: *mut u64, strings: *mut u8, session: u32) -> hislip_done;
+    /// It is tripped by a reading above a limit.
+    pub fn hislip_watch_above(
+        words: *mut u64,
+        strings: *mut u8,
+        session: u32,
+        limit: f32,
+    ) -> hislip_done;
+    /// It is tripped by a reading below `low` or above `high`.
+    pub fn hislip_watch_outside(
+        words: *mut u64,
+        strings: *mut u8,
+        session: u32,
+        low: f32,
+        high: f32,
+    ) -> hislip_done;
     /// How many lock requests wait, and until when.
     #[must_use = "asking changes nothing"]
     pub fn hislip_deadline(words: *const u64, strings: *const u8) -> hislip_deadlines;
@@ -157,4 +190,7 @@ extern "C" {
         rows: *mut hislip_row,
         rows_len: usize,
     ) -> hislip_counted;
+    /// The record of a session's readings.
+    #[must_use = "asking changes nothing"]
+    pub fn hislip_readings(words: *const u64, strings: *const u8, session: u32) -> hislip_record;
 }
