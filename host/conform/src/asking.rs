@@ -42,6 +42,11 @@ impl Roll {
                 let [first, second] = [first, second].map(|told| format!("{told:?}"));
                 return Err([format!("session {session}'s size"), first, second]);
             }
+            let (first, second) = (left.readings(*session), right.readings(*session));
+            if first != second {
+                let [first, second] = [first, second].map(|told| format!("{told:?}"));
+                return Err([format!("session {session}'s readings"), first, second]);
+            }
         }
         Ok(())
     }

@@ -5,6 +5,7 @@ use reference::limits::{CONNECTIONS, LOCK_STRING};
 use reference::{Event, Fresh, Mode, Reply, Subject};
 
 use crate::bout::{Bout, Difference, Failed, Pair};
+use crate::floats::{any_block, any_watch};
 use crate::messages::{header, message, BEFORE_FIRST, ROOM};
 use crate::numbers::Numbers;
 use crate::reach::Reach;
@@ -33,11 +34,13 @@ const MOST_UNREAD: usize = 3000;
 struct Temper {
     /// Sessions wanted before anything else.
     sessions: usize,
-    weights: [usize; 12],
+    weights: [usize; 13],
     /// Of a thousand deliveries, how many show a part of the bytes.
     pieces: usize,
     /// Of a thousand messages, how many are of any type, code and length.
     rubbish: usize,
+    /// Of a thousand answers, how many are blocks of readings, good or bad.
+    blocks: usize,
     /// Of a thousand buffers, how many have an odd length.
     odd_room: usize,
 }
@@ -153,7 +156,8 @@ impl Author {
             },
             9 => self.odd_call(),
             10 => self.odd_bytes(),
-            _ => self.opening_message(),
+            11 => self.opening_message(),
+            _ => self.watch(),
         }
     }
 
@@ -465,14 +469,11 @@ impl Author {
         if asked.is_empty() && self.numbers.permille(800) {
             return self.synchronous_message();
         }
-        let session = match self.numbers.below(30) {
-            0 => self.numbers.pick(&[0, 65_536, 65_537, u32::MAX]),
-            1 => self.numbers.below(70_000) as u32,
-            2 => self.any_session_number() | 0x1_0000,
-            3..=26 if !asked.is_empty() => self.numbers.pick(&asked),
-            _ => self.any_session_number(),
+        let session = self.session(&asked);
+        let mut payload = match self.numbers.permille(self.temper.blocks) {
+            true => any_block(&mut self.numbers),
+            false => self.payload(),
         };
-        let mut payload = self.payload();
         if self.numbers.permille(150) {
             let length = self.numbers.pick(&[3, 4, 20, 21, 1024, 1025, 1500]);
             payload.resize(length, 7);
@@ -483,6 +484,27 @@ impl Author {
             end: self.numbers.pick(&[0, 0, 1, 1, 1, 2, 255]),
             shown: self.shown(session),
             room: self.room(),
+        }
+    }
+
+    /// Mostly one of these, if there are any; sometimes one that cannot be.
+    fn session(&mut self, wanted: &[u32]) -> u32 {
+        match self.numbers.below(30) {
+            0 => self.numbers.pick(&[0, 65_536, 65_537, u32::MAX]),
+            1 => self.numbers.below(70_000) as u32,
+            2 => self.any_session_number() | 0x1_0000,
+            3..=26 if !wanted.is_empty() => self.numbers.pick(wanted),
+            _ => self.any_session_number(),
+        }
+    }
+
+    /// The watch over a session's readings, half-open or not.
+    fn watch(&mut self) -> Event {
+        let sessions = self.world.sessions.iter();
+        let live: Vec<u32> = sessions.map(|known| known.number.into()).collect();
+        Event::Watch {
+            session: self.session(&live),
+            watch: any_watch(&mut self.numbers),
         }
     }
 
@@ -554,7 +576,7 @@ impl Temper {
     fn any(numbers: &mut Numbers) -> Temper {
         let sessions = numbers.pick(&[0, 1, 2, 3, 3, 4, 4, 5, 6, 8, 12, 20, 31, 32, 33, 33]);
         let wild = numbers.permille(250);
-        let mut weights = [1, 8, 14, 6, 10, 1, 6, 6, 1, 1, 0, 1];
+        let mut weights = [1, 8, 14, 6, 10, 1, 6, 7, 1, 1, 0, 1, 4];
         for weight in &mut weights {
             *weight *= numbers.pick(&[1, 1, 2, 2, 6]);
         }
@@ -575,6 +597,7 @@ impl Temper {
             } else {
                 numbers.pick(&[0, 20, 60])
             },
+            blocks: numbers.pick(&[0, 300, 800]),
             odd_room: numbers.pick(&[0, 5, 60]),
         }
     }

@@ -2,7 +2,7 @@
 //! lent: a store outside the lent memory is seen.
 
 use hislip::sys;
-use reference::{Counted, Deadline, Fresh, Reply, Row, Size, Subject};
+use reference::{Counted, Deadline, Fresh, Readings, Reply, Row, Single, Size, Subject, Watch};
 
 const GUARD: usize = 8;
 const GUARD_WORD: u64 = 0x5afe_5afe_5afe_5afe;
@@ -122,6 +122,19 @@ impl Subject for Library {
         unsafe { sys::hislip_status(words, strings, status) };
     }
 
+    fn watch(&mut self, session: u32, watch: Watch) -> Reply {
+        let (words, strings) = self.lent();
+        done(unsafe {
+            match watch {
+                Watch::Off => sys::hislip_watch_off(words, strings, session),
+                Watch::Above { limit } => sys::hislip_watch_above(words, strings, session, limit.0),
+                Watch::Outside { low, high } => {
+                    sys::hislip_watch_outside(words, strings, session, low.0, high.0)
+                }
+            }
+        })
+    }
+
     fn deadline(&self) -> Deadline {
         let (words, strings) = self.shown();
         let told = unsafe { sys::hislip_deadline(words, strings) };
@@ -149,6 +162,18 @@ impl Subject for Library {
         Counted {
             refusal: told.refusal,
             rows: told.rows,
+        }
+    }
+
+    fn readings(&self, session: u32) -> Readings {
+        let (words, strings) = self.shown();
+        let told = unsafe { sys::hislip_readings(words, strings, session) };
+        Readings {
+            refusal: told.refusal,
+            seen: told.seen,
+            last: Single(told.last),
+            lowest: Single(told.lowest),
+            highest: Single(told.highest),
         }
     }
 

@@ -5,7 +5,9 @@ use std::time::Instant;
 use crate::bout::{Failed, Pair};
 use crate::reach::Reach;
 use crate::tally::Tally;
-use crate::{bench_examples, cables, hostile, interrupts, orders, sizes, systematic, wrap};
+use crate::{
+    bench_examples, cables, hostile, interrupts, orders, readings, sizes, systematic, wrap,
+};
 
 /// Events of random lists.
 const EVENTS: usize = 1_000_000;
@@ -21,6 +23,7 @@ pub fn run(pair: Pair, tally: &mut Tally) -> Result<(), Failed> {
         orders::check(pair, ORDERS_THIN)
     })?;
     tally.suite("answers beside unread bytes", || interrupts::check(pair))?;
+    tally.suite("readings under watch", || readings::check(pair))?;
     tally.suite("cables dropped after every byte", || cables::check(pair))?;
     tally.suite("answers and strings of every size", || sizes::check(pair))?;
     tally.suite("SessionID wrap", || wrap::check(pair))?;

@@ -8,7 +8,8 @@ use crate::watch::Log;
 
 #[derive(Clone, Debug, Default)]
 pub struct Reach {
-    pub refusals: [usize; 9],
+    /// By number; 9 is no event's.
+    pub refusals: [usize; 11],
     pub outcomes: [usize; 7],
     /// Frames by message type, server's types only.
     pub frames: [usize; 26],
@@ -19,11 +20,21 @@ pub struct Reach {
     pub interrupted: [usize; 2],
     /// Releases that stood, that a message let act, and that a clear let act.
     pub standing: [usize; 3],
+    /// Watches set, blocks of readings sent, and service requests.
+    pub watching: [usize; 3],
     /// Most lock answers in one event.
     pub most_lock_answers: usize,
     /// Events after which sessions held locks, and the most that did.
     pub holding: usize,
     pub most_holders: usize,
+}
+
+/// An answer that is a block with at least one reading.
+fn has_readings(event: &Event) -> bool {
+    let Event::Answer { payload, .. } = event else {
+        return false;
+    };
+    reference::readings::block(payload).is_some_and(|mut readings| readings.next().is_some())
 }
 
 fn bump(counts: &mut [usize], place: usize) {
@@ -48,12 +59,17 @@ impl Reach {
             bump(&mut self.outcomes, reply.outcome as usize);
         }
         self.interrupted[0] += reply.withheld as usize;
+        if reply.refusal == 0 && reply.withheld == 0 {
+            self.watching[0] += usize::from(matches!(event, Event::Watch { .. }));
+            self.watching[1] += usize::from(has_readings(event));
+        }
         let mut answers = 0;
         for frame in frames(output).unwrap_or_default() {
             bump(&mut self.frames, frame.kind.into());
             match frame.kind {
                 2 => bump(&mut self.fatal_errors, frame.code.into()),
                 3 => bump(&mut self.errors, frame.code.into()),
+                20 => self.watching[2] += 1,
                 13 => self.interrupted[1] += 1 - reply.withheld as usize,
                 5 => {
                     bump(&mut self.lock_answers, frame.code.into());
@@ -90,9 +106,9 @@ impl Reach {
     }
 
     /// In words, a line for each kind.
-    pub fn lines(&self) -> [String; 9] {
+    pub fn lines(&self) -> [String; 10] {
         [
-            format!("reached: refusals 1 to 8 {:?}", &self.refusals[1..]),
+            format!("reached: refusals 1 to 10 {:?}", &self.refusals[1..]),
             format!(
                 "reached: more needed, skipped, held, ignored, Error, closed, acted on {:?}",
                 self.outcomes
@@ -113,6 +129,10 @@ impl Reach {
                 self.standing
             ),
             format!(
+                "reached: watches set, blocks of readings sent, service requests {:?}",
+                self.watching
+            ),
+            format!(
                 "reached: {} events after which locks were held, at most by {} sessions",
                 self.holding, self.most_holders
             ),
@@ -130,6 +150,7 @@ impl Reach {
             ("lock_answers", json::numbers(&self.lock_answers)),
             ("interrupted", json::numbers(&self.interrupted)),
             ("standing_releases", json::numbers(&self.standing)),
+            ("watching", json::numbers(&self.watching)),
             ("most_lock_answers", self.most_lock_answers.to_string()),
             ("holding", self.holding.to_string()),
             ("most_holders", self.most_holders.to_string()),

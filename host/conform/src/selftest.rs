@@ -11,7 +11,9 @@ use crate::command::REFERENCE;
 use crate::reach::Reach;
 use crate::tally::Tally;
 use crate::watch::{Complaint, Side};
-use crate::{bench_examples, cables, hostile, interrupts, json, orders, sizes, systematic, wrap};
+use crate::{
+    bench_examples, cables, hostile, interrupts, json, orders, readings, sizes, systematic, wrap,
+};
 
 /// Random lists tried on a wrong server before it counts as not found.
 const LISTS: u64 = 300;
@@ -123,6 +125,7 @@ fn compared(fault: &Fault) -> Option<String> {
     suite("bench examples", bench_examples::check)
         .or_else(seeds)
         .or_else(|| suite("interrupts", interrupts::check))
+        .or_else(|| suite("readings", readings::check))
         .or_else(|| suite("orders", |pair| orders::check(pair, ORDERS_THIN)))
         .or_else(|| suite("wrap", wrap::check))
         .or_else(|| suite("sizes", sizes::check))

@@ -2,10 +2,11 @@
 
 use std::ops::Range;
 
-use reference::event::frames;
+use reference::event::{frames, Frame};
 use reference::history::omitted;
 use reference::limits::SESSIONS;
 use reference::lock_view::LockView;
+use reference::wire::kind::SERVICE_REQUEST;
 use reference::wire::Header;
 use reference::{Counted, Deadline, Event, Fresh, Refusal, Reply, Row, Subject};
 
@@ -17,6 +18,11 @@ pub const LONGEST: usize = 4096;
 const BESIDE: usize = 64;
 /// Buffers begin at any of so many places, so that nothing relies on alignment.
 const SHIFTS: usize = 8;
+
+/// Refusals that an event may have, and none.
+const EVENT_REFUSALS: [u64; 10] = [0, 1, 2, 3, 4, 5, 6, 7, 8, 10];
+/// The values that every service request has in its code.
+const REQUESTED: u8 = 16 | 64;
 
 /// Longest list of rows that is lent.
 const ROWS: usize = SESSIONS + 1;
@@ -270,7 +276,7 @@ fn check_reply(event: &Event, reply: &Reply, output: &[u8]) -> Result<(), Compla
     if reply.withheld > u64::from(answer) {
         return Err("withheld, though it is no answer".into());
     }
-    if reply.refusal > 8 || reply.outcome > 6 {
+    if !EVENT_REFUSALS.contains(&reply.refusal) || reply.outcome > 6 {
         return Err("a refusal or an outcome that does not exist".into());
     }
     if omitted(event, reply) && reply.output != 0 {
@@ -279,10 +285,27 @@ fn check_reply(event: &Event, reply: &Reply, output: &[u8]) -> Result<(), Compla
     if let Event::Deliver { bytes, .. } = event {
         check_taken(bytes, reply)?;
     }
-    if frames(output).is_none() {
-        return Err("the output is not a row of whole frames".into());
+    match frames(output) {
+        Some(sent) => check_service_request(event, reply, &sent),
+        None => Err("the output is not a row of whole frames".into()),
     }
-    Ok(())
+}
+
+/// Service is requested once at most, behind an answer that was sent, on the other connection, with the values
+/// 16 and 64 in the code.
+fn check_service_request(event: &Event, reply: &Reply, sent: &[Frame]) -> Result<(), Complaint> {
+    let requests = |frame: &Frame| frame.kind == SERVICE_REQUEST;
+    let behind = match (event, sent) {
+        (Event::Answer { .. }, [answer, request]) if reply.withheld == 0 => {
+            let right = request.code & REQUESTED == REQUESTED && request.payload.is_empty();
+            right && !requests(answer) && request.connection != answer.connection
+        }
+        _ => false,
+    };
+    match behind || !sent.iter().any(requests) {
+        true => Ok(()),
+        false => Err(format!("service requested in {sent:?}")),
+    }
 }
 
 /// The answer to the question for the holders: 9 and no rows, or no more rows than were lent.

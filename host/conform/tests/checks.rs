@@ -35,10 +35,9 @@ fn random_lists_reach_every_answer() {
     for seed in 1..=150 {
         hostile::check(TWICE, seed, &mut reach).expect("one server agrees with itself");
     }
-    assert!(
-        reach.refusals[1..].iter().all(|count| *count > 20),
-        "{reach:?}"
-    );
+    for refusal in [1, 2, 3, 4, 5, 6, 7, 8, 10] {
+        assert!(reach.refusals[refusal] > 20, "refusal {refusal}: {reach:?}");
+    }
     assert!(reach.outcomes.iter().all(|count| *count > 200), "{reach:?}");
     assert!(
         reach.fatal_errors[1..].iter().all(|count| *count > 5),
@@ -49,7 +48,7 @@ fn random_lists_reach_every_answer() {
         reach.lock_answers.iter().all(|count| *count > 200),
         "{reach:?}"
     );
-    for kind in [1, 2, 3, 5, 6, 7, 9, 11, 13, 14, 16, 18, 22, 23, 25] {
+    for kind in [1, 2, 3, 5, 6, 7, 9, 11, 13, 14, 16, 18, 20, 22, 23, 25] {
         assert!(reach.frames[kind] > 20, "type {kind}: {reach:?}");
     }
     assert!(reach.most_lock_answers >= 5, "{reach:?}");
@@ -58,6 +57,7 @@ fn random_lists_reach_every_answer() {
         "{reach:?}"
     );
     assert!(reach.standing.iter().all(|count| *count > 50), "{reach:?}");
+    assert!(reach.watching.iter().all(|count| *count > 50), "{reach:?}");
     assert!(reach.holding > 5000, "{reach:?}");
     assert!(reach.most_holders >= 5, "{reach:?}");
 }
