@@ -123,7 +123,7 @@ extern "C" {
 #endif
 
 /* Sizes. */
-#define HISLIP_WORDS 812          /* uint64_t to lend as `words`: what hislip_words() tells         */
+#define HISLIP_WORDS 1004         /* uint64_t to lend as `words`: what hislip_words() tells         */
 #define HISLIP_STRING_BYTES 8448  /* bytes to lend as `strings`: what hislip_string_bytes() tells   */
 #define HISLIP_SESSIONS 32        /* live sessions, half-open ones included                         */
 #define HISLIP_CONNECTIONS 64     /* connections are numbered 0 to 63                               */

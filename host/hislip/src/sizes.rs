@@ -22,7 +22,7 @@ pub const OUTPUT: usize = 2048;
 pub const CLOCK_MAX: u64 = 1 << 62;
 
 /// Words of 64 bits that a server is kept in: what [`crate::sys::hislip_words`] tells.
-pub const WORDS: usize = 812;
+pub const WORDS: usize = 1004;
 
 /// Bytes that a server is kept in beside them: what [`crate::sys::hislip_string_bytes`] tells.
 pub const STRING_BYTES: usize = 8448;
