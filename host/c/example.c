@@ -134,11 +134,41 @@ static void ask_and_answer(void)
     expect("and B's Data goes through", told.outcome == HISLIP_ACTED_ON && told.taken == 17);
 }
 
+/* B's readings come as a block of IEEE 754 singles, big endian; 2.5 is above the limit. */
+static void watch_readings(void)
+{
+    static const uint8_t readings[] = "#18\x3f\x80\0\0\x40\x20\0"; /* 1, then 2.5 */
+    static const uint8_t nothing[1] = {0};
+    hislip_delivery told = send(2, HISLIP_TYPE_TRIGGER, 0, 0xffffff02, "");
+    hislip_record record = hislip_readings(words, strings, 2);
+    hislip_answered answered;
+    hislip_done done = hislip_watch_outside(words, strings, 2, 2.0f, 1.0f);
+    expect("B asks for readings", told.outcome == HISLIP_ACTED_ON && told.session == 2);
+    expect("and had none yet", record.refusal == HISLIP_ACCEPTED && record.seen == 0);
+    expect("low above high is refused", done.refusal == HISLIP_REFUSED_BAD_LIMITS);
+    done = hislip_watch_above(words, strings, 2, 2.0f);
+    expect("a watch above 2", done.refusal == HISLIP_ACCEPTED && done.output == 0);
+    answered = hislip_answer(words, strings, 2, readings, sizeof readings, 0, nothing, 0, out, sizeof out);
+    expect("2.5 requests service behind the answer",
+           answered.output == 2 * (1 + HISLIP_HEADER) + sizeof readings
+               && out[1 + HISLIP_HEADER + sizeof readings] == 3
+               && out[answered.output - 14] == HISLIP_TYPE_ASYNC_SERVICE_REQUEST
+               && out[answered.output - 13] == (0x41 | 0x50));
+    answered = hislip_answer(words, strings, 2, readings, sizeof readings, 1, nothing, 0, out, sizeof out);
+    expect("once", answered.output == 1 + HISLIP_HEADER + sizeof readings);
+    record = hislip_readings(words, strings, 2);
+    expect("and is recorded", record.seen == 1 && record.last == 2.5f && record.lowest == 1.0f
+                                  && record.highest == 2.5f);
+    done = hislip_watch_off(words, strings, 1);
+    expect("A has no watch any more", done.refusal == HISLIP_REFUSED_NO_SESSION);
+}
+
 int main(void)
 {
     expect("the first session opens", first_session() == 0);
     open_both();
     lock_and_hold();
     ask_and_answer();
+    watch_readings();
     return verdict();
 }

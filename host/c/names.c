@@ -26,6 +26,16 @@ static void row(void)
         printf("row %u\n", (unsigned)places[i]);
 }
 
+/* The same of a record of readings. */
+static void record(void)
+{
+    const size_t places[] = {offsetof(hislip_record, refusal), offsetof(hislip_record, seen),
+                             offsetof(hislip_record, last), offsetof(hislip_record, lowest),
+                             offsetof(hislip_record, highest), sizeof(hislip_record)};
+    for (size_t i = 0; i < sizeof places / sizeof *places; i++)
+        printf("record %u\n", (unsigned)places[i]);
+}
+
 /* The named types, in the order of their numbers. */
 static const uint8_t types[] = {
     HISLIP_TYPE_INITIALIZE, HISLIP_TYPE_INITIALIZE_RESPONSE, HISLIP_TYPE_FATAL_ERROR, HISLIP_TYPE_ERROR,
@@ -44,11 +54,12 @@ int main(void)
 {
     sizes();
     row();
+    record();
     for (size_t i = 0; i < sizeof types; i++)
         printf("constant %u\n", types[i]);
     for (unsigned type = 0; type <= UINT8_MAX; type++)
         printf("type %u %s\n", type, hislip_type_name((uint8_t)type));
-    for (uint64_t refusal = HISLIP_ACCEPTED; refusal <= HISLIP_REFUSED_LIST_TOO_SHORT + 1; refusal++)
+    for (uint64_t refusal = HISLIP_ACCEPTED; refusal <= HISLIP_REFUSED_BAD_LIMITS + 1; refusal++)
         printf("refusal %" PRIu64 " %s\n", refusal, hislip_refusal_name(refusal));
     for (uint64_t outcome = HISLIP_MORE_NEEDED; outcome <= HISLIP_ACTED_ON + 1; outcome++)
         printf("outcome %" PRIu64 " %s\n", outcome, hislip_outcome_name(outcome));

@@ -4,6 +4,8 @@
 mod first_session;
 #[path = "../examples/shared_bench.rs"]
 mod shared_bench;
+#[path = "../examples/watched_readings.rs"]
+mod watched_readings;
 
 #[test]
 fn one_program_asks() {
@@ -13,4 +15,9 @@ fn one_program_asks() {
 #[test]
 fn two_programs_share() {
     shared_bench::main().expect("no refusal");
+}
+
+#[test]
+fn one_programs_readings_are_watched() {
+    watched_readings::main().expect("no refusal");
 }

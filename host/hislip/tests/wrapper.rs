@@ -2,9 +2,9 @@
 
 use hislip::{
     sys, Answer, Answered, Connection, Deadline, Event, Frame, Frames, Holder, MessageType, Mode,
-    Outcome, Refusal, Server, OUTPUT,
+    Outcome, Readings, Refusal, Server, Watch, OUTPUT,
 };
-use reference::compose::message;
+use reference::compose::{block, message};
 
 /// A server with session 1 on connections 0 and 1.
 fn with_session() -> Server {
@@ -186,6 +186,97 @@ fn a_list_that_is_too_short_is_refused() {
     assert_eq!(Refusal::ListTooShort.number(), 9);
 }
 
+/// Types and codes of an answer's frames.
+fn sends(server: &mut Server, readings: &[f32]) -> Vec<(u8, u8)> {
+    let answered = server.answer(1, &block(readings), false, b"");
+    let frames = answered.expect("asked").frames();
+    frames.map(|frame| (frame.kind, frame.code)).collect()
+}
+
+#[test]
+fn a_reading_beyond_the_watch_requests_service() {
+    const SENT: (u8, u8) = (6, 0);
+    const REQUESTED: (u8, u8) = (20, 0x51);
+    let mut server = with_session();
+    server.status(0x41);
+    let asks = server.deliver(0, &message(12, 0, 0xffff_ff00, b""));
+    assert_eq!(asks.expect("open").taken, 16);
+    assert_eq!(sends(&mut server, &[f32::NAN, 9.0]), [SENT], "off at first");
+    let above = Watch::Above { limit: 1.0 };
+    server.watch(1, above).expect("a number");
+    assert_eq!(sends(&mut server, &[1.0, 0.5]), [SENT]);
+    assert_eq!(sends(&mut server, &[0.5, 1.5]), [SENT, REQUESTED]);
+    assert_eq!(sends(&mut server, &[2.0]), [SENT], "the first trip alone");
+    server.watch(1, above).expect("a number");
+    assert_eq!(sends(&mut server, &[2.0]), [SENT, REQUESTED], "set again");
+    let (low, high) = (-1.0, f32::INFINITY);
+    server.watch(1, Watch::Outside { low, high }).expect("good");
+    assert_eq!(sends(&mut server, &[f32::INFINITY, -1.0]), [SENT]);
+    assert_eq!(sends(&mut server, &[f32::NAN]), [SENT, REQUESTED]);
+    server.watch(1, Watch::Off).expect("live");
+    assert_eq!(sends(&mut server, &[-2.0]), [SENT]);
+}
+
+#[test]
+fn watches_are_refused_with_their_cause() {
+    let mut server = with_session();
+    let bad = [
+        Watch::Above { limit: f32::NAN },
+        Watch::Outside {
+            low: 1.0,
+            high: 0.5,
+        },
+        Watch::Outside {
+            low: f32::NAN,
+            high: 0.5,
+        },
+        Watch::Outside {
+            low: 0.5,
+            high: f32::NAN,
+        },
+    ];
+    for watch in bad {
+        assert_eq!(server.watch(1, watch), Err(Refusal::BadLimits));
+        assert_eq!(server.watch(2, watch), Err(Refusal::NoSession));
+    }
+    assert_eq!(
+        Refusal::BadLimits.to_string(),
+        "refusal 10: a limit is not a number, or low is above high"
+    );
+    let (low, high) = (0.0, -0.0);
+    let zeros = Watch::Outside { low, high };
+    assert_eq!(server.watch(1, zeros), Ok(()), "the two zeros are equal");
+}
+
+#[test]
+fn the_record_of_readings_is_told() {
+    let mut server = with_session();
+    assert_eq!(server.readings(1), Ok(None));
+    assert_eq!(server.readings(2), Err(Refusal::NoSession));
+    let asks = server.deliver(0, &message(12, 0, 0xffff_ff00, b""));
+    assert_eq!(asks.expect("open").taken, 16);
+    assert_eq!(sends(&mut server, &[f32::NAN]).len(), 1);
+    assert_eq!(server.readings(1), Ok(None), "no number yet");
+    assert_eq!(sends(&mut server, &[0.0, 2.0, -0.0, f32::NAN]).len(), 1);
+    let told = server.readings(1).expect("live").expect("three numbers");
+    let [last, lowest, highest] = [-0.0_f32, 0.0, 2.0];
+    assert_eq!(
+        told,
+        Readings {
+            last,
+            lowest,
+            highest
+        }
+    );
+    let signs = [told.last, told.lowest].map(f32::is_sign_negative);
+    assert_eq!(signs, [true, false], "of equal extremes the first");
+    let no_block = server.answer(1, b"#14\x7f", true, b"").expect("asked");
+    assert_eq!(no_block.frames().count(), 1);
+    assert_eq!(server.readings(1), Ok(Some(told)));
+    assert_eq!(server.cut(1).expect("open").count(), 0);
+    assert_eq!(server.readings(1), Err(Refusal::NoSession));
+}
+
 #[test]
 fn the_clients_size_is_told() {
     let mut server = with_session();
@@ -264,6 +355,8 @@ fn events_as_values() {
     let connection = Connection::new(5);
     assert_eq!(frames_of(Event::Open { connection }), 0);
     assert_eq!(frames_of(Event::Status { status: 3 }), 0);
+    let (session, watch) = (1.into(), Watch::Off);
+    assert_eq!(frames_of(Event::Watch { session, watch }), 0);
     let deliver = Event::Deliver {
         connection: Connection::new(1),
         bytes,

@@ -6,7 +6,7 @@ use std::mem::offset_of;
 use std::sync::OnceLock;
 
 use crate::compiler::{root, run, scratch, strict, C99, CPP11};
-use hislip::sys::hislip_row;
+use hislip::sys::{hislip_record, hislip_row};
 use hislip::{type_name, Outcome, Refusal};
 
 #[test]
@@ -95,6 +95,27 @@ fn a_dropped_count_of_rows_is_warned_of() {
     warned_of("null-rows", &good, &ask("told =", "NULL"));
 }
 
+/// A watch may be set without a look at the answer, but not over memory that is only read.
+#[test]
+fn a_dropped_record_and_a_watch_over_constant_memory_are_warned_of() {
+    let ask = |keep: &str, memory: &str| {
+        format!(
+            "#include \"hislip_server.h\"\n\
+             float ask({memory}uint64_t *words, uint8_t *strings);\n\
+             float ask({memory}uint64_t *words, uint8_t *strings)\n\
+             {{ hislip_record told = {{1, 1, 0, 0, 0}};\n\
+             hislip_watch_off(words, strings, 1);\n\
+             hislip_watch_above(words, strings, 1, 0.5f);\n\
+             hislip_watch_outside(words, strings, 1, -0.5f, 0.5f);\n\
+             {keep} hislip_readings(words, strings, 1);\n\
+             return told.last + told.lowest + told.highest; }}\n"
+        )
+    };
+    let good = ask("told =", "");
+    warned_of("record", &good, &ask("", ""));
+    warned_of("constant", &good, &ask("told =", "const "));
+}
+
 /// What host/c/names.c prints of one kind, behind the kind's word.
 fn lines<'a>(text: &'a str, kind: &str) -> Vec<&'a str> {
     let rest = |line: &'a str| line.strip_prefix(kind)?.strip_prefix(' ');
@@ -159,6 +180,20 @@ fn a_row_lies_as_in_the_wrapper() {
 }
 
 #[test]
+fn a_record_lies_as_in_the_wrapper() {
+    let places = [
+        offset_of!(hislip_record, refusal),
+        offset_of!(hislip_record, seen),
+        offset_of!(hislip_record, last),
+        offset_of!(hislip_record, lowest),
+        offset_of!(hislip_record, highest),
+        size_of::<hislip_record>(),
+    ];
+    let text = names_in_c();
+    assert_eq!(lines(text, "record"), places.map(|place| place.to_string()));
+}
+
+#[test]
 fn names_are_the_wrappers() {
     let text = names_in_c();
     let constants: Vec<String> = (0..26).map(|type_: u8| type_.to_string()).collect();
@@ -166,8 +201,8 @@ fn names_are_the_wrappers() {
     let types = (0..=u8::MAX).map(|number| format!("{number} {}", type_name(number)));
     assert_eq!(lines(text, "type"), types.collect::<Vec<_>>());
     let refusals = Refusal::ALL.map(|refusal| format!("{} {}", refusal.number(), refusal.reason()));
-    assert_eq!(lines(text, "refusal")[1..10], refusals);
-    assert_eq!(lines(text, "refusal")[10], "10 no refusal has that number");
+    assert_eq!(lines(text, "refusal")[1..11], refusals);
+    assert_eq!(lines(text, "refusal")[11], "11 no refusal has that number");
     let outcomes = [
         Outcome::MoreNeeded,
         Outcome::Skipped,
