@@ -1,19 +1,22 @@
 //! The two sides. Each pays one call that is not inlined, with the same numbers in and out.
 
 use hislip::sys;
-use reference::{Mode, Reply};
+use reference::{Mode, Reply, Watch};
 
 pub trait Contender {
     fn new() -> Self;
     fn open(&mut self, connection: u32);
     fn deliver(&mut self, connection: u32, bytes: &[u8], out: &mut [u8]) -> Reply;
-    fn answer(&mut self, session: u32, payload: &[u8], out: &mut [u8]) -> Reply;
+    fn answer(&mut self, session: u32, payload: &[u8], end: bool, out: &mut [u8]) -> Reply;
+    /// A watch that the readings of the workloads do not trip.
+    fn watch(&mut self, session: u32) -> Reply;
 }
 
 /// "AA".
 const VENDOR: u16 = 0x4141;
-/// The answers end.
-const END: u8 = 1;
+/// No reading is beyond these.
+const LOW: f32 = -10.0;
+const HIGH: f32 = 10.0;
 
 pub struct Library {
     words: Vec<u64>,
@@ -57,7 +60,8 @@ impl Contender for Library {
     }
 
     #[inline(always)]
-    fn answer(&mut self, session: u32, payload: &[u8], out: &mut [u8]) -> Reply {
+    fn answer(&mut self, session: u32, payload: &[u8], end: bool, out: &mut [u8]) -> Reply {
+        let end = end.into();
         let (words, strings) = (self.words.as_mut_ptr(), self.strings.as_mut_ptr());
         let (bytes, len) = (payload.as_ptr(), payload.len());
         let (out, out_len) = (out.as_mut_ptr(), out.len());
@@ -65,7 +69,7 @@ impl Contender for Library {
         let (unread, none) = (shown.as_ptr(), shown.len());
         let answered = unsafe {
             sys::hislip_answer(
-                words, strings, session, bytes, len, END, unread, none, out, out_len,
+                words, strings, session, bytes, len, end, unread, none, out, out_len,
             )
         };
         Reply {
@@ -74,6 +78,12 @@ impl Contender for Library {
             withheld: answered.withheld,
             ..Reply::default()
         }
+    }
+
+    fn watch(&mut self, session: u32) -> Reply {
+        let (words, strings) = (self.words.as_mut_ptr(), self.strings.as_mut_ptr());
+        let told = unsafe { sys::hislip_watch_outside(words, strings, session, LOW, HIGH) };
+        Reply::refused(told.refusal)
     }
 }
 
@@ -95,7 +105,11 @@ impl Contender for Ordinary {
     }
 
     #[inline(always)]
-    fn answer(&mut self, session: u32, payload: &[u8], out: &mut [u8]) -> Reply {
-        self.0.answer(session, payload, END, &[], out)
+    fn answer(&mut self, session: u32, payload: &[u8], end: bool, out: &mut [u8]) -> Reply {
+        self.0.answer(session, payload, end.into(), &[], out)
+    }
+
+    fn watch(&mut self, session: u32) -> Reply {
+        self.0.watch(session, Watch::outside(LOW, HIGH))
     }
 }

@@ -3,9 +3,11 @@
 
 use std::collections::BTreeMap;
 
-use reference::compose::message;
+use reference::compose::{block, message};
 use reference::limits::{LOCK_STRING, PAYLOAD, SESSIONS};
 use reference::wire::kind;
+
+use crate::draw::Draw;
 
 /// A message or a payload in `Script::bytes`.
 #[derive(Clone, Copy, PartialEq, Eq)]
@@ -19,14 +21,21 @@ pub struct Part {
 pub enum Step {
     /// Connection, and what it shows.
     Deliver(u32, Part),
-    /// Session, and the payload.
+    /// Session, and the payload: the end of its answer, or a part of it.
     Answer(u32, Part),
+    PartOfAnswer(u32, Part),
+    /// Session: a watch over its readings that none of them trips.
+    Watch(u32),
 }
 
 /// MessageID of a program's first message.
 const FIRST: u32 = 0xffff_ff00;
 /// What a release names before it.
 const BEFORE_FIRST: u32 = FIRST - 2;
+/// Readings in a block, as many as it may have.
+const READINGS: usize = 250;
+/// So many different payloads of a kind are answered in turn.
+const KEPT: u32 = 16;
 const COMMAND: &[u8] = b"CONFigure:VOLTage:DC 10,0.001;:INITiate";
 
 #[derive(Clone, Copy, Default)]
@@ -55,12 +64,16 @@ pub struct Script {
     /// For each session a string of the greatest length, with a long timeout; the last byte tells them apart.
     pub wait_long: Vec<Part>,
     reading: Part,
+    /// Readings as text, and in blocks of as many as a block may have.
+    pub texts: Vec<Part>,
+    pub blocks: Vec<Part>,
 }
 
 impl Script {
     pub fn new() -> Script {
         let mut bytes = Vec::new();
         let mut keep = |part: &[u8]| kept(&mut bytes, part);
+        let mut draw = Draw::new();
         let piece = message(kind::DATA_END, 0, FIRST, COMMAND);
         let long = |session: u8| {
             let mut string = [b's'; LOCK_STRING];
@@ -77,6 +90,8 @@ impl Script {
                 .map(|session| keep(&long(session)))
                 .collect(),
             reading: keep(&[b'7'; PAYLOAD]),
+            texts: (0..KEPT).map(|one| keep(text(one).as_bytes())).collect(),
+            blocks: (0..KEPT).map(|_| keep(&block(&volts(&mut draw)))).collect(),
             bytes,
             steps: Vec::new(),
             programs: [Program::default(); SESSIONS],
@@ -121,6 +136,15 @@ impl Script {
         self.steps.push(Step::Answer(1 + session, self.reading));
     }
 
+    /// A part of the instrument's answer.
+    pub fn part_of_answer(&mut self, session: u32, payload: Part) {
+        self.steps.push(Step::PartOfAnswer(1 + session, payload));
+    }
+
+    pub fn watch(&mut self, session: u32) {
+        self.steps.push(Step::Watch(1 + session));
+    }
+
     /// A message that carries a count; equal counts have equal numbers.
     fn counted(&mut self, kind: u8, code: u8, count: u32, number: u32, payload: &[u8]) -> Part {
         let made = self.counted.entry((kind, code)).or_default();
@@ -131,6 +155,17 @@ impl Script {
         let bytes = &mut self.bytes;
         *made[place].get_or_insert_with(|| kept(bytes, &message(kind, code, number, payload)))
     }
+}
+
+/// A reading as meters write it.
+fn text(one: u32) -> String {
+    format!("+{}.{:08}E+00", one % 10, one * 12_345)
+}
+
+/// Readings from -10 to 10 volts.
+fn volts(draw: &mut Draw) -> Vec<f32> {
+    let mut volt = || draw.below(20_000_001) as f32 / 1_000_000.0 - 10.0;
+    (0..READINGS).map(|_| volt()).collect()
 }
 
 fn kept(bytes: &mut Vec<u8>, part: &[u8]) -> Part {

@@ -42,7 +42,9 @@ fn one<C: Contender>(server: &mut C, workload: &Workload, step: Step, out: &mut 
     let bytes = |Part { start, length }| &workload.bytes[start as usize..][..length as usize];
     match step {
         Step::Deliver(connection, part) => server.deliver(connection, bytes(part), out),
-        Step::Answer(session, part) => server.answer(session, bytes(part), out),
+        Step::Answer(session, part) => server.answer(session, bytes(part), true, out),
+        Step::PartOfAnswer(session, part) => server.answer(session, bytes(part), false, out),
+        Step::Watch(session) => server.watch(session),
     }
 }
 
@@ -52,7 +54,8 @@ pub type Outcomes = BTreeMap<&'static str, usize>;
 fn outcome(step: Step, told: Reply) -> &'static str {
     match step {
         _ if told.refusal != 0 => "refused",
-        Step::Answer(..) => "answers sent",
+        Step::Answer(..) | Step::PartOfAnswer(..) => "answers sent",
+        Step::Watch(..) => "watches set",
         Step::Deliver(..) => Reply::OUTCOMES[told.outcome as usize],
     }
 }
@@ -163,8 +166,8 @@ mod tests {
                 "{name}"
             );
             let locks = sent.iter().filter(|told| told.0 == kind::LOCK_RESPONSE);
-            let ours =
-                |told: &(u8, u8)| told.0 == kind::DATA_END || told.0 == kind::STATUS_RESPONSE;
+            let answers = [kind::DATA, kind::DATA_END, kind::STATUS_RESPONSE];
+            let ours = |told: &(u8, u8)| answers.contains(&told.0);
             assert!(locks.clone().all(|told| matches!(told.1, 1 | 2)), "{name}");
             assert!(
                 sent.iter()

@@ -247,6 +247,22 @@ impl Author {
             }
         }
     }
+
+    /// Parts of answers to sessions drawn at random, which have asked and get no end; watched or not.
+    fn parts_of_answers(&mut self, payloads: fn(&Script) -> &[Part], watched: bool) {
+        let mut draw = Draw::new();
+        for session in 0..ALL {
+            self.script.message(session, kind::DATA_END);
+            if watched {
+                self.script.watch(session);
+            }
+        }
+        self.begin();
+        for _ in 0..self.count() {
+            let payload = draw.pick(payloads(&self.script));
+            self.script.part_of_answer(draw.below(ALL), payload);
+        }
+    }
 }
 
 /// In a round's order: the release comes after the request, and unless Data and DataEND may stand
@@ -282,6 +298,19 @@ const FEWER: [(u32, Make); 3] = [
 const EXCLUSIVE: fn(&Script, u32) -> Part = |script, _| script.wait;
 const LONG: fn(&Script, u32) -> Part = |script, session| script.wait_long[session as usize];
 
+/// Answers with readings, as text and as blocks that are looked into.
+const READINGS: [(&str, Make); 3] = [
+    ("answers that are no block", |a| {
+        a.parts_of_answers(|script| &script.texts, true);
+    }),
+    ("blocks of 250 readings", |a| {
+        a.parts_of_answers(|script| &script.blocks, false);
+    }),
+    ("blocks of 250 readings, watched", |a| {
+        a.parts_of_answers(|script| &script.blocks, true);
+    }),
+];
+
 /// All workloads, in the page's order.
 pub fn all() -> Vec<Plan> {
     let mut all = Vec::new();
@@ -308,6 +337,9 @@ pub fn all() -> Vec<Plan> {
         plan(&name, make, false);
     }
     plan("DataEND and 1,024-byte answers", Author::answers, false);
+    for (name, make) in READINGS {
+        plan(name, make, false);
+    }
     all
 }
 
