@@ -128,9 +128,14 @@ impl Gateway {
 
     fn sent(&mut self, session: SessionId, output: &[u8], end: bool) {
         self.route(output);
-        if !end {
-            return;
+        if end {
+            self.ended_answer(session, output);
         }
+        self.follow_service_request(session, output);
+    }
+
+    /// The end of an answer was sent.
+    fn ended_answer(&mut self, session: SessionId, output: &[u8]) {
         let answer = self
             .sessions
             .get_mut(&session)

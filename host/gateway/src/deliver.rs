@@ -179,7 +179,9 @@ impl Gateway {
             return;
         };
         match acted.kind {
+            names::INITIALIZE => self.set_watch(session),
             names::ASYNC_INITIALIZE => state.whole = true,
+            names::ASYNC_STATUS_QUERY => self.status_was_asked(session),
             names::ASYNC_LOCK if acted.code == REQUEST => {
                 self.locks.requested(session, acted.payload, reply);
             }

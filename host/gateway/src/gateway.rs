@@ -6,7 +6,7 @@ use std::net::{SocketAddr, TcpListener, ToSocketAddrs};
 use std::sync::mpsc::{channel, Receiver, Sender};
 use std::time::{Duration, Instant, SystemTime};
 
-use hislip::{Frames, Mode, Server, CONNECTIONS};
+use hislip::{Frames, Mode, Server, Watch, CONNECTIONS};
 use query::names;
 
 use crate::arrive::Newcomer;
@@ -36,6 +36,8 @@ pub struct Settings {
     pub initialize_within: Duration,
     /// Time for the instrument to do one request.
     pub instrument_within: Duration,
+    /// The watch over every session's readings.
+    pub watch: Watch,
 }
 
 impl Default for Settings {
@@ -46,6 +48,7 @@ impl Default for Settings {
             prefers: Mode::Synchronized,
             initialize_within: Duration::from_secs(10),
             instrument_within: Duration::from_secs(10),
+            watch: Watch::Off,
         }
     }
 }
@@ -78,6 +81,7 @@ pub struct Gateway {
     /// The instrument's status byte as the server knows it.
     pub(crate) status: u8,
     pub(crate) initialize_within: Duration,
+    pub(crate) watch: Watch,
     listening: Listening,
     address: SocketAddr,
     log: Log,
@@ -127,6 +131,7 @@ impl Gateway {
             next_ticket: 0,
             status: 0,
             initialize_within: settings.initialize_within,
+            watch: settings.watch,
             listening: Listening::start(listener, events.clone())?,
             address,
             log,

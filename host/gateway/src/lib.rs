@@ -22,6 +22,7 @@ mod refuse;
 mod session;
 pub mod signals;
 mod utc;
+pub mod watch;
 mod writer;
 
 pub use gateway::{Gateway, Settings, Stopper};

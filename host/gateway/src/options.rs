@@ -6,6 +6,7 @@ use hislip::Mode;
 
 use crate::gateway::Settings;
 use crate::instrument::raw_socket::PORT;
+use crate::watch;
 
 /// What `--help` prints.
 pub const HELP: &str = "\
@@ -17,6 +18,7 @@ usage: gateway [OPTION..]
                             an instrument on a raw SCPI socket (port 5025) in place of the simulated meter
   --measure-ms N            how long the simulated meter measures (0)
   --instrument-timeout-ms N how long the instrument may take for one message (10000)
+  --watch LIMIT | LOW,HIGH  sessions are told of the first reading above, or outside, in a block of floats
   --log FILE                lines are also appended to FILE
   --quiet                   no lines on standard output
   --help
@@ -62,6 +64,7 @@ pub fn parse(arguments: impl IntoIterator<Item = String>) -> Result<Options, Str
             "--instrument-timeout-ms" => {
                 options.settings.instrument_within = milliseconds(&word, &next()?)?;
             }
+            "--watch" => options.settings.watch = watch::parse(&next()?)?,
             "--log" => options.log = Some(next()?),
             _ => return Err(format!("unknown option {word}")),
         }
@@ -139,6 +142,8 @@ mod tests {
             "--measure-ms",
             "4880",
             "--instrument tcp://a --measure-ms 5",
+            "--watch",
+            "--watch 2,1",
         ] {
             assert!(
                 parse(words.split(' ').map(String::from)).is_err(),

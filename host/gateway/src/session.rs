@@ -27,6 +27,8 @@ pub struct Session {
     pub backlog: usize,
     /// Both channels are there.
     pub whole: bool,
+    /// Service was requested, and the program has not asked for the status byte since.
+    pub requested: bool,
     /// Requests before this one were cleared, or were another session's of the same number.
     first: Ticket,
 }
@@ -39,6 +41,7 @@ impl Session {
             answer: None,
             backlog: 0,
             whole: false,
+            requested: false,
             first,
         }
     }
@@ -67,9 +70,10 @@ impl Session {
 
     /// A device clear: nothing is asked, kept or to be sent any more.
     pub fn clear(&mut self, first: Ticket) {
-        let whole = self.whole;
+        let (whole, requested) = (self.whole, self.requested);
         *self = Session {
             whole,
+            requested,
             ..Session::new(first)
         };
     }

@@ -180,7 +180,8 @@ impl Client {
     fn end_interruption(&mut self) -> Result<()> {
         if !std::mem::take(&mut self.interrupted) {
             let what = "AsyncInterrupted";
-            receive(&mut self.asynchronous, ASYNC_INTERRUPTED, what)?;
+            // A service request may stand before it.
+            drop_until(&mut self.asynchronous, ASYNC_INTERRUPTED, what)?;
         }
         Ok(())
     }
