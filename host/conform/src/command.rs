@@ -11,7 +11,7 @@ use crate::soak::Soak;
 use crate::tally::Tally;
 use crate::watch::Side;
 use crate::{
-    bench_examples, cables, hostile, interrupts, listing, orders, quick, readings, report,
+    bench_examples, cables, corners, hostile, interrupts, listing, orders, quick, readings, report,
     selftest, sizes, systematic, wrap,
 };
 
@@ -51,7 +51,7 @@ conform soak --minutes N          random lists for so long
 conform soak --events N           random lists until so many events were run
 conform soak .. --from SEED       beginning with this seed
 conform seed N                    the random list of a seed
-conform examples | systematic | orders | interrupts | readings | cables | sizes | wrap
+conform examples | corners | systematic | orders | interrupts | readings | cables | sizes | wrap
                                   one suite, not thinned
 conform list N                    the events of a seed with the library's answers, for `timeline`
 conform ordinary ..               the same with the ordinary server in the library's place
@@ -126,6 +126,7 @@ fn suites(pair: Pair, arguments: &[&str], tally: &mut Tally) -> Result<Result<()
             ran
         }
         ["examples"] => tally.suite("bench examples", || bench_examples::check(pair)),
+        ["corners"] => tally.suite("corners", || corners::check(pair)),
         ["systematic"] => tally.suite("systematic", || systematic::check(pair, 1)),
         ["orders"] => tally.suite("orders", || orders::check(pair, 1)),
         ["interrupts"] => tally.suite("interrupts", || interrupts::check(pair)),

@@ -6,6 +6,7 @@ pub mod bench_examples;
 pub mod bout;
 pub mod cables;
 pub mod command;
+pub mod corners;
 pub mod demand3;
 pub mod floats;
 pub mod hostile;

@@ -6,7 +6,7 @@ use crate::bout::{Failed, Pair};
 use crate::reach::Reach;
 use crate::tally::Tally;
 use crate::{
-    bench_examples, cables, hostile, interrupts, orders, readings, sizes, systematic, wrap,
+    bench_examples, cables, corners, hostile, interrupts, orders, readings, sizes, systematic, wrap,
 };
 
 /// Events of random lists.
@@ -18,6 +18,7 @@ const ORDERS_THIN: u64 = 100;
 
 pub fn run(pair: Pair, tally: &mut Tally) -> Result<(), Failed> {
     tally.suite("bench examples", || bench_examples::check(pair))?;
+    tally.suite("corners", || corners::check(pair))?;
     tally.suite("systematic", || systematic::check(pair, THIN))?;
     tally.suite("standing releases in many orders", || {
         orders::check(pair, ORDERS_THIN)

@@ -12,7 +12,8 @@ use crate::reach::Reach;
 use crate::tally::Tally;
 use crate::watch::{Complaint, Side};
 use crate::{
-    bench_examples, cables, hostile, interrupts, json, orders, readings, sizes, systematic, wrap,
+    bench_examples, cables, corners, hostile, interrupts, json, orders, readings, sizes,
+    systematic, wrap,
 };
 
 /// Random lists tried on a wrong server before it counts as not found.
@@ -123,6 +124,7 @@ fn compared(fault: &Fault) -> Option<String> {
         complaint(|| what(check(pair))).map(|what| format!("{name}: {what}"))
     };
     suite("bench examples", bench_examples::check)
+        .or_else(|| suite("corners", corners::check))
         .or_else(seeds)
         .or_else(|| suite("interrupts", interrupts::check))
         .or_else(|| suite("readings", readings::check))
