@@ -8,9 +8,9 @@ use std::collections::BTreeMap;
 use std::path::{Path, PathBuf};
 use std::{env, fmt::Write, fs};
 
-const MODULES: [&str; 10] = [
-    "acts", "delivery", "holders", "limits", "locks", "readings", "reply", "server", "watching",
-    "wire",
+const MODULES: [&str; 13] = [
+    "acts", "commands", "delivery", "grammar", "holders", "limits", "locks", "readings", "reply",
+    "server", "spelling", "watching", "wire",
 ];
 /// What stands before the names of lines: nothing, and for a second change.
 const CHANGES: [&str; 2] = ["", "also "];

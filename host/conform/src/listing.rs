@@ -46,7 +46,10 @@ mod tests {
                 *room = ROOM;
                 *end = (*end).min(1);
             }
-            Event::Open { .. } | Event::Status { .. } | Event::Watch { .. } => {}
+            Event::Open { .. }
+            | Event::Status { .. }
+            | Event::Watch { .. }
+            | Event::Patterns { .. } => {}
         }
         entry
     }

@@ -60,6 +60,7 @@ pub fn describe_event(event: &Event) -> String {
         ),
         Event::Status { status } => format!("status {status:02x}"),
         Event::Watch { session, watch } => format!("watch of session {session}: {watch:?}"),
+        Event::Patterns { text } => format!("patterns \"{}\"", text.escape_ascii()),
     }
 }
 

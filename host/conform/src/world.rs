@@ -153,7 +153,7 @@ impl World {
                     known.rmt_expected |= *end != 0 && reply.withheld == 0;
                 }
             }
-            Event::Status { .. } | Event::Watch { .. } => {}
+            Event::Status { .. } | Event::Watch { .. } | Event::Patterns { .. } => {}
         }
     }
 

@@ -2,6 +2,7 @@
 
 use query::message::Message;
 use query::{names, words};
+use reference::commands::lines;
 use reference::event::{Event, Frame};
 use reference::{Reply, Watch};
 
@@ -42,6 +43,7 @@ impl Step<'_> {
             Event::Clock { milliseconds, .. } => format!("clock {milliseconds} ms"),
             Event::Status { status } => format!("status byte {status:02x}"),
             Event::Answer { payload, end, .. } => self.answer(payload, *end),
+            Event::Patterns { text } => allowed(text),
             Event::Watch { watch, .. } => format!("{}watch {}", self.who(), limits(*watch)),
             Event::Deliver {
                 connection, bytes, ..
@@ -148,5 +150,15 @@ fn limits(watch: Watch) -> String {
         Watch::Off => "off".into(),
         Watch::Above { limit } => format!("above {}", limit.0),
         Watch::Outside { low, high } => format!("outside {} to {}", low.0, high.0),
+    }
+}
+
+fn allowed(text: &[u8]) -> String {
+    match lines(text)[..] {
+        [] => "no command allowed".into(),
+        ref list => {
+            let list: Vec<_> = list.iter().map(|pattern| words::text(pattern)).collect();
+            format!("commands allowed: {}", list.join(" "))
+        }
     }
 }

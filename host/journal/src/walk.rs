@@ -60,7 +60,7 @@ impl Walk {
             | Event::Cut { connection, .. }
             | Event::Open { connection } => self.model.session_of(*connection),
             Event::Answer { session, .. } | Event::Watch { session, .. } => Some(*session as u16),
-            Event::Clock { .. } | Event::Status { .. } => None,
+            Event::Clock { .. } | Event::Status { .. } | Event::Patterns { .. } => None,
         }
     }
 }

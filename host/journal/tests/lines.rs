@@ -5,7 +5,7 @@ mod common;
 use common::kept;
 use journal::print::print;
 use reference::compose::{
-    answer, answer_beside, block, clock, cut, deliver, header, message, watch,
+    answer, answer_beside, block, clock, cut, deliver, header, message, patterns, watch,
 };
 use reference::verifier::Verdict;
 use reference::{Event, Fresh, Watch};
@@ -168,5 +168,24 @@ fn watches_and_what_trips_them() {
             "session 1 watch outside -1 to inf; no locks",
         ),
         (watch(1, Watch::Off), "session 1 watch off; no locks"),
+    ]);
+}
+
+#[test]
+fn allowed_commands() {
+    check(&[
+        (
+            patterns(&["*RST", "SYSTem:ERRor[:NEXT]?"]),
+            "commands allowed: \"*RST\" \"SYSTem:ERRor[:NEXT]?\"; no locks",
+        ),
+        (
+            deliver(0, message(7, 0, 0xffff_ff00, b"*rst")),
+            "session 1 DataEND ffffff00 \"*rst\"; no locks",
+        ),
+        (
+            deliver(0, message(7, 0, 0xffff_ff02, b"*IDN?")),
+            "session 1 DataEND ffffff02: Error 128 sent: device defined error; no locks",
+        ),
+        (patterns::<&str>(&[]), "no command allowed; no locks"),
     ]);
 }

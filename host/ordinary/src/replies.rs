@@ -10,6 +10,8 @@ const NOTHING: Reply = Reply {
     output: 0,
     missing: 0,
     withheld: 0,
+    pattern: 0,
+    place: 0,
 };
 
 pub fn refused(refusal: Refusal) -> Reply {

@@ -63,6 +63,14 @@ pub fn watch(session: u32, watch: Watch) -> Event {
     Event::Watch { session, watch }
 }
 
+/// A list of allowed commands, each ended by a newline.
+pub fn patterns<T: AsRef<[u8]>>(list: &[T]) -> Event {
+    let ended = |pattern: &T| [pattern.as_ref(), b"\n"].concat();
+    Event::Patterns {
+        text: list.iter().flat_map(ended).collect(),
+    }
+}
+
 /// A block of readings, with the shortest count.
 pub fn block(readings: &[f32]) -> Vec<u8> {
     let floats: Vec<u8> = readings.iter().flat_map(|one| one.to_be_bytes()).collect();

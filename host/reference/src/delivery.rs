@@ -141,9 +141,9 @@ impl Server {
         }
     }
 
-    /// Checks 7 to 11 on the synchronous channel, with Q-10's between 9 and 10.
+    /// Checks 7 and 8 on the synchronous channel, and the others for DeviceClearComplete.
     fn check_synchronous(&mut self, message: &Message, frames: &mut Frames) -> Delivery {
-        let (kind, code) = (message.header.kind, message.header.code);
+        let kind = message.header.kind;
         let in_clear = self.session(message.slot).in_clear;
         if in_clear && kind != kind::CLEAR_COMPLETE {
             return Delivery::of(Outcome::Ignored, 0, message.size());
@@ -152,31 +152,37 @@ impl Server {
             return error_sent(message, code, frames);
         }
         match kind {
-            kind::INITIALIZE => {
-                return self.fatal(message.connection, fatal::BAD_INITIALIZATION, frames);
-            }
+            kind::INITIALIZE => self.fatal(message.connection, fatal::BAD_INITIALIZATION, frames),
             kind::CLEAR_COMPLETE => {
                 if !message.payload.is_empty() || !in_clear {
                     return error_sent(message, error::UNIDENTIFIED, frames);
                 }
                 self.clear_complete(message, frames);
+                self.acted_on(message)
             }
-            _ => {
-                if !self.locks.access(message.slot) {
-                    return Delivery::HELD;
-                }
-                if !self.in_step(message) {
-                    return error_sent(message, error::UNIDENTIFIED, frames);
-                }
-                if code > 1 {
-                    return error_sent(message, error::CONTROL_CODE, frames);
-                }
-                if kind == kind::TRIGGER && !message.payload.is_empty() {
-                    return error_sent(message, error::UNIDENTIFIED, frames);
-                }
-                self.data_or_trigger(message, frames);
-            }
+            _ => self.check_counted(message, frames),
         }
+    }
+
+    /// Checks 9 to 11 of Data, DataEND and Trigger, with Q-10's between 9 and 10 and Q-12's behind the code.
+    fn check_counted(&mut self, message: &Message, frames: &mut Frames) -> Delivery {
+        let (kind, code) = (message.header.kind, message.header.code);
+        if !self.locks.access(message.slot) {
+            return Delivery::HELD;
+        }
+        if !self.in_step(message) {
+            return error_sent(message, error::UNIDENTIFIED, frames);
+        }
+        if code > 1 {
+            return error_sent(message, error::CONTROL_CODE, frames);
+        }
+        if kind == kind::TRIGGER && !message.payload.is_empty() {
+            return error_sent(message, error::UNIDENTIFIED, frames);
+        }
+        if kind == kind::DATA_END && !self.allows(message.payload) {
+            return error_sent(message, error::NOT_ALLOWED, frames);
+        }
+        self.data_or_trigger(message, frames);
         self.acted_on(message)
     }
 

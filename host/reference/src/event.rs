@@ -37,6 +37,10 @@ pub enum Event {
         session: u32,
         watch: Watch,
     },
+    Patterns {
+        /// Each pattern is ended by a newline; a last one may lack it.
+        text: Vec<u8>,
+    },
 }
 
 impl Event {
@@ -55,14 +59,17 @@ impl Event {
             | Event::Cut { room, .. }
             | Event::Clock { room, .. }
             | Event::Answer { room, .. } => Some(room),
-            Event::Open { .. } | Event::Status { .. } | Event::Watch { .. } => None,
+            Event::Open { .. }
+            | Event::Status { .. }
+            | Event::Watch { .. }
+            | Event::Patterns { .. } => None,
         }
     }
 }
 
 /// The answer in 01's numbers: refusal 0 is none, outcomes count from 0 (more needed) to 6 (acted
 /// on), `output` counts the bytes of frames, `missing` those that more needed asks for; `withheld` is 1 if
-/// an instrument's answer was not sent.
+/// an instrument's answer was not sent, `pattern` and `place` say what is bad in a list with refusal 11.
 #[derive(Clone, Copy, Debug, Default, PartialEq, Eq)]
 pub struct Reply {
     pub refusal: u64,
@@ -72,6 +79,8 @@ pub struct Reply {
     pub output: u64,
     pub missing: u64,
     pub withheld: u64,
+    pub pattern: u64,
+    pub place: u64,
 }
 
 impl Reply {

@@ -10,9 +10,11 @@
 #![forbid(unsafe_code)]
 
 pub mod acts;
+pub mod commands;
 pub mod compose;
 pub mod delivery;
 pub mod event;
+pub mod grammar;
 pub mod history;
 pub mod holders;
 pub mod journal;
@@ -26,6 +28,7 @@ mod most_grants;
 pub mod readings;
 pub mod reply;
 pub mod server;
+pub mod spelling;
 pub mod subject;
 pub mod verifier;
 pub mod watch;
@@ -34,7 +37,7 @@ pub mod wire;
 
 pub use event::{Counted, Deadline, Event, Readings, Reply, Row, Size};
 pub use mode::{Fresh, Mode};
-pub use reply::{Answered, Delivery, Outcome, Refusal};
+pub use reply::{Answered, Delivery, Outcome, Refusal, RefusedList};
 pub use server::Server;
 pub use subject::Subject;
 pub use watch::{Single, Watch};

@@ -12,6 +12,12 @@ pub const LOCK_STRING: usize = 256;
 pub const CLOCK: u64 = 1 << 62;
 /// Locks granted to a session are counted so far.
 pub const GRANTS: u64 = 1 << 62;
+/// Command patterns in a list.
+pub const PATTERNS: usize = 32;
+/// Bytes of a command pattern.
+pub const PATTERN: usize = 128;
+/// Brackets of a pattern inside one another.
+pub const BRACKETS: usize = 8;
 /// Smallest output buffer.
 pub const OUTPUT: usize = 2048;
 

@@ -91,7 +91,8 @@ impl LockModel {
             Event::Open { .. }
             | Event::Answer { .. }
             | Event::Status { .. }
-            | Event::Watch { .. } => {}
+            | Event::Watch { .. }
+            | Event::Patterns { .. } => {}
         }
         self.look(answers);
     }

@@ -14,6 +14,9 @@ pub enum Refusal {
     ListTooShort = 9,
     /// A watch's limit is not a number, or low is above high.
     BadLimits = 10,
+    ///
+    BadPattern = 11,
+    TooManyPatterns = 12,
 }
 
 /// What became of a delivery.
@@ -42,6 +45,15 @@ impl Answered {
             output,
         }
     }
+}
+
+/// Why a list of patterns was refused. A bad pattern is told by its number and the place in it, both from 0;
+/// otherwise they are 0.
+#[derive(Clone, Copy, Debug, PartialEq, Eq)]
+pub struct RefusedList {
+    pub refusal: Refusal,
+    pub pattern: usize,
+    pub place: usize,
 }
 
 /// An accepted delivery: `session` is 0 unless it closed one or was acted on, `missing` 0 unless more is

@@ -6,6 +6,7 @@ use crate::locks::{Locks, Released, Request};
 use crate::mode::Mode;
 use crate::readings::Record;
 use crate::reply::{Answered, Refusal};
+use crate::spelling::Pattern;
 use crate::watch::Watch;
 use crate::wire::{kind, Frames, Header};
 
@@ -147,6 +148,8 @@ pub struct Server {
     pub(crate) connections: [Connection; CONNECTIONS],
     pub(crate) sessions: [Option<Session>; SESSIONS],
     pub(crate) locks: Locks,
+    /// The commands that the host allows; None while it has not said, and then all are.
+    pub(crate) allowed: Option<Vec<Pattern>>,
 }
 
 impl Server {
@@ -166,6 +169,7 @@ impl Server {
             connections: [NOT_OPEN; CONNECTIONS],
             sessions: [None; SESSIONS],
             locks: Locks::new(),
+            allowed: None,
         }
     }
 

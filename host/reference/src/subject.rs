@@ -28,6 +28,9 @@ pub trait Subject {
 
     fn watch(&mut self, session: u32, watch: Watch) -> Reply;
 
+    /// The list of allowed commands.
+    fn patterns(&mut self, text: &[u8]) -> Reply;
+
     /// Questions, which change nothing.
     fn deadline(&self) -> Deadline;
     fn client_size(&self, session: u32) -> Size;
@@ -72,6 +75,7 @@ pub trait Subject {
                 Reply::default()
             }
             Event::Watch { session, watch } => self.watch(*session, *watch),
+            Event::Patterns { text } => self.patterns(text),
         }
     }
 }
@@ -164,6 +168,17 @@ macro_rules! subject_of {
                 match <$server>::watch(self, session, watch) {
                     Ok(()) => $crate::Reply::default(),
                     Err(refusal) => $crate::Reply::refused(refusal as u64),
+                }
+            }
+
+            fn patterns(&mut self, text: &[u8]) -> $crate::Reply {
+                match <$server>::patterns(self, text) {
+                    Ok(()) => $crate::Reply::default(),
+                    Err(told) => $crate::Reply {
+                        pattern: told.pattern as u64,
+                        place: told.place as u64,
+                        ..$crate::Reply::refused(told.refusal as u64)
+                    },
                 }
             }
 

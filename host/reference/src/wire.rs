@@ -48,6 +48,8 @@ pub mod error {
     pub const CONTROL_CODE: u8 = 2;
     pub const VENDOR_MESSAGE: u8 = 3;
     pub const TOO_LARGE: u8 = 4;
+    /// The first that is the device's own: the command is not allowed.
+    pub const NOT_ALLOWED: u8 = 128;
 }
 
 #[derive(Clone, Copy, Debug, PartialEq, Eq)]

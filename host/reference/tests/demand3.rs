@@ -1,6 +1,6 @@
 //! The canonical history and the lock model by themselves: what must not be simplified in them.
 
-use reference::compose::{clock, cut, deliver, header, message, watch};
+use reference::compose::{clock, cut, deliver, header, message, patterns, watch};
 use reference::history::{canonical, omitted, trimmed};
 use reference::lock_model::{LockAnswer, LockModel};
 use reference::{Event, Reply, Watch};
@@ -52,13 +52,15 @@ fn more_needed_held_and_refused_are_omitted_and_nothing_else() {
     }
     // An accepted event that is no delivery has outcome 0 too.
     let watched = watch(1, Watch::above(1.0));
+    let listed = patterns(&["*IDN?"]);
     let status = Event::Status { status: 0 };
-    for event in [clock(3), cut(1), status, watched] {
+    for event in [clock(3), cut(1), status, watched, listed] {
         assert!(!omitted(&event, &Reply::default()));
         assert_eq!(trimmed(&event, &Reply::default()), event);
     }
     let refused = Reply::refused(10);
     assert!(omitted(&watch(1, Watch::above(f32::NAN)), &refused));
+    assert!(omitted(&patterns(&["a"]), &Reply::refused(11)));
 }
 
 #[test]
@@ -248,12 +250,14 @@ fn the_lock_model_keeps_a_standing_release_by_the_messages_it_is_fed() {
 }
 
 #[test]
-fn watches_are_nothing_to_the_lock_model() {
+fn watches_and_patterns_are_nothing_to_the_lock_model() {
     let mut fed = Fed::new(2);
     fed.lock(1, b"", 0);
     fed.lock(2, b"", 50);
     let before = fed.model.view();
-    assert_eq!(fed.feed(&watch(1, Watch::Off), &Reply::default()), []);
+    for event in [watch(1, Watch::Off), patterns(&["*IDN?"])] {
+        assert_eq!(fed.feed(&event, &Reply::default()), []);
+    }
     assert_eq!(fed.model.view(), before);
 }
 

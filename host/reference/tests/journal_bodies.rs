@@ -157,7 +157,14 @@ fn the_servers_events_are_recorded_as_far_as_they_count() {
         let event = replayable(limits.clone()).expect("an event");
         assert_eq!(recorded(&event), limits);
     }
-    assert_eq!(replayable(patterns(&[])), None, "for Q-12 to fill in");
+    for list in [&[][..], &["*IDN?", "MEASure?"], &[""], &["A", ""]] {
+        let event = replayable(patterns(list)).expect("an event");
+        assert_eq!(recorded(&event), patterns(list));
+    }
+    assert_eq!(replayable(patterns(&["A\nB"])), None, "not two patterns");
+    let text = b"*IDN?\nMEASure?".to_vec();
+    let unended = recorded(&Event::Patterns { text });
+    assert_eq!(unended, patterns(&["*IDN?", "MEASure?"]));
 }
 
 #[test]

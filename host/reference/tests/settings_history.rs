@@ -1,9 +1,11 @@
-//! Demand 3 with watches: random lists, their canonical histories and journals.
+//! Demand 3 with watches and allowed commands: random lists, their canonical histories and journals.
 
 mod random;
 
 use random::Random;
-use reference::compose::{answer, answer_beside, block, clock, cut, deliver, message, watch};
+use reference::compose::{
+    answer, answer_beside, block, clock, cut, deliver, message, patterns, watch,
+};
 use reference::history::canonical;
 use reference::journal::{Keeping, Kept};
 use reference::lock_model::LockModel;
@@ -49,10 +51,18 @@ fn limit(random: &mut Random) -> f32 {
 
 fn setting(random: &mut Random) -> Event {
     let session = 1 + random.below(3) as u32;
-    match random.below(3) {
+    match random.below(4) {
         0 => watch(session, Watch::Off),
         1 => watch(session, Watch::above(limit(random))),
-        _ => watch(session, Watch::outside(limit(random), limit(random))),
+        2 => watch(session, Watch::outside(limit(random), limit(random))),
+        _ => {
+            let lists = [
+                &["*IDN?", "READ?"][..],
+                &["READ?"],
+                &["*IDN?", "READ?", "bad"],
+            ];
+            patterns(lists[random.below(lists.len())])
+        }
     }
 }
 
@@ -119,7 +129,7 @@ fn list(seed: u64) -> (Vec<Event>, Run) {
 
 #[test]
 fn the_canonical_history_gives_the_same_server_and_answers() {
-    let mut requests = 0;
+    let (mut requests, mut errors) = (0, 0);
     for seed in 1..=60 {
         let (events, run) = list(seed);
         let replies: Vec<Reply> = run.said.iter().map(|said| said.0).collect();
@@ -131,8 +141,10 @@ fn the_canonical_history_gives_the_same_server_and_answers() {
         }
         assert_eq!(again.server, run.server, "seed {seed}");
         requests += run.count(b"HS\x14");
+        errors += run.count(b"HS\x03\x80");
     }
     assert!(requests > 20, "{requests} service requests");
+    assert!(errors > 20, "{errors} commands not allowed");
 }
 
 #[test]

@@ -1,9 +1,9 @@
-//! Books with watches: they are replayed like any other event.
+//! Books with watches and lists of allowed commands: they are replayed like any other event.
 
 mod books;
 
 use books::{accepted, bodies, closed, kept, session, wrong};
-use reference::compose::{answer, block, deliver, message, watch};
+use reference::compose::{answer, block, deliver, message, patterns, watch};
 use reference::journal::layout::body;
 use reference::journal::Recorded;
 use reference::verifier::{judge, Fault, Verdict};
@@ -65,4 +65,78 @@ fn a_watch_set_too_late() {
     let tripping = bodies.len() - 2;
     bodies.swap(tripping - 1, tripping);
     assert_eq!(verdict(&bodies), wrong(tripping - 1, Fault::Parcels));
+}
+
+/// A command before a list is set, one that the list allows and one that it does not.
+fn listed() -> Vec<Event> {
+    let mut events = session(1, 0);
+    events.extend([
+        deliver(0, message(7, 0, 0xffff_ff00, b"SYST:ERR?")),
+        patterns(&["*RST", "SYSTem:ERRor[:NEXT]?"]),
+        deliver(0, message(7, 0, 0xffff_ff02, b"syst:err:next?")),
+        deliver(0, message(7, 0, 0xffff_ff04, b"*IDN?")),
+        patterns::<&str>(&[]),
+        deliver(0, message(7, 0, 0xffff_ff06, b"*RST")),
+    ]);
+    events
+}
+
+fn list(patterns: &[&[u8]]) -> Vec<u8> {
+    let patterns = patterns.iter().map(|pattern| pattern.to_vec()).collect();
+    body(&Recorded::Patterns { patterns }, b"")
+}
+
+#[test]
+fn a_book_with_patterns_is_replayed() {
+    let bodies = bodies(&kept(Fresh::BENCH, &listed()));
+    assert_eq!(bodies.len(), listed().len());
+    assert_eq!(verdict(&bodies), accepted(bodies.len()));
+    let set = bodies.len() - 5;
+    let with = |other: Vec<u8>| {
+        let mut changed = bodies.clone();
+        changed[set] = other;
+        verdict(&changed)
+    };
+    let refused = wrong(set, Fault::Parcels);
+    assert_eq!(
+        with(list(&[b"*RST", b"SYSTem:ERRor[:NEXT]"])),
+        wrong(set + 1, Fault::Parcels)
+    );
+    assert_eq!(
+        with(list(&[b"*IDN?", b"SYSTem:ERRor:NEXT?"])),
+        wrong(set + 2, Fault::Parcels)
+    );
+    assert_eq!(with(list(&[b"SYSTem:ERRor:NEXT?"])), accepted(bodies.len()));
+    assert_eq!(with(list(&[b"A", b"SYSTem:ERRor:NEXt]?"])), refused);
+    assert_eq!(with(list(&[b""])), refused);
+    assert_eq!(with(list(&[&b"A"[..]; 33])), refused);
+    assert_eq!(with(list(&[&[b'A'; 129]])), refused);
+    assert_eq!(
+        with(list(&[b"*RST\nSYSTem:ERRor[:NEXT]?"])),
+        refused,
+        "one, not two"
+    );
+    assert_eq!(with(list(&[b"*RST\n", b"SYSTem:ERRor[:NEXT]?"])), refused);
+    let framed = [list(&[b"A"]), vec![0]].concat();
+    assert_eq!(with(framed), refused);
+}
+
+/// The largest list makes the longest body of an event without frames.
+#[test]
+fn the_longest_list_has_an_entry() {
+    let longest = vec![vec![b'A'; 128]; 32];
+    let book = kept(Fresh::BENCH, &[patterns(&longest)]);
+    let bodies = bodies(&book);
+    assert_eq!(bodies[0].len(), 4_229);
+    assert_eq!(verdict(&bodies), accepted(1));
+}
+
+/// A text without its last newline is the same event to a journal.
+#[test]
+fn one_encoding_for_both_forms_of_a_text() {
+    let text = |text: &[u8]| Event::Patterns {
+        text: text.to_vec(),
+    };
+    let with = kept(Fresh::BENCH, &[text(b"*RST\n*IDN?\n")]);
+    assert_eq!(kept(Fresh::BENCH, &[text(b"*RST\n*IDN?")]), with);
 }

@@ -14,6 +14,8 @@
 //! watch 1 off                                       -> done
 //! watch 1 above 3f800000                            -> done
 //! watch 1 outside 3f800000 40000000                 -> refused 8
+//! patterns 2a49444e3f0a4d454153757265               -> done
+//! patterns 2a49444e3f0a4d654153                     -> refused 11, pattern 1, place 2
 //! ```
 //!
 //! Connections, sessions, milliseconds, counts and refusals are decimal; bytes and the status byte
@@ -23,7 +25,7 @@
 //! buffer is not told.
 
 use reference::compose::ROOM;
-use reference::{Event, Reply, Single, Watch};
+use reference::{Event, Refusal, Reply, Single, Watch};
 
 use crate::words::{bytes, hex, number, Reader};
 
@@ -42,6 +44,8 @@ pub struct Entry {
 const MORE: &str = "more";
 /// With END.
 const END: &str = "end";
+/// The refusal that names a pattern and a place in it.
+const BAD_PATTERN: u64 = Refusal::BadPattern as u64;
 /// The cases of a watch.
 const OFF: &str = "off";
 const ABOVE: &str = "above";
@@ -73,6 +77,7 @@ fn event_text(event: &Event) -> String {
         }
         Event::Status { status } => format!("status {status:02x}"),
         Event::Watch { session, watch } => format!("watch {session} {}", limits(*watch)),
+        Event::Patterns { text } => format!("patterns {}", hex(text)),
     }
 }
 
@@ -86,6 +91,10 @@ fn limits(watch: Watch) -> String {
 }
 
 fn reply_text(event: &Event, reply: &Reply) -> String {
+    if reply.refusal == BAD_PATTERN {
+        let (pattern, place) = (reply.pattern, reply.place);
+        return format!("refused {BAD_PATTERN}, pattern {pattern}, place {place}");
+    }
     if reply.refusal != 0 {
         return format!("refused {}", reply.refusal);
     }
@@ -147,14 +156,24 @@ fn event(text: &str) -> Result<Event, String> {
         "status" => Event::Status {
             status: status(words.next("a status byte")?)?,
         },
-        "watch" => Event::Watch {
-            session: number(words.next("a session")?)?,
-            watch: watch(&mut words)?,
-        },
-        other => return Err(format!("no event `{other}`")),
+        other => setting(other, &mut words)?,
     };
     words.end()?;
     Ok(event)
+}
+
+/// A watch or a list of patterns.
+fn setting(word: &str, words: &mut Reader) -> Result<Event, String> {
+    match word {
+        "watch" => Ok(Event::Watch {
+            session: number(words.next("a session")?)?,
+            watch: watch(words)?,
+        }),
+        "patterns" => Ok(Event::Patterns {
+            text: bytes(words.next("bytes")?)?,
+        }),
+        other => Err(format!("no event `{other}`")),
+    }
 }
 
 fn watch(words: &mut Reader) -> Result<Watch, String> {
@@ -218,6 +237,8 @@ fn reply(text: &str) -> Result<Reply, String> {
             Some(("session", session)) => reply.session = number(session)?,
             Some(("taken", taken)) => reply.taken = number(taken)?,
             Some(("missing", missing)) => reply.missing = number(missing)?,
+            Some(("pattern", pattern)) => reply.pattern = number(pattern)?,
+            Some(("place", place)) => reply.place = number(place)?,
             _ => return Err(format!("`{part}` is no part of an answer")),
         }
     }
@@ -266,6 +287,10 @@ status 41 -> done
 watch 1 off -> done
 watch 1 above 7fc00001 -> refused 10
 watch 65536 outside bf800000 00000000 -> done
+patterns - -> done
+patterns 2a49444e3f0a -> done
+patterns 0a -> refused 11, pattern 0, place 0
+patterns 41 -> refused 12
 ";
 
     #[test]

@@ -1,6 +1,7 @@
 //! Between the server's events and those of the layout.
 
-use crate::compose::ROOM;
+use crate::commands::lines;
+use crate::compose::{patterns, ROOM};
 use crate::event::Event;
 use crate::journal::layout::{Recorded, MOST_DELIVERED, MOST_SHOWN};
 use crate::watch::{Single, Watch};
@@ -38,6 +39,9 @@ pub fn recorded(event: &Event) -> Recorded {
         },
         Event::Status { status } => Recorded::Status { status: *status },
         Event::Watch { session, watch } => recorded_watch(*session, *watch),
+        Event::Patterns { text } => Recorded::Patterns {
+            patterns: lines(text).into_iter().map(<[u8]>::to_vec).collect(),
+        },
     }
 }
 
@@ -60,11 +64,8 @@ fn first(bytes: &[u8], most: usize) -> Vec<u8> {
     bytes.iter().take(most).copied().collect()
 }
 
-/// The server's event for a recorded one, with room enough for any output; None if the server has no such
-/// event yet, and to a verifier that is one that the server refuses.
-///
-/// Patterns are no events of this server yet: their request gives them their rows here and in
-/// `recorded`, and nothing else of the journal changes.
+/// The server's event for a recorded one, with room enough for any output; None if a host cannot say it, and to
+/// a verifier that is one that the server refuses.
 pub fn replayable(recorded: Recorded) -> Option<Event> {
     let room = ROOM;
     Some(match recorded {
@@ -93,7 +94,7 @@ pub fn replayable(recorded: Recorded) -> Option<Event> {
     })
 }
 
-/// Watches.
+/// Watches and patterns. A pattern with a newline in it cannot be said, and it would be a bad one.
 fn replayable_setting(recorded: Recorded) -> Option<Event> {
     Some(match recorded {
         Recorded::WatchOff { session } => watching(session, Watch::Off),
@@ -105,6 +106,7 @@ fn replayable_setting(recorded: Recorded) -> Option<Event> {
             let (low, high) = (Single::of_bits(low), Single::of_bits(high));
             watching(session, Watch::Outside { low, high })
         }
+        Recorded::Patterns { patterns: list } if !list.concat().contains(&b'\n') => patterns(&list),
         _ => return None,
     })
 }

@@ -132,7 +132,15 @@ fn replayed(server: &mut Server, recorded: Recorded, out: &mut [u8]) -> Reply {
             let (low, high) = (Single::of_bits(low), Single::of_bits(high));
             server.watch(session, Watch::Outside { low, high })
         }
-        other => panic!("no event of the server yet: {other:?}"),
+        Recorded::Patterns { patterns } => {
+            if patterns.iter().any(|pattern| pattern.contains(&b'\n')) {
+                return Reply::refused(11);
+            }
+            let ended = patterns
+                .iter()
+                .map(|pattern| [pattern, &b"\n"[..]].concat());
+            server.patterns(&ended.collect::<Vec<_>>().concat())
+        }
     }
 }
 
