@@ -127,28 +127,7 @@ impl Server {
             return ignored(message.size());
         }
         match message.kind {
-            kind::DATA | kind::DATA_END | kind::TRIGGER => {
-                if !self.locks.access(message.slot) {
-                    return held();
-                }
-                if !session.in_step(message.parameter) {
-                    return message.error(error::UNIDENTIFIED, out);
-                }
-                if message.code > 1 {
-                    return message.error(error::CONTROL_CODE, out);
-                }
-                if message.kind == kind::TRIGGER && !message.payload.is_empty() {
-                    return message.error(error::UNIDENTIFIED, out);
-                }
-                let mut frames = Frames::new(out);
-                let freed = session.act(message, &mut frames);
-                if freed {
-                    self.end_standing(message.slot, &mut frames);
-                    self.grant_pass(&mut frames);
-                }
-                let session = &self.sessions[usize::from(message.slot)];
-                acted_on(session.number, message.size(), frames.used())
-            }
+            kind::DATA | kind::DATA_END | kind::TRIGGER => self.counted(message, out),
             kind::CLEAR_COMPLETE => {
                 if !session.in_clear || !message.payload.is_empty() {
                     return message.error(error::UNIDENTIFIED, out);
@@ -164,6 +143,37 @@ impl Server {
             VENDOR.. => message.error(error::VENDOR_MESSAGE, out),
             _ => message.error(error::MESSAGE_TYPE, out),
         }
+    }
+
+    /// Checks 9 to 11 of Data, DataEND and Trigger, with the number expected and the commands allowed.
+    #[inline]
+    fn counted(&mut self, message: &Message, out: &mut [u8; OUTPUT]) -> Reply {
+        if !self.locks.access(message.slot) {
+            return held();
+        }
+        let session = &mut self.sessions[usize::from(message.slot)];
+        if !session.in_step(message.parameter) {
+            return message.error(error::UNIDENTIFIED, out);
+        }
+        if message.code > 1 {
+            return message.error(error::CONTROL_CODE, out);
+        }
+        if message.kind == kind::TRIGGER && !message.payload.is_empty() {
+            return message.error(error::UNIDENTIFIED, out);
+        }
+        if let (kind::DATA_END, Some(allowed)) = (message.kind, &self.allowed) {
+            if !allowed.allows(message.payload) {
+                return message.error(error::NOT_ALLOWED, out);
+            }
+        }
+        let mut frames = Frames::new(out);
+        let freed = session.act(message, &mut frames);
+        let number = session.number;
+        if freed {
+            self.end_standing(message.slot, &mut frames);
+            self.grant_pass(&mut frames);
+        }
+        acted_on(number, message.size(), frames.used())
     }
 
     /// Checks 8, 10 and 11 on the asynchronous channel; nothing is held or cleared there.

@@ -2,7 +2,7 @@
 //! counts. The library's speed is compared with it.
 //!
 //! A connection's role and slot are found in one look by its number. All state is in fixed arrays, and
-//! nothing is allocated. A message is read where it lies, a frame is written straight to where it goes,
+//! nothing is allocated but the list of allowed commands, when it is set. A message is read where it lies, a frame is written straight to where it goes,
 //! and an answer is built once, so nothing is read back that was just stored in parts. A lock string is
 //! copied once, when it is kept, and compared as bytes.
 //!
@@ -12,6 +12,7 @@
 #![forbid(unsafe_code)]
 
 mod acts;
+mod commands;
 mod delivery;
 mod frames;
 mod holders;

@@ -4,6 +4,7 @@ use reference::limits::{CLOCK, CONNECTIONS, GRANTS, OUTPUT, PAYLOAD, SESSIONS};
 use reference::wire::{kind, HEADER};
 use reference::{Mode, Refusal, Reply, Watch};
 
+use crate::commands::Allowed;
 use crate::frames::Frames;
 use crate::locks::{Locks, Released};
 use crate::readings::Record;
@@ -180,6 +181,8 @@ pub struct Server {
     pub(crate) connections: [Connection; CONNECTIONS],
     pub(crate) sessions: [Session; SESSIONS],
     pub(crate) locks: Locks,
+    /// None while the host has set no list: then all is allowed.
+    pub(crate) allowed: Option<Allowed>,
 }
 
 impl Server {
@@ -194,6 +197,7 @@ impl Server {
             connections: [NOT_OPEN; CONNECTIONS],
             sessions: [NOBODY; SESSIONS],
             locks: Locks::new(),
+            allowed: None,
         }
     }
 

@@ -47,6 +47,10 @@ impl Subject for Server {
         Server::watch(self, session, watch)
     }
 
+    fn patterns(&mut self, text: &[u8]) -> Reply {
+        Server::patterns(self, text)
+    }
+
     fn deadline(&self) -> Deadline {
         let deadlines = || self.locks.waiting().map(|(_, request)| request.deadline);
         Deadline {
