@@ -22,6 +22,8 @@ static inline const char *hislip_refusal_name(uint64_t refusal)
     case HISLIP_REFUSED_NO_SESSION: return "no live session has that number";
     case HISLIP_REFUSED_LIST_TOO_SHORT: return "the list of rows is shorter than the holders";
     case HISLIP_REFUSED_BAD_LIMITS: return "a limit is not a number, or low is above high";
+    case HISLIP_REFUSED_BAD_PATTERN: return "a text of the list is no command pattern";
+    case HISLIP_REFUSED_TOO_MANY_PATTERNS: return "the list has more than 32 command patterns";
     default: return "no refusal has that number";
     }
 }

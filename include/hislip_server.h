@@ -1,10 +1,10 @@
 /* hislip_server.h - the server side of HiSLIP protocol 1.0 (IVI-6.1), synchronized and overlap mode.
  *
  * The host owns sockets, clock and instrument; this library owns the protocol. The host tells the
- * server of seven events: a connection opens, unread bytes of a connection are delivered, a connection
+ * server of eight events: a connection opens, unread bytes of a connection are delivered, a connection
  * is cut, the clock reads so many milliseconds, the instrument answers a session, the instrument's
- * status byte changes, the watch over a session's readings is set. What is to be sent comes back as
- * frames in the host's output buffer.
+ * status byte changes, the watch over a session's readings is set, the list of allowed commands is set.
+ * What is to be sent comes back as frames in the host's output buffer.
  *
  * LANGUAGE. C99, or C++ (C++11 or later). hislip_names.h has the numbers of this file in words.
  *
@@ -17,12 +17,12 @@
  *  - `words` points to HISLIP_WORDS uint64_t, aligned as uint64_t, and `strings` to
  *    HISLIP_STRING_BYTES bytes. In hislip_deliver `bytes` points to `len` bytes, in hislip_answer
  *    `payload` to `len` bytes and `shown` to `shown_len`, and in these two, hislip_cut and hislip_clock
- *    `out` to `out_len` bytes. In hislip_holders `rows` points to `rows_len` rows, aligned as uint64_t.
- *    Byte memory needs no alignment.
+ *    `out` to `out_len` bytes. In hislip_holders `rows` points to `rows_len` rows, aligned as uint64_t. In
+ *    hislip_patterns `text` points to `len` bytes. Byte memory needs no alignment.
  *  - NO POINTER IS NULL, NOT EVEN BESIDE A LENGTH OF 0. The proved code takes references, and a
  *    reference is never null: of a null one the proofs say nothing. Beside 0 any other pointer will
  *    do, for instance "". GCC and Clang warn of a null constant.
- *  - words, strings, bytes, payload, shown, out and rows do not overlap one another; payload and shown may.
+ *  - words, strings, bytes, payload, shown, out, rows and text do not overlap one another; payload and shown may.
  *  - Two threads do not use one server at once. Different servers are independent.
  *  - hislip_new has written the memory before the other calls see it.
  *
@@ -31,7 +31,7 @@
  * of HISLIP_OUTPUT bytes always suffices.
  *
  * WHAT IS WRITTEN. `words`, `strings` and the first `output` bytes of `out`; the bytes of `out` after
- * them keep their values, and `bytes`, `payload` and `shown` are only read. A refused call, a delivery
+ * them keep their values, and `bytes`, `payload`, `shown` and `text` are only read. A refused call, a delivery
  * answered more needed or held, and the questions hislip_deadline, hislip_client_size and
  * hislip_readings write nothing at all. hislip_holders, a question too, writes the first rows of its list, as many as it answers, and
  * nothing else.
@@ -64,8 +64,21 @@
  * the session's asynchronous connection; its code is the instrument's status byte with the values 16 and 64
  * set. A device clear changes neither watch nor record.
  *
+ * COMMANDS. The host may set a list of up to 32 patterns in SCPI notation, as MEASure[:VOLTage[:DC]]?, for
+ * all sessions. A word is capitals, at least one, then small letters, if any: the capitals are its short
+ * form, the whole word its long one. A pattern is a word, then any row of colon-and-word or bracketed
+ * non-empty rows of the same, brackets at most 8 deep, then perhaps "?"; or a star, one or more capitals and
+ * perhaps "?". It has at most 128 bytes. A bracketed part may be left out. A command matches a pattern if
+ * some choice of kept and dropped brackets spells it, each word short or long and nothing between, whatever
+ * its case; the question mark is there exactly if the pattern has it. With a list set, a DataEND whose
+ * payload up to its first space (20 hex), newline (0a hex) or end matches no pattern is answered Error 128,
+ * taken, and does not act; this is tested behind all other checks of the message, so the session's count has
+ * moved on. Only the DataEND's own payload is looked at, not Data before it; a semicolon, a tab or a leading
+ * colon are bytes like others, so a row of commands in one message matches nothing. While no list was ever
+ * set, all is allowed; an empty list allows nothing. There is no way back but hislip_new.
+ *
  * REFUSALS. A refused call has a number and one cause. It changes nothing: neither the server nor
- * any lent byte, and every other field of the answer is 0. If several causes hold, the first in the
+ * any lent byte, and every other field of the answer is 0 (with refusal 11 alone two say where). If several causes hold, the first in the
  * order given at each function is told.
  *
  * EXAMPLE (host/c/example.c runs it):
@@ -106,9 +119,9 @@ extern "C" {
 /* The version of this interface. A change of the first number, or below 1.0 of the second, may ask
  * for changes in the host. */
 #define HISLIP_VERSION_MAJOR 0
-#define HISLIP_VERSION_MINOR 7
+#define HISLIP_VERSION_MINOR 8
 #define HISLIP_VERSION_PATCH 0
-#define HISLIP_VERSION "0.7.0"
+#define HISLIP_VERSION "0.8.0"
 
 /* Compilers that know these words warn; the others pass over them.
  * HISLIP_NOT_NULL: no pointer is null, see WHAT THE HOST OWES.
@@ -132,6 +145,9 @@ extern "C" {
 #define HISLIP_LOCK_STRING 256    /* bytes of a lock string                                         */
 #define HISLIP_OUTPUT 2048        /* smallest output buffer                                         */
 #define HISLIP_CLOCK_MAX ((uint64_t)1 << 62)
+#define HISLIP_PATTERNS 32        /* patterns of a list of allowed commands                         */
+#define HISLIP_PATTERN 128        /* bytes of a pattern                                             */
+#define HISLIP_NOT_ALLOWED 128    /* code of the Error that answers a command which is not allowed  */
 
 /* Types of messages, byte 2 of a message (IVI-6.1, Table 4). */
 #define HISLIP_TYPE_INITIALIZE 0
@@ -175,6 +191,8 @@ extern "C" {
 #define HISLIP_REFUSED_NO_SESSION 8      /* no live session of that number                              */
 #define HISLIP_REFUSED_LIST_TOO_SHORT 9  /* the list of rows is shorter than the holders                */
 #define HISLIP_REFUSED_BAD_LIMITS 10     /* a watch's limit is not a number, or low is above high       */
+#define HISLIP_REFUSED_BAD_PATTERN 11    /* a text of the list is no pattern; the answer says where     */
+#define HISLIP_REFUSED_TOO_MANY_PATTERNS 12 /* more than 32 patterns                                    */
 
 /* Modes, for hislip_new. */
 #define HISLIP_SYNCHRONIZED 0
@@ -242,6 +260,13 @@ typedef struct {
     uint64_t refusal, seen;
     float last, lowest, highest;
 } hislip_record;
+
+/* The answer to hislip_patterns. With refusal 11 `pattern` is the number of the first bad one, from 0, and
+ * `place` that of its first byte that no pattern could have there, from 0; its length if it stops short;
+ * 128 if it is longer and good so far. Otherwise both are 0. */
+typedef struct {
+    uint64_t refusal, pattern, place;
+} hislip_listed;
 
 /* How many uint64_t to lend as `words`: HISLIP_WORDS, if header and archive are of one version. */
 uint64_t hislip_words(void);
@@ -325,6 +350,14 @@ HISLIP_NOT_NULL
 hislip_done hislip_watch_above(uint64_t *words, uint8_t *strings, uint32_t session, float limit);
 HISLIP_NOT_NULL
 hislip_done hislip_watch_outside(uint64_t *words, uint8_t *strings, uint32_t session, float low, float high);
+
+/* The list of allowed commands is set, for all sessions, in place of the one before: COMMANDS, above, says
+ * what a pattern is and what is then answered. `text`: the patterns, each ended by a newline (0a hex); a
+ * last one may lack it. `len` 0 is the empty list, which allows nothing; a newline alone is one empty
+ * pattern, and bad. Sends nothing. Refusals, in this order: 12 (more than 32), 11 (a bad pattern; the
+ * answer names the first one and the place); then the list before stays as it was. */
+HISLIP_NOT_NULL HISLIP_USE_RESULT
+hislip_listed hislip_patterns(uint64_t *words, uint8_t *strings, const uint8_t *text, size_t len);
 
 /* A question, no event: it changes nothing and may be asked at any time between two events. How many
  * lock requests wait, and the earliest of their deadlines, in milliseconds of hislip_clock: a reading

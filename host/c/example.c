@@ -163,6 +163,34 @@ static void watch_readings(void)
     expect("A has no watch any more", done.refusal == HISLIP_REFUSED_NO_SESSION);
 }
 
+static hislip_listed allow(const char *text)
+{
+    return hislip_patterns(words, strings, (const uint8_t *)text, strlen(text));
+}
+
+/* Two commands are allowed; what else B sends is answered Error 128. */
+static void allowed_commands(void)
+{
+    hislip_delivery told;
+    hislip_listed listed = allow("*IDN?\nMEASure[:VOLTage[:DC]]?\n");
+    expect("two commands are allowed", listed.refusal == HISLIP_ACCEPTED);
+    told = send(2, HISLIP_TYPE_DATA_END, 1, 0xffffff04, "MEAS?");
+    expect("the short form of one acts", told.outcome == HISLIP_ACTED_ON && told.session == 2);
+    told = send(2, HISLIP_TYPE_DATA_END, 0, 0xffffff06, "MEASU?");
+    expect("nothing between short and long does",
+           told.outcome == HISLIP_ERROR_SENT
+               && one_frame(told.output, 2, HISLIP_TYPE_ERROR, HISLIP_NOT_ALLOWED, 0));
+    listed = allow("*RST\nMEASure[:VOLTage?]\n");
+    expect("a bad pattern is told with its place", listed.refusal == HISLIP_REFUSED_BAD_PATTERN
+                                                      && listed.pattern == 1 && listed.place == 16);
+    told = send(2, HISLIP_TYPE_DATA_END, 0, 0xffffff08, "*idn? 1");
+    expect("and the list before stays", told.outcome == HISLIP_ACTED_ON);
+    listed = allow("");
+    told = send(2, HISLIP_TYPE_DATA_END, 0, 0xffffff0a, "*IDN?");
+    expect("an empty list allows nothing",
+           listed.refusal == HISLIP_ACCEPTED && told.outcome == HISLIP_ERROR_SENT);
+}
+
 int main(void)
 {
     expect("the first session opens", first_session() == 0);
@@ -170,5 +198,6 @@ int main(void)
     lock_and_hold();
     ask_and_answer();
     watch_readings();
+    allowed_commands();
     return verdict();
 }

@@ -8,7 +8,7 @@ static void sizes(void)
 {
     const uint64_t values[] = {HISLIP_WORDS, HISLIP_STRING_BYTES, HISLIP_SESSIONS, HISLIP_CONNECTIONS,
                                HISLIP_HEADER, HISLIP_PAYLOAD, HISLIP_LOCK_STRING, HISLIP_OUTPUT,
-                               HISLIP_CLOCK_MAX};
+                               HISLIP_CLOCK_MAX, HISLIP_PATTERNS, HISLIP_PATTERN, HISLIP_NOT_ALLOWED};
     for (size_t i = 0; i < sizeof values / sizeof *values; i++)
         printf("size %" PRIu64 "\n", values[i]);
     printf("lent %" PRIu64 " %" PRIu64 "\n", hislip_words(), hislip_string_bytes());
@@ -36,6 +36,15 @@ static void record(void)
         printf("record %u\n", (unsigned)places[i]);
 }
 
+/* The same of the answer to a list of patterns. */
+static void listed(void)
+{
+    const size_t places[] = {offsetof(hislip_listed, refusal), offsetof(hislip_listed, pattern),
+                             offsetof(hislip_listed, place), sizeof(hislip_listed)};
+    for (size_t i = 0; i < sizeof places / sizeof *places; i++)
+        printf("listed %u\n", (unsigned)places[i]);
+}
+
 /* The named types, in the order of their numbers. */
 static const uint8_t types[] = {
     HISLIP_TYPE_INITIALIZE, HISLIP_TYPE_INITIALIZE_RESPONSE, HISLIP_TYPE_FATAL_ERROR, HISLIP_TYPE_ERROR,
@@ -55,11 +64,12 @@ int main(void)
     sizes();
     row();
     record();
+    listed();
     for (size_t i = 0; i < sizeof types; i++)
         printf("constant %u\n", types[i]);
     for (unsigned type = 0; type <= UINT8_MAX; type++)
         printf("type %u %s\n", type, hislip_type_name((uint8_t)type));
-    for (uint64_t refusal = HISLIP_ACCEPTED; refusal <= HISLIP_REFUSED_BAD_LIMITS + 1; refusal++)
+    for (uint64_t refusal = HISLIP_ACCEPTED; refusal <= HISLIP_REFUSED_TOO_MANY_PATTERNS + 1; refusal++)
         printf("refusal %" PRIu64 " %s\n", refusal, hislip_refusal_name(refusal));
     for (uint64_t outcome = HISLIP_MORE_NEEDED; outcome <= HISLIP_ACTED_ON + 1; outcome++)
         printf("outcome %" PRIu64 " %s\n", outcome, hislip_outcome_name(outcome));

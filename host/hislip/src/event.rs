@@ -55,13 +55,18 @@ pub enum Event<'a> {
         /// The new one.
         watch: Watch,
     },
+    /// The list of allowed commands is set.
+    Patterns {
+        /// The new one.
+        list: &'a [&'a [u8]],
+    },
 }
 
 /// The answer to an [`Event`] that was not refused.
 #[derive(Clone, Debug)]
 #[must_use = "what is in it is to be sent"]
 pub enum Answer<'a> {
-    /// An opening, a status change or a watch: nothing to send.
+    /// An opening, a status change, a watch or a list of patterns: nothing to send.
     Done,
     /// A cut or a clock reading.
     Frames(Frames<'a>),
@@ -72,7 +77,8 @@ pub enum Answer<'a> {
 }
 
 impl Server {
-    /// Any event. A refusal is that of the event's own method.
+    /// Any event. A refusal is that of the event's own method; where a pattern is bad, only
+    /// [`Server::patterns`] tells.
     ///
     /// # Panics
     ///
@@ -99,6 +105,10 @@ impl Server {
                 Ok(Answer::Done)
             }
             Event::Watch { session, watch } => self.watch(session, watch).map(|()| Answer::Done),
+            Event::Patterns { list } => {
+                let set = self.patterns(list).map_err(Refusal::from);
+                set.map(|()| Answer::Done)
+            }
         }
     }
 }

@@ -1,6 +1,6 @@
 //! A safe wrapper over the proved HiSLIP server library.
 //!
-//! A [`Server`] owns the memory that the C interface wants lent and an output buffer. The seven
+//! A [`Server`] owns the memory that the C interface wants lent and an output buffer. The eight
 //! events are methods, or values of [`Event`] for [`Server::apply`]. Four questions change nothing:
 //! [`Server::deadline`], [`Server::client_size`], [`Server::holders`] and [`Server::readings`].
 //!
@@ -19,7 +19,7 @@
 //! # Ok::<(), hislip::Refusal>(())
 //! ```
 //!
-//! `examples/` has three whole programs. Memory, threads and what the proofs say of each call are told
+//! `examples/` has four whole programs. Memory, threads and what the proofs say of each call are told
 //! in `include/hislip_server.h`.
 
 #![deny(missing_docs)]
@@ -31,6 +31,7 @@ mod message_type;
 mod mode;
 mod numbers;
 mod outcome;
+mod patterns;
 mod readings;
 mod refusal;
 mod server;
@@ -44,11 +45,13 @@ pub use message_type::{type_name, MessageType};
 pub use mode::Mode;
 pub use numbers::{Connection, SessionId};
 pub use outcome::{Answered, Delivery, Outcome};
+pub use patterns::BadList;
 pub use readings::{Readings, Watch};
 pub use refusal::Refusal;
 pub use server::{Deadline, Server};
 pub use sizes::{
-    CLOCK_MAX, CONNECTIONS, HEADER, LOCK_STRING, OUTPUT, PAYLOAD, SESSIONS, STRING_BYTES, WORDS,
+    CLOCK_MAX, CONNECTIONS, HEADER, LOCK_STRING, NOT_ALLOWED, OUTPUT, PATTERN, PATTERNS, PAYLOAD,
+    SESSIONS, STRING_BYTES, WORDS,
 };
 
 /// The archive that this build links, by its path: for pages of results that name what they are about.

@@ -27,11 +27,15 @@ pub enum Refusal {
     ListTooShort,
     /// 10: a watch's limit is not a number, or low is above high.
     BadLimits,
+    /// 11: a text of the list is no command pattern. [`crate::BadList`] says where.
+    BadPattern,
+    /// 12: the list has more than [`crate::PATTERNS`] command patterns.
+    TooManyPatterns,
 }
 
 impl Refusal {
     /// All of them, in the order of their numbers.
-    pub const ALL: [Refusal; 10] = [
+    pub const ALL: [Refusal; 12] = [
         Refusal::Connection,
         Refusal::AlreadyOpen,
         Refusal::ClockBackwards,
@@ -42,9 +46,11 @@ impl Refusal {
         Refusal::NoSession,
         Refusal::ListTooShort,
         Refusal::BadLimits,
+        Refusal::BadPattern,
+        Refusal::TooManyPatterns,
     ];
 
-    /// The number in the C interface, 1 to 10.
+    /// The number in the C interface, 1 to 12.
     pub fn number(self) -> u64 {
         self as u64 + 1
     }
@@ -62,14 +68,16 @@ impl Refusal {
             Refusal::NoSession => "no live session has that number",
             Refusal::ListTooShort => "the list of rows is shorter than the holders",
             Refusal::BadLimits => "a limit is not a number, or low is above high",
+            Refusal::BadPattern => "a text of the list is no command pattern",
+            Refusal::TooManyPatterns => "the list has more than 32 command patterns",
         }
     }
 
-    /// Ok for 0, the refusal for 1 to 10. Panics at any other number, as `Server` documents.
+    /// Ok for 0, the refusal for 1 to 12. Panics at any other number, as `Server` documents.
     pub(crate) fn check(number: u64) -> Result<(), Refusal> {
         match number {
             0 => Ok(()),
-            1..=10 => Err(Refusal::ALL[number as usize - 1]),
+            1..=12 => Err(Refusal::ALL[number as usize - 1]),
             _ => panic!("the library gave refusal {number}, which does not exist"),
         }
     }

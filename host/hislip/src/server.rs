@@ -25,7 +25,7 @@ pub struct Deadline {
 ///
 /// # Panics
 ///
-/// The methods panic if the archive answers what its interface does not have: a refusal above 10, an
+/// The methods panic if the archive answers what its interface does not have: a refusal above 12, an
 /// outcome above 6, a SessionID of more than 16 bits, more output than the buffer has, or more words
 /// than can be counted. Each is excluded by proof, so a panic means that another archive is linked. No
 /// input makes them panic.

@@ -21,6 +21,15 @@ pub const OUTPUT: usize = 2048;
 /// The highest clock that is not refused, in milliseconds.
 pub const CLOCK_MAX: u64 = 1 << 62;
 
+/// Patterns of a list of allowed commands.
+pub const PATTERNS: usize = 32;
+
+/// Bytes of a pattern.
+pub const PATTERN: usize = 128;
+
+/// The code of the Error that answers a command which is not allowed.
+pub const NOT_ALLOWED: u8 = 128;
+
 /// Words of 64 bits that a server is kept in: what [`crate::sys::hislip_words`] tells.
 pub const WORDS: usize = 1004;
 

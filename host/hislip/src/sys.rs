@@ -93,6 +93,18 @@ pub struct hislip_record {
     pub highest: f32,
 }
 
+/// The answer to `hislip_patterns`.
+#[repr(C)]
+#[derive(Clone, Copy, Debug, PartialEq, Eq)]
+pub struct hislip_listed {
+    /// 0, 11 or 12; unless it is 11, the others are 0.
+    pub refusal: u64,
+    /// The first bad pattern, from 0.
+    pub pattern: u64,
+    /// Where in it, from 0.
+    pub place: u64,
+}
+
 /// The answer to an instrument's answer.
 #[repr(C)]
 #[derive(Clone, Copy, Debug, PartialEq, Eq)]
@@ -176,6 +188,14 @@ extern "C" {
         low: f32,
         high: f32,
     ) -> hislip_done;
+    /// The list of allowed commands is set.
+    #[must_use = "a refused list is not set"]
+    pub fn hislip_patterns(
+        words: *mut u64,
+        strings: *mut u8,
+        text: *const u8,
+        len: usize,
+    ) -> hislip_listed;
     /// How many lock requests wait, and until when.
     #[must_use = "asking changes nothing"]
     pub fn hislip_deadline(words: *const u64, strings: *const u8) -> hislip_deadlines;

@@ -1,5 +1,7 @@
 //! The examples run to their end.
 
+#[path = "../examples/allowed_commands.rs"]
+mod allowed_commands;
 #[path = "../examples/first_session.rs"]
 mod first_session;
 #[path = "../examples/shared_bench.rs"]
@@ -20,4 +22,9 @@ fn two_programs_share() {
 #[test]
 fn one_programs_readings_are_watched() {
     watched_readings::main().expect("no refusal");
+}
+
+#[test]
+fn one_programs_commands_are_allowed_or_not() {
+    allowed_commands::main().expect("no refusal");
 }

@@ -1,8 +1,8 @@
 //! The safe wrapper: typed answers, and nothing that is passed can do harm.
 
 use hislip::{
-    sys, Answer, Answered, Connection, Deadline, Event, Frame, Frames, Holder, MessageType, Mode,
-    Outcome, Readings, Refusal, Server, Watch, OUTPUT,
+    sys, Answer, Answered, BadList, Connection, Deadline, Event, Frame, Frames, Holder,
+    MessageType, Mode, Outcome, Readings, Refusal, Server, Watch, OUTPUT,
 };
 use reference::compose::{block, message};
 
@@ -275,6 +275,104 @@ fn the_record_of_readings_is_told() {
     assert_eq!(server.readings(1), Ok(Some(told)));
     assert_eq!(server.cut(1).expect("open").count(), 0);
     assert_eq!(server.readings(1), Err(Refusal::NoSession));
+}
+
+/// What becomes of a DataEND with this payload: its type, or the code of the Error.
+fn commanded(server: &mut Server, number: u32, payload: &[u8]) -> Result<(), u8> {
+    let delivered = server.deliver(0, &message(7, 0, number, payload));
+    let mut delivered = delivered.expect("open");
+    match delivered.outcome {
+        Outcome::ActedOn { .. } => Ok(()),
+        _ => Err(delivered.frames.next().expect("an Error").code),
+    }
+}
+
+#[test]
+fn only_allowed_commands_act() {
+    let mut server = with_session();
+    let mut numbers = (0xffff_ff00_u32..).step_by(2);
+    let mut tried = |server: &mut Server, payload: &[u8]| {
+        commanded(server, numbers.next().expect("enough"), payload)
+    };
+    assert_eq!(tried(&mut server, b"anything"), Ok(()), "no list yet");
+    let list = ["*IDN?", "MEASure[:VOLTage[:DC]]?", "SYSTem:ERRor[:NEXT]?"];
+    server.patterns(&list).expect("patterns");
+    for good in [
+        "*idn?",
+        "MEAS? 10,1",
+        "measure:volt:dc?",
+        "SYST:ERR:NEXT?\n",
+    ] {
+        assert_eq!(tried(&mut server, good.as_bytes()), Ok(()), "{good}");
+    }
+    for bad in [
+        "",
+        "*IDN",
+        "MEASU?",
+        "MEAS:DC?",
+        ":MEAS?",
+        "SYST:ERR",
+        "MEAS?;*RST",
+    ] {
+        let told = tried(&mut server, bad.as_bytes());
+        assert_eq!(told, Err(hislip::NOT_ALLOWED), "{bad}");
+    }
+    server.patterns::<&str>(&[]).expect("an empty list");
+    assert_eq!(tried(&mut server, b"*IDN?"), Err(128), "allows nothing");
+}
+
+#[test]
+fn bad_lists_are_told_with_a_caret() {
+    let mut server = with_session();
+    server.patterns(&["*RST"]).expect("a pattern");
+    let mut told = |list: &[&str]| server.patterns(list).unwrap_err();
+    let lines = |bad: &BadList| {
+        bad.to_string()
+            .lines()
+            .map(String::from)
+            .collect::<Vec<_>>()
+    };
+    let first = told(&["*IDN?", "A[:B?]"]);
+    assert_eq!(
+        lines(&first),
+        [
+            "refusal 11: command pattern 1 goes wrong at byte 4",
+            "A[:B?]",
+            "    ^"
+        ]
+    );
+    let short = told(&["", "*"]);
+    assert_eq!(
+        lines(&short)[..2],
+        ["refusal 11: command pattern 0 stops short", ""]
+    );
+    let long = "A".repeat(129);
+    let too_long = told(&[&long]);
+    assert_eq!(
+        lines(&too_long)[0],
+        "refusal 11: command pattern 0 is longer than 128 bytes"
+    );
+    assert_eq!(lines(&too_long)[2].len(), 129);
+    let two_in_one = told(&["*IDN?\n*RST", "bad"]);
+    let place = BadList::Pattern {
+        number: 0,
+        place: 5,
+        pattern: b"*IDN?\n*RST".to_vec(),
+    };
+    assert_eq!(two_in_one, place);
+    let many = told(&["bad"; 33]);
+    assert_eq!(
+        (many.clone(), many.refusal()),
+        (BadList::TooMany, Refusal::TooManyPatterns)
+    );
+    assert_eq!(many.to_string(), "refusal 12: above 32 command patterns");
+    let event = Event::Patterns { list: &[b"x"] };
+    assert_eq!(server.apply(event).unwrap_err(), Refusal::BadPattern);
+    assert_eq!(
+        commanded(&mut server, 0xffff_ff00, b"*rst"),
+        Ok(()),
+        "the first list"
+    );
 }
 
 #[test]

@@ -6,7 +6,7 @@ use std::mem::offset_of;
 use std::sync::OnceLock;
 
 use crate::compiler::{root, run, scratch, strict, C99, CPP11};
-use hislip::sys::{hislip_record, hislip_row};
+use hislip::sys::{hislip_listed, hislip_record, hislip_row};
 use hislip::{type_name, Outcome, Refusal};
 
 #[test]
@@ -116,6 +116,23 @@ fn a_dropped_record_and_a_watch_over_constant_memory_are_warned_of() {
     warned_of("constant", &good, &ask("told =", "const "));
 }
 
+#[test]
+fn a_dropped_answer_to_a_list_and_a_null_text_are_warned_of() {
+    let set = |keep: &str, text: &str| {
+        format!(
+            "#include \"hislip_server.h\"\n\
+             uint64_t set(uint64_t *words, uint8_t *strings);\n\
+             uint64_t set(uint64_t *words, uint8_t *strings)\n\
+             {{ hislip_listed told = {{1, 1, 1}};\n\
+             {keep} hislip_patterns(words, strings, {text}, 0);\n\
+             return told.refusal + told.pattern + told.place; }}\n"
+        )
+    };
+    let good = set("told =", "(const uint8_t *)\"\"");
+    warned_of("list", &good, &set("", "(const uint8_t *)\"\""));
+    warned_of("null-list", &good, &set("told =", "NULL"));
+}
+
 /// What host/c/names.c prints of one kind, behind the kind's word.
 fn lines<'a>(text: &'a str, kind: &str) -> Vec<&'a str> {
     let rest = |line: &'a str| line.strip_prefix(kind)?.strip_prefix(' ');
@@ -157,6 +174,9 @@ fn sizes_and_version_are_the_wrappers() {
         hislip::LOCK_STRING as u64,
         hislip::OUTPUT as u64,
         hislip::CLOCK_MAX,
+        hislip::PATTERNS as u64,
+        hislip::PATTERN as u64,
+        hislip::NOT_ALLOWED.into(),
     ];
     assert_eq!(lines(text, "size"), sizes.map(|size| size.to_string()));
     let lent = format!("{} {}", hislip::WORDS, hislip::STRING_BYTES);
@@ -194,6 +214,18 @@ fn a_record_lies_as_in_the_wrapper() {
 }
 
 #[test]
+fn an_answer_to_a_list_lies_as_in_the_wrapper() {
+    let places = [
+        offset_of!(hislip_listed, refusal),
+        offset_of!(hislip_listed, pattern),
+        offset_of!(hislip_listed, place),
+        size_of::<hislip_listed>(),
+    ];
+    let text = names_in_c();
+    assert_eq!(lines(text, "listed"), places.map(|place| place.to_string()));
+}
+
+#[test]
 fn names_are_the_wrappers() {
     let text = names_in_c();
     let constants: Vec<String> = (0..26).map(|type_: u8| type_.to_string()).collect();
@@ -201,8 +233,8 @@ fn names_are_the_wrappers() {
     let types = (0..=u8::MAX).map(|number| format!("{number} {}", type_name(number)));
     assert_eq!(lines(text, "type"), types.collect::<Vec<_>>());
     let refusals = Refusal::ALL.map(|refusal| format!("{} {}", refusal.number(), refusal.reason()));
-    assert_eq!(lines(text, "refusal")[1..11], refusals);
-    assert_eq!(lines(text, "refusal")[11], "11 no refusal has that number");
+    assert_eq!(lines(text, "refusal")[1..13], refusals);
+    assert_eq!(lines(text, "refusal")[13], "13 no refusal has that number");
     let outcomes = [
         Outcome::MoreNeeded,
         Outcome::Skipped,

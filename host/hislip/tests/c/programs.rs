@@ -24,7 +24,7 @@ fn the_c_example_runs() {
         text.contains("to connection 0: 16 bytes, type 1\n"),
         "{text}"
     );
-    assert_eq!(checks(&text), 35, "{text}");
+    assert_eq!(checks(&text), 41, "{text}");
 }
 
 #[test]
