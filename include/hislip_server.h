@@ -136,8 +136,8 @@ extern "C" {
 #endif
 
 /* Sizes. */
-#define HISLIP_WORDS 1004         /* uint64_t to lend as `words`: what hislip_words() tells         */
-#define HISLIP_STRING_BYTES 8448  /* bytes to lend as `strings`: what hislip_string_bytes() tells   */
+#define HISLIP_WORDS 1005         /* uint64_t to lend as `words`: what hislip_words() tells         */
+#define HISLIP_STRING_BYTES 12576 /* bytes to lend as `strings`: what hislip_string_bytes() tells   */
 #define HISLIP_SESSIONS 32        /* live sessions, half-open ones included                         */
 #define HISLIP_CONNECTIONS 64     /* connections are numbered 0 to 63                               */
 #define HISLIP_HEADER 16          /* bytes of a message before its payload                          */

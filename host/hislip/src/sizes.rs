@@ -31,7 +31,7 @@ pub const PATTERN: usize = 128;
 pub const NOT_ALLOWED: u8 = 128;
 
 /// Words of 64 bits that a server is kept in: what [`crate::sys::hislip_words`] tells.
-pub const WORDS: usize = 1004;
+pub const WORDS: usize = 1005;
 
 /// Bytes that a server is kept in beside them: what [`crate::sys::hislip_string_bytes`] tells.
-pub const STRING_BYTES: usize = 8448;
+pub const STRING_BYTES: usize = 12576;
