@@ -12,6 +12,9 @@ const MODULES: [&str; 13] = [
     "acts", "commands", "delivery", "grammar", "holders", "limits", "locks", "readings", "reply",
     "server", "spelling", "watching", "wire",
 ];
+/// Those that know nothing of the server: a copy that does not change them has the reference's own, which is
+/// compiled once. `limits` is in some of them.
+const SHARED: [&str; 3] = ["grammar", "readings", "spelling"];
 /// What stands before the names of lines: nothing, and for a second change.
 const CHANGES: [&str; 2] = ["", "also "];
 
@@ -40,9 +43,16 @@ fn parse(block: &str) -> Entry<'_> {
     pairs.map(|(key, value)| (key.trim(), value)).collect()
 }
 
+/// Whether a copy has the reference's own module.
+fn is_shared(module: &str, entry: &Entry) -> bool {
+    let files = CHANGES.map(|change| entry.get(&*format!("{change}file")).copied());
+    let names = |name: &str| files.contains(&Some(&*format!("{name}.rs")));
+    SHARED.contains(&module) && !names(module) && !names("limits")
+}
+
 fn copy(directory: &Path, entry: &Entry) {
     fs::create_dir_all(directory).expect("created");
-    for module in MODULES {
+    for module in MODULES.iter().filter(|module| !is_shared(module, entry)) {
         let file = format!("{module}.rs");
         let path = Path::new("../../reference/src").join(&file);
         let mut source = fs::read_to_string(path).expect("the reference's source");
@@ -84,6 +94,10 @@ fn module(code: &mut String, out: &Path, entry: &Entry) {
     )
     .expect("string");
     for module in MODULES {
+        if is_shared(module, entry) {
+            writeln!(code, "    pub use reference::{module};").expect("string");
+            continue;
+        }
         let path = out.join(name).join(module).with_extension("rs");
         writeln!(code, "    #[path = {path:?}]\n    pub mod {module};").expect("string");
     }

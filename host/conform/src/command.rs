@@ -11,8 +11,8 @@ use crate::soak::Soak;
 use crate::tally::Tally;
 use crate::watch::Side;
 use crate::{
-    bench_examples, cables, corners, hostile, interrupts, listing, orders, quick, readings, report,
-    selftest, sizes, systematic, wrap,
+    bench_examples, cables, commands, corners, hostile, interrupts, listing, orders, quick,
+    readings, report, selftest, sizes, systematic, wrap,
 };
 
 pub const REFERENCE: Side = Side {
@@ -51,7 +51,7 @@ conform soak --minutes N          random lists for so long
 conform soak --events N           random lists until so many events were run
 conform soak .. --from SEED       beginning with this seed
 conform seed N                    the random list of a seed
-conform examples | corners | systematic | orders | interrupts | readings | cables | sizes | wrap
+conform examples | corners | systematic | orders | interrupts | readings | commands | cables | sizes | wrap
                                   one suite, not thinned
 conform list N                    the events of a seed with the library's answers, for `timeline`
 conform ordinary ..               the same with the ordinary server in the library's place
@@ -131,6 +131,7 @@ fn suites(pair: Pair, arguments: &[&str], tally: &mut Tally) -> Result<Result<()
         ["orders"] => tally.suite("orders", || orders::check(pair, 1)),
         ["interrupts"] => tally.suite("interrupts", || interrupts::check(pair)),
         ["readings"] => tally.suite("readings", || readings::check(pair)),
+        ["commands"] => tally.suite("commands", || commands::check(pair)),
         ["cables"] => tally.suite("cables", || cables::check(pair)),
         ["sizes"] => tally.suite("sizes", || sizes::check(pair)),
         ["wrap"] => tally.suite("SessionID wrap", || wrap::check(pair)),

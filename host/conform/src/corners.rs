@@ -1,6 +1,6 @@
 //! A row for each place that random lists hardly reach.
 
-use reference::compose::{block, watch};
+use reference::compose::{block, patterns, watch};
 use reference::{Event, Watch};
 
 use crate::bout::{Bout, Failed, Pair, BENCH};
@@ -100,8 +100,22 @@ fn watched() -> Vec<Vec<Event>> {
     between.iter().map(row).collect()
 }
 
+/// the ninth bracket directly behind eight, and the eighth.
+fn ninth_bracket() -> Vec<Vec<Event>> {
+    let deep = |depth: usize| format!("A{}:B{}", "[".repeat(depth), "]".repeat(depth));
+    let nested = |depth: usize| format!("A{}{}", "[:B".repeat(depth), "]".repeat(depth));
+    let command = deliver(0, message(7, 0, message_id(0), b"A:B"));
+    let row = |pattern: String| vec![patterns(&[pattern]), command.clone()];
+    [7, 8, 9, 10]
+        .map(deep)
+        .into_iter()
+        .chain([8, 9].map(nested))
+        .map(row)
+        .collect()
+}
+
 fn rows() -> Vec<Vec<Event>> {
-    [too_large(), cleared(), shown(), watched()].concat()
+    [too_large(), cleared(), shown(), watched(), ninth_bracket()].concat()
 }
 
 /// Returns the events run.
@@ -123,7 +137,7 @@ pub fn check(pair: Pair) -> Result<usize, Failed> {
 
 #[cfg(test)]
 mod tests {
-    use super::{cleared, rows, shown, too_large, two, watched};
+    use super::{cleared, ninth_bracket, rows, shown, too_large, two, watched};
     use crate::bout::BENCH;
     use reference::event::frames;
     use reference::{Event, Reply, Server, Subject};
@@ -159,6 +173,9 @@ mod tests {
         let requests = watched().into_iter().map(|row| kinds(&row));
         let requests = requests.map(|sent| sent.iter().filter(|told| told.0 == 20).count());
         assert_eq!(requests.collect::<Vec<_>>(), [2, 1, 1, 1, 1]);
-        assert_eq!(rows().len(), 20 + 2 + 8 + 5);
+        let listed = ninth_bracket().into_iter().map(|row| said(&row)[0].0);
+        let places: Vec<u64> = listed.map(|reply| reply.place).collect();
+        assert_eq!(places, [0, 0, 9, 9, 0, 25]);
+        assert_eq!(rows().len(), 20 + 2 + 8 + 5 + 6);
     }
 }

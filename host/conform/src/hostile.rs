@@ -1,6 +1,7 @@
 //! Random lists, seeded. A list has a temper: some are calm with many locks, some throw rubbish,
 //! some run out of sessions; most get deep before they get wild.
 
+use reference::commands::lines;
 use reference::limits::{CONNECTIONS, LOCK_STRING};
 use reference::{Event, Fresh, Mode, Reply, Subject};
 
@@ -9,6 +10,7 @@ use crate::floats::{any_block, any_watch};
 use crate::messages::{header, message, BEFORE_FIRST, ROOM};
 use crate::numbers::Numbers;
 use crate::reach::Reach;
+use crate::scpi::{any_command, any_list};
 use crate::watch::{Side, LONGEST};
 use crate::world::{Known, Role, World};
 
@@ -34,7 +36,7 @@ const MOST_UNREAD: usize = 3000;
 struct Temper {
     /// Sessions wanted before anything else.
     sessions: usize,
-    weights: [usize; 13],
+    weights: [usize; 14],
     /// Of a thousand deliveries, how many show a part of the bytes.
     pieces: usize,
     /// Of a thousand messages, how many are of any type, code and length.
@@ -111,6 +113,8 @@ pub struct Author {
     numbers: Numbers,
     temper: Temper,
     world: World,
+    /// The patterns of the list that is set.
+    allowed: Option<Vec<Vec<u8>>>,
     /// The bytes of the last delivery were the wire's unread ones.
     own: bool,
     pub fresh: Fresh,
@@ -130,6 +134,7 @@ impl Author {
             numbers,
             temper,
             world: World::new(fresh.prefers),
+            allowed: None,
             own: false,
             fresh,
             length,
@@ -157,11 +162,18 @@ impl Author {
             9 => self.odd_call(),
             10 => self.odd_bytes(),
             11 => self.opening_message(),
-            _ => self.watch(),
+            12 => self.watch(),
+            _ => Event::Patterns {
+                text: any_list(&mut self.numbers),
+            },
         }
     }
 
     pub fn learn(&mut self, event: &Event, reply: &Reply) {
+        if let (Event::Patterns { text }, 0) = (event, reply.refusal) {
+            let list = lines(text).into_iter();
+            self.allowed = Some(list.map(<[u8]>::to_vec).collect());
+        }
         self.world.learn(event, reply, self.own);
     }
 
@@ -285,6 +297,14 @@ impl Author {
         (0..length).map(|i| first.wrapping_add(i as u8)).collect()
     }
 
+    /// What a DataEND carries: with a list set, mostly a command that it allows.
+    fn command(&mut self) -> Vec<u8> {
+        match &self.allowed {
+            Some(allowed) => any_command(&mut self.numbers, allowed),
+            None => self.payload(),
+        }
+    }
+
     fn synchronous_message(&mut self) -> Event {
         let Some(known) = self.any_established() else {
             return self.towards_a_session();
@@ -301,7 +321,7 @@ impl Author {
         let code = self.numbers.pick(&[right, right, right, right, 0, 1, 1, 2]);
         let bytes = match self.numbers.below(20) {
             0..=4 => message(6, code, number, &self.payload()),
-            5..=12 => message(7, code, number, &self.payload()),
+            5..=12 => message(7, code, number, &self.command()),
             13..=15 => message(12, code, number, b""),
             16..=17 => message(8, code, 0, b""),
             18 => message(3, code, 0, &self.payload()),
@@ -576,13 +596,14 @@ impl Temper {
     fn any(numbers: &mut Numbers) -> Temper {
         let sessions = numbers.pick(&[0, 1, 2, 3, 3, 4, 4, 5, 6, 8, 12, 20, 31, 32, 33, 33]);
         let wild = numbers.permille(250);
-        let mut weights = [1, 8, 14, 6, 10, 1, 6, 7, 1, 1, 0, 1, 4];
+        let mut weights = [1, 8, 14, 6, 10, 1, 6, 7, 1, 1, 0, 1, 4, 0];
         for weight in &mut weights {
             *weight *= numbers.pick(&[1, 1, 2, 2, 6]);
         }
         if numbers.permille(500) {
             weights[5] = 0;
         }
+        weights[13] = numbers.pick(&[0, 0, 0, 1, 3]);
         if wild {
             weights[9] += 6;
             weights[10] += 3;

@@ -135,6 +135,17 @@ impl Subject for Library {
         })
     }
 
+    fn patterns(&mut self, text: &[u8]) -> Reply {
+        let (words, strings) = self.lent();
+        let told = unsafe { sys::hislip_patterns(words, strings, text.as_ptr(), text.len()) };
+        Reply {
+            refusal: told.refusal,
+            pattern: told.pattern,
+            place: told.place,
+            ..Reply::default()
+        }
+    }
+
     fn deadline(&self) -> Deadline {
         let (words, strings) = self.shown();
         let told = unsafe { sys::hislip_deadline(words, strings) };

@@ -6,7 +6,8 @@ use crate::bout::{Failed, Pair};
 use crate::reach::Reach;
 use crate::tally::Tally;
 use crate::{
-    bench_examples, cables, corners, hostile, interrupts, orders, readings, sizes, systematic, wrap,
+    bench_examples, cables, commands, corners, hostile, interrupts, orders, readings, sizes,
+    systematic, wrap,
 };
 
 /// Events of random lists.
@@ -25,6 +26,7 @@ pub fn run(pair: Pair, tally: &mut Tally) -> Result<(), Failed> {
     })?;
     tally.suite("answers beside unread bytes", || interrupts::check(pair))?;
     tally.suite("readings under watch", || readings::check(pair))?;
+    tally.suite("allowed commands", || commands::check(pair))?;
     tally.suite("cables dropped after every byte", || cables::check(pair))?;
     tally.suite("answers and strings of every size", || sizes::check(pair))?;
     tally.suite("SessionID wrap", || wrap::check(pair))?;

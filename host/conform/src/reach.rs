@@ -1,6 +1,7 @@
 //! What lists have reached: a run that never sees a lock granted proves little about locks.
 
 use reference::event::{frames, Frame};
+use reference::wire::error::NOT_ALLOWED;
 use reference::{Event, Reply};
 
 use crate::json;
@@ -9,7 +10,7 @@ use crate::watch::Log;
 #[derive(Clone, Debug, Default)]
 pub struct Reach {
     /// By number; 9 is no event's.
-    pub refusals: [usize; 11],
+    pub refusals: [usize; 13],
     pub outcomes: [usize; 7],
     /// Frames by message type, server's types only.
     pub frames: [usize; 26],
@@ -22,6 +23,8 @@ pub struct Reach {
     pub standing: [usize; 3],
     /// Watches set, blocks of readings sent, and service requests.
     pub watching: [usize; 3],
+    /// Lists of allowed commands set, and commands that were not allowed.
+    pub commands: [usize; 2],
     /// Most lock answers in one event.
     pub most_lock_answers: usize,
     /// Events after which sessions held locks, and the most that did.
@@ -60,6 +63,7 @@ impl Reach {
         }
         self.interrupted[0] += reply.withheld as usize;
         if reply.refusal == 0 && reply.withheld == 0 {
+            self.commands[0] += usize::from(matches!(event, Event::Patterns { .. }));
             self.watching[0] += usize::from(matches!(event, Event::Watch { .. }));
             self.watching[1] += usize::from(has_readings(event));
         }
@@ -68,6 +72,7 @@ impl Reach {
             bump(&mut self.frames, frame.kind.into());
             match frame.kind {
                 2 => bump(&mut self.fatal_errors, frame.code.into()),
+                3 if frame.code == NOT_ALLOWED => self.commands[1] += 1,
                 3 => bump(&mut self.errors, frame.code.into()),
                 20 => self.watching[2] += 1,
                 13 => self.interrupted[1] += 1 - reply.withheld as usize,
@@ -106,9 +111,9 @@ impl Reach {
     }
 
     /// In words, a line for each kind.
-    pub fn lines(&self) -> [String; 10] {
+    pub fn lines(&self) -> [String; 11] {
         [
-            format!("reached: refusals 1 to 10 {:?}", &self.refusals[1..]),
+            format!("reached: refusals 1 to 12 {:?}", &self.refusals[1..]),
             format!(
                 "reached: more needed, skipped, held, ignored, Error, closed, acted on {:?}",
                 self.outcomes
@@ -133,6 +138,10 @@ impl Reach {
                 self.watching
             ),
             format!(
+                "reached: lists of allowed commands set, commands not allowed {:?}",
+                self.commands
+            ),
+            format!(
                 "reached: {} events after which locks were held, at most by {} sessions",
                 self.holding, self.most_holders
             ),
@@ -150,6 +159,7 @@ impl Reach {
             ("lock_answers", json::numbers(&self.lock_answers)),
             ("interrupted", json::numbers(&self.interrupted)),
             ("standing_releases", json::numbers(&self.standing)),
+            ("commands", json::numbers(&self.commands)),
             ("watching", json::numbers(&self.watching)),
             ("most_lock_answers", self.most_lock_answers.to_string()),
             ("holding", self.holding.to_string()),

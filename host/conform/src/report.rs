@@ -3,7 +3,7 @@
 use std::fmt::Write;
 use std::time::Duration;
 
-use reference::{Event, Fresh, Reply};
+use reference::{Event, Fresh, Refusal, Reply};
 
 use crate::bout::{Bout, Difference, Failed, Pair};
 use crate::shrink::shrink;
@@ -17,6 +17,10 @@ const SHOWN: usize = 80;
 const FEW: usize = 5;
 
 pub fn describe_reply(event: &Event, reply: &Reply) -> String {
+    if reply.refusal == Refusal::BadPattern as u64 {
+        let (pattern, place) = (reply.pattern, reply.place);
+        return format!("refusal 11, pattern {pattern}, place {place}");
+    }
     if reply.refusal != 0 {
         return format!("refusal {}", reply.refusal);
     }

@@ -12,7 +12,7 @@ use crate::reach::Reach;
 use crate::tally::Tally;
 use crate::watch::{Complaint, Side};
 use crate::{
-    bench_examples, cables, corners, hostile, interrupts, json, orders, readings, sizes,
+    bench_examples, cables, commands, corners, hostile, interrupts, json, orders, readings, sizes,
     systematic, wrap,
 };
 
@@ -127,6 +127,7 @@ fn compared(fault: &Fault) -> Option<String> {
         .or_else(|| suite("corners", corners::check))
         .or_else(seeds)
         .or_else(|| suite("interrupts", interrupts::check))
+        .or_else(|| suite("commands", commands::check))
         .or_else(|| suite("readings", readings::check))
         .or_else(|| suite("orders", |pair| orders::check(pair, ORDERS_THIN)))
         .or_else(|| suite("wrap", wrap::check))

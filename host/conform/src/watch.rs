@@ -2,9 +2,10 @@
 
 use std::ops::Range;
 
+use reference::commands::lines;
 use reference::event::{frames, Frame};
 use reference::history::omitted;
-use reference::limits::SESSIONS;
+use reference::limits::{PATTERN, SESSIONS};
 use reference::lock_view::LockView;
 use reference::wire::kind::SERVICE_REQUEST;
 use reference::wire::Header;
@@ -20,7 +21,7 @@ const BESIDE: usize = 64;
 const SHIFTS: usize = 8;
 
 /// Refusals that an event may have, and none.
-const EVENT_REFUSALS: [u64; 10] = [0, 1, 2, 3, 4, 5, 6, 7, 8, 10];
+const EVENT_REFUSALS: [u64; 12] = [0, 1, 2, 3, 4, 5, 6, 7, 8, 10, 11, 12];
 /// The values that every service request has in its code.
 const REQUESTED: u8 = 16 | 64;
 
@@ -233,6 +234,7 @@ impl Watch {
         let (first, second) = match event {
             Event::Deliver { bytes, .. } => (&bytes[..], &[][..]),
             Event::Answer { payload, shown, .. } => (&payload[..], &shown[..]),
+            Event::Patterns { text } => (&text[..], &[][..]),
             _ => return Ok(self.subject.apply(event, out)),
         };
         let shift = self.calls / SHIFTS % SHIFTS;
@@ -246,6 +248,7 @@ impl Watch {
                 self.subject.answer(*session, input, *end, shown, out)
             }
             Event::Deliver { connection, .. } => self.subject.deliver(*connection, input, out),
+            Event::Patterns { .. } => self.subject.patterns(input),
             _ => Reply::default(),
         };
         if (input, shown) != (first, second) {
@@ -268,10 +271,15 @@ impl Watch {
 }
 
 fn check_reply(event: &Event, reply: &Reply, output: &[u8]) -> Result<(), Complaint> {
-    let refused = Reply::refused(reply.refusal);
+    let refused = Reply {
+        pattern: reply.pattern,
+        place: reply.place,
+        ..Reply::refused(reply.refusal)
+    };
     if reply.refusal != 0 && *reply != refused {
         return Err("a refusal with other fields that are not 0".into());
     }
+    check_place(event, reply)?;
     let answer = matches!(event, Event::Answer { .. });
     if reply.withheld > u64::from(answer) {
         return Err("withheld, though it is no answer".into());
@@ -288,6 +296,25 @@ fn check_reply(event: &Event, reply: &Reply, output: &[u8]) -> Result<(), Compla
     match frames(output) {
         Some(sent) => check_service_request(event, reply, &sent),
         None => Err("the output is not a row of whole frames".into()),
+    }
+}
+
+/// A bad pattern is one of the list, and its place is in it or at its end; nothing else has a place.
+fn check_place(event: &Event, reply: &Reply) -> Result<(), Complaint> {
+    const BAD_PATTERN: u64 = Refusal::BadPattern as u64;
+    let (pattern, place) = (reply.pattern as usize, reply.place as usize);
+    let right = match (event, reply.refusal) {
+        (Event::Patterns { text }, BAD_PATTERN) => {
+            let list = lines(text);
+            let bad = list.get(pattern);
+            bad.is_some_and(|bad| place <= bad.len().min(PATTERN))
+        }
+        (_, BAD_PATTERN) => false,
+        _ => (pattern, place) == (0, 0),
+    };
+    match right {
+        true => Ok(()),
+        false => Err(format!("pattern {pattern}, place {place}")),
     }
 }
 

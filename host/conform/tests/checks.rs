@@ -35,7 +35,7 @@ fn random_lists_reach_every_answer() {
     for seed in 1..=150 {
         hostile::check(TWICE, seed, &mut reach).expect("one server agrees with itself");
     }
-    for refusal in [1, 2, 3, 4, 5, 6, 7, 8, 10] {
+    for refusal in [1, 2, 3, 4, 5, 6, 7, 8, 10, 11] {
         assert!(reach.refusals[refusal] > 20, "refusal {refusal}: {reach:?}");
     }
     assert!(reach.outcomes.iter().all(|count| *count > 200), "{reach:?}");
@@ -58,6 +58,8 @@ fn random_lists_reach_every_answer() {
     );
     assert!(reach.standing.iter().all(|count| *count > 50), "{reach:?}");
     assert!(reach.watching.iter().all(|count| *count > 50), "{reach:?}");
+    assert!(reach.refusals[12] > 5, "{reach:?}");
+    assert!(reach.commands.iter().all(|count| *count > 100), "{reach:?}");
     assert!(reach.holding > 5000, "{reach:?}");
     assert!(reach.most_holders >= 5, "{reach:?}");
 }
