@@ -73,7 +73,7 @@
  * its case; the question mark is there exactly if the pattern has it. With a list set, a DataEND whose
  * payload up to its first space (20 hex), newline (0a hex) or end matches no pattern is answered Error 128,
  * taken, and does not act; this is tested behind all other checks of the message, so the session's count has
- * moved on. Only the DataEND's own payload is looked at, not Data before it; a semicolon, a tab or a leading
+ * moved on, and its RMT-delivered is not read. Only the DataEND's own payload is looked at, not Data before it; a semicolon, a tab or a leading
  * colon are bytes like others, so a row of commands in one message matches nothing. While no list was ever
  * set, all is allowed; an empty list allows nothing. There is no way back but hislip_new.
  *

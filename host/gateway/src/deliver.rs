@@ -4,6 +4,7 @@ use hislip::{Frames, Outcome, CONNECTIONS, SESSIONS};
 use query::message::HEADER;
 use query::names;
 
+use crate::allow;
 use crate::connection::Lane;
 use crate::describe::{self, kept};
 use crate::gateway::{Gateway, Who};
@@ -105,7 +106,10 @@ impl Gateway {
             Outcome::Ignored => self.say(who, || format!("{} ignored", describe::label(&head))),
             Outcome::ErrorSent => {
                 self.route(&output);
-                self.say_errors(who, &head, &output);
+                match allow::not_allowed(&message, &output) {
+                    Some(what) => self.say(who, || format!("{}: {what}", describe::label(&head))),
+                    None => self.say_errors(who, &head, &output),
+                }
             }
             Outcome::Closed { session } => self.closed(number, session, &head, &output),
             Outcome::ActedOn { session } => self.acted_on(number, session, &message, &output),

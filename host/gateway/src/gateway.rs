@@ -38,6 +38,8 @@ pub struct Settings {
     pub instrument_within: Duration,
     /// The watch over every session's readings.
     pub watch: Watch,
+    /// Patterns of the commands that are allowed; without a list, all are.
+    pub allow: Option<Vec<Vec<u8>>>,
 }
 
 impl Default for Settings {
@@ -49,6 +51,7 @@ impl Default for Settings {
             initialize_within: Duration::from_secs(10),
             instrument_within: Duration::from_secs(10),
             watch: Watch::Off,
+            allow: None,
         }
     }
 }
@@ -103,6 +106,16 @@ fn bind(listen: &str) -> std::io::Result<TcpListener> {
     TcpListener::bind(&addresses[..])
 }
 
+/// A fresh server with the allowed commands of the settings.
+fn server(settings: &Settings) -> std::io::Result<Server> {
+    let mut server = Server::new(settings.vendor, settings.prefers);
+    if let Some(patterns) = &settings.allow {
+        let set = server.patterns(patterns);
+        set.map_err(|bad| std::io::Error::new(std::io::ErrorKind::InvalidInput, bad))?;
+    }
+    Ok(server)
+}
+
 impl Gateway {
     /// Listens; programs are served when it runs.
     pub fn new(
@@ -116,7 +129,7 @@ impl Gateway {
         let (name, trigger_answers) = (instrument.name(), instrument.trigger_answers());
         log.say(|| format!("gateway listens on {address} for {name}"));
         Ok(Gateway {
-            server: Server::new(settings.vendor, settings.prefers),
+            server: server(settings)?,
             start: Instant::now(),
             started: SystemTime::now(),
             queue,

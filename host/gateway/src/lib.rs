@@ -4,6 +4,7 @@
 
 #![deny(missing_docs)]
 
+pub mod allow;
 mod answer;
 mod arrive;
 mod connection;

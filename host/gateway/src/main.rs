@@ -4,6 +4,7 @@ use std::fs::OpenOptions;
 use std::io::Write;
 use std::process::ExitCode;
 
+use gateway::allow;
 use gateway::instrument::raw_socket::RawSocket;
 use gateway::instrument::simulated::Simulated;
 use gateway::instrument::Instrument;
@@ -49,7 +50,10 @@ fn log(options: &Options) -> Result<Log, String> {
     Ok(log)
 }
 
-fn serve(options: Options) -> Result<(), String> {
+fn serve(mut options: Options) -> Result<(), String> {
+    if let Some(file) = &options.allow {
+        options.settings.allow = Some(allow::of_file(file)?.patterns);
+    }
     let signals = Signals::keep_back();
     let log = log(&options)?;
     let instrument: Box<dyn Instrument> = match options.instrument {

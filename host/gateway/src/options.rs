@@ -19,6 +19,7 @@ usage: gateway [OPTION..]
   --measure-ms N            how long the simulated meter measures (0)
   --instrument-timeout-ms N how long the instrument may take for one message (10000)
   --watch LIMIT | LOW,HIGH  sessions are told of the first reading above, or outside, in a block of floats
+  --allow FILE              commands that are allowed, a SCPI pattern a line; others are answered Error 128
   --log FILE                lines are also appended to FILE
   --quiet                   no lines on standard output
   --help
@@ -32,6 +33,8 @@ pub struct Options {
     pub instrument: Option<String>,
     /// How long the simulated meter measures.
     pub measure: Duration,
+    /// A file of allowed commands.
+    pub allow: Option<String>,
     /// A file that lines are appended to.
     pub log: Option<String>,
     /// No lines on standard output.
@@ -47,6 +50,7 @@ pub fn parse(arguments: impl IntoIterator<Item = String>) -> Result<Options, Str
         settings: Settings::default(),
         instrument: None,
         measure: Duration::ZERO,
+        allow: None,
         log: None,
         quiet: false,
         help: false,
@@ -65,6 +69,7 @@ pub fn parse(arguments: impl IntoIterator<Item = String>) -> Result<Options, Str
                 options.settings.instrument_within = milliseconds(&word, &next()?)?;
             }
             "--watch" => options.settings.watch = watch::parse(&next()?)?,
+            "--allow" => options.allow = Some(next()?),
             "--log" => options.log = Some(next()?),
             _ => return Err(format!("unknown option {word}")),
         }
@@ -144,6 +149,7 @@ mod tests {
             "--instrument tcp://a --measure-ms 5",
             "--watch",
             "--watch 2,1",
+            "--allow",
         ] {
             assert!(
                 parse(words.split(' ').map(String::from)).is_err(),
