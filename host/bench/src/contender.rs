@@ -10,6 +10,8 @@ pub trait Contender {
     fn answer(&mut self, session: u32, payload: &[u8], end: bool, out: &mut [u8]) -> Reply;
     /// A watch that the readings of the workloads do not trip.
     fn watch(&mut self, session: u32) -> Reply;
+    /// The list of allowed commands.
+    fn allow(&mut self, text: &[u8]) -> Reply;
 }
 
 /// "AA".
@@ -85,6 +87,16 @@ impl Contender for Library {
         let told = unsafe { sys::hislip_watch_outside(words, strings, session, LOW, HIGH) };
         Reply::refused(told.refusal)
     }
+
+    fn allow(&mut self, text: &[u8]) -> Reply {
+        let (words, strings) = (self.words.as_mut_ptr(), self.strings.as_mut_ptr());
+        let told = unsafe { sys::hislip_patterns(words, strings, text.as_ptr(), text.len()) };
+        Reply {
+            pattern: told.pattern,
+            place: told.place,
+            ..Reply::refused(told.refusal)
+        }
+    }
 }
 
 /// Its calls are never inlined either.
@@ -111,5 +123,9 @@ impl Contender for Ordinary {
 
     fn watch(&mut self, session: u32) -> Reply {
         self.0.watch(session, Watch::outside(LOW, HIGH))
+    }
+
+    fn allow(&mut self, text: &[u8]) -> Reply {
+        self.0.patterns(text)
     }
 }

@@ -26,6 +26,8 @@ pub enum Step {
     PartOfAnswer(u32, Part),
     /// Session: a watch over its readings that none of them trips.
     Watch(u32),
+    /// The list of allowed commands.
+    Allow,
 }
 
 /// MessageID of a program's first message.
@@ -37,6 +39,32 @@ const READINGS: usize = 250;
 /// So many different payloads of a kind are answered in turn.
 const KEPT: u32 = 16;
 const COMMAND: &[u8] = b"CONFigure:VOLTage:DC 10,0.001;:INITiate";
+/// 32 patterns, a line each, beside comments.
+const VOLTMETER: &str = include_str!("../../gateway/lists/voltmeter.txt");
+/// Commands that the list allows, from its first pattern to its last, as programs write them; and two that it
+/// does not.
+pub const ALLOWED: [&[u8]; 8] = [
+    b"*CLS",
+    b"*ESR?",
+    b"*RST",
+    b"MEAS:VOLT:DC? 10,0.001",
+    b"CONFigure:VOLTage:DC 10,0.001",
+    b"sens:volt:rang 10",
+    b"SAMPle:COUNt 100",
+    b"SYST:ERR?",
+];
+pub const NOT_ALLOWED: [&[u8]; 2] = [b"DISPlay:TEXT \"busy\"", b"SYST:PRES"];
+
+/// The text of the list that `Step::Allow` sets.
+#[cold]
+pub fn voltmeter() -> Vec<u8> {
+    let told = |line: &&str| !line.is_empty() && !line.starts_with('#');
+    let lines = VOLTMETER.lines().filter(told);
+    lines
+        .flat_map(|line| [line, "\n"])
+        .collect::<String>()
+        .into()
+}
 
 #[derive(Clone, Copy, Default)]
 struct Program {
@@ -51,8 +79,8 @@ pub struct Script {
     pub steps: Vec<Step>,
     pub bytes: Vec<u8>,
     programs: [Program; SESSIONS],
-    /// Made when first sent; programs that are equally far send the same one. By type, code and count.
-    counted: BTreeMap<(u8, u8), Vec<Option<Part>>>,
+    /// Made when first sent; programs that are equally far send the same one. By type, code, payload and count.
+    counted: BTreeMap<(u8, u8, &'static [u8]), Vec<Option<Part>>>,
     /// With RMT-delivered 0 and 1.
     pub status: [Part; 2],
     pub exclusive: Part,
@@ -109,7 +137,12 @@ impl Script {
 
     /// Data or DataEND of a session that has access.
     pub fn message(&mut self, session: u32, kind: u8) {
-        self.held(session, kind);
+        self.command(session, kind, COMMAND);
+    }
+
+    /// The same with another payload.
+    pub fn command(&mut self, session: u32, kind: u8, payload: &'static [u8]) {
+        self.shown(session, kind, payload);
         let program = &mut self.programs[session as usize];
         program.acted += 1;
         program.answered = false;
@@ -117,9 +150,13 @@ impl Script {
 
     /// Data or DataEND of a session that has none: it will be sent again.
     pub fn held(&mut self, session: u32, kind: u8) {
+        self.shown(session, kind, COMMAND);
+    }
+
+    fn shown(&mut self, session: u32, kind: u8, payload: &'static [u8]) {
         let Program { acted, answered } = self.programs[session as usize];
         let number = FIRST.wrapping_add(2 * acted);
-        let part = self.counted(kind, answered.into(), acted, number, COMMAND);
+        let part = self.counted(kind, answered.into(), acted, number, payload);
         self.synchronous(session, part);
     }
 
@@ -141,13 +178,24 @@ impl Script {
         self.steps.push(Step::PartOfAnswer(1 + session, payload));
     }
 
+    pub fn allow(&mut self) {
+        self.steps.push(Step::Allow);
+    }
+
     pub fn watch(&mut self, session: u32) {
         self.steps.push(Step::Watch(1 + session));
     }
 
     /// A message that carries a count; equal counts have equal numbers.
-    fn counted(&mut self, kind: u8, code: u8, count: u32, number: u32, payload: &[u8]) -> Part {
-        let made = self.counted.entry((kind, code)).or_default();
+    fn counted(
+        &mut self,
+        kind: u8,
+        code: u8,
+        count: u32,
+        number: u32,
+        payload: &'static [u8],
+    ) -> Part {
+        let made = self.counted.entry((kind, code, payload)).or_default();
         let place = count as usize;
         if made.len() <= place {
             made.resize(place + 1, None);

@@ -10,7 +10,7 @@ use reference::Reply;
 
 use crate::contender::{Contender, Library, Ordinary};
 use crate::figures::Figures;
-use crate::script::{Part, Step};
+use crate::script::{voltmeter, Part, Step};
 use crate::workload::Workload;
 
 /// Events between two looks at the clock.
@@ -45,6 +45,7 @@ fn one<C: Contender>(server: &mut C, workload: &Workload, step: Step, out: &mut 
         Step::Answer(session, part) => server.answer(session, bytes(part), true, out),
         Step::PartOfAnswer(session, part) => server.answer(session, bytes(part), false, out),
         Step::Watch(session) => server.watch(session),
+        Step::Allow => server.allow(&voltmeter()),
     }
 }
 
@@ -56,6 +57,7 @@ fn outcome(step: Step, told: Reply) -> &'static str {
         _ if told.refusal != 0 => "refused",
         Step::Answer(..) | Step::PartOfAnswer(..) => "answers sent",
         Step::Watch(..) => "watches set",
+        Step::Allow => "lists set",
         Step::Deliver(..) => Reply::OUTCOMES[told.outcome as usize],
     }
 }
@@ -155,6 +157,11 @@ mod tests {
             let workload = plan.make(EVENTS);
             let (outcomes, sent) = run(&workload);
             let name = &workload.name;
+            if name.contains("not allowed") {
+                assert_eq!(outcomes, Outcomes::from([("Error sent", EVENTS)]), "{name}");
+                assert!(sent.iter().all(|told| *told == (kind::ERROR, 128)));
+                continue;
+            }
             let wanted = ["acted on", "more needed", "held", "answers sent"];
             assert!(
                 outcomes.keys().all(|told| wanted.contains(told)),

@@ -4,7 +4,7 @@ use reference::limits::{LOCK_STRING, SESSIONS};
 use reference::wire::kind;
 
 use crate::draw::Draw;
-use crate::script::{Part, Script, Step};
+use crate::script::{Part, Script, Step, ALLOWED, NOT_ALLOWED};
 
 pub struct Workload {
     pub name: String,
@@ -248,6 +248,20 @@ impl Author {
         }
     }
 
+    /// DataEND with these commands, of sessions drawn at random, with the list of allowed commands set or not.
+    fn commands(&mut self, commands: &[&'static [u8]], listed: bool) {
+        let mut draw = Draw::new();
+        if listed {
+            self.script.allow();
+        }
+        self.begin();
+        for _ in 0..self.count() {
+            let command = draw.pick(commands);
+            let session = draw.below(ALL);
+            self.script.command(session, kind::DATA_END, command);
+        }
+    }
+
     /// Parts of answers to sessions drawn at random, which have asked and get no end; watched or not.
     fn parts_of_answers(&mut self, payloads: fn(&Script) -> &[Part], watched: bool) {
         let mut draw = Draw::new();
@@ -311,6 +325,17 @@ const READINGS: [(&str, Make); 3] = [
     }),
 ];
 
+/// DataEND beside a list of allowed commands, and the same without one.
+const COMMANDS: [(&str, Make); 3] = [
+    ("DataEND, no list of commands", |a| {
+        a.commands(&ALLOWED, false)
+    }),
+    ("DataEND, 32 patterns", |a| a.commands(&ALLOWED, true)),
+    ("DataEND, 32 patterns, not allowed", |a| {
+        a.commands(&NOT_ALLOWED, true)
+    }),
+];
+
 /// All workloads, in the page's order.
 pub fn all() -> Vec<Plan> {
     let mut all = Vec::new();
@@ -337,7 +362,7 @@ pub fn all() -> Vec<Plan> {
         plan(&name, make, false);
     }
     plan("DataEND and 1,024-byte answers", Author::answers, false);
-    for (name, make) in READINGS {
+    for (name, make) in READINGS.into_iter().chain(COMMANDS) {
         plan(name, make, false);
     }
     all

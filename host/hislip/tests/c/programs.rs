@@ -33,6 +33,13 @@ fn every_bench_example_runs_in_c() {
     assert_eq!(checks(&text), 24, "{text}");
 }
 
+/// With the deepest and the widest patterns and commands.
+#[test]
+fn patterns_take_little_stack() {
+    let text = printed("stack");
+    assert_eq!(checks(&text), 16, "{text}");
+}
+
 /// The lines of the header's example, without the comment's star and indent.
 fn example_in_header() -> String {
     let header = fs::read_to_string(root().join("include/hislip_server.h")).expect("the header");
