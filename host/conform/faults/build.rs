@@ -14,7 +14,9 @@ const MODULES: [&str; 13] = [
 ];
 /// Those that know nothing of the server: a copy that does not change them has the reference's own, which is
 /// compiled once. `limits` is in some of them.
-const SHARED: [&str; 3] = ["grammar", "readings", "spelling"];
+const SHARED: [&str; 7] = [
+    "grammar", "limits", "locks", "readings", "reply", "spelling", "wire",
+];
 /// What stands before the names of lines: nothing, and for a second change.
 const CHANGES: [&str; 2] = ["", "also "];
 
