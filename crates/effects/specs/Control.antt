@@ -17,9 +17,9 @@ use Rattle.model.specs.Acts.{holder, AsynchronousKind.k-remoteLocal, Asynchrono
 use Rattle.state.specs.Change.{onRest, onExchange, exchangeWith, entryWith, singleWith}
 use Rattle.state.specs.Tidy.{Tidy}
 use Rattle.state.specs.View.{flag, memory, view, restOf, locksOf}
-use Rattle.effects.specs.declared.Delivery.{Delivery}
-use Rattle.effects.specs.Asynchronous.{DidKind, delivered, did-one}
-use Rattle.effects.specs.Synchronous.{slot-changed}
+use Rattle.sessions.specs.declared.Delivery.{Delivery}
+use Rattle.sessions.specs.Asynchronous.{DidKind, delivered, did-one}
+use Rattle.sessions.specs.Synchronous.{slot-changed}
 
 -- all three flags
 abbrev pub flagging : RemoteLocal → Rest → Rest

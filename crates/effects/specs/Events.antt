@@ -22,8 +22,8 @@ use Rattle.model.specs.Sensing.{armed, sensed, tripsFirst, requested, serviceAt
 use Rattle.model.specs.MessageTypes.{AsyncServiceRequest}
 use Rattle.state.specs.Change.{onRest, onExchange, exchangeWith, singleWith}
 use Rattle.state.specs.View.{askedOf}
-use Rattle.effects.specs.Synchronous.{withSlot, slot-twice, slot-then}
-use Rattle.effects.specs.Mode.{counted}
+use Rattle.sessions.specs.Synchronous.{withSlot, slot-twice, slot-then}
+use Rattle.sessions.specs.Mode.{counted}
 use Rattle.effects.specs.Interrupted.{withheldAt}
 
 -- one store is the status byte

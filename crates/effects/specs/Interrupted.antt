@@ -26,12 +26,12 @@ use Rattle.state.specs.Tidy.{Tidy}
 use Rattle.state.specs.View.{Memory, restOf, view}
 use Rattle.locks.specs.Outcome.{Met}
 use Rattle.locks.specs.Settled.{settled}
-use Rattle.effects.specs.declared.Delivery.{Delivery}
-use Rattle.effects.specs.Did.{Did, numbersOf}
-use Rattle.effects.specs.Asynchronous.{delivered, planFirst}
-use Rattle.effects.specs.Closing.{connections-held}
-use Rattle.effects.specs.Replies.{two-frames}
-use Rattle.effects.specs.Synchronous.{withSlot, slot-changed, slot-twice, slot-then, isCommand, commandNotes}
+use Rattle.sessions.specs.declared.Delivery.{Delivery}
+use Rattle.sessions.specs.Did.{Did, numbersOf}
+use Rattle.sessions.specs.Asynchronous.{delivered, planFirst}
+use Rattle.sessions.specs.Closing.{connections-held}
+use Rattle.sessions.specs.Replies.{two-frames}
+use Rattle.sessions.specs.Synchronous.{withSlot, slot-changed, slot-twice, slot-then, isCommand, commandNotes}
 use Rattle.effects.specs.LockMessages.{behind, behind-length}
 
 -- slot i's exchange changed by g, and these frames at the beginning of the buffer; r is the place behind them

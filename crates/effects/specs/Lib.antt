@@ -1,14 +1,6 @@
-pub mod Closing
-pub mod Did
-pub mod Replies
-pub mod Synchronous
-pub mod Mode
 pub mod Numbering
 pub mod Interrupted
-pub mod Opening
-pub mod SessionIds
 pub mod Events
-pub mod Asynchronous
 pub mod StatusQuery
 pub mod Control
 pub mod LockMessages

@@ -20,10 +20,10 @@ use Rattle.state.specs.Grid.{upd-upd}
 use Rattle.state.specs.Change.{onExchange, exchangeWith, entryWith}
 use Rattle.state.specs.Tidy.{Tidy}
 use Rattle.state.specs.View.{Memory, memory, view, restOf, locksOf}
-use Rattle.effects.specs.Did.{Did}
-use Rattle.effects.specs.declared.Delivery.{Delivery}
-use Rattle.effects.specs.Asynchronous.{DidKind, delivered, planWith, did-with, one-length}
-use Rattle.effects.specs.Synchronous.{slot-changed}
+use Rattle.sessions.specs.Did.{Did}
+use Rattle.sessions.specs.declared.Delivery.{Delivery}
+use Rattle.sessions.specs.Asynchronous.{DidKind, delivered, planWith, did-with, one-length}
+use Rattle.sessions.specs.Synchronous.{slot-changed}
 use Rattle.locks.specs.Outcome.{Met}
 use Rattle.locks.specs.Settled.{bytesOf-append, settled}
 

@@ -9,7 +9,7 @@ use Rattle.model.specs.State.{Exchange, Rest, Server, exchangeAt}
 use Rattle.model.specs.Exchange.{stepped, withNumber}
 use Rattle.state.specs.Grid.{upd-same}
 use Rattle.state.specs.Change.{onRest, onExchange, exchangeWith}
-use Rattle.effects.specs.Synchronous.{withSlot, slot-changed}
+use Rattle.sessions.specs.Synchronous.{withSlot, slot-changed}
 
 -- moved on, or left
 abbrev pub movedBy : Bool → Exchange → Exchange

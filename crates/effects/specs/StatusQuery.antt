@@ -20,10 +20,10 @@ use Rattle.model.specs.Acts.{AsynchronousKind.k-statusQuery, asynchronousRest, 
 use Rattle.state.specs.Change.{onRest, exchangeWith, entryWith, singleWith}
 use Rattle.state.specs.Tidy.{Tidy}
 use Rattle.state.specs.View.{memory, view, restOf, locksOf}
-use Rattle.effects.specs.Closing.{exchanges-held}
-use Rattle.effects.specs.declared.Delivery.{Delivery}
-use Rattle.effects.specs.Asynchronous.{heading, DidKind, delivered, did-one}
-use Rattle.effects.specs.Synchronous.{withSlot}
+use Rattle.sessions.specs.Closing.{exchanges-held}
+use Rattle.sessions.specs.declared.Delivery.{Delivery}
+use Rattle.sessions.specs.Asynchronous.{heading, DidKind, delivered, did-one}
+use Rattle.sessions.specs.Synchronous.{withSlot}
 
 -- the byte: the status byte with value 16 replaced by message available
 abbrev pub lowStatus : ℕ → ℕ

@@ -2,7 +2,7 @@
 // DataEND and Trigger is tested just before it acts: one whose RMT-delivered differs from what is expected interrupts.
 ghost use Prim.Native.Nat.{ℕ, _<_, _≤_};
 ghost use Rattle.effects.specs.Interrupted.{Noted, OutOfTurn, withheldAt};
-ghost use Rattle.effects.specs.Synchronous.{withSlot};
+ghost use Rattle.sessions.specs.Synchronous.{withSlot};
 ghost use Rattle.model.specs.Acts.{interruptions};
 ghost use Rattle.model.specs.Exchange.{differs, queried};
 ghost use Rattle.model.specs.Exchange;
@@ -19,12 +19,12 @@ ghost use lib.ListN.{length};
 ghost use mathlib.Core.Bool.{not};
 ghost use mathlib.Core.List.{List};
 ghost use mathlib.Core.Path.{_≡_};
-use crate::mode::is_overlap;
 use crate::synchronous::is_command;
 use crate::synchronous::left_by;
 use crate::synchronous::note_rmt;
 use crate::synchronous::same_number;
 use crate::synchronous::wide;
+use sessions::mode::is_overlap;
 use state::sizes::CONNECTIONS;
 use state::sizes::Words;
 use state::tables;

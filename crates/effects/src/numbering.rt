@@ -1,7 +1,7 @@
 // 02, Q-10: the number that a session's next Data, DataEND or Trigger must carry.
 ghost use Prim.Native.Nat.{ℕ, _<_};
 ghost use Rattle.effects.specs.Numbering.{movedBy};
-ghost use Rattle.effects.specs.Synchronous.{withSlot};
+ghost use Rattle.sessions.specs.Synchronous.{withSlot};
 ghost use Rattle.model.specs.Exchange.{stepped};
 ghost use Rattle.model.specs.Sizes.{sessionLimit};
 ghost use Rattle.state.specs.Change.{onRest};
@@ -10,7 +10,7 @@ ghost use Rattle.state.specs.View.{memory, view};
 ghost use mathlib.Core.Bool.{true};
 ghost use mathlib.Core.List.{List};
 ghost use mathlib.Core.Path.{_≡_};
-use crate::mode::NUMBERS;
+use sessions::mode::NUMBERS;
 use state::sizes::Words;
 use state::tables;
 use wire::message_id::MessageId;

@@ -1,8 +1,8 @@
 // Messages that act on the synchronous channel: Data, DataEND, Trigger, DeviceClearComplete.
 ghost use Prim.Native.Nat.{ℕ, _+_, _<_, _≤_};
-ghost use Rattle.effects.specs.Did.{Did};
+ghost use Rattle.sessions.specs.Did.{Did};
 ghost use Rattle.effects.specs.Interrupted.{Turned};
-ghost use Rattle.effects.specs.Synchronous.{commandNotes, isCommand, withSlot};
+ghost use Rattle.sessions.specs.Synchronous.{commandNotes, isCommand, withSlot};
 ghost use Rattle.model.specs.Acts.{acts};
 ghost use Rattle.model.specs.Exchange.{ask, differs, leaveClear, noteRmt};
 ghost use Rattle.model.specs.Locks.{stands};
@@ -18,12 +18,12 @@ ghost use mathlib.Core.Bool.{_&&_, cond, false, not, true};
 ghost use mathlib.Core.List.{List};
 ghost use mathlib.Core.Path.{_≡_};
 ghost use Rattle.model.specs.Sizes.{connectionLimit, outputMinimum, payloadLimit, sessionLimit};
-use crate::Delivery;
-use crate::answer;
 use crate::interrupted::in_turn;
 use crate::interrupted::out_of_turn;
 use crate::numbering::step_number;
 use locks::complete;
+use sessions::Delivery;
+use sessions::answer;
 use state::sizes::Strings;
 use state::sizes::Words;
 use state::tables;

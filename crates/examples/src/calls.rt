@@ -3,8 +3,8 @@ ghost use Prim.Native.Nat.{_≤_};
 ghost use lib.ListN.{length};
 ghost use Rattle.model.specs.Sizes.{payloadLimit};
 use crate::text;
-use effects::Delivery;
 use server::Done;
+use sessions::Delivery;
 use state::sizes::Strings;
 use state::sizes::Words;
 

@@ -12,8 +12,8 @@ use Rattle.model.specs.Lists.{all}
 use Rattle.model.specs.State.{Entry, Waiting, Locks, Server, at, blank}
 use Rattle.model.specs.Locks.{LockResult, LockEvent.request, noShared, mayGrant, giveAt, holds, tell, withEntries, withWaiting, unanswered, elsewhere, noPlace, invalidBy, stands, Ruling, Ruling.invalid, ruling, respond, change}
 use Rattle.state.specs.Grid.{upd, upd-set}
-use Rattle.state.specs.Queue.{noRequest, onWaiting, count-is}
-use Rattle.state.specs.Requests.{countOf}
+use Rattle.queue.specs.Queue.{noRequest, onWaiting, count-is}
+use Rattle.queue.specs.Requests.{countOf}
 use Rattle.state.specs.Tidy.{Tidy}
 use Rattle.state.specs.View.{Memory, memory, locksOf, view}
 use Rattle.locks.specs.Outcome.{Met, ends, ends-nil, met, told}

@@ -6,7 +6,7 @@ use native.Mathlib.Omega.{arith}
 use lib.ListN.{length, getD, drop, drop-of-length-le}
 use Rattle.model.specs.State.{Waiting}
 use Rattle.model.specs.Asking.{earliestOf, earliest}
-use Rattle.state.specs.Queue.{noRequest}
+use Rattle.queue.specs.Queue.{noRequest}
 use Rattle.locks.specs.Waiting.{next}
 
 pub none-waits : (ws : List Waiting) → length ws ≡ 0 → earliest ws ≡ 0

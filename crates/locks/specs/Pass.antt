@@ -12,8 +12,8 @@ use Rattle.wire.specs.Splice.{splice}
 use Rattle.model.specs.State.{Entry, Waiting, Server}
 use Rattle.model.specs.Locks.{Passed, tell, mayGrant, giveAt, grant, after, put, passOver, grantPass}
 use Rattle.state.specs.Change.{onEntry}
-use Rattle.state.specs.Queue.{noRequest, onWaiting, count-is}
-use Rattle.state.specs.Requests.{countOf, stringAt}
+use Rattle.queue.specs.Queue.{noRequest, onWaiting, count-is}
+use Rattle.queue.specs.Requests.{countOf, stringAt}
 use Rattle.state.specs.Tidy.{Tidy}
 use Rattle.state.specs.View.{Memory, memory, locksOf, view}
 use Rattle.locks.specs.Outcome.{Met, Spot, spot, ends, ends-nil, ends-cons, answerFrame, met}

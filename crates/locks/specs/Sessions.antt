@@ -8,7 +8,7 @@ use Rattle.model.specs.Locks.{LockEvent.enter, LockEvent.join, LockEvent.close,
 use Rattle.state.specs.Grid.{upd-upd, upd-set}
 use Rattle.state.specs.Change.{onEntry, orderWith}
 use Rattle.state.specs.Channels.{withRow}
-use Rattle.state.specs.Queue.{onWaiting}
+use Rattle.queue.specs.Queue.{onWaiting}
 use Rattle.state.specs.Tidy.{Tidy}
 use Rattle.state.specs.View.{Memory, view}
 use Rattle.locks.specs.Outcome.{Quiet}

@@ -14,8 +14,8 @@ use Rattle.model.specs.State.{Entry, Waiting, Locks, Server}
 use Rattle.model.specs.Locks.{Answer, LockEvent.reading, LockResult, tell, elsewhere, refuse, withWaiting, change}
 use Rattle.model.specs.Step.{lockFrame}
 use Rattle.state.specs.Change.{withClock}
-use Rattle.state.specs.Queue.{onWaiting, count-is}
-use Rattle.state.specs.Requests.{countOf}
+use Rattle.queue.specs.Queue.{onWaiting, count-is}
+use Rattle.queue.specs.Requests.{countOf}
 use Rattle.state.specs.Tidy.{Tidy}
 use Rattle.state.specs.View.{Memory, locksOf, view}
 use Rattle.locks.specs.Outcome.{Met, spot, ends, met, met-is, no-answers}

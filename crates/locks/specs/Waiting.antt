@@ -16,8 +16,8 @@ use Rattle.model.specs.Sizes.{sessionLimit}
 use Rattle.model.specs.Lists.{keep}
 use Rattle.model.specs.State.{Entry, Waiting, Locks, Server}
 use Rattle.model.specs.Locks.{Answer, LockResult, tell, elsewhere, unexpired, refuse, withWaiting}
-use Rattle.state.specs.Queue.{noRequest, onWaiting, count-is}
-use Rattle.state.specs.Requests.{countOf}
+use Rattle.queue.specs.Queue.{noRequest, onWaiting, count-is}
+use Rattle.queue.specs.Requests.{countOf}
 use Rattle.state.specs.View.{memory, requestAt, locksOf, view}
 use Rattle.locks.specs.Outcome.{ends, ends-cons, answerFrame}
 

@@ -4,7 +4,7 @@ ghost use Rattle.model.specs.Asking.{earliest};
 ghost use Rattle.state.specs.View.{locksOf};
 ghost use mathlib.Core.List.{List};
 ghost use mathlib.Core.Path.{_≡_};
-use state::requests;
+use queue::requests;
 use state::sizes::Words;
 
 fn sooner(a: u64, b: u64) -> u64

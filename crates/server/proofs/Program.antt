@@ -77,11 +77,11 @@ use Rattle.model.specs.ReadBack.{framesSeen}
 use Rattle.model.specs.Happening.{happened}
 use Rattle.state.specs.Fresh.{freshStrings, freshWords}
 use Rattle.state.specs.FreshTidy.{fresh-tidy}
-use Rattle.state.specs.OneMemory.{one-memory}
+use Rattle.queue.specs.OneMemory.{one-memory}
 use Rattle.state.specs.Tidy.{Tidy}
 use Rattle.state.specs.View.{Memory, memory, view}
-use Rattle.effects.specs.declared.Delivery.{Delivery}
-use Rattle.effects.specs.Did.{numbersOf}
+use Rattle.sessions.specs.declared.Delivery.{Delivery}
+use Rattle.sessions.specs.Did.{numbersOf}
 use Rattle.server.specs.declared.Answered.{Answered}
 use Rattle.server.specs.declared.Done.{Done}
 use Rattle.server.specs.declared.listing.Listed.{Listed}

@@ -20,7 +20,7 @@ use Rattle.model.specs.Sensing.{serviceAt}
 use Rattle.state.specs.Change.{exchangeWith}
 use Rattle.state.specs.Tidy.{Tidy}
 use Rattle.state.specs.View.{Memory, view, locksOf}
-use Rattle.effects.specs.Closing.{sessions-held}
+use Rattle.sessions.specs.Closing.{sessions-held}
 use Rattle.effects.specs.Events.{Sends, answerFrame, answeredAs, answer-finishes}
 use Rattle.effects.specs.Interrupted.{Noted, withheldAt}
 use Rattle.server.specs.declared.Answered.{Answered}

@@ -15,8 +15,8 @@ use Rattle.model.specs.Step.{Result, finish, plan, answered, step, received}
 use Rattle.model.specs.Post.{Post}
 use Rattle.state.specs.Tidy.{Tidy}
 use Rattle.state.specs.View.{Memory, view}
-use Rattle.effects.specs.declared.Delivery.{Delivery}
-use Rattle.effects.specs.Did.{DidWith, numbersOf}
+use Rattle.sessions.specs.declared.Delivery.{Delivery}
+use Rattle.sessions.specs.Did.{DidWith, numbersOf}
 
 pub record Delivered (e : Event) (r : Delivery) (m m′ : Memory) (out out′ : List ℕ) : Type 0 where
   pub numbers : numbersOf r ≡ deliveryAnswer ((step (view m) e) .reply) (length (bytesOf ((step (view m) e) .frames))) (missing (view m) e)

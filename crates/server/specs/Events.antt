@@ -22,7 +22,7 @@ use Rattle.state.specs.View.{Memory, view}
 use Rattle.state.specs.Change.{onRest}
 use Rattle.state.specs.Fresh.{freshWords, freshStrings}
 use Rattle.locks.specs.Outcome.{Met}
-use Rattle.effects.specs.Closing.{Closes, closedServer}
+use Rattle.sessions.specs.Closing.{Closes, closedServer}
 use Rattle.server.specs.declared.Answered.{Answered}
 use Rattle.server.specs.declared.Done.{Done}
 use Rattle.server.specs.Causes.{untimely, enough-room, clock-causes}

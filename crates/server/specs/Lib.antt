@@ -1,7 +1,3 @@
-pub mod Acting
-pub mod Numbering
-pub mod Verdicts
-pub mod Scanning
 pub mod Causes
 pub mod Calls
 pub mod Events

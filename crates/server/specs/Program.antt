@@ -48,7 +48,7 @@ use Rattle.model.specs.Sensing.{serviceAfter}
 use Rattle.model.specs.Watching.{senses, isService, servedBy}
 use Rattle.state.specs.Tidy.{Tidy}
 use Rattle.state.specs.View.{Memory, view}
-use Rattle.effects.specs.declared.Delivery.{Delivery}
+use Rattle.sessions.specs.declared.Delivery.{Delivery}
 use Rattle.server.specs.declared.Answered.{Answered}
 use Rattle.server.specs.declared.Done.{Done}
 use Rattle.server.specs.declared.listing.Listed.{Listed}

@@ -4,7 +4,7 @@ ghost use Rattle.server.specs.Asking.{deadlineNumbers, sizeNumbers};
 ghost use Rattle.state.specs.View.{memory, view};
 ghost use mathlib.Core.Path.{_≡_};
 use locks::deadline;
-use state::requests;
+use queue::requests;
 use state::search;
 use state::sizes::SESSION_LIMIT;
 use state::sizes::Strings;

@@ -17,18 +17,18 @@ ghost use Prim.Native.Nat.{ℕ, _<_, _≤_};
 ghost use Rattle.state.specs.Layout.{STRINGS, WORDS};
 
 mod asking;
-mod deliver;
 mod holders;
 mod listing;
 mod watches;
 
-use effects::Delivery;
-use effects::answer;
-use effects::closing;
+use delivery::deliver;
 use effects::events;
 use effects::interrupted;
-use effects::mode;
 use locks::waiting;
+use sessions::Delivery;
+use sessions::answer;
+use sessions::closing;
+use sessions::mode;
 use state::fresh as start;
 use state::search;
 use state::sizes;

@@ -4,7 +4,7 @@ ghost use Rattle.state.specs.View.{memory};
 ghost use mathlib.Core.Path.{_≡_};
 use commands::Judged;
 use commands::listing::judge;
-use state::listing;
+use listing::listing;
 use state::sizes::Strings;
 use state::sizes::Words;
 

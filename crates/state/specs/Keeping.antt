@@ -10,6 +10,7 @@ use lib.Dec.{eqb, lit<}
 use lib.ListN.{length, set, length-set}
 use borrow.Author.Tests.{eqb-true, eqb-false, ne-eqb}
 use Rattle.model.specs.Sizes.{sessionLimit, connectionLimit, stringLimit, listLimit}
+use Rattle.state.specs.Bits.{with-bit, with-small, with-some}
 use Rattle.state.specs.Layout.{EXCHANGES, EXCHANGE, CONNECTIONS, CONNECTION, HOME, LISTED, LOCKS, CLOCK, HOLDER, SHARERS, KEY, COUNT, ENTRIES, ENTRY, ORDERS, ORDER, REQUESTS, REQUEST, QUEUE, WORDS, LIST, STRINGS, SENSINGS, SENSING}
 use Rattle.state.specs.View.{memory, word, rowWord, homeAt, homeOf, fieldOf, slotAt}
 use Rattle.state.specs.Confirmed.{field-same}
@@ -358,3 +359,9 @@ live-row w i f o e = e ∙ sym (ap (λ (b : Bool). cond b 0 (fieldOf w i f)) (ne
 pub same-row : (w w′ : List ℕ) (i f : ℕ) → rowWord w′ i 0 ≡ rowWord w i 0 → rowWord w′ i f ≡ rowWord w i f → fieldOf w′ i f ≡ fieldOf w i f
     → rowWord w i f ≡ cond (eqb (rowWord w i 0) 0) 0 (fieldOf w i f) → rowWord w′ i f ≡ cond (eqb (rowWord w′ i 0) 0) 0 (fieldOf w′ i f)
 same-row w w′ i f a b c e = b ∙ e ∙ sym (ap₂ (λ (x y : ℕ). cond (eqb x 0) 0 y) a c)
+
+-- slot i joins those that share
+pub joins-tidy : (w s : List ℕ) (i : ℕ) → i < sessionLimit → Tidy (memory w s) → Tidy (memory (set w SHARERS (with-bit sessionLimit (word w SHARERS) i)) s)
+joins-tidy w s i h t =
+    let m : ℕ = word w SHARERS in
+    sharers-tidy w s (with-bit sessionLimit m i) t (with-small sessionLimit m i h (t .singles .sharers)) (λ z. absurd (with-some sessionLimit m i z))

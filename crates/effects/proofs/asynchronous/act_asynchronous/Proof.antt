@@ -2,7 +2,7 @@
 use mathlib.Core.Path.{_≡_, ap}
 use Rattle.model.specs.Acts.{AsynchronousKind.k-lock, AsynchronousKind.k-remoteLocal, AsynchronousKind.k-maximumSize, AsynchronousKind.k-deviceClear, AsynchronousKind.k-statusQuery, AsynchronousKind.k-lockInfo, asynchronousKind}
 use Rattle.state.specs.View.{memory}
-use Rattle.effects.specs.Asynchronous.{did-message, kind-last}
+use Rattle.sessions.specs.Asynchronous.{did-message, kind-last}
 use borrow.Author.Needs.{needs}
 use Rattle.effects.proofs.asynchronous.act_asynchronous.Statement.{statement}
 use Rattle.effects.proofs.asynchronous.act_asynchronous.Tie as tie

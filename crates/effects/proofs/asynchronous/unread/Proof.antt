@@ -4,7 +4,7 @@ use borrow.Author.Tests.{eq-eqb, ne-eqb}
 use Rattle.wire.specs.MessageId.{next}
 use Rattle.model.specs.State.{exchangeAt}
 use Rattle.state.specs.View.{restOf}
-use Rattle.effects.specs.Mode.{sent-read}
+use Rattle.sessions.specs.Mode.{sent-read}
 use Rattle.effects.specs.StatusQuery.{unread-none, unread-last, unread-other}
 use borrow.Author.Needs.{needs}
 use Rattle.effects.proofs.asynchronous.unread.Statement.{statement}

@@ -11,7 +11,7 @@ use Rattle.model.specs.Place.{Role.r-synchronous}
 use Rattle.model.specs.Sizes.{outputMinimum}
 use Rattle.model.specs.State.{Server}
 use Rattle.effects.specs.Interrupted.{did-after}
-use Rattle.effects.specs.Synchronous.{did-plan, plan-command}
+use Rattle.sessions.specs.Synchronous.{did-plan, plan-command}
 use Rattle.state.specs.View.{memory, view}
 use borrow.Author.Needs.{needs}
 use Rattle.effects.proofs.synchronous.act_plainly.Statement.{statement}

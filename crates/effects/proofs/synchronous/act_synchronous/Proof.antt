@@ -13,9 +13,9 @@ use Rattle.model.specs.Locks.{LockEvent.command}
 use Rattle.model.specs.MessageTypes.{DeviceClearAcknowledge}
 use Rattle.model.specs.Place.{Role.r-synchronous}
 use Rattle.model.specs.State.{Server}
-use Rattle.effects.specs.Asynchronous.{did-one}
+use Rattle.sessions.specs.Asynchronous.{did-one}
 use Rattle.effects.specs.Interrupted.{did-noted}
-use Rattle.effects.specs.Synchronous.{did-plan, plan-command, plan-complete, withSlot}
+use Rattle.sessions.specs.Synchronous.{did-plan, plan-command, plan-complete, withSlot}
 use Rattle.state.specs.View.{memory, view}
 use borrow.Author.Needs.{needs}
 use Rattle.effects.proofs.synchronous.act_synchronous.Statement.{statement}

@@ -1,5 +1,5 @@
 -- `synchronous::is_command` meets its contract.
-use Rattle.effects.specs.Synchronous.{command-data, command-end, command-trigger}
+use Rattle.sessions.specs.Synchronous.{command-data, command-end, command-trigger}
 use borrow.Author.Needs.{needs}
 use Rattle.effects.proofs.synchronous.is_command.Statement.{statement}
 use Rattle.effects.proofs.synchronous.is_command.Tie as tie

@@ -1,6 +1,6 @@
 -- `synchronous::leave_clear` meets its contract: two stores.
 use native.Mathlib.Omega.{arith}
-use Rattle.effects.specs.Synchronous.{clear-left}
+use Rattle.sessions.specs.Synchronous.{clear-left}
 use Rattle.state.specs.View.{memory, view}
 use borrow.Author.Needs.{needs}
 use Rattle.effects.proofs.synchronous.leave_clear.Statement.{statement}

@@ -1,7 +1,7 @@
 -- `synchronous::left_by` meets its contract: a product of two flags.
 use Prim.Native.Nat.{_*_, _-_, _≤_}
 use lib.Dec.{eqb}
-use Rattle.effects.specs.Synchronous.{both-on, both-small}
+use Rattle.sessions.specs.Synchronous.{both-on, both-small}
 use borrow.Author.Needs.{needs}
 use Rattle.effects.proofs.synchronous.left_by.Statement.{statement}
 use Rattle.effects.proofs.synchronous.left_by.Tie as tie

@@ -1,7 +1,7 @@
 -- `synchronous::note_asked` meets its contract: the number asked, then RMT-delivered.
 use native.Mathlib.Omega.{arith}
 use Prim.Native.Nat.{_^_, _<_}
-use Rattle.effects.specs.Synchronous.{asked-told}
+use Rattle.sessions.specs.Synchronous.{asked-told}
 use borrow.Author.Needs.{needs}
 use Rattle.effects.proofs.synchronous.note_asked.Statement.{statement}
 use Rattle.effects.proofs.synchronous.note_asked.Tie as tie

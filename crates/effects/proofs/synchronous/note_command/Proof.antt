@@ -2,7 +2,7 @@
 use mathlib.Core.Path.{ap, _∙_}
 use Prim.Native.Nat.{ℕ}
 use Rattle.model.specs.Exchange.{ask}
-use Rattle.effects.specs.Synchronous.{notes-ask, notes-data, withSlot}
+use Rattle.sessions.specs.Synchronous.{notes-ask, notes-data, withSlot}
 use Rattle.state.specs.Change.{onRest}
 use Rattle.state.specs.View.{memory, view}
 use borrow.Author.Needs.{needs}

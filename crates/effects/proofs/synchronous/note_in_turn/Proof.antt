@@ -2,7 +2,7 @@
 use native.Mathlib.Omega.{arith}
 use Rattle.model.specs.Exchange.{stepped, tested}
 use Rattle.effects.specs.Interrupted.{noted-then, tested-in-turn}
-use Rattle.effects.specs.Synchronous.{commandNotes}
+use Rattle.sessions.specs.Synchronous.{commandNotes}
 use Rattle.state.specs.View.{memory, view}
 use borrow.Author.Needs.{needs}
 use Rattle.effects.proofs.synchronous.note_in_turn.Statement.{statement}

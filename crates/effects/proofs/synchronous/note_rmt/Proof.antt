@@ -1,5 +1,5 @@
 -- `synchronous::note_rmt` meets its contract: what is stored says whether code 1 tells.
-use Rattle.effects.specs.Synchronous.{rmt-kept}
+use Rattle.sessions.specs.Synchronous.{rmt-kept}
 use Rattle.state.specs.View.{memory, view}
 use borrow.Author.Needs.{needs}
 use Rattle.effects.proofs.synchronous.note_rmt.Statement.{statement}

@@ -5,7 +5,7 @@ use Prim.Native.Nat.{ℕ, _+_, _-_, _≤_, _<_, min}
 use native.Mathlib.Omega.{arith}
 use lib.ListN.{length, drop}
 use Rattle.model.specs.Asking.{earliestOf, earliest}
-use Rattle.state.specs.Queue.{count-is}
+use Rattle.queue.specs.Queue.{count-is}
 use Rattle.state.specs.View.{locksOf, requestAt}
 use Rattle.locks.specs.Deadline.{none-waits, earliest-first, earliest-next, earliest-last}
 use borrow.Author.Needs.{needs}

@@ -1,7 +1,7 @@
 -- `grant_pass::grant_waiting` meets its contract: where nobody waits the pass does nothing.
 use native.Mathlib.Omega.{arith}
 use Rattle.locks.specs.Pass.{pass-met, pass-none}
-use Rattle.state.specs.Queue.{count-is}
+use Rattle.queue.specs.Queue.{count-is}
 use Rattle.state.specs.View.{memory, view}
 use borrow.Author.Needs.{needs}
 use Rattle.locks.proofs.grant_pass.grant_waiting.Statement.{statement}

@@ -1,7 +1,7 @@
 -- `grant_pass::pass_waiting` meets its contract. The invariant: the pass over those from place j on ends where the whole pass does.
 use Rattle.locks.specs.Pass.{count-granted, pass-end, pass-grant, pass-keep, pass-met, passed}
 use Rattle.locks.specs.Waiting.{count-moved, slot-is}
-use Rattle.state.specs.Queue.{count-is}
+use Rattle.queue.specs.Queue.{count-is}
 use mathlib.Core.Path.{_≡_, refl, sym, ap, _∙_}
 use mathlib.Core.Logic.{⊎-elim}
 use mathlib.Core.List.{[]}
@@ -9,7 +9,7 @@ use Prim.Native.Nat.{_+_, _-_, _*_, _≤_, _<_}
 use native.Mathlib.Omega.{arith}
 use lib.ListN.{length}
 use Rattle.locks.specs.Pass.{passed}
-use Rattle.state.specs.Requests.{countOf}
+use Rattle.queue.specs.Requests.{countOf}
 use Rattle.state.specs.Tidy.{Tidy}
 use Rattle.state.specs.View.{locksOf, memory, requestAt, view}
 use borrow.Author.Needs.{needs}

@@ -7,7 +7,7 @@ use Rattle.model.specs.Locks.{give}
 use Rattle.locks.specs.Granting.{may-exclusive, may-fits, no-string}
 use Rattle.state.specs.Change.{onEntry}
 use Rattle.state.specs.Holders.{no-other}
-use Rattle.state.specs.Requests.{stringAt}
+use Rattle.queue.specs.Requests.{stringAt}
 use Rattle.state.specs.View.{locksOf, memory, view}
 use borrow.Author.Needs.{needs}
 use Rattle.locks.proofs.granting.grant.Statement.{statement}

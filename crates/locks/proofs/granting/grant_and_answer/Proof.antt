@@ -1,5 +1,5 @@
 -- `granting::grant_and_answer` meets its contract.
-use Rattle.state.specs.Requests.{stringAt}
+use Rattle.queue.specs.Requests.{stringAt}
 use Rattle.state.specs.View.{memory, view}
 use Rattle.locks.specs.Granting.{given-noted}
 use borrow.Author.Needs.{needs}

@@ -3,7 +3,7 @@ use borrow.Author.Tests.{not-false, not-true}
 use mathlib.Core.Path.{sym, ap, _∙_}
 use mathlib.Core.Bool.{not}
 use Rattle.locks.specs.Granting.{fits-free, fits-key, may-alone, may-not, may-share, may-sharing}
-use Rattle.state.specs.Requests.{stringAt}
+use Rattle.queue.specs.Requests.{stringAt}
 use Rattle.state.specs.View.{locksOf}
 use borrow.Author.Needs.{needs}
 use Rattle.locks.proofs.granting.may_grant.Statement.{statement}

@@ -1,7 +1,7 @@
 -- `request::cannot_wait` meets its contract.
 use mathlib.Core.Path.{_∙_}
 use Rattle.locks.specs.Asking.{denied-full, denied-now}
-use Rattle.state.specs.Queue.{count-is}
+use Rattle.queue.specs.Queue.{count-is}
 use Rattle.state.specs.View.{locksOf}
 use borrow.Author.Needs.{needs}
 use Rattle.locks.proofs.request.cannot_wait.Statement.{statement}

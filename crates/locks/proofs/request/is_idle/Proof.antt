@@ -8,7 +8,7 @@ use Rattle.model.specs.Lists.{all}
 use Rattle.model.specs.Locks.{elsewhere}
 use Rattle.locks.specs.Asking.{idle-end, idle-on, idle-stop}
 use Rattle.locks.specs.Waiting.{slot-is}
-use Rattle.state.specs.Queue.{count-is}
+use Rattle.queue.specs.Queue.{count-is}
 use Rattle.state.specs.View.{locksOf, requestAt}
 use borrow.Author.Needs.{needs}
 use Rattle.locks.proofs.request.is_idle.Statement.{statement}

@@ -1,6 +1,6 @@
 -- `request::wait` meets its contract: the request goes to the end of the queue, with its string.
 use Rattle.locks.specs.Asking.{room-left, waits-until}
-use Rattle.state.specs.Requests.{idle-of}
+use Rattle.queue.specs.Requests.{idle-of}
 use Rattle.state.specs.View.{memory}
 use borrow.Author.Needs.{needs}
 use Rattle.locks.proofs.request.wait.Statement.{statement}

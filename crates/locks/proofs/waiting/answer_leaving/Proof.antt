@@ -5,7 +5,7 @@ use borrow.Author.Tests.{not-false, not-true}
 use Rattle.model.specs.Locks.{Answer, refuse}
 use Rattle.locks.specs.Outcome.{ends, ends-nil}
 use Rattle.locks.specs.Waiting.{answer-leave, refuse-end, refuse-stay, slot-is, stays}
-use Rattle.state.specs.Queue.{count-is}
+use Rattle.queue.specs.Queue.{count-is}
 use Rattle.state.specs.View.{locksOf, requestAt}
 use mathlib.Core.Path.{_≡_, refl, ap, _∙_}
 use mathlib.Core.List.{List}

@@ -3,7 +3,7 @@ use mathlib.Core.Logic.{⊎-elim}
 use mathlib.Core.List.{List, []}
 use Prim.Native.Nat.{ℕ, _-_, _≤_, _<_}
 use Rattle.locks.specs.Waiting.{count-moved, halfway, halfway-end, halfway-leave, halfway-stay, stays}
-use Rattle.state.specs.Queue.{count-is, onWaiting}
+use Rattle.queue.specs.Queue.{count-is, onWaiting}
 use Rattle.state.specs.Tidy.{Tidy}
 use Rattle.state.specs.View.{locksOf, memory, requestAt, view}
 use mathlib.Core.Path.{_≡_, refl, sym, _∙_}
@@ -13,8 +13,8 @@ use native.Mathlib.Omega.{arith}
 use lib.ListN.{length}
 use Rattle.model.specs.Lists.{keep}
 use Rattle.locks.specs.Waiting.{halfway, stays}
-use Rattle.state.specs.Queue.{onWaiting}
-use Rattle.state.specs.Requests.{countOf}
+use Rattle.queue.specs.Queue.{onWaiting}
+use Rattle.queue.specs.Requests.{countOf}
 use Rattle.state.specs.View.{locksOf, memory, view}
 use borrow.Author.Needs.{needs}
 use Rattle.locks.proofs.waiting.keep_staying.Statement.{statement}

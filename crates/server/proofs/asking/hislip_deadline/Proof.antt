@@ -2,7 +2,7 @@
 use mathlib.Core.Path.{_≡_, sym, ap₂, _∙_}
 use Prim.Native.Nat.{ℕ}
 use Rattle.model.specs.Asking.{DeadlineAnswer}
-use Rattle.state.specs.Queue.{count-is}
+use Rattle.queue.specs.Queue.{count-is}
 use borrow.Author.Needs.{needs}
 use Rattle.server.proofs.asking.hislip_deadline.Statement.{statement}
 use Rattle.server.proofs.asking.hislip_deadline.Tie as tie

@@ -6,7 +6,7 @@ use lib.ListN.{set}
 use Rattle.state.specs.Granting.{sharer-joined}
 use Rattle.state.specs.Layout.{SHARERS}
 use Rattle.state.specs.Tidy.{Tidy}
-use Rattle.state.specs.Unsharing.{joins-tidy}
+use Rattle.state.specs.Keeping.{joins-tidy}
 use Rattle.state.specs.View.{memory, view}
 use borrow.Author.Needs.{needs}
 use Rattle.state.proofs.holders.join_sharers.Statement.{statement}

@@ -1,0 +1,63 @@
+-- `deliver::apply` meets its contract: what each verdict does is what the function called for it does.
+use mathlib.Core.Path.{_≡_, refl, ap}
+use mathlib.Core.List.{[]}
+use native.Mathlib.Omega.{arith}
+use Rattle.wire.specs.Frame.{bytesOf}
+use Rattle.model.specs.Interface.{Reply.took, Outcome.more-needed, Outcome.ignored}
+use Rattle.sessions.specs.Did.{numbersOf, did-nothing, did-plainly}
+use Rattle.sessions.specs.Replies.{nothing-said}
+use Rattle.state.specs.View.{memory, view}
+use Rattle.delivery.specs.Verdicts.{fatal-done, error-done, closed-done, ignored-done, more-done}
+use borrow.Author.Needs.{needs}
+use Rattle.delivery.proofs.deliver.apply.Statement.{statement}
+use Rattle.delivery.proofs.deliver.apply.Tie as tie
+
+count-refused-requires : tie.Need-count-refused-requires
+count-refused-requires c κs = c .before .before .before .pre .5
+
+returns : tie.Need-returns
+returns c =
+    let a = c .before .before .before .before .before .before .before .before .before .args in
+    λ ro x e f g. error-done (view (memory (a .w .now) (a .strings .now))) (a .c) (a .i) x ro _ _ _ _ _ (a .v) (c .before .before .before .before .before .before .before .if1 .taken) (a .taken) (a .left) e f (a .moves) g _ _ (c .before .before .before .before .before .count-refused .ensures .0 (a .strings .now)) (c .before .before .before .before .before .count-refused .ensures .1 (a .strings .now)) (c .before .before .send-error .ensures (a .strings .now))
+
+returns-2 : tie.Need-returns-2
+returns-2 c =
+    let a = c .before .before .before .before .before .before .before .before .before .args in
+    λ ro x e f g. fatal-done (view (memory (a .w .now) (a .strings .now))) (a .c) (a .i) x ro _ _ _ _ _ (a .v) (c .before .before .before .before .before .before .if2 .taken) (c .before .before .before .before .before .before .before .if1 .left) (c .before .before .send-fatal .ensures)
+
+returns-3 : tie.Need-returns-3
+returns-3 c =
+    let a = c .before .before .before .before .before .before .before .before .before .before .args in
+    λ ro x e f g. closed-done (view (memory (a .w .now) (a .strings .now))) (a .c) (a .i) x ro _ _ _ _ _ (a .v) (c .before .before .before .before .before .before .if3 .taken) (c .before .before .close-silently .ensures)
+
+returns-4 : tie.Need-returns-4
+unfolding bytesOf
+returns-4 c =
+    let a = c .before .before .before .before .before .before .args in
+    let d = view (memory (a .w .now) (a .strings .now)) in
+    λ ro x e f g. ignored-done d (a .c) (a .i) x ro _ _ _ _ _ (a .v) (c .before .if4 .taken) (a .taken) e (did-plainly d (took ignored (a .taken) 0) (d .rest) [] _ _ _ _ _ (ap numbersOf (c .quiet .ensures)) refl (nothing-said (a .out .now)) refl (λ t. t))
+
+returns-5 : tie.Need-returns-5
+returns-5 c =
+    let p = c .before .before .before .before .before .before in
+    let a = p .args in
+    λ ro x e f g. more-done (view (memory (a .w .now) (a .strings .now))) (a .c) (a .i) x ro _ _ _ _ _ (a .v) (omega arith) (p .pre .4) (c .before .if4 .left) (c .before .before .if3 .left) (p .pre .3) (did-nothing 0 (took more-needed 0 0) _ _ _ (ap numbersOf (c .more-needed .ensures)))
+
+pub apply-spec : {M : Type 1} → statement M
+apply-spec =
+    tie.close
+    (tie.spec
+    count-refused-requires
+    (λ c κs. search needs)
+    (λ c. search needs)
+    returns
+    (λ c κs. search needs)
+    (λ c. search needs)
+    returns-2
+    (λ c κs. search needs)
+    (λ c. search needs)
+    returns-3
+    (λ c κs. search needs)
+    returns-4
+    (λ c κs. search needs)
+    returns-5)

@@ -1,0 +1,4 @@
+pub mod Acting
+pub mod Numbering
+pub mod Verdicts
+pub mod Scanning

@@ -1,0 +1,9 @@
+pub mod Requests
+pub mod Queue
+pub mod Strings
+pub mod Windows
+pub mod Sharing
+pub mod Wiping
+pub mod Leaving
+pub mod Unsharing
+pub mod OneMemory
