@@ -21,7 +21,7 @@ use crate::verdict::ERROR_128;
 use crate::verdict::FATAL_3;
 use crate::verdict::HELD;
 use crate::verdict::IGNORED;
-use listing::listing;
+use allowed::listing;
 use locks::access;
 use locks::standing::NUMBERS;
 use state::sizes::Strings;

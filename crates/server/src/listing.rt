@@ -2,9 +2,9 @@
 ghost use Rattle.server.specs.Listing.{SetsList, listedNumbers};
 ghost use Rattle.state.specs.View.{memory};
 ghost use mathlib.Core.Path.{_≡_};
+use allowed::listing;
 use commands::Judged;
 use commands::listing::judge;
-use listing::listing;
 use state::sizes::Strings;
 use state::sizes::Words;
 

@@ -6,10 +6,10 @@ use lib.ListN.{take, drop}
 use Rattle.model.specs.State.{Allowed, Allowed.only}
 use Rattle.model.specs.Allowing.{admits}
 use Rattle.state.specs.Layout.{LIST}
-use Rattle.listing.specs.Listing.{none-admits, list-there}
+use Rattle.allowed.specs.Listing.{none-admits, list-there}
 use borrow.Author.Needs.{needs}
-use Rattle.listing.proofs.listing.is_allowed_in.Statement.{statement}
-use Rattle.listing.proofs.listing.is_allowed_in.Tie as tie
+use Rattle.allowed.proofs.listing.is_allowed_in.Statement.{statement}
+use Rattle.allowed.proofs.listing.is_allowed_in.Tie as tie
 
 returns : tie.Need-returns
 returns c = let a = c .before .before .before .before .args in none-admits (a .w .now) (a .strings .now) (a .payload .now) (c .if1 .taken)

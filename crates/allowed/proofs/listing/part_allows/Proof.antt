@@ -5,10 +5,10 @@ use native.Mathlib.Omega.{arith}
 use lib.ListN.{take, drop}
 use Rattle.model.specs.State.{Allowed.only}
 use Rattle.model.specs.Allowing.{admits}
-use Rattle.listing.specs.Listing.{part-admits}
+use Rattle.allowed.specs.Listing.{part-admits}
 use borrow.Author.Needs.{needs}
-use Rattle.listing.proofs.listing.part_allows.Statement.{statement}
-use Rattle.listing.proofs.listing.part_allows.Tie as tie
+use Rattle.allowed.proofs.listing.part_allows.Statement.{statement}
+use Rattle.allowed.proofs.listing.part_allows.Tie as tie
 
 returns : tie.Need-returns
 returns c = let a = c .before .before .before .before .args in

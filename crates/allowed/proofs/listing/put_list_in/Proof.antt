@@ -1,9 +1,9 @@
 -- `listing::put_list_in` meets its contract: the old text is wiped, the new one laid, and its length stored.
 use native.Mathlib.Omega.{arith}
-use Rattle.listing.specs.Listing.{list-laid, list-tidy}
+use Rattle.allowed.specs.Listing.{list-laid, list-tidy}
 use borrow.Author.Needs.{needs}
-use Rattle.listing.proofs.listing.put_list_in.Statement.{statement}
-use Rattle.listing.proofs.listing.put_list_in.Tie as tie
+use Rattle.allowed.proofs.listing.put_list_in.Statement.{statement}
+use Rattle.allowed.proofs.listing.put_list_in.Tie as tie
 
 returns : tie.Need-returns
 returns c = let a = c .before .before .before .before .before .before .before .before .before .before .before .before .before .args in
