@@ -1,25 +1,55 @@
 -- Access by the tests of the code. Assumes nothing.
-use mathlib.Core.Path.{_≡_}
-use mathlib.Core.Bool.{Bool, true, false, not}
-use mathlib.Core.List.{List}
-use Prim.Native.Nat.{ℕ}
-use Rattle.model.specs.Lists.{all}
+use mathlib.Core.Path.{_≡_, refl}
+use mathlib.Core.Bool.{Bool, true, false, not, _&&_, _||_}
+use mathlib.Core.List.{List, [], _∷_}
+use Prim.Native.Nat.{ℕ, zero, suc}
+use borrow.Author.Tests.{not-true}
+use Rattle.model.specs.Lists.{all, allBut}
 use Rattle.model.specs.State.{Entry, at}
 use Rattle.model.specs.Locks.{noExclusive, noShared, access}
 
+-- what holds of all entries holds of each, and of all but one
+first : (a b : Bool) → (a && b) ≡ true → a ≡ true
+first true b h = refl
+first false b h = h
+
+second : (a b : Bool) → (a && b) ≡ true → b ≡ true
+second true b h = h
+second false true h = refl
+second false false h = h
+
+pub one-of : (p : Entry → Bool) (es : List Entry) (i : ℕ) → p (at [] 0) ≡ true → all p es ≡ true → p (at es i) ≡ true
+one-of p [] i z h = z
+one-of p (x ∷ es) zero z h = first (p x) (all p es) h
+one-of p (x ∷ es) (suc i) z h = one-of p es i z (second (p x) (all p es) h)
+
+pair : (a b : Bool) → a ≡ true → b ≡ true → (a && b) ≡ true
+pair a b e f = rw (e, f)
+
+pub but-one : (p : Entry → Bool) (es : List Entry) (i : ℕ) → all p es ≡ true → allBut p i es ≡ true
+but-one p [] i h = refl
+but-one p (x ∷ es) zero h = second (p x) (all p es) h
+but-one p (x ∷ es) (suc i) h = pair (p x) (allBut p i es) (first (p x) (all p es) h) (but-one p es i (second (p x) (all p es) h))
+
 module _ (es : List Entry) (i : ℕ) where
-  pub access-holder : (at es i) .exclusive ≡ true → access es i ≡ true
+  -- somebody holds the exclusive lock: he alone
+  pub access-taken : (b : Bool) → all noExclusive es ≡ false → (at es i) .exclusive ≡ b → access es i ≡ b
   unfolding access
-  access-holder e = rw e
+  access-taken true o e = rw e
+  access-taken false o e = rw (e, o)
 
-  pub access-locked : (at es i) .exclusive ≡ false → all noExclusive es ≡ false → access es i ≡ false
+  -- nobody holds a lock: everyone
+  pub access-open : all noExclusive es ≡ true → all noShared es ≡ true → access es i ≡ true
   unfolding access
-  access-locked e o = rw (e, o)
+  access-open o p = rw (o, p) (go ((at es i) .exclusive) (not (noShared (at es i))))
+    where
+      go : (a b : Bool) → (a || (true && (b || true))) ≡ true
+      go true b = refl
+      go false true = refl
+      go false false = refl
 
-  pub access-sharer : (at es i) .exclusive ≡ false → all noExclusive es ≡ true → noShared (at es i) ≡ not true → access es i ≡ true
+  -- some share, and nobody holds the exclusive lock: those that share
+  pub access-shared : (b : Bool) → all noExclusive es ≡ true → all noShared es ≡ false → noShared (at es i) ≡ not b → access es i ≡ b
   unfolding access
-  access-sharer e o p = rw (e, o, p)
-
-  pub access-rest : (b : Bool) → (at es i) .exclusive ≡ false → all noExclusive es ≡ true → noShared (at es i) ≡ not false → all noShared es ≡ b → access es i ≡ b
-  unfolding access
-  access-rest b e o p q = rw (e, o, p, q)
+  access-shared true o p q = rw (not-true ((at es i) .exclusive) (one-of noExclusive es i refl o), o, p, q)
+  access-shared false o p q = rw (not-true ((at es i) .exclusive) (one-of noExclusive es i refl o), o, p, q)

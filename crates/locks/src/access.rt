@@ -8,19 +8,16 @@ ghost use Rattle.model.specs.Sizes.{sessionLimit};
 use state::holders;
 use state::sizes::Words;
 
-// The exclusive holder alone; with none, those that share; with no locks, everyone.
+// The exclusive holder alone; with none, those that share; with no locks, everyone. Mostly there are none: that is asked first.
 pub fn has_access(w: &Words, i: usize) -> bool
     requires { ⌜ i < sessionLimit ⌝ }
     ensures { λ r. ⌜ ((s : List ℕ) → access (locksOf (now (w .entry)) s .entries) i ≡ r) ⌝ }
 {
-    if holders::is_exclusive(w, i) {
-        return true;
-    }
     if !holders::nobody_exclusive(w) {
-        return false;
+        return holders::is_exclusive(w, i);
     }
-    if holders::is_sharing(w, i) {
+    if holders::nobody_shares(w) {
         return true;
     }
-    holders::nobody_shares(w)
+    holders::is_sharing(w, i)
 }
