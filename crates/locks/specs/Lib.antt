@@ -12,3 +12,4 @@ pub mod Complete
 pub mod Pass
 pub mod Asking
 pub mod Deadline
+pub mod Quick

@@ -7,6 +7,7 @@ pub mod deadline;
 pub mod grant_pass;
 pub mod granting;
 pub mod info;
+pub mod quick;
 pub mod release;
 pub mod request;
 pub mod sessions;
