@@ -1,6 +1,7 @@
 -- What a message that acts has passed, as the functions that carry it out require it; and roles by their numbers. Assumes nothing.
 use mathlib.Core.Path.{_≡_, refl, sym, ap, subst, _∙_}
 use mathlib.Core.Bool.{Bool, true, false, not, _&&_, _||_, true≢false}
+use mathlib.Core.Logic.{⊎-elim}
 use mathlib.Core.List.{List, [], _∷_}
 use Prim.Native.Nat.{ℕ, zero, suc, _+_, _≤_, _<_}
 use native.Mathlib.Omega.{arith}
@@ -8,13 +9,14 @@ use lib.Dec.{eqb, ltb}
 use lib.ListN.{length, List·getD-eq-default}
 use borrow.Author.Tests.{eq-eqb, ne-eqb, eqb-true, eqb-false, ltb-true, ltb-false}
 use Rattle.wire.specs.declared.Header.{Header}
-use Rattle.model.specs.Sizes.{sessionLimit}
+use Rattle.model.specs.Sizes.{noConnection, sessionLimit}
 use Rattle.model.specs.Lists.{all, position}
 use Rattle.model.specs.MessageTypes.{Initialize, AsyncInitialize, AsyncMaximumMessageSize}
 use Rattle.model.specs.State.{Entry, Server, at, blank, live, halfOpen, slotOfNumber}
-use Rattle.model.specs.Place.{Role, Role.r-none, Role.r-halfOpen, Role.r-synchronous, Role.r-asynchronous, roleOf, slotIn, placeOf, roleIn}
+use Rattle.model.specs.Place.{Role, Role.r-none, Role.r-halfOpen, Role.r-synchronous, Role.r-asynchronous, roleBy, roleOf, slotIn, placeOf, roleIn, onConnection}
 use Rattle.model.specs.Checks.{Verdict.v-acts, Rule, first, either, openingRules, asynchronousRules}
 use Rattle.model.proofs.Fits.{Passes, opening-passed, async-passed}
+use Rattle.model.proofs.Place.{place-role, place-sound}
 use Rattle.checks.specs.Opening.{all-live}
 use Rattle.state.specs.Search.{roleNumber, past-none}
 use Rattle.state.specs.View.{Memory, memory, view, locksOf}
@@ -51,6 +53,24 @@ role-async r-none e = absurd (omega arith)
 role-async r-halfOpen e = absurd (omega arith)
 role-async r-synchronous e = absurd (omega arith)
 role-async r-asynchronous e = refl
+
+-- a connection in the asynchronous role is its session's second
+second-of : (l h b a : Bool) → roleBy l h b ≡ r-asynchronous → (l && (b || a)) ≡ true → a ≡ true
+second-of false h b a p q = absurd (true≢false (sym q))
+second-of true true b a p q = let z : roleNumber r-halfOpen ≡ roleNumber r-asynchronous = ap roleNumber p in absurd (omega arith)
+second-of true false true a p q = let z : roleNumber r-synchronous ≡ roleNumber r-asynchronous = ap roleNumber p in absurd (omega arith)
+second-of true false false a p q = q
+
+pub second-connection : (w s : List ℕ) (c i : ℕ) → slotIn (locksOf w s .entries) c ≡ i → roleNumber (roleOf (locksOf w s .entries) c) ≡ 3 → (at (locksOf w s .entries) i) .asynchronous ≡ c
+second-connection w s c i e r =
+    let es : List Entry = locksOf w s .entries in
+    let x : Entry = at es (slotIn es c) in
+    let p : roleIn c x ≡ r-asynchronous = sym (place-role es c) ∙ role-async (roleOf es c) r in
+    ap (λ (j : ℕ). (at es j) .asynchronous) (sym e)
+    ∙ ⊎-elim
+    (λ (q : onConnection c x ≡ true). eqb-true (x .asynchronous) c (second-of (live x) (eqb (x .asynchronous) noConnection) (eqb (x .synchronous) c) (eqb (x .asynchronous) c) p q))
+    (λ (q : x ≡ blank). let z : roleNumber (roleIn c blank) ≡ roleNumber r-asynchronous = ap roleNumber (ap (roleIn c) (sym q) ∙ p) in absurd (omega arith))
+    (place-sound es c)
 
 -- a connection with a role has its session in the table
 pub role-slot : (w s : List ℕ) (c i n : ℕ) → slotIn (locksOf w s .entries) c ≡ i → roleNumber (roleOf (locksOf w s .entries) c) ≡ n → (n ≡ 0 → ⊥) → i < sessionLimit

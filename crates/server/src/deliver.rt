@@ -40,8 +40,7 @@ use effects::opening;
 use effects::outcome;
 use effects::replies;
 use effects::synchronous;
-use locks::release;
-use locks::request;
+use locks::quick;
 use locks::standing;
 use state::search;
 use state::search::ON_ASYNCHRONOUS;
@@ -204,7 +203,7 @@ fn deliver_plain(
     told
 }
 
-// A lock message that passed all checks acts: code 0 releases, 1 requests. Both are calls that return a number; the answer is formed here.
+// A lock message that passed all checks acts: code 0 releases, 1 requests. Both return a number; the answer is formed here.
 fn act_lock(
     w: &mut Words,
     strings: &mut Strings,
@@ -216,15 +215,15 @@ fn act_lock(
     len: u64,
     payload: &[u8],
 ) -> Delivery
-    requires { ⌜ (i < sessionLimit) × (len ≤ payloadLimit) × (outputMinimum ≤ length (now out)) ⌝ }
+    requires { ⌜ (c < connectionLimit) × (i < sessionLimit) × (len ≤ payloadLimit) × (outputMinimum ≤ length (now out)) × ((s : List ℕ) → (at (locksOf (now w) s .entries) i) .asynchronous ≡ c) ⌝ }
     ensures { λ r. ⌜ Did (finish (view (memory (now (w .entry)) (now (strings .entry)))) (acts r-asynchronous (view (memory (now (w .entry)) (now (strings .entry)))) i c (message 4 code param len) (now (payload .entry)))) r (memory (now (w .entry)) (now (strings .entry))) (memory (now (w .exit)) (now (strings .exit))) (now (out .entry)) (now (out .exit)) ⌝ }
 {
     let n = tables::entry(w, i, tables::NUMBER);
     if code == 0 {
-        let end = release::release_lock(w, strings, out, 0, i, param);
+        let end = quick::release_quickly(w, strings, out, 0, c as u8, i, param);
         return answer::acted(n, len, end as u64);
     }
-    let end = request::request_lock(w, strings, out, 0, i, param, payload);
+    let end = quick::request_quickly(w, strings, out, 0, c as u8, i, param, payload);
     answer::acted(n, len, end as u64)
 }
 
@@ -240,7 +239,7 @@ fn deliver_lock(
     len: u64,
     payload: &[u8],
 ) -> Delivery
-    requires { ⌜ (c < connectionLimit) × (len ≤ payloadLimit) × (length (now payload) ≡ len) × (outputMinimum ≤ length (now out)) × ((s : List ℕ) → slotIn (locksOf (now w) s .entries) c ≡ i) × (i < sessionLimit) ⌝ }
+    requires { ⌜ (c < connectionLimit) × (len ≤ payloadLimit) × (length (now payload) ≡ len) × (outputMinimum ≤ length (now out)) × ((s : List ℕ) → slotIn (locksOf (now w) s .entries) c ≡ i) × (i < sessionLimit) × ((s : List ℕ) → (at (locksOf (now w) s .entries) i) .asynchronous ≡ c) ⌝ }
     ensures { λ r. ⌜ Did (finish (view (memory (now (w .entry)) (now (strings .entry)))) (effect (judged r-asynchronous (view (memory (now (w .entry)) (now (strings .entry)))) i (message 4 code param len) (now (payload .entry))) (whole (message 4 code param len) (now (payload .entry))) r-asynchronous (view (memory (now (w .entry)) (now (strings .entry)))) i c)) r (memory (now (w .entry)) (now (strings .entry))) (memory (now (w .exit)) (now (strings .exit))) (now (out .entry)) (now (out .exit)) ⌝ }
 {
     let v = on_asynchronous::asynchronous_verdict(ASYNC_LOCK, code, len);
@@ -358,7 +357,7 @@ fn deliver_asynchronous(
     len: u64,
     payload: &[u8],
 ) -> Delivery
-    requires { ⌜ (c < connectionLimit) × (len ≤ payloadLimit) × (length (now payload) ≡ len) × (outputMinimum ≤ length (now out)) × ((s : List ℕ) → slotIn (locksOf (now w) s .entries) c ≡ i) × (i < sessionLimit) ⌝ }
+    requires { ⌜ (c < connectionLimit) × (len ≤ payloadLimit) × (length (now payload) ≡ len) × (outputMinimum ≤ length (now out)) × ((s : List ℕ) → slotIn (locksOf (now w) s .entries) c ≡ i) × (i < sessionLimit) × ((s : List ℕ) → (at (locksOf (now w) s .entries) i) .asynchronous ≡ c) ⌝ }
     ensures { λ r. ⌜ Did (finish (view (memory (now (w .entry)) (now (strings .entry)))) (effect (judged r-asynchronous (view (memory (now (w .entry)) (now (strings .entry)))) i (message kind code param len) (now (payload .entry))) (whole (message kind code param len) (now (payload .entry))) r-asynchronous (view (memory (now (w .entry)) (now (strings .entry)))) i c)) r (memory (now (w .entry)) (now (strings .entry))) (memory (now (w .exit)) (now (strings .exit))) (now (out .entry)) (now (out .exit)) ⌝ }
 {
     if kind == ASYNC_STATUS_QUERY {
@@ -394,7 +393,7 @@ fn deliver_whole(
     h: Header,
     payload: &[u8],
 ) -> Delivery
-    requires { ⌜ (c < connectionLimit) × (h .len ≤ payloadLimit) × (length (now payload) ≡ h .len) × (outputMinimum ≤ length (now out)) × ((s : List ℕ) → slotIn (locksOf (now w) s .entries) c ≡ i) × ((role ≡ 0 → ⊥) → i < sessionLimit) × (role ≡ 0 → Unshown (now w) c) ⌝ }
+    requires { ⌜ (c < connectionLimit) × (h .len ≤ payloadLimit) × (length (now payload) ≡ h .len) × (outputMinimum ≤ length (now out)) × ((s : List ℕ) → slotIn (locksOf (now w) s .entries) c ≡ i) × ((role ≡ 0 → ⊥) → i < sessionLimit) × (role ≡ 0 → Unshown (now w) c) × (role ≡ 3 → (s : List ℕ) → (at (locksOf (now w) s .entries) i) .asynchronous ≡ c) ⌝ }
     ensures { λ r. ⌜ ((ro : Role) → roleNumber ro ≡ role → Did (finish (view (memory (now (w .entry)) (now (strings .entry)))) (effect (judged ro (view (memory (now (w .entry)) (now (strings .entry)))) i h (now (payload .entry))) (whole h (now (payload .entry))) ro (view (memory (now (w .entry)) (now (strings .entry)))) i c)) r (memory (now (w .entry)) (now (strings .entry))) (memory (now (w .exit)) (now (strings .exit))) (now (out .entry)) (now (out .exit))) ⌝ }
 {
     let kind = h.kind;

@@ -22,7 +22,7 @@ returns c =
 deliver-lock-requires : tie.Need-deliver-lock-requires
 deliver-lock-requires c κs =
     let q = c .before .before .before .before .before .before .before .pre in
-    (search needs, search needs, q .2, search needs, q .4, q .5)
+    (search needs, search needs, q .2, search needs, q .4, q .5, q .6)
 
 returns-2 : tie.Need-returns-2
 returns-2 c =

@@ -14,6 +14,9 @@ use borrow.Author.Needs.{needs}
 use Rattle.server.proofs.deliver.deliver_lock.Statement.{statement}
 use Rattle.server.proofs.deliver.deliver_lock.Tie as tie
 
+act-lock-requires : tie.Need-act-lock-requires
+act-lock-requires c κs = (search needs, search needs, search needs, search needs, c .before .before .before .before .before .before .before .pre .6)
+
 returns : tie.Need-returns
 returns c =
     let a = c .before .before .before .before .before .before .before .before .before .before .args in
@@ -50,7 +53,7 @@ deliver-lock-spec =
     tie.close
     (tie.spec
     (λ c κs. search needs)
-    (λ c κs. search needs)
+    act-lock-requires
     (λ c. search needs)
     returns
     (λ c κs. search needs)

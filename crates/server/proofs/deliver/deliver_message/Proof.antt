@@ -13,7 +13,7 @@ use Rattle.model.specs.Scan.{Scan.wrong, Scan.long, Scan.part, Scan.whole, fres
 use Rattle.model.specs.Place.{roleOf}
 use Rattle.model.specs.State.{exchangeAt}
 use Rattle.state.specs.View.{locksOf, memory, restOf, view}
-use Rattle.server.specs.Acting.{role-slot}
+use Rattle.server.specs.Acting.{role-slot, second-connection}
 use Rattle.server.specs.Numbering.{moved-long, left-part}
 use Rattle.server.specs.Scanning.{at-slot, on-scan, scan-wrong, scan-long, scan-part, scan-whole, wrong-done, whole-done, long-done, part-done, part-more}
 use borrow.Author.Needs.{needs}
@@ -114,7 +114,7 @@ deliver-whole-requires c κs =
     let el : header bs .len ≡ h .len = ap (λ (x : Header). x .len) (sym eh) in
     let t : prologue bs ≡ true = sym (c .before .before .before .before .before .before .before .before .before .before .has-prologue .ensures) ∙ not-false (c .before .before .before .before .before .before .before .before .before .before .has-prologue .result) (c .before .before .before .before .before .before .before .before .before .if1 .left) in
     let p = c .before .before .before .before .place-of4 in
-    (search needs, search needs, simp (length-take, length-drop) (omega arith), search needs, λ u. p .ensures .1 u, λ o. role-slot (a .w .now) s (a .c) (p .result .slot) (p .result .role) (p .ensures .1 s) (p .ensures .2 s) o, p .ensures .3)
+    (search needs, search needs, simp (length-take, length-drop) (omega arith), search needs, λ u. p .ensures .1 u, λ o. role-slot (a .w .now) s (a .c) (p .result .slot) (p .result .role) (p .ensures .1 s) (p .ensures .2 s) o, p .ensures .3, λ o u. second-connection (a .w .now) u (a .c) (p .result .slot) (p .ensures .1 u) (p .ensures .2 u ∙ o))
 
 returns-5 : tie.Need-returns-5
 returns-5 c =

@@ -22,7 +22,7 @@ returns c =
 deliver-asynchronous-requires : tie.Need-deliver-asynchronous-requires
 deliver-asynchronous-requires c κs =
     let q = c .before .before .before .before .before .before .before .pre in
-    (search needs, search needs, q .2, search needs, q .4, q .5 (λ z. omega (arith, c .before .before .before .if2 .taken)))
+    (search needs, search needs, q .2, search needs, q .4, q .5 (λ z. omega (arith, c .before .before .before .if2 .taken)), q .7 (c .before .before .before .if2 .taken))
 
 returns-2 : tie.Need-returns-2
 returns-2 c =
