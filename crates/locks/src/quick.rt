@@ -21,13 +21,8 @@ use crate::release::release_lock;
 use crate::request::request_lock;
 use crate::standing;
 use crate::standing::EXCLUSIVE;
-<<<<<<< HEAD
 use queue::requests;
 use state::holders;
-=======
-use state::holders;
-use state::requests;
->>>>>>> w-speed
 use state::sizes::Strings;
 use state::sizes::Words;
 

@@ -13,15 +13,9 @@ use Rattle.model.specs.Scan.{Scan.wrong, Scan.long, Scan.part, Scan.whole, fres
 use Rattle.model.specs.Place.{roleOf}
 use Rattle.model.specs.State.{exchangeAt}
 use Rattle.state.specs.View.{locksOf, memory, restOf, view}
-<<<<<<< HEAD:crates/delivery/proofs/deliver/deliver_message/Proof.antt
 use Rattle.delivery.specs.Acting.{role-slot, second-connection}
 use Rattle.delivery.specs.Numbering.{moved-long, left-part}
 use Rattle.delivery.specs.Scanning.{at-slot, on-scan, scan-wrong, scan-long, scan-part, scan-whole, wrong-done, whole-done, long-done, part-done, part-more}
-=======
-use Rattle.server.specs.Acting.{role-slot, second-connection}
-use Rattle.server.specs.Numbering.{moved-long, left-part}
-use Rattle.server.specs.Scanning.{at-slot, on-scan, scan-wrong, scan-long, scan-part, scan-whole, wrong-done, whole-done, long-done, part-done, part-more}
->>>>>>> w-speed:crates/server/proofs/deliver/deliver_message/Proof.antt
 use borrow.Author.Needs.{needs}
 use borrow.Author.Tests.{not-true, not-false}
 use Rattle.delivery.proofs.deliver.deliver_message.Statement.{statement}

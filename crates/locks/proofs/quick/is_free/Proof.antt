@@ -3,11 +3,7 @@ use mathlib.Core.Path.{_≡_, sym, _∙_}
 use mathlib.Core.Bool.{true≢false}
 use borrow.Author.Tests.{eqb-true, not-false}
 use Rattle.locks.specs.Quick.{Free}
-<<<<<<< HEAD
 use Rattle.queue.specs.Queue.{count-is}
-=======
-use Rattle.state.specs.Queue.{count-is}
->>>>>>> w-speed
 use borrow.Author.Needs.{needs}
 use Rattle.locks.proofs.quick.is_free.Statement.{statement}
 use Rattle.locks.proofs.quick.is_free.Tie as tie
