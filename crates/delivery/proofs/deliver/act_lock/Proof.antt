@@ -11,9 +11,6 @@ use Rattle.delivery.proofs.deliver.act_lock.Tie as tie
 release-quickly-requires : tie.Need-release-quickly-requires
 release-quickly-requires c κs = let p = c .before .before .before .before .before .before .before .before in (search needs, search needs, p .pre .4)
 
-release-quickly-requires : tie.Need-release-quickly-requires
-release-quickly-requires c κs = let p = c .before .before .before .before .before .before .before .before in (search needs, search needs, p .pre .4)
-
 returns : tie.Need-returns
 returns c = let a = c .before .before .before .before .before .before .before .before .before .before .before .before .args in
     did-message k-lock (a .i) (a .c) 4 (a .code) (a .param) (a .len) (a .payload .now) (c .acted .result) (memory (a .w .now) (a .strings .now)) _ (a .out .now) _ refl

@@ -17,9 +17,6 @@ use Rattle.delivery.proofs.deliver.deliver_lock.Tie as tie
 act-lock-requires : tie.Need-act-lock-requires
 act-lock-requires c κs = (search needs, search needs, search needs, search needs, c .before .before .before .before .before .before .before .pre .6)
 
-act-lock-requires : tie.Need-act-lock-requires
-act-lock-requires c κs = (search needs, search needs, search needs, search needs, c .before .before .before .before .before .before .before .pre .6)
-
 returns : tie.Need-returns
 returns c =
     let a = c .before .before .before .before .before .before .before .before .before .before .args in
