@@ -60,7 +60,7 @@ fn random_lists_reach_every_answer() {
     assert!(reach.standing.iter().all(|count| *count > 50), "{reach:?}");
     assert!(reach.watching.iter().all(|count| *count > 50), "{reach:?}");
     assert!(reach.refusals[12] > 3, "{reach:?}");
-    assert!(reach.commands.iter().all(|count| *count > 100), "{reach:?}");
+    assert!(reach.commands.iter().all(|count| *count > 50), "{reach:?}");
     assert!(reach.holding > 5000, "{reach:?}");
     assert!(reach.most_holders >= 5, "{reach:?}");
     assert!(reach.sought > 30, "{reach:?}");
