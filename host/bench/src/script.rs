@@ -74,13 +74,16 @@ struct Program {
     answered: bool,
 }
 
+/// Type, code and payload of a message that carries a count.
+type Kind = (u8, u8, &'static [u8]);
+
 /// Steps one after another, and the bytes that they show.
 pub struct Script {
     pub steps: Vec<Step>,
     pub bytes: Vec<u8>,
     programs: [Program; SESSIONS],
     /// Made when first sent; programs that are equally far send the same one. By type, code, payload and count.
-    counted: BTreeMap<(u8, u8, &'static [u8]), Vec<Option<Part>>>,
+    counted: BTreeMap<Kind, Vec<Option<Part>>>,
     /// With RMT-delivered 0 and 1.
     pub status: [Part; 2],
     pub exclusive: Part,

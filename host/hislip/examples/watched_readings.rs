@@ -14,7 +14,7 @@ fn message(kind: MessageType, code: u8, parameter: u32, payload: &[u8]) -> Vec<u
 
 /// An IEEE 488.2 definite length block of 32-bit floats, as a meter sends after `FORMat REAL,32`.
 fn block(readings: &[f32]) -> Vec<u8> {
-    let count = (readings.len() * size_of::<f32>()).to_string();
+    let count = size_of_val(readings).to_string();
     let mut bytes = format!("#{}{count}", count.len()).into_bytes();
     bytes.extend(readings.iter().flat_map(|reading| reading.to_be_bytes()));
     bytes
