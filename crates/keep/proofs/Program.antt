@@ -1,0 +1,215 @@
+-- The journal about the program, proved: a run of kept calls leaves an open journal that holds what the host was told is written.
+use mathlib.Core.Path.{_≡_, refl, sym, ap, ap₂, subst, _∙_}
+use mathlib.Core.Bool.{Bool, true, false, _&&_, cond}
+use mathlib.Core.List.{List, [], _∷_, _++_, map, append-assoc, append-nil}
+use Prim.Native.Nat.{ℕ, zero, suc, _+_, _^_, _≤_, _<_}
+use native.Mathlib.Omega.{arith}
+use lib.Dec.{eqb, leb}
+use lib.ListN.{length, take}
+use lib.Seq.{take-take}
+use borrow.Author.Tests.{leb-true, leb-false, eqb-true}
+use Rattle.wire.specs.Field.{Bytes, field}
+use Rattle.wire.specs.Frame.{bytesOf}
+use Rattle.wire.proofs.ReadFrames.{bytes-row}
+use Rattle.model.specs.State.{Making, Server, fresh}
+use Rattle.model.specs.Interface.{Event, Event.opening, Event.delivery, Event.cut, Event.clock, Event.answer, Event.status, Reply}
+use Rattle.model.specs.Refusals.{refusal}
+use Rattle.model.specs.Step.{Line, log, step}
+use Rattle.model.specs.Demand3.{Seen, seen, seenEvents}
+use Rattle.model.specs.Possible.{Possible, AllPossible}
+use Rattle.model.specs.SentFits.{LinesFit}
+use Rattle.model.proofs.SentFits.{sent-fits}
+use Rattle.state.specs.View.{Memory, view}
+use Rattle.server.specs.Events.{Fresh}
+use Rattle.server.specs.Program.{Run, Run.stop as no-more}
+use Rattle.server.proofs.Program.{program}
+use Rattle.journal.specs.Journal.{choose, entry, entries, closedJournal, Fine, forward, backward}
+use Rattle.journal.specs.Bytes.{yes-is, no-is, append-bytes, field-bytes}
+use Rattle.journal.specs.Forward.{forward-closed}
+use Rattle.journal.specs.Backward.{backward-closed}
+use Rattle.journal.specs.Prefix.{stopped}
+use Rattle.journal.specs.Holds.{Holds, new-holds, append-holds, append-left-out, IsClosed, close-closes, read-open}
+use Rattle.journal.specs.Writer.{Done, place, left, newOf, appendOf, closeOf, keptNumber}
+use Rattle.journal.specs.declared.Kept.{Kept}
+use Rattle.journal.specs.declared.Kept.the-variants.{Written, NoRoom}
+use Rattle.record.specs.Layout as layout
+use Rattle.record.specs.Layout.{encode, row}
+use Rattle.keep.specs.Keeping.{looked, recorded, refusedBy, entryUnless, keeping, Keeps}
+use Rattle.keep.specs.Parts.{refused-by, body-within}
+use Rattle.keep.specs.Program.{Told, seens, body, accepted, entryOf, bodies, acceptedOf, AllWritten, PlainCall, Begun, Begun.begun, KeptRun, KeptRun.stop, KeptRun.call, ClosedAs, KeptProgram}
+
+plainly : {m m′ : Memory} {w b w′ b′ : List ℕ} {ts : List Told} → KeptRun m w b ts m′ w′ b′ → Run m (seens ts) m′
+plainly stop = no-more
+plainly (call {m″ = m″} {ts = ts} s k e q c h g) = c m″ (seens ts) (plainly g)
+
+-- an event of bytes has a body of bytes
+cons-bytes : (x : ℕ) (xs : List ℕ) → x < 256 → Bytes xs → Bytes (x ∷ xs)
+cons-bytes x xs p q zero = p
+cons-bytes x xs p q (suc i) = q i
+
+row-bytes : (r : List ℕ) → Bytes r → Bytes (layout.row r)
+unfolding row
+row-bytes r b = append-bytes _ r (field-bytes 4 (length r)) b
+
+encode-bytes : (e : Event) → Possible e → Bytes (layout.encode (recorded e))
+unfolding encode
+encode-bytes (opening c) p = cons-bytes 0 _ (omega arith) (field-bytes 4 c)
+encode-bytes (delivery c bs room) p = cons-bytes 1 _ (omega arith) (append-bytes _ _ (field-bytes 4 c) (row-bytes bs p))
+encode-bytes (cut c room) p = cons-bytes 2 _ (omega arith) (field-bytes 4 c)
+encode-bytes (clock t room) p = cons-bytes 3 _ (omega arith) (field-bytes 8 t)
+encode-bytes (answer n x end sh room) p =
+    cons-bytes 4 _ (omega arith)
+    (append-bytes _ _ (field-bytes 4 n) (append-bytes _ _ (field-bytes 1 (cond end 1 0)) (append-bytes _ _ (row-bytes x (p .0)) (row-bytes sh (p .1)))))
+encode-bytes (status b) p = cons-bytes 5 _ (omega arith) (field-bytes 1 b)
+
+-- one call: what the host saw is the definition's, so the entry is the one it was told of
+module _ (m m′ : Memory) (w b w′ b′ : List ℕ) (s : Seen) (k : ℕ) (e : Event) (q : s .event ≡ looked e) (g : Run m (s ∷ []) m′)
+    (h : Keeps (keeping (view m) (s .event) w b) k w′ b′) (bs : List (List ℕ)) (o : Holds bs w b) (p : Possible (s .event)) (f : Bytes (s .output)) where
+  d : Server
+  d = view m
+
+  x : List ℕ
+  x = bytesOf ((step d (s .event)) .frames)
+
+  X : List ℕ
+  X = layout.bodyBytes (recorded (s .event)) x
+
+  line : Seen
+  line = record { event = s .event; reply = (step d (s .event)) .reply; output = x }
+
+  abbrev first : List Seen → Seen
+  first [] = line
+  first (t ∷ ts) = t
+
+  seen-is : s ≡ line
+  unfolding log line x d
+  seen-is = ap first ((program .by-definition m m′ (s ∷ []) g) .seen-is)
+
+  told : accepted s ≡ eqb (refusal d (s .event)) 0
+  unfolding line d
+  told = ap (λ (y : Seen). eqb (refusedBy (y .reply)) 0) seen-is ∙ ap (λ (n : ℕ). eqb n 0) (refused-by d (s .event))
+
+  output-is : s .output ≡ x
+  unfolding line
+  output-is = ap (λ (y : Seen). y .output) seen-is
+
+  body-is : body s ≡ X
+  unfolding X
+  body-is = ap (λ (y : List ℕ). layout.bodyBytes (recorded (s .event)) y) output-is
+
+  fine : refusal d (s .event) ≡ 0 → Fine X
+  unfolding X x d
+  fine z =
+      record {
+        bytes = append-bytes _ _ (encode-bytes (s .event) p) (subst Bytes output-is f);
+        within = subst (λ (y : Event). length (layout.bodyBytes (recorded y) (bytesOf ((step (view m) y) .frames))) ≤ 5000) (sym q) (body-within m e (ap (refusal (view m)) (sym q) ∙ z));
+      }
+
+  t : Told
+  t = record { seen = s; kept = k }
+
+  -- from what the definition does to the entry that the host was told of
+  ended : (D : Done) (c : Bool) → entryUnless (refusal d (s .event)) w b X ≡ D → (accepted s && eqb (keptNumber (D .answer)) 0) ≡ c
+      → Holds (bs ++ cond c (X ∷ []) []) (D .words) (D .book) → Holds (bs ++ entryOf t) w′ b′
+  unfolding X x d t
+  ended D c a n r =
+      let z : k ≡ keptNumber (D .answer) = h .answer ∙ ap (λ (y : Done). keptNumber (y .answer)) a in
+      let v : w′ ≡ D .words = h .words-are ∙ ap (λ (y : Done). y .words) a in
+      let u : b′ ≡ D .book = h .book-is ∙ ap (λ (y : Done). y .book) a in
+      let l : entryOf (record { seen = s; kept = k }) ≡ cond c (layout.bodyBytes (recorded (s .event)) (bytesOf ((step (view m) (s .event)) .frames)) ∷ []) [] =
+          ap₂ (λ (i : ℕ) (y : List ℕ). cond (accepted s && eqb i 0) (y ∷ []) []) z body-is ∙ ap (λ (i : Bool). cond i (_ ∷ []) []) n in
+      subst (λ (y : List ℕ). Holds (bs ++ entryOf (record { seen = s; kept = k })) y b′) (sym v)
+      (subst (λ (y : List ℕ). Holds (bs ++ entryOf (record { seen = s; kept = k })) (D .words) y) (sym u)
+      (subst (λ (y : List (List ℕ)). Holds (bs ++ y) (D .words) (D .book)) (sym l) r))
+
+  fits : eqb (refusal d (s .event)) 0 ≡ true → (c : Bool) → leb (length (entry X) + 12) (left b (place w)) ≡ c → Holds (bs ++ entryOf t) w′ b′
+  unfolding entryUnless
+  fits a true i =
+      let y = append-holds bs w b X o (fine (eqb-true _ _ a)) (leb-true _ _ i) in
+      ended (appendOf w b X) true (yes-is _ _ a) (ap₂ (λ (u v : Bool). u && v) (told ∙ a) (ap (λ (v : Kept). eqb (keptNumber v) 0) (y .0))) (y .1)
+  fits a false i =
+      let y = append-left-out bs w b X o (leb-false _ _ i) in
+      ended (record { answer = NoRoom; words = w; book = b }) false (yes-is _ _ a ∙ y) (ap (λ (u : Bool). u && false) (told ∙ a)) (subst (λ (y : List (List ℕ)). Holds y w b) (sym (append-nil bs)) o)
+
+  one : (c : Bool) → eqb (refusal d (s .event)) 0 ≡ c → Holds (bs ++ entryOf t) w′ b′
+  unfolding entryUnless
+  one true a = fits a (leb (length (entry X) + 12) (left b (place w))) refl
+  one false a =
+      ended (record { answer = Written; words = w; book = b }) false (no-is _ _ a) (ap (λ (u : Bool). u && true) (told ∙ a)) (subst (λ (y : List (List ℕ)). Holds y w b) (sym (append-nil bs)) o)
+
+  pub one-call : Holds (bs ++ entryOf (record { seen = s; kept = k })) w′ b′
+  unfolding t
+  one-call = one (eqb (refusal d (s .event)) 0) refl
+
+abbrev AllBytes : List Seen → Type 0
+AllBytes [] = Unit {0}
+AllBytes (s ∷ ss) = Bytes (s .output) × AllBytes ss
+
+lines-bytes : (ls : List Line) → LinesFit ls → AllBytes (map seen ls)
+lines-bytes [] f = tt
+lines-bytes (l ∷ ls) f = (bytes-row (l .frames) (f .0), lines-bytes ls (f .1))
+
+holds : {m m′ : Memory} {w b w′ b′ : List ℕ} {ts : List Told} → KeptRun m w b ts m′ w′ b′ → (bs : List (List ℕ)) → Holds bs w b → AllPossible (seenEvents (seens ts)) → AllBytes (seens ts)
+    → Holds (bs ++ bodies ts) w′ b′
+holds (stop {words = w} {book = b}) bs o p f = subst (λ (y : List (List ℕ)). Holds y w b) (sym (append-nil bs)) o
+holds (call {m = m} {m′ = m′} {words = w} {book = b} {words′ = w′} {book′ = b′} {words″ = w″} {book″ = b″} {ts = ts} s k e q c h g) bs o p f =
+    subst (λ (y : List (List ℕ)). Holds y w″ b″) (append-assoc bs (entryOf (record { seen = s; kept = k })) (bodies ts))
+    (holds g (bs ++ entryOf (record { seen = s; kept = k })) (one-call m m′ w b w′ b′ s k e q (c m′ [] no-more) h bs o (p .0) (f .0)) (p .1) (f .1))
+
+-- a book that was begun holds nothing
+begins : {w b : List ℕ} → Begun w b → Holds [] w b
+unfolding newOf
+begins (begun before w b k z h) = go (leb 12 (left b 0)) refl
+  where
+    go : (c : Bool) → leb 12 (left b 0) ≡ c → Holds [] w b
+    go true i =
+        let y = new-holds before b (leb-true _ _ i) .1 in
+        subst (λ (u : List ℕ). Holds [] u b) (sym (h .words-are)) (subst (λ (u : List ℕ). Holds [] (newOf before b .words) u) (sym (h .book-is)) y)
+    go false i = absurd (omega (arith, sym z ∙ h .answer ∙ ap (λ (u : Done). keptNumber (u .answer)) (no-is {A = Done} _ _ i)))
+
+module _ (v : Making) (m m′ : Memory) (w b w′ b′ : List ℕ) (ts : List Told) (l : v .vendor < 2 ^ 16) (n : Fresh v m) (s : Begun w b) (g : KeptRun m w b ts m′ w′ b′)
+    (p : AllPossible (seenEvents (seens ts))) where
+  all-hold : Holds (bodies ts) w′ b′
+  all-hold =
+      let e : seens ts ≡ map seen (log (fresh v) (seenEvents (seens ts))) =
+          (program .by-definition m m′ (seens ts) (plainly g)) .seen-is ∙ ap (λ (y : Server). map seen (log y (seenEvents (seens ts)))) (n .shows) in
+      holds g [] (begins s) p (subst AllBytes (sym e) (lines-bytes (log (fresh v) (seenEvents (seens ts))) (sent-fits .any-run v (seenEvents (seens ts)) l p)))
+
+  found : forward (take (place w′) b′) ≡ bodies ts
+  found = read-open (bodies ts) w′ b′ all-hold
+
+  module _ (k : ℕ) (w″ b″ : List ℕ) (h : Keeps (closeOf w′ b′) k w″ b″) where
+    is-closed : IsClosed (bodies ts) (closeOf w′ b′)
+    is-closed = close-closes (bodies ts) w′ b′ all-hold
+
+    shut : (k ≡ 0) × ClosedAs (bodies ts) w″ b″
+    shut =
+        let c = is-closed in
+        let j : List ℕ = closedJournal (bodies ts) in
+        let i : place w″ ≡ length j = ap place (h .words-are ∙ c .says) in
+        let a : take (length j) b″ ≡ j = ap (take (length j)) (h .book-is) ∙ c .all in
+        let x : take (place w″) b″ ≡ j = ap (λ (y : ℕ). take y b″) i ∙ a in
+        (h .answer ∙ ap keptNumber (c .answer),
+        record {
+          whole = x;
+          forwards = ap forward x ∙ forward-closed (bodies ts) (c .fine);
+          backwards = ap backward x ∙ backward-closed (bodies ts) (c .fine);
+          torn = λ y u. ap forward (sym (take-take y (length j) b″ (omega (arith, i))) ∙ ap (take y) a) ∙ stopped (bodies ts) y (c .fine);
+        })
+
+until : (ts : List Told) → AllWritten ts → bodies ts ≡ acceptedOf (seens ts)
+until [] a = refl
+until (t ∷ ts) a = ap₂ (λ (x y : List (List ℕ)). x ++ y) (go (accepted (t .seen)) (eqb (t .kept) 0) (ap (λ (y : ℕ). eqb y 0) (a .0))) (until ts (a .1))
+  where
+    go : (c y : Bool) → y ≡ true → cond (c && y) (body (t .seen) ∷ []) [] ≡ cond c (body (t .seen) ∷ []) []
+    go true y e = rw e
+    go false y e = refl
+
+pub kept-program : KeptProgram Fresh Begun KeptRun (λ w b k w′ b′. Keeps (closeOf w b) k w′ b′)
+kept-program =
+    record {
+      plainly = λ m m′ w b w′ b′ ts g. plainly g;
+      entries = λ v m m′ w b w′ b′ ts l n s g p. found v m m′ w b w′ b′ ts l n s g p;
+      until-no-room = until;
+      closed = λ v m m′ w b w′ b′ w″ b″ ts k l n s g p h. shut v m m′ w b w′ b′ ts l n s g p k w″ b″ h;
+    }

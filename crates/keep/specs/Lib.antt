@@ -1,0 +1,5 @@
+pub mod Keeping
+pub mod Parts
+pub mod Calls
+pub mod Shown
+pub mod Program
