@@ -49,18 +49,22 @@ cons-bytes x xs p q (suc i) = q i
 
 row-bytes : (r : List ℕ) → Bytes r → Bytes (layout.row r)
 unfolding row
-row-bytes r b = append-bytes _ r (field-bytes 4 (length r)) b
+row-bytes r b = append-bytes (field 4 (length r)) r (field-bytes 4 (length r)) b
 
 encode-bytes : (e : Event) → Possible e → Bytes (layout.encode (recorded e))
 unfolding encode
-encode-bytes (opening c) p = cons-bytes 0 _ (omega arith) (field-bytes 4 c)
-encode-bytes (delivery c bs room) p = cons-bytes 1 _ (omega arith) (append-bytes _ _ (field-bytes 4 c) (row-bytes bs p))
-encode-bytes (cut c room) p = cons-bytes 2 _ (omega arith) (field-bytes 4 c)
-encode-bytes (clock t room) p = cons-bytes 3 _ (omega arith) (field-bytes 8 t)
+encode-bytes (opening c) p = cons-bytes 0 (field 4 c) (omega arith) (field-bytes 4 c)
+encode-bytes (delivery c bs room) p =
+    cons-bytes 1 (field 4 c ++ layout.row bs) (omega arith) (append-bytes (field 4 c) (layout.row bs) (field-bytes 4 c) (row-bytes bs p))
+encode-bytes (cut c room) p = cons-bytes 2 (field 4 c) (omega arith) (field-bytes 4 c)
+encode-bytes (clock t room) p = cons-bytes 3 (field 8 t) (omega arith) (field-bytes 8 t)
 encode-bytes (answer n x end sh room) p =
-    cons-bytes 4 _ (omega arith)
-    (append-bytes _ _ (field-bytes 4 n) (append-bytes _ _ (field-bytes 1 (cond end 1 0)) (append-bytes _ _ (row-bytes x (p .0)) (row-bytes sh (p .1)))))
-encode-bytes (status b) p = cons-bytes 5 _ (omega arith) (field-bytes 1 b)
+    let y : List ℕ = layout.row x ++ layout.row sh in
+    let z : List ℕ = field 1 (cond end 1 0) ++ y in
+    cons-bytes 4 (field 4 n ++ z) (omega arith)
+    (append-bytes (field 4 n) z (field-bytes 4 n)
+    (append-bytes (field 1 (cond end 1 0)) y (field-bytes 1 (cond end 1 0)) (append-bytes (layout.row x) (layout.row sh) (row-bytes x (p .0)) (row-bytes sh (p .1)))))
+encode-bytes (status b) p = cons-bytes 5 (field 1 b) (omega arith) (field-bytes 1 b)
 
 -- one call: what the host saw is the definition's, so the entry is the one it was told of
 module _ (m m′ : Memory) (w b w′ b′ : List ℕ) (s : Seen) (k : ℕ) (e : Event) (q : s .event ≡ looked e) (g : Run m (s ∷ []) m′)
@@ -101,7 +105,7 @@ module _ (m m′ : Memory) (w b w′ b′ : List ℕ) (s : Seen) (k : ℕ) (e : 
   unfolding X x d
   fine z =
       record {
-        bytes = append-bytes _ _ (encode-bytes (s .event) p) (subst Bytes output-is f);
+        bytes = append-bytes (layout.encode (recorded (s .event))) (bytesOf ((step (view m) (s .event)) .frames)) (encode-bytes (s .event) p) (subst Bytes output-is f);
         within = subst (λ (y : Event). length (layout.bodyBytes (recorded y) (bytesOf ((step (view m) y) .frames))) ≤ 5000) (sym q) (body-within m e (ap (refusal (view m)) (sym q) ∙ z));
       }
 
@@ -116,8 +120,9 @@ module _ (m m′ : Memory) (w b w′ b′ : List ℕ) (s : Seen) (k : ℕ) (e : 
       let z : k ≡ keptNumber (D .answer) = h .answer ∙ ap (λ (y : Done). keptNumber (y .answer)) a in
       let v : w′ ≡ D .words = h .words-are ∙ ap (λ (y : Done). y .words) a in
       let u : b′ ≡ D .book = h .book-is ∙ ap (λ (y : Done). y .book) a in
-      let l : entryOf (record { seen = s; kept = k }) ≡ cond c (layout.bodyBytes (recorded (s .event)) (bytesOf ((step (view m) (s .event)) .frames)) ∷ []) [] =
-          ap₂ (λ (i : ℕ) (y : List ℕ). cond (accepted s && eqb i 0) (y ∷ []) []) z body-is ∙ ap (λ (i : Bool). cond i (_ ∷ []) []) n in
+      let y : List ℕ = layout.bodyBytes (recorded (s .event)) (bytesOf ((step (view m) (s .event)) .frames)) in
+      let l : entryOf (record { seen = s; kept = k }) ≡ cond c (y ∷ []) [] =
+      ap₂ (λ (i : ℕ) (u : List ℕ). cond (accepted s && eqb i 0) (u ∷ []) []) z body-is ∙ ap (λ (i : Bool). cond i (y ∷ []) []) n in
       subst (λ (y : List ℕ). Holds (bs ++ entryOf (record { seen = s; kept = k })) y b′) (sym v)
       (subst (λ (y : List ℕ). Holds (bs ++ entryOf (record { seen = s; kept = k })) (D .words) y) (sym u)
       (subst (λ (y : List (List ℕ)). Holds (bs ++ y) (D .words) (D .book)) (sym l) r))
@@ -172,7 +177,7 @@ module _ (v : Making) (m m′ : Memory) (w b w′ b′ : List ℕ) (ts : List To
   all-hold : Holds (bodies ts) w′ b′
   all-hold =
       let e : seens ts ≡ map seen (log (fresh v) (seenEvents (seens ts))) =
-          (program .by-definition m m′ (seens ts) (plainly g)) .seen-is ∙ ap (λ (y : Server). map seen (log y (seenEvents (seens ts)))) (n .shows) in
+      (program .by-definition m m′ (seens ts) (plainly g)) .seen-is ∙ ap (λ (y : Server). map seen (log y (seenEvents (seens ts)))) (n .shows) in
       holds g [] (begins s) p (subst AllBytes (sym e) (lines-bytes (log (fresh v) (seenEvents (seens ts))) (sent-fits .any-run v (seenEvents (seens ts)) l p)))
 
   found : forward (take (place w′) b′) ≡ bodies ts
@@ -188,14 +193,15 @@ module _ (v : Making) (m m′ : Memory) (w b w′ b′ : List ℕ) (ts : List To
         let j : List ℕ = closedJournal (bodies ts) in
         let i : place w″ ≡ length j = ap place (h .words-are ∙ c .says) in
         let a : take (length j) b″ ≡ j = ap (take (length j)) (h .book-is) ∙ c .all in
-        let x : take (place w″) b″ ≡ j = ap (λ (y : ℕ). take y b″) i ∙ a in
-        (h .answer ∙ ap keptNumber (c .answer),
-        record {
-          whole = x;
-          forwards = ap forward x ∙ forward-closed (bodies ts) (c .fine);
-          backwards = ap backward x ∙ backward-closed (bodies ts) (c .fine);
-          torn = λ y u. ap forward (sym (take-take y (length j) b″ (omega (arith, i))) ∙ ap (take y) a) ∙ stopped (bodies ts) y (c .fine);
-        })
+        let x : take (place w″) b″ ≡ j = ap (λ (y : ℕ). take y b″) i ∙ a in (
+          h .answer ∙ ap keptNumber (c .answer),
+          record {
+            whole = x;
+            forwards = ap forward x ∙ forward-closed (bodies ts) (c .fine);
+            backwards = ap backward x ∙ backward-closed (bodies ts) (c .fine);
+            torn = λ y u. ap forward (sym (take-take y (length j) b″ (omega (arith, i))) ∙ ap (take y) a) ∙ stopped (bodies ts) y (c .fine);
+          },
+        )
 
 until : (ts : List Told) → AllWritten ts → bodies ts ≡ acceptedOf (seens ts)
 until [] a = refl

@@ -12,6 +12,7 @@ use Rattle.wire.specs.Frame.{bytesOf}
 use Rattle.model.specs.Bound.{roomOf}
 use Rattle.model.specs.State.{Server}
 use Rattle.model.specs.Interface.{Event, Event.opening, Event.delivery, Event.cut, Event.clock, Event.answer, Event.status, Reply, Reply.refused, Reply.done, Reply.withheld, Reply.took, DeliveryAnswer, deliveryAnswer, DoneAnswer, doneAnswer, AnsweredAnswer, answeredAnswer}
+use Rattle.model.specs.Missing.{missing}
 use Rattle.model.specs.Post.{Post}
 use Rattle.model.specs.Refusals.{causes, refusal}
 use Rattle.model.specs.Step.{step}
@@ -43,7 +44,9 @@ module _ (m m′ : Memory) (e : Event) (out out′ : List ℕ) (l : length out �
 
   pub told-done : (r : Done) → Called e r m m′ out out′ → Handed (view m) e (r .refusal) (r .output) out′
   told-done r h =
-      by-numbers (r .refusal) (r .output) (ap (λ (a : DoneAnswer). a .refusal) (h .numbers) ∙ number-of _ _) (ap (λ (a : DoneAnswer). a .output) (h .numbers) ∙ output-of _ _) (h .post)
+      let y : Reply = (step (view m) e) .reply in
+      let k : ℕ = length (bytesOf ((step (view m) e) .frames)) in
+      by-numbers (r .refusal) (r .output) (ap (λ (a : DoneAnswer). a .refusal) (h .numbers) ∙ number-of y k) (ap (λ (a : DoneAnswer). a .output) (h .numbers) ∙ output-of y k) (h .post)
     where
       number-of : (y : Reply) (k : ℕ) → (doneAnswer y k) .refusal ≡ refusedBy y
       number-of (refused n) k = refl
@@ -59,7 +62,9 @@ module _ (m m′ : Memory) (e : Event) (out out′ : List ℕ) (l : length out �
 
   pub told-delivery : (r : Delivery) → Delivered e r m m′ out out′ → Handed (view m) e (r .refusal) (r .output) out′
   told-delivery r h =
-      by-numbers (r .refusal) (r .output) (ap (λ (a : DeliveryAnswer). a .refusal) (h .numbers) ∙ number-of _ _ _) (ap (λ (a : DeliveryAnswer). a .output) (h .numbers) ∙ output-of _ _ _) (h .post)
+      let y : Reply = (step (view m) e) .reply in
+      let k : ℕ = length (bytesOf ((step (view m) e) .frames)) in
+      by-numbers (r .refusal) (r .output) (ap (λ (a : DeliveryAnswer). a .refusal) (h .numbers) ∙ number-of y k (missing (view m) e)) (ap (λ (a : DeliveryAnswer). a .output) (h .numbers) ∙ output-of y k (missing (view m) e)) (h .post)
     where
       number-of : (y : Reply) (k l : ℕ) → (deliveryAnswer y k l) .refusal ≡ refusedBy y
       number-of (refused n) k l = refl
@@ -75,7 +80,9 @@ module _ (m m′ : Memory) (e : Event) (out out′ : List ℕ) (l : length out �
 
   pub told-answer : (r : Answered) → Replied e r m m′ out out′ → Handed (view m) e (r .refusal) (r .output) out′
   told-answer r h =
-      by-numbers (r .refusal) (r .output) (ap (λ (a : AnsweredAnswer). a .refusal) (h .numbers) ∙ number-of _ _) (ap (λ (a : AnsweredAnswer). a .output) (h .numbers) ∙ output-of _ _) (h .post)
+      let y : Reply = (step (view m) e) .reply in
+      let k : ℕ = length (bytesOf ((step (view m) e) .frames)) in
+      by-numbers (r .refusal) (r .output) (ap (λ (a : AnsweredAnswer). a .refusal) (h .numbers) ∙ number-of y k) (ap (λ (a : AnsweredAnswer). a .output) (h .numbers) ∙ output-of y k) (h .post)
     where
       number-of : (y : Reply) (k : ℕ) → (answeredAnswer y k) .refusal ≡ refusedBy y
       number-of (refused n) k = refl
@@ -117,21 +124,21 @@ pub answered-first : (s : ℕ) (p : List ℕ) (end : Bool) (sh : List ℕ) (room
 answered-first s p end sh room n {r} {m} {m′} {out} {out′} q h = subst (λ (x : List ℕ). Replied (answer s p end x room) r m m′ out out′) (first-of n layout.mostShown sh q) h
 
 -- the heads of the events of numbers
-pub opening-head : {c : ℕ} {h : List ℕ} → h ≡ 0 ∷ field 4 c → h ≡ layout.encode (recorded (looked (opening c)))
+pub opening-head : (c : ℕ) {h : List ℕ} → h ≡ 0 ∷ field 4 c → h ≡ layout.encode (recorded (looked (opening c)))
 unfolding encode
-opening-head p = p
+opening-head c p = p
 
-pub cut-head : {c room : ℕ} {h : List ℕ} → h ≡ 2 ∷ field 4 c → h ≡ layout.encode (recorded (looked (cut c room)))
+pub cut-head : (c room : ℕ) {h : List ℕ} → h ≡ 2 ∷ field 4 c → h ≡ layout.encode (recorded (looked (cut c room)))
 unfolding encode
-cut-head p = p
+cut-head c room p = p
 
-pub clock-head : {t room : ℕ} {h : List ℕ} → h ≡ 3 ∷ field 8 t → h ≡ layout.encode (recorded (looked (clock t room)))
+pub clock-head : (t room : ℕ) {h : List ℕ} → h ≡ 3 ∷ field 8 t → h ≡ layout.encode (recorded (looked (clock t room)))
 unfolding encode
-clock-head p = p
+clock-head t room p = p
 
-pub status-head : {b : ℕ} {h : List ℕ} → h ≡ 5 ∷ field 1 b → h ≡ layout.encode (recorded (looked (status b)))
+pub status-head : (b : ℕ) {h : List ℕ} → h ≡ 5 ∷ field 1 b → h ≡ layout.encode (recorded (looked (status b)))
 unfolding encode
-status-head p = p
+status-head b p = p
 
 -- the body that the code has is the event's, so what is kept is the event's entry; and it is short enough
 module _ (m : Memory) (e : Event) (z n : ℕ) (out : List ℕ) (h : Handed (view m) (looked e) z n out) where

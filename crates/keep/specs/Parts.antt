@@ -102,14 +102,14 @@ pub met : {D : Done} {r : Kept} {k : ℕ} {words book : List ℕ} → Met D r wo
 met h e = record { answer = e ∙ ap keptNumber (h .answer); words-are = h .words; book-is = h .book }
 
 -- the two ways of an entry
-pub not-kept : {z : ℕ} (words book body : List ℕ) → eqb z 0 ≡ false → {k : ℕ} → k ≡ 0 → Keeps (entryUnless z words book body) k words book
+pub not-kept : (z : ℕ) (words book body : List ℕ) → eqb z 0 ≡ false → {k : ℕ} → k ≡ 0 → Keeps (entryUnless z words book body) k words book
 unfolding entryUnless
-not-kept words book body e {k} z = rw (no-is {A = Done} (appendOf words book body) (record { answer = Written; words = words; book = book }) e) (record { answer = z; words-are = refl; book-is = refl })
+not-kept z words book body e {k} y = rw (no-is {A = Done} (appendOf words book body) (record { answer = Written; words = words; book = book }) e) (record { answer = y; words-are = refl; book-is = refl })
 
-pub then-kept : {z : ℕ} (words book body : List ℕ) → eqb z 0 ≡ true → {k : ℕ} {words′ book′ : List ℕ} → Keeps (appendOf words book body) k words′ book′
+pub then-kept : (z : ℕ) (words book body : List ℕ) → eqb z 0 ≡ true → {k : ℕ} {words′ book′ : List ℕ} → Keeps (appendOf words book body) k words′ book′
     → Keeps (entryUnless z words book body) k words′ book′
 unfolding entryUnless
-then-kept words book body e h = rw (yes-is {A = Done} (appendOf words book body) (record { answer = Written; words = words; book = book }) e) h
+then-kept z words book body e h = rw (yes-is {A = Done} (appendOf words book body) (record { answer = Written; words = words; book = book }) e) h
 
 -- the first bytes of a slice, as the code takes them
 pub first-of : (n most : ℕ) (bs : List ℕ) → n ≡ min (length bs) most → take n bs ≡ take most bs

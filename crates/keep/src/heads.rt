@@ -11,7 +11,6 @@ use record::events::MOST_SHOWN;
 use wire::frame;
 use wire::number;
 
-
 pub const OPENING: u8 = 0;
 
 pub const DELIVERY: u8 = 1;

@@ -18,9 +18,9 @@ mod book;
 mod heads;
 
 use journal::writer;
-use server::Done;
 use record::events::MOST_DELIVERED;
 use record::events::MOST_SHOWN;
+use server::Done;
 use state::sizes::Strings;
 use state::sizes::Words;
 
@@ -80,7 +80,13 @@ fn keep_entry(
 }
 
 // The same of an event of numbers alone.
-fn keep_numbers(journal: &mut Writer, book: &mut [u8], refusal: u64, head: &[u8], frames: &[u8]) -> u64
+fn keep_numbers(
+    journal: &mut Writer,
+    book: &mut [u8],
+    refusal: u64,
+    head: &[u8],
+    frames: &[u8],
+) -> u64
     requires { ⌜ (refusal ≡ 0 → length (now head) + length (now frames) ≤ bodyLimit) ⌝ }
     ensures { λ r. ⌜ Keeps (entryUnless refusal (now (journal .entry)) (now (book .entry)) (now (head .entry) ++ now (frames .entry))) r (now (journal .exit)) (now (book .exit)) ⌝ }
 {
@@ -228,7 +234,12 @@ pub extern "C" fn hislip_keep_answer(
     let n = least(shown.len(), MOST_SHOWN);
     let s = &shown[..n];
     let r = server::hislip_answer(words, strings, session, payload, end, s, out);
-    let h = heads::three(heads::ANSWER, session as u64, heads::bit(end), payload.len() as u64);
+    let h = heads::three(
+        heads::ANSWER,
+        session as u64,
+        heads::bit(end),
+        payload.len() as u64,
+    );
     let row = heads::row(s);
     let e = 4 + n;
     let m = r.output as usize;
