@@ -119,5 +119,6 @@ kept-code =
       plainly = λ m m′ w b w′ b′ ts g. kept-program .plainly m m′ w b w′ b′ ts (runs g);
       entries = λ v m m′ w b w′ b′ ts l n s g. kept-program .entries v m m′ w b w′ b′ ts l (new n) (begins s) (runs g);
       until-no-room = kept-program .until-no-room;
+      read = λ m m′ w b w′ b′ ts g. kept-program .read m m′ w b w′ b′ ts (runs g);
       closed = λ v m m′ w b w′ b′ w″ b″ ts k l n s g p h. kept-program .closed v m m′ w b w′ b′ w″ b″ ts k l (new n) (begins s) (runs g) p (ends h);
     }

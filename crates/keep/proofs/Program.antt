@@ -5,25 +5,27 @@ use mathlib.Core.List.{List, [], _∷_, _++_, map, append-assoc, append-nil}
 use Prim.Native.Nat.{ℕ, zero, suc, _+_, _^_, _≤_, _<_}
 use native.Mathlib.Omega.{arith}
 use lib.Dec.{eqb, leb}
-use lib.ListN.{length, take}
+use lib.ListN.{length, take, length-take}
 use lib.Seq.{take-take}
-use borrow.Author.Tests.{leb-true, leb-false, eqb-true}
+use borrow.Author.Tests.{leb-true, leb-false, ltb-false, eqb-true}
 use Rattle.wire.specs.Field.{Bytes, field}
 use Rattle.wire.specs.Frame.{bytesOf}
 use Rattle.wire.proofs.ReadFrames.{bytes-row}
 use Rattle.model.specs.State.{Making, Server, fresh}
 use Rattle.model.specs.Interface.{Event, Event.opening, Event.delivery, Event.cut, Event.clock, Event.answer, Event.status, Reply}
-use Rattle.model.specs.Refusals.{refusal}
+use Rattle.model.specs.Refusals.{causes, refusal}
+use Rattle.model.specs.Sizes.{clockLimit, connectionLimit, payloadLimit}
 use Rattle.model.specs.Step.{Line, log, step}
 use Rattle.model.specs.Demand3.{Seen, seen, seenEvents}
 use Rattle.model.specs.Possible.{Possible, AllPossible}
 use Rattle.model.specs.SentFits.{LinesFit}
+use Rattle.model.proofs.Fits.{uncaused}
 use Rattle.model.proofs.SentFits.{sent-fits}
 use Rattle.state.specs.View.{Memory, view}
 use Rattle.server.specs.Events.{Fresh}
 use Rattle.server.specs.Program.{Run, Run.stop as no-more}
 use Rattle.server.proofs.Program.{program}
-use Rattle.journal.specs.Journal.{choose, entry, entries, closedJournal, Fine, forward, backward}
+use Rattle.journal.specs.Journal.{bodyLimit, choose, entry, entries, closedJournal, Fine, forward, backward}
 use Rattle.journal.specs.Bytes.{yes-is, no-is, append-bytes, field-bytes}
 use Rattle.journal.specs.Forward.{forward-closed}
 use Rattle.journal.specs.Backward.{backward-closed}
@@ -34,9 +36,10 @@ use Rattle.journal.specs.declared.Kept.{Kept}
 use Rattle.journal.specs.declared.Kept.the-variants.{Written, NoRoom}
 use Rattle.record.specs.Layout as layout
 use Rattle.record.specs.Layout.{encode, row}
+use Rattle.record.specs.RoundTrip.{read-again}
 use Rattle.keep.specs.Keeping.{looked, recorded, refusedBy, entryUnless, keeping, Keeps}
-use Rattle.keep.specs.Parts.{refused-by, body-within}
-use Rattle.keep.specs.Program.{Told, seens, body, accepted, entryOf, bodies, acceptedOf, AllWritten, PlainCall, Begun, Begun.begun, KeptRun, KeptRun.stop, KeptRun.call, ClosedAs, KeptProgram}
+use Rattle.keep.specs.Parts.{refused-by, body-within, payload-within}
+use Rattle.keep.specs.Program.{Told, seens, body, accepted, entryOf, bodies, acceptedOf, AllWritten, Typed, AllTyped, EachRead, PlainCall, Begun, Begun.begun, KeptRun, KeptRun.stop, KeptRun.call, ClosedAs, KeptProgram}
 
 plainly : {m m′ : Memory} {w b w′ b′ : List ℕ} {ts : List Told} → KeptRun m w b ts m′ w′ b′ → Run m (seens ts) m′
 plainly stop = no-more
@@ -66,9 +69,8 @@ encode-bytes (answer n x end sh room) p =
     (append-bytes (field 1 (cond end 1 0)) y (field-bytes 1 (cond end 1 0)) (append-bytes (layout.row x) (layout.row sh) (row-bytes x (p .0)) (row-bytes sh (p .1)))))
 encode-bytes (status b) p = cons-bytes 5 (field 1 b) (omega arith) (field-bytes 1 b)
 
--- one call: what the host saw is the definition's, so the entry is the one it was told of
-module _ (m m′ : Memory) (w b w′ b′ : List ℕ) (s : Seen) (k : ℕ) (e : Event) (q : s .event ≡ looked e) (g : Run m (s ∷ []) m′)
-    (h : Keeps (keeping (view m) (s .event) w b) k w′ b′) (bs : List (List ℕ)) (o : Holds bs w b) (p : Possible (s .event)) (f : Bytes (s .output)) where
+-- one call: what the host saw is the definition's
+module _ (m m′ : Memory) (s : Seen) (g : Run m (s ∷ []) m′) where
   d : Server
   d = view m
 
@@ -101,50 +103,57 @@ module _ (m m′ : Memory) (w b w′ b′ : List ℕ) (s : Seen) (k : ℕ) (e : 
   unfolding X
   body-is = ap (λ (y : List ℕ). layout.bodyBytes (recorded (s .event)) y) output-is
 
-  fine : refusal d (s .event) ≡ 0 → Fine X
-  unfolding X x d
-  fine z =
-      record {
-        bytes = append-bytes (layout.encode (recorded (s .event))) (bytesOf ((step (view m) (s .event)) .frames)) (encode-bytes (s .event) p) (subst Bytes output-is f);
-        within = subst (λ (y : Event). length (layout.bodyBytes (recorded y) (bytesOf ((step (view m) y) .frames))) ≤ 5000) (sym q) (body-within m e (ap (refusal (view m)) (sym q) ∙ z));
-      }
+  not-refused : accepted s ≡ true → refusal (view m) (s .event) ≡ 0
+  unfolding d
+  not-refused a = eqb-true (refusal (view m) (s .event)) 0 (sym told ∙ a)
 
-  t : Told
-  t = record { seen = s; kept = k }
+  -- so the entry is the one that the host was told of
+  module _ (w b w′ b′ : List ℕ) (k : ℕ) (e : Event) (q : s .event ≡ looked e) (h : Keeps (keeping (view m) (s .event) w b) k w′ b′)
+      (bs : List (List ℕ)) (o : Holds bs w b) (p : Possible (s .event)) (f : Bytes (s .output)) where
+    fine : refusal d (s .event) ≡ 0 → Fine X
+    unfolding X x d
+    fine z =
+        record {
+          bytes = append-bytes (layout.encode (recorded (s .event))) (bytesOf ((step (view m) (s .event)) .frames)) (encode-bytes (s .event) p) (subst Bytes output-is f);
+          within = subst (λ (y : Event). length (layout.bodyBytes (recorded y) (bytesOf ((step (view m) y) .frames))) ≤ bodyLimit) (sym q) (body-within m e (ap (refusal (view m)) (sym q) ∙ z));
+        }
 
-  -- from what the definition does to the entry that the host was told of
-  ended : (D : Done) (c : Bool) → entryUnless (refusal d (s .event)) w b X ≡ D → (accepted s && eqb (keptNumber (D .answer)) 0) ≡ c
-      → Holds (bs ++ cond c (X ∷ []) []) (D .words) (D .book) → Holds (bs ++ entryOf t) w′ b′
-  unfolding X x d t
-  ended D c a n r =
-      let z : k ≡ keptNumber (D .answer) = h .answer ∙ ap (λ (y : Done). keptNumber (y .answer)) a in
-      let v : w′ ≡ D .words = h .words-are ∙ ap (λ (y : Done). y .words) a in
-      let u : b′ ≡ D .book = h .book-is ∙ ap (λ (y : Done). y .book) a in
-      let y : List ℕ = layout.bodyBytes (recorded (s .event)) (bytesOf ((step (view m) (s .event)) .frames)) in
-      let l : entryOf (record { seen = s; kept = k }) ≡ cond c (y ∷ []) [] =
-      ap₂ (λ (i : ℕ) (u : List ℕ). cond (accepted s && eqb i 0) (u ∷ []) []) z body-is ∙ ap (λ (i : Bool). cond i (y ∷ []) []) n in
-      subst (λ (y : List ℕ). Holds (bs ++ entryOf (record { seen = s; kept = k })) y b′) (sym v)
-      (subst (λ (y : List ℕ). Holds (bs ++ entryOf (record { seen = s; kept = k })) (D .words) y) (sym u)
-      (subst (λ (y : List (List ℕ)). Holds (bs ++ y) (D .words) (D .book)) (sym l) r))
+    t : Told
+    t = record { seen = s; kept = k }
 
-  fits : eqb (refusal d (s .event)) 0 ≡ true → (c : Bool) → leb (length (entry X) + 12) (left b (place w)) ≡ c → Holds (bs ++ entryOf t) w′ b′
-  unfolding entryUnless
-  fits a true i =
-      let y = append-holds bs w b X o (fine (eqb-true _ _ a)) (leb-true _ _ i) in
-      ended (appendOf w b X) true (yes-is _ _ a) (ap₂ (λ (u v : Bool). u && v) (told ∙ a) (ap (λ (v : Kept). eqb (keptNumber v) 0) (y .0))) (y .1)
-  fits a false i =
-      let y = append-left-out bs w b X o (leb-false _ _ i) in
-      ended (record { answer = NoRoom; words = w; book = b }) false (yes-is _ _ a ∙ y) (ap (λ (u : Bool). u && false) (told ∙ a)) (subst (λ (y : List (List ℕ)). Holds y w b) (sym (append-nil bs)) o)
+    -- from what the definition does to the entry that the host was told of
+    ended : (D : Done) (c : Bool) → entryUnless (refusal d (s .event)) w b X ≡ D → (accepted s && eqb (keptNumber (D .answer)) 0) ≡ c
+        → Holds (bs ++ cond c (X ∷ []) []) (D .words) (D .book) → Holds (bs ++ entryOf t) w′ b′
+    unfolding X x d t
+    ended D c a n r =
+        let z : k ≡ keptNumber (D .answer) = h .answer ∙ ap (λ (y : Done). keptNumber (y .answer)) a in
+        let v : w′ ≡ D .words = h .words-are ∙ ap (λ (y : Done). y .words) a in
+        let u : b′ ≡ D .book = h .book-is ∙ ap (λ (y : Done). y .book) a in
+        let y : List ℕ = layout.bodyBytes (recorded (s .event)) (bytesOf ((step (view m) (s .event)) .frames)) in
+        let l : entryOf (record { seen = s; kept = k }) ≡ cond c (y ∷ []) [] =
+        ap₂ (λ (i : ℕ) (u : List ℕ). cond (accepted s && eqb i 0) (u ∷ []) []) z body-is ∙ ap (λ (i : Bool). cond i (y ∷ []) []) n in
+        subst (λ (y : List ℕ). Holds (bs ++ entryOf (record { seen = s; kept = k })) y b′) (sym v)
+        (subst (λ (y : List ℕ). Holds (bs ++ entryOf (record { seen = s; kept = k })) (D .words) y) (sym u)
+        (subst (λ (y : List (List ℕ)). Holds (bs ++ y) (D .words) (D .book)) (sym l) r))
 
-  one : (c : Bool) → eqb (refusal d (s .event)) 0 ≡ c → Holds (bs ++ entryOf t) w′ b′
-  unfolding entryUnless
-  one true a = fits a (leb (length (entry X) + 12) (left b (place w))) refl
-  one false a =
-      ended (record { answer = Written; words = w; book = b }) false (no-is _ _ a) (ap (λ (u : Bool). u && true) (told ∙ a)) (subst (λ (y : List (List ℕ)). Holds y w b) (sym (append-nil bs)) o)
+    fits : eqb (refusal d (s .event)) 0 ≡ true → (c : Bool) → leb (length (entry X) + 12) (left b (place w)) ≡ c → Holds (bs ++ entryOf t) w′ b′
+    unfolding entryUnless
+    fits a true i =
+        let y = append-holds bs w b X o (fine (eqb-true _ _ a)) (leb-true _ _ i) in
+        ended (appendOf w b X) true (yes-is _ _ a) (ap₂ (λ (u v : Bool). u && v) (told ∙ a) (ap (λ (v : Kept). eqb (keptNumber v) 0) (y .0))) (y .1)
+    fits a false i =
+        let y = append-left-out bs w b X o (leb-false _ _ i) in
+        ended (record { answer = NoRoom; words = w; book = b }) false (yes-is _ _ a ∙ y) (ap (λ (u : Bool). u && false) (told ∙ a)) (subst (λ (y : List (List ℕ)). Holds y w b) (sym (append-nil bs)) o)
 
-  pub one-call : Holds (bs ++ entryOf (record { seen = s; kept = k })) w′ b′
-  unfolding t
-  one-call = one (eqb (refusal d (s .event)) 0) refl
+    one : (c : Bool) → eqb (refusal d (s .event)) 0 ≡ c → Holds (bs ++ entryOf t) w′ b′
+    unfolding entryUnless
+    one true a = fits a (leb (length (entry X) + 12) (left b (place w))) refl
+    one false a =
+        ended (record { answer = Written; words = w; book = b }) false (no-is _ _ a) (ap (λ (u : Bool). u && true) (told ∙ a)) (subst (λ (y : List (List ℕ)). Holds y w b) (sym (append-nil bs)) o)
+
+    pub one-call : Holds (bs ++ entryOf (record { seen = s; kept = k })) w′ b′
+    unfolding t
+    one-call = one (eqb (refusal d (s .event)) 0) refl
 
 abbrev AllBytes : List Seen → Type 0
 AllBytes [] = Unit {0}
@@ -159,7 +168,37 @@ holds : {m m′ : Memory} {w b w′ b′ : List ℕ} {ts : List Told} → KeptRu
 holds (stop {words = w} {book = b}) bs o p f = subst (λ (y : List (List ℕ)). Holds y w b) (sym (append-nil bs)) o
 holds (call {m = m} {m′ = m′} {words = w} {book = b} {words′ = w′} {book′ = b′} {words″ = w″} {book″ = b″} {ts = ts} s k e q c h g) bs o p f =
     subst (λ (y : List (List ℕ)). Holds y w″ b″) (append-assoc bs (entryOf (record { seen = s; kept = k })) (bodies ts))
-    (holds g (bs ++ entryOf (record { seen = s; kept = k })) (one-call m m′ w b w′ b′ s k e q (c m′ [] no-more) h bs o (p .0) (f .0)) (p .1) (f .1))
+    (holds g (bs ++ entryOf (record { seen = s; kept = k })) (one-call m m′ s (c m′ [] no-more) w b w′ b′ k e q h bs o (p .0) (f .0)) (p .1) (f .1))
+
+-- an event that is not refused has numbers that fit their places, so its body is read again as that event with those frames
+event-fits : (d : Server) (e : Event) → Possible (looked e) → Typed (looked e) → refusal d (looked e) ≡ 0 → layout.Fits (recorded (looked e))
+unfolding refusal causes
+event-fits d (opening c) p y z = let l : c < connectionLimit = leb-false connectionLimit c ((uncaused (causes d (opening c)) refl z) .0) in omega arith
+event-fits d (delivery c bs room) p y z =
+    let l : c < connectionLimit = leb-false connectionLimit c ((uncaused (causes d (looked (delivery c bs room))) refl z) .1 .0) in
+    (omega arith, record { bytes = p; within = simp length-take (omega arith) })
+event-fits d (cut c room) p y z = let l : c < connectionLimit = leb-false connectionLimit c ((uncaused (causes d (cut c room)) refl z) .1 .0) in omega arith
+event-fits d (clock t room) p y z = let l : t ≤ clockLimit = ltb-false clockLimit t ((uncaused (causes d (clock t room)) refl z) .1 .0) in omega arith
+event-fits d (answer n x end sh room) p y z =
+    let l : length x ≤ payloadLimit = payload-within d n x end (take layout.mostShown sh) room z in
+    (y, bit end, record { bytes = p .0; within = omega arith }, record { bytes = p .1; within = simp length-take (omega arith) })
+  where
+    bit : (b : Bool) → cond b 1 0 < 2
+    bit true = omega arith
+    bit false = omega arith
+event-fits d (status b) p y z = omega (arith, p)
+
+read-one : (m m′ : Memory) (s : Seen) (e : Event) → s .event ≡ looked e → Run m (s ∷ []) m′ → Possible (s .event) → Typed (s .event) → accepted s ≡ true
+    → layout.decode (body s) ≡ layout.found (recorded (s .event)) (s .output)
+read-one m m′ s e q g p y a =
+    read-again (recorded (s .event))
+    (subst (λ (x : Event). layout.Fits (recorded x)) (sym q)
+    (event-fits (view m) e (subst Possible q p) (subst Typed q y) (ap (refusal (view m)) (sym q) ∙ not-refused m m′ s g a)))
+    (s .output)
+
+reads : {m m′ : Memory} {w b w′ b′ : List ℕ} {ts : List Told} → KeptRun m w b ts m′ w′ b′ → AllPossible (seenEvents (seens ts)) → AllTyped (seenEvents (seens ts)) → EachRead ts
+reads stop p y = tt
+reads (call {m = m} {m′ = m′} s k e q c h g) p y = (read-one m m′ s e q (c m′ [] no-more) (p .0) (y .0), reads g (p .1) (y .1))
 
 -- a book that was begun holds nothing
 begins : {w b : List ℕ} → Begun w b → Holds [] w b
@@ -217,5 +256,6 @@ kept-program =
       plainly = λ m m′ w b w′ b′ ts g. plainly g;
       entries = λ v m m′ w b w′ b′ ts l n s g p. found v m m′ w b w′ b′ ts l n s g p;
       until-no-room = until;
+      read = λ m m′ w b w′ b′ ts g p y. reads g p y;
       closed = λ v m m′ w b w′ b′ w″ b″ ts k l n s g p h. shut v m m′ w b w′ b′ ts l n s g p k w″ b″ h;
     }

@@ -2,13 +2,13 @@
 -- began, each call as its function's `ensures` says. proofs/Contracts.antt has `kept-code`, whose premises are the functions' own contracts.
 -- Assumes nothing.
 use mathlib.Core.Path.{_≡_}
-use mathlib.Core.Bool.{Bool, _&&_, cond}
+use mathlib.Core.Bool.{Bool, true, _&&_, cond}
 use mathlib.Core.List.{List, [], _∷_, _++_, reverse}
 use Prim.Native.Nat.{ℕ, _^_, _≤_, _<_}
 use lib.Dec.{eqb}
 use lib.ListN.{length, take}
 use Rattle.model.specs.State.{Making}
-use Rattle.model.specs.Interface.{Event}
+use Rattle.model.specs.Interface.{Event, Event.opening, Event.delivery, Event.cut, Event.clock, Event.answer, Event.status}
 use Rattle.model.specs.Demand3.{Seen, seenEvents}
 use Rattle.model.specs.Possible.{AllPossible}
 use Rattle.state.specs.View.{Memory, view}
@@ -16,7 +16,7 @@ use Rattle.server.specs.Program.{Run}
 use Rattle.journal.specs.Journal.{closedJournal, forward, backward}
 use Rattle.journal.specs.Prefix.{within}
 use Rattle.journal.specs.Writer.{place, newOf, closeOf}
-use Rattle.record.specs.Layout.{bodyBytes}
+use Rattle.record.specs.Layout.{bodyBytes, decode, found}
 use Rattle.keep.specs.Keeping.{Keeps, keeping, looked, recorded, refusedBy}
 
 -- what the host saw of a call that keeps a journal: what it would have seen of the plain one, and what became of the entry
@@ -53,6 +53,25 @@ abbrev pub AllWritten : List Told → Type 0
 AllWritten [] = Unit {0}
 AllWritten (t ∷ ts) = (t .kept ≡ 0) × AllWritten ts
 
+-- what the C interface's types say of an event's numbers, beside `Possible`: a session is a uint32_t. (The other numbers of an accepted event
+-- are small by the rules themselves.)
+abbrev pub Typed : Event → Type 0
+Typed (opening c) = Unit {0}
+Typed (delivery c bs room) = Unit {0}
+Typed (cut c room) = Unit {0}
+Typed (clock t room) = Unit {0}
+Typed (answer n p end sh room) = n < 256 ^ 4
+Typed (status b) = Unit {0}
+
+abbrev pub AllTyped : List Event → Type 0
+AllTyped [] = Unit {0}
+AllTyped (e ∷ es) = Typed e × AllTyped es
+
+-- each accepted event's body, read by the layout, is that event with the bytes that the host was handed
+abbrev pub EachRead : List Told → Type 0
+EachRead [] = Unit {0}
+EachRead (t ∷ ts) = (accepted (t .seen) ≡ true → decode (body (t .seen)) ≡ found (recorded (t .seen .event)) (t .seen .output)) × EachRead ts
+
 -- a call of the plain interface, which may stand before any run of it
 abbrev pub PlainCall : Memory → Seen → Memory → Type 0
 PlainCall m s m′ = (m″ : Memory) (ss : List Seen) → Run m′ ss m″ → Run m (s ∷ ss) m″
@@ -84,6 +103,7 @@ pub record KeptProgram (New : Making → Memory → Type 0) (Begins : List ℕ �
       → AllPossible (seenEvents (seens ts)) → forward (take (place words′) book′) ≡ bodies ts
   -- until the first "no room" these are exactly the accepted events
   pub until-no-room : (ts : List Told) → AllWritten ts → bodies ts ≡ acceptedOf (seens ts)
+  pub read : (m m′ : Memory) (words book words′ book′ : List ℕ) (ts : List Told) → Ran m words book ts m′ words′ book′ → AllPossible (seenEvents (seens ts)) → AllTyped (seenEvents (seens ts)) → EachRead ts
   -- then the journal can be closed, and both readers find them, the second last first
   pub closed : (v : Making) (m m′ : Memory) (words book words′ book′ words″ book″ : List ℕ) (ts : List Told) (k : ℕ) → v .vendor < 2 ^ 16 → New v m → Begins words book
       → Ran m words book ts m′ words′ book′ → AllPossible (seenEvents (seens ts)) → Closes words′ book′ k words″ book″ → (k ≡ 0) × ClosedAs (bodies ts) words″ book″
