@@ -251,3 +251,6 @@ pub extern "C" fn hislip_keep_answer(
         kept,
     }
 }
+
+// An event more is a call like these, with a line each in `looked` and `recorded` (specs/Keeping.antt) and a head in heads.rt. To come: setting a
+// watch (Q-11; tags 6 to 8: heads of one, two and three numbers) and a list of patterns (Q-12; tag 9: a row of rows).

@@ -247,8 +247,12 @@ impl Server {
         holding.iter().map(Holder::of).collect()
     }
 
-    fn memory(&mut self) -> (*mut u64, *mut u8) {
+    pub(crate) fn memory(&mut self) -> (*mut u64, *mut u8) {
         (self.words.as_mut_ptr(), self.strings.as_mut_ptr())
+    }
+
+    pub(crate) fn output(&mut self) -> (*mut u8, usize) {
+        (self.out.as_mut_ptr(), self.out.len())
     }
 
     fn sent(&self, done: sys::hislip_done) -> Result<Frames<'_>, Refusal> {
@@ -256,7 +260,7 @@ impl Server {
         Ok(self.frames(done.output))
     }
 
-    fn frames(&self, output: u64) -> Frames<'_> {
+    pub(crate) fn frames(&self, output: u64) -> Frames<'_> {
         Frames::new(&self.out[..output as usize])
     }
 }
