@@ -8,6 +8,7 @@ use hislip::sys;
 use hislip::sys::journal::*;
 use reference::journal::keep::{keep, Book};
 use reference::journal::{Kept, Writer};
+use reference::verifier::{judge, Verdict};
 use reference::{Event, Fresh, Reply, Server, Subject};
 
 const LONGEST: usize = 4096;
@@ -85,9 +86,8 @@ impl Library {
                 connection, bytes, ..
             } => {
                 let (b, l) = (bytes.as_ptr(), bytes.len());
-                let told = unsafe {
-                    hislip_keep_deliver(w, s, *connection, b, l, o, n, j, book, length)
-                };
+                let told =
+                    unsafe { hislip_keep_deliver(w, s, *connection, b, l, o, n, j, book, length) };
                 let reply = Reply {
                     refusal: told.refusal,
                     outcome: told.outcome,
@@ -273,7 +273,8 @@ fn kept_calls_are_the_references() {
 #[test]
 fn the_readers_are_the_references() {
     let mut author = Author::new(77);
-    let mut both = Both::new(author.fresh, 100_000);
+    let fresh = author.fresh;
+    let mut both = Both::new(fresh, 100_000);
     both.begin();
     for _ in 0..60 {
         let event = author.event();
@@ -285,11 +286,15 @@ fn the_readers_are_the_references() {
     let book = &both.library.memory[BESIDE..BESIDE + written];
     let entries = forward(book);
     assert_eq!(entries.len() as u64, both.library.journal[2]);
+    let count = both.library.journal[2];
+    assert_eq!(judge(fresh, book), Verdict::Accepted { entries: count });
     let mut backwards = backward(book);
     backwards.reverse();
     assert_eq!(entries, backwards);
     for length in 0..written {
-        let whole = entries.iter().take_while(|(at, size)| at + size + 8 <= length);
+        let whole = entries
+            .iter()
+            .take_while(|(at, size)| at + size + 8 <= length);
         assert_eq!(forward(&book[..length]), whole.copied().collect::<Vec<_>>());
     }
 }

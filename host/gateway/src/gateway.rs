@@ -3,10 +3,11 @@
 
 use std::collections::{BTreeMap, VecDeque};
 use std::net::{SocketAddr, TcpListener, ToSocketAddrs};
+use std::path::PathBuf;
 use std::sync::mpsc::{channel, Receiver, Sender};
 use std::time::{Duration, Instant, SystemTime};
 
-use hislip::{Frames, Mode, Server, CONNECTIONS};
+use hislip::{Frames, Mode, CONNECTIONS};
 use query::names;
 
 use crate::arrive::Newcomer;
@@ -17,6 +18,7 @@ use crate::instrument::{Bench, Instrument, Ticket};
 use crate::listen::Listening;
 use crate::locks::{Followed, Later};
 use crate::log::Log;
+use crate::recorder::Recorder;
 use crate::refuse::Refusals;
 use crate::session::{Session, SessionId};
 use crate::utc;
@@ -32,6 +34,8 @@ pub struct Settings {
     pub vendor: [u8; 2],
     /// The mode that sessions start in.
     pub prefers: Mode,
+    /// A file that events are kept in.
+    pub journal: Option<PathBuf>,
     /// Time for a connection's session to have both its channels.
     pub initialize_within: Duration,
     /// Time for the instrument to do one request.
@@ -44,6 +48,7 @@ impl Default for Settings {
             listen: "127.0.0.1:4880".into(),
             vendor: *b"EX",
             prefers: Mode::Synchronized,
+            journal: None,
             initialize_within: Duration::from_secs(10),
             instrument_within: Duration::from_secs(10),
         }
@@ -59,7 +64,7 @@ pub struct Who {
 
 /// A gateway that listens; [`Gateway::run`] serves.
 pub struct Gateway {
-    pub(crate) server: Server,
+    pub(crate) server: Recorder,
     start: Instant,
     /// The same by the calendar, for the log.
     started: SystemTime,
@@ -108,11 +113,13 @@ impl Gateway {
     ) -> std::io::Result<Gateway> {
         let listener = bind(&settings.listen)?;
         let address = listener.local_addr()?;
+        let journal = settings.journal.as_deref();
+        let server = Recorder::new(settings.vendor, settings.prefers, journal)?;
         let (events, queue) = channel();
         let (name, trigger_answers) = (instrument.name(), instrument.trigger_answers());
         log.say(|| format!("gateway listens on {address} for {name}"));
         Ok(Gateway {
-            server: Server::new(settings.vendor, settings.prefers),
+            server,
             start: Instant::now(),
             started: SystemTime::now(),
             queue,
@@ -158,6 +165,9 @@ impl Gateway {
             self.seat_newcomers();
             self.send_answers();
             self.deliver_all();
+            if let Some(trouble) = self.server.trouble() {
+                self.say(Who::default(), || trouble);
+            }
         };
         self.end(why);
     }

@@ -17,6 +17,7 @@ usage: gateway [OPTION..]
                             an instrument on a raw SCPI socket (port 5025) in place of the simulated meter
   --measure-ms N            how long the simulated meter measures (0)
   --instrument-timeout-ms N how long the instrument may take for one message (10000)
+  --journal FILE            events are kept in FILE, from its start (docs/JOURNAL.md); when it is full, in FILE.1 and so on
   --log FILE                lines are also appended to FILE
   --quiet                   no lines on standard output
   --help
@@ -62,6 +63,7 @@ pub fn parse(arguments: impl IntoIterator<Item = String>) -> Result<Options, Str
             "--instrument-timeout-ms" => {
                 options.settings.instrument_within = milliseconds(&word, &next()?)?;
             }
+            "--journal" => options.settings.journal = Some(next()?.into()),
             "--log" => options.log = Some(next()?),
             _ => return Err(format!("unknown option {word}")),
         }
