@@ -408,6 +408,19 @@ HISLIP_NOT_NULL HISLIP_USE_RESULT
 hislip_kept hislip_keep_status(uint64_t *words, uint8_t *strings, uint8_t status,
                                uint64_t *journal, uint8_t *book, size_t book_len);
 
+/* Setting a watch, kept: the limits by their bits. */
+HISLIP_NOT_NULL HISLIP_USE_RESULT
+hislip_kept_done hislip_keep_watch_off(uint64_t *words, uint8_t *strings, uint32_t session,
+                                       uint64_t *journal, uint8_t *book, size_t book_len);
+
+HISLIP_NOT_NULL HISLIP_USE_RESULT
+hislip_kept_done hislip_keep_watch_above(uint64_t *words, uint8_t *strings, uint32_t session, float limit,
+                                         uint64_t *journal, uint8_t *book, size_t book_len);
+
+HISLIP_NOT_NULL HISLIP_USE_RESULT
+hislip_kept_done hislip_keep_watch_outside(uint64_t *words, uint8_t *strings, uint32_t session, float low, float high,
+                                           uint64_t *journal, uint8_t *book, size_t book_len);
+
 /* The payload length of a message, from its 16 header bytes: a help for going through frames. */
 static inline uint64_t hislip_payload_length(const uint8_t *message)
 {

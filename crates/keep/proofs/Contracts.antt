@@ -9,12 +9,14 @@ use lib.ListN.{length, take}
 use contract.Lifetimes.{Lfts}
 use borrow.Fn.Kinds.{Dens, resT, endedOf}
 use denote.Triple.Clauses.{AtExit}
-use Rattle.model.specs.Interface.{Event, Event.opening, Event.delivery, Event.cut, Event.clock, Event.answer, Event.status, Reply.done}
+use Rattle.model.specs.Interface.{Event, Event.opening, Event.delivery, Event.cut, Event.clock, Event.answer, Event.status, Event.setting, Setting.watch, Reply.done}
+use Rattle.readings.specs.Bits.{bits}
+use Rattle.readings.specs.Watch.{Limits.off, Limits.above, Limits.outside}
 use Rattle.model.specs.State.{Making}
 use Rattle.model.specs.Demand3.{Seen}
 use Rattle.state.specs.View.{Memory, memory}
 use Rattle.server.specs.Events.{Fresh}
-use Rattle.server.specs.Program.{deliveryReply, doneReply, answeredReply, Run, Run.hislip-open as ran-open, Run.hislip-deliver as ran-deliver, Run.hislip-cut as ran-cut, Run.hislip-clock as ran-clock, Run.hislip-answer as ran-answer, Run.hislip-status as ran-status}
+use Rattle.server.specs.Program.{deliveryReply, doneReply, answeredReply, Run, Run.hislip-open as ran-open, Run.hislip-deliver as ran-deliver, Run.hislip-cut as ran-cut, Run.hislip-clock as ran-clock, Run.hislip-answer as ran-answer, Run.hislip-status as ran-status, Run.hislip-watch as ran-watch}
 use Rattle.server.proofs.hislip_new.Reads as new-says
 use Rattle.server.proofs.hislip_new.Kinds as new-kinds
 use Rattle.journal.specs.Writer.{closeOf}
@@ -38,6 +40,12 @@ use Rattle.keep.proofs.hislip_keep_answer.Reads as answer-says
 use Rattle.keep.proofs.hislip_keep_answer.Kinds as answer-kinds
 use Rattle.keep.proofs.hislip_keep_status.Reads as status-says
 use Rattle.keep.proofs.hislip_keep_status.Kinds as status-kinds
+use Rattle.keep.proofs.watches.hislip_keep_watch_off.Reads as watch-off-says
+use Rattle.keep.proofs.watches.hislip_keep_watch_off.Kinds as watch-off-kinds
+use Rattle.keep.proofs.watches.hislip_keep_watch_above.Reads as watch-above-says
+use Rattle.keep.proofs.watches.hislip_keep_watch_above.Kinds as watch-above-kinds
+use Rattle.keep.proofs.watches.hislip_keep_watch_outside.Reads as watch-outside-says
+use Rattle.keep.proofs.watches.hislip_keep_watch_outside.Kinds as watch-outside-kinds
 
 -- memory that hislip_new wrote, for a server made as v says
 pub data Written : Making → Memory → Type 0 where
@@ -81,6 +89,18 @@ pub data Executed : Memory → List ℕ → List ℕ → List Told → Memory �
       → status-says.Post κs a r s → Executed (memory (s .0 .now) (s .1 .0 .now)) (s .1 .1 .1 .0 .now) (s .1 .1 .1 .1 .0 .now) ts m″ w″ b″
       → Executed (memory (a .0 .now) (a .1 .0 .now)) (a .1 .1 .1 .0 .now) (a .1 .1 .1 .1 .0 .now)
       (record { seen = record { event = status (a .1 .1 .0); reply = done; output = [] }; kept = r .kept } ∷ ts) m″ w″ b″
+  hislip-keep-watch-off : {m″ : Memory} {w″ b″ : List ℕ} {ts : List Told} (κs : Lfts 4) (a : Dens κs watch-off-kinds.ps) (r : resT watch-off-kinds.r κs .Denot) (s : AtExit (endedOf 4 watch-off-kinds.ps watch-off-kinds.r) κs)
+      → watch-off-says.Post κs a r s → Executed (memory (s .0 .now) (s .1 .0 .now)) (s .1 .1 .1 .0 .now) (s .1 .1 .1 .1 .0 .now) ts m″ w″ b″
+      → Executed (memory (a .0 .now) (a .1 .0 .now)) (a .1 .1 .1 .0 .now) (a .1 .1 .1 .1 .0 .now)
+      (record { seen = record { event = setting (watch (a .1 .1 .0) off); reply = doneReply (ofDone r); output = [] }; kept = r .kept } ∷ ts) m″ w″ b″
+  hislip-keep-watch-above : {m″ : Memory} {w″ b″ : List ℕ} {ts : List Told} (κs : Lfts 4) (a : Dens κs watch-above-kinds.ps) (r : resT watch-above-kinds.r κs .Denot) (s : AtExit (endedOf 4 watch-above-kinds.ps watch-above-kinds.r) κs)
+      → watch-above-says.Post κs a r s → Executed (memory (s .0 .now) (s .1 .0 .now)) (s .1 .1 .1 .1 .0 .now) (s .1 .1 .1 .1 .1 .0 .now) ts m″ w″ b″
+      → Executed (memory (a .0 .now) (a .1 .0 .now)) (a .1 .1 .1 .1 .0 .now) (a .1 .1 .1 .1 .1 .0 .now)
+      (record { seen = record { event = setting (watch (a .1 .1 .0) (above (bits (a .1 .1 .1 .0)))); reply = doneReply (ofDone r); output = [] }; kept = r .kept } ∷ ts) m″ w″ b″
+  hislip-keep-watch-outside : {m″ : Memory} {w″ b″ : List ℕ} {ts : List Told} (κs : Lfts 4) (a : Dens κs watch-outside-kinds.ps) (r : resT watch-outside-kinds.r κs .Denot) (s : AtExit (endedOf 4 watch-outside-kinds.ps watch-outside-kinds.r) κs)
+      → watch-outside-says.Post κs a r s → Executed (memory (s .0 .now) (s .1 .0 .now)) (s .1 .1 .1 .1 .1 .0 .now) (s .1 .1 .1 .1 .1 .1 .0 .now) ts m″ w″ b″
+      → Executed (memory (a .0 .now) (a .1 .0 .now)) (a .1 .1 .1 .1 .1 .0 .now) (a .1 .1 .1 .1 .1 .1 .0 .now)
+      (record { seen = record { event = setting (watch (a .1 .1 .0) (outside (bits (a .1 .1 .1 .0)) (bits (a .1 .1 .1 .1 .0)))); reply = doneReply (ofDone r); output = [] }; kept = r .kept } ∷ ts) m″ w″ b″
 
 -- each contract is the premise, word for word
 new : {v : Making} {m : Memory} → Written v m → Fresh v m
@@ -112,6 +132,15 @@ runs (hislip-keep-answer κs a r s p g) =
 runs (hislip-keep-status κs a r s p g) =
     call (record { event = status (a .1 .1 .0); reply = done; output = [] }) (r .kept) (status (a .1 .1 .0)) refl
     (λ m″ ss g. ran-status (a .1 .1 .0) (p .0) g) (p .1) (runs g)
+runs (hislip-keep-watch-off κs a r s p g) =
+    call (record { event = setting (watch (a .1 .1 .0) off); reply = doneReply (ofDone r); output = [] }) (r .kept) (setting (watch (a .1 .1 .0) off)) refl
+    (λ m″ ss g. ran-watch (a .1 .1 .0) off (ofDone r) (p .0) g) (p .1) (runs g)
+runs (hislip-keep-watch-above κs a r s p g) =
+    call (record { event = setting (watch (a .1 .1 .0) (above (bits (a .1 .1 .1 .0)))); reply = doneReply (ofDone r); output = [] }) (r .kept) (setting (watch (a .1 .1 .0) (above (bits (a .1 .1 .1 .0))))) refl
+    (λ m″ ss g. ran-watch (a .1 .1 .0) (above (bits (a .1 .1 .1 .0))) (ofDone r) (p .0) g) (p .1) (runs g)
+runs (hislip-keep-watch-outside κs a r s p g) =
+    call (record { event = setting (watch (a .1 .1 .0) (outside (bits (a .1 .1 .1 .0)) (bits (a .1 .1 .1 .1 .0)))); reply = doneReply (ofDone r); output = [] }) (r .kept) (setting (watch (a .1 .1 .0) (outside (bits (a .1 .1 .1 .0)) (bits (a .1 .1 .1 .1 .0))))) refl
+    (λ m″ ss g. ran-watch (a .1 .1 .0) (outside (bits (a .1 .1 .1 .0)) (bits (a .1 .1 .1 .1 .0))) (ofDone r) (p .0) g) (p .1) (runs g)
 
 pub kept-code : KeptProgram Written Began Executed Ended
 kept-code =

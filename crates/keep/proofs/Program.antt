@@ -11,8 +11,9 @@ use borrow.Author.Tests.{leb-true, leb-false, ltb-false, eqb-true}
 use Rattle.wire.specs.Field.{Bytes, field}
 use Rattle.wire.specs.Frame.{bytesOf}
 use Rattle.wire.proofs.ReadFrames.{bytes-row}
+use Rattle.readings.specs.Watch.{Limits.off, Limits.above, Limits.outside}
 use Rattle.model.specs.State.{Making, Server, fresh}
-use Rattle.model.specs.Interface.{Event, Event.opening, Event.delivery, Event.cut, Event.clock, Event.answer, Event.status, Reply}
+use Rattle.model.specs.Interface.{Event, Event.opening, Event.delivery, Event.cut, Event.clock, Event.answer, Event.status, Event.setting, Setting.watch, Reply}
 use Rattle.model.specs.Refusals.{causes, refusal}
 use Rattle.model.specs.Sizes.{clockLimit, connectionLimit, payloadLimit}
 use Rattle.model.specs.Step.{Line, log, step}
@@ -68,6 +69,11 @@ encode-bytes (answer n x end sh room) p =
     (append-bytes (field 4 n) z (field-bytes 4 n)
     (append-bytes (field 1 (cond end 1 0)) y (field-bytes 1 (cond end 1 0)) (append-bytes (layout.row x) (layout.row sh) (row-bytes x (p .0)) (row-bytes sh (p .1)))))
 encode-bytes (status b) p = cons-bytes 5 (field 1 b) (omega arith) (field-bytes 1 b)
+encode-bytes (setting (watch n off)) p = cons-bytes 6 (field 4 n) (omega arith) (field-bytes 4 n)
+encode-bytes (setting (watch n (above b))) p = cons-bytes 7 (field 4 n ++ field 4 b) (omega arith) (append-bytes (field 4 n) (field 4 b) (field-bytes 4 n) (field-bytes 4 b))
+encode-bytes (setting (watch n (outside b c))) p =
+    cons-bytes 8 (field 4 n ++ (field 4 b ++ field 4 c)) (omega arith)
+    (append-bytes (field 4 n) (field 4 b ++ field 4 c) (field-bytes 4 n) (append-bytes (field 4 b) (field 4 c) (field-bytes 4 b) (field-bytes 4 c)))
 
 -- one call: what the host saw is the definition's
 module _ (m m′ : Memory) (s : Seen) (g : Run m (s ∷ []) m′) where
@@ -187,6 +193,9 @@ event-fits d (answer n x end sh room) p y z =
     bit true = omega arith
     bit false = omega arith
 event-fits d (status b) p y z = omega (arith, p)
+event-fits d (setting (watch n off)) p y z = y
+event-fits d (setting (watch n (above b))) p y z = y
+event-fits d (setting (watch n (outside b c))) p y z = y
 
 read-one : (m m′ : Memory) (s : Seen) (e : Event) → s .event ≡ looked e → Run m (s ∷ []) m′ → Possible (s .event) → Typed (s .event) → accepted s ≡ true
     → layout.decode (body s) ≡ layout.found (recorded (s .event)) (s .output)

@@ -1,7 +1,7 @@
 -- What the plain call's contract gives the kept one: its answer tells the refusal and the frames that are handed over, so the parts that the
 -- code has are the body. One law for the calls of each answer. Assumes nothing.
-use mathlib.Core.Path.{_≡_, refl, sym, ap, subst, _∙_}
-use mathlib.Core.Bool.{Bool, cond}
+use mathlib.Core.Path.{_≡_, refl, sym, ap, ap₂, subst, _∙_}
+use mathlib.Core.Bool.{Bool, true, false, cond, _||_}
 use mathlib.Core.List.{List, [], _∷_, _++_}
 use Prim.Native.Nat.{ℕ, _+_, _≤_, min}
 use native.Mathlib.Omega.{arith}
@@ -9,13 +9,17 @@ use lib.ListN.{length, take, length-append, length-take}
 use lib.Seq.{take-nil}
 use Rattle.wire.specs.Field.{field}
 use Rattle.wire.specs.Frame.{bytesOf}
+use Rattle.readings.specs.Bits.{below, notNumber}
+use Rattle.readings.specs.Watch.{Limits, Limits.off, Limits.above, Limits.outside, refused as refused-limits}
 use Rattle.model.specs.Bound.{roomOf}
 use Rattle.model.specs.State.{Server}
-use Rattle.model.specs.Interface.{Event, Event.opening, Event.delivery, Event.cut, Event.clock, Event.answer, Event.status, Reply, Reply.refused, Reply.done, Reply.withheld, Reply.took, DeliveryAnswer, deliveryAnswer, DoneAnswer, doneAnswer, AnsweredAnswer, answeredAnswer}
+use Rattle.model.specs.Interface.{Event, Event.opening, Event.delivery, Event.cut, Event.clock, Event.answer, Event.status, Event.setting, Setting.watch, Reply, Reply.refused, Reply.done, Reply.withheld, Reply.took, DeliveryAnswer, deliveryAnswer, DoneAnswer, doneAnswer, AnsweredAnswer, answeredAnswer}
 use Rattle.model.specs.Missing.{missing}
 use Rattle.model.specs.Post.{Post}
 use Rattle.model.specs.Refusals.{causes, refusal}
 use Rattle.model.specs.Step.{step}
+use Rattle.model.proofs.Fits.{uncaused}
+use Rattle.sensing.specs.Words.{clean, clean-is}
 use Rattle.state.specs.View.{Memory, view}
 use Rattle.effects.specs.declared.Delivery.{Delivery}
 use Rattle.server.specs.declared.Answered.{Answered}
@@ -27,7 +31,7 @@ use Rattle.journal.specs.Writer as Book
 use Rattle.record.specs.Layout as layout
 use Rattle.record.specs.Layout.{encode}
 use Rattle.keep.specs.Keeping.{looked, recorded, refusedBy, entryUnless, keeping, Keeps}
-use Rattle.keep.specs.Parts.{outputBy, refused-by, output-by, handed, kept-call, body-within, first-of, short-parts, delivery-parts, answer-parts}
+use Rattle.keep.specs.Parts.{outputBy, refused-by, output-by, handed, kept-call, kept-if, or-first, or-second, body-within, first-of, short-parts, delivery-parts, answer-parts}
 
 -- the refusal that was told, and the bytes of the buffer that were
 pub record Handed (d : Server) (e : Event) (z n : ℕ) (out : List ℕ) : Type 0 where
@@ -157,6 +161,39 @@ module _ (m : Memory) (e : Event) (z n : ℕ) (out : List ℕ) (h : Handed (view
 
   pub numbers-within : (head : List ℕ) → head ≡ layout.encode (recorded (looked e)) → z ≡ 0 → length head + length (take n out) ≤ bodyLimit
   numbers-within head p q = omega (arith, within _ (numbers-are head p) q, length-append head (take n out))
+
+  -- one whose numbers stand there only if it is not refused
+  pub numbers-kept-if : (head words book : List ℕ) (k : ℕ) (words′ book′ : List ℕ) → (z ≡ 0 → head ≡ layout.encode (recorded (looked e)))
+      → Keeps (entryUnless z words book (head ++ take n out)) k words′ book′ → Keeps (keeping (view m) (looked e) words book) k words′ book′
+  numbers-kept-if head words book k words′ book′ p i =
+      let y : List ℕ = layout.bodyBytes (recorded (looked e)) (bytesOf ((step (view m) (looked e)) .frames)) in
+      body-kept y words book k words′ book′ refl (kept-if z words book (head ++ take n out) y k words′ book′ (λ q. numbers-are head (p q)) i)
+
+-- 02, Q-11: limits of a watch that is not refused are numbers, so their bits are as the code has them
+module _ (m : Memory) (n : ℕ) (l : Limits) (z : ℕ) (h : Handed (view m) (setting (watch n l)) z 0 []) (q : z ≡ 0) where
+  fair : refused-limits l ≡ false
+  unfolding refusal causes
+  fair = (uncaused (causes (view m) (setting (watch n l))) refl (sym (h .refused-as) ∙ q)) .1 .0
+
+pub off-head : (n : ℕ) {h : List ℕ} → h ≡ 6 ∷ field 4 n → h ≡ layout.encode (recorded (looked (setting (watch n off))))
+unfolding encode
+off-head n p = p
+
+pub above-head : (m : Memory) (n b z x : ℕ) (h : List ℕ) → Handed (view m) (setting (watch n (above b))) z 0 [] → x ≡ clean b → h ≡ 7 ∷ (field 4 n ++ field 4 x) → z ≡ 0
+    → h ≡ layout.encode (recorded (looked (setting (watch n (above b)))))
+unfolding encode refused-limits
+above-head m n b z x h i p e q =
+    let f : notNumber b ≡ false = fair m n (above b) z i q in
+    e ∙ ap (λ (y : ℕ). 7 ∷ (field 4 n ++ field 4 y)) (p ∙ clean-is b f)
+
+pub outside-head : (m : Memory) (n b c z x y : ℕ) (h : List ℕ) → Handed (view m) (setting (watch n (outside b c))) z 0 [] → x ≡ clean b → y ≡ clean c
+    → h ≡ 8 ∷ (field 4 n ++ (field 4 x ++ field 4 y)) → z ≡ 0 → h ≡ layout.encode (recorded (looked (setting (watch n (outside b c)))))
+unfolding encode refused-limits
+outside-head m n b c z x y h i p r e q =
+    let f : (notNumber b || (notNumber c || below c b)) ≡ false = fair m n (outside b c) z i q in
+    let s : notNumber b ≡ false = or-first (notNumber b) (notNumber c || below c b) f in
+    let t : notNumber c ≡ false = or-first (notNumber c) (below c b) (or-second (notNumber b) (notNumber c || below c b) f) in
+    e ∙ ap₂ (λ (u v : ℕ). 8 ∷ (field 4 n ++ (field 4 u ++ field 4 v))) (p ∙ clean-is b s) (r ∙ clean-is c t)
 
 -- four parts
 four : (a b c d : List ℕ) → length (a ++ b ++ c ++ d) ≡ length a + length b + length c + length d

@@ -7,8 +7,9 @@ use Prim.Native.Nat.{ℕ}
 use lib.Dec.{eqb}
 use lib.ListN.{take}
 use Rattle.wire.specs.Frame.{bytesOf}
+use Rattle.readings.specs.Watch.{Limits, Limits.off, Limits.above, Limits.outside}
 use Rattle.model.specs.State.{Server}
-use Rattle.model.specs.Interface.{Event, Event.opening, Event.delivery, Event.cut, Event.clock, Event.answer, Event.status, Reply, Reply.refused, Reply.done, Reply.withheld, Reply.took}
+use Rattle.model.specs.Interface.{Event, Event.opening, Event.delivery, Event.cut, Event.clock, Event.answer, Event.status, Event.setting, Setting, Setting.watch, Reply, Reply.refused, Reply.done, Reply.withheld, Reply.took}
 use Rattle.model.specs.Refusals.{refusal}
 use Rattle.model.specs.Step.{step}
 use Rattle.effects.specs.declared.Delivery.{Delivery}
@@ -31,6 +32,16 @@ looked (cut c room) = cut c room
 looked (clock t room) = clock t room
 looked (answer n p end sh room) = answer n p end (take layout.mostShown sh) room
 looked (status b) = status b
+looked (setting x) = setting x
+
+-- 02, Q-11: "Setting a watch is an event .. for the day book": its case, and its limits by their bits
+abbrev pub recordedWatch : ℕ → Limits → layout.Event
+recordedWatch n off = layout.watchOff n
+recordedWatch n (above b) = layout.watchAbove n b
+recordedWatch n (outside b c) = layout.watchOutside n b c
+
+abbrev pub recordedSetting : Setting → layout.Event
+recordedSetting (watch n l) = recordedWatch n l
 
 -- the event as an entry's body has it: the room lent is not recorded
 abbrev pub recorded : Event → layout.Event
@@ -40,6 +51,7 @@ recorded (cut c room) = layout.cut c
 recorded (clock t room) = layout.clock t
 recorded (answer n p end sh room) = layout.answer n (cond end 1 0) p sh
 recorded (status b) = layout.status b
+recorded (setting x) = recordedSetting x
 
 -- the number of a refusal; 0: the call was not refused
 abbrev pub refusedBy : Reply → ℕ

@@ -1,20 +1,21 @@
 -- The parts of a body, as the code hands them to the writer, and what the plain call's answer tells of them. Assumes nothing.
 use mathlib.Core.Path.{_≡_, refl, sym, ap, subst, _∙_}
 use mathlib.Core.Logic.{_⊎_, ⊎-elim}
-use mathlib.Core.Bool.{Bool, true, false, _||_}
+use mathlib.Core.Bool.{Bool, true, false, true≢false, _||_}
 use mathlib.Core.List.{List, [], _∷_, _++_, append-assoc, append-nil}
 use Prim.Native.Nat.{ℕ, zero, suc, _+_, _≤_, _<_, min}
 use native.Mathlib.Omega.{arith}
 use lib.Dec.{eqb, ltb}
 use lib.ListN.{length, take, length-take, length-append}
 use lib.Seq.{take-all}
-use borrow.Author.Tests.{ltb-false}
+use borrow.Author.Tests.{ltb-false, ne-eqb}
 use Rattle.wire.specs.Field.{field, length-field}
 use Rattle.wire.specs.Frame.{Frame, bytesOf, written}
 use Rattle.wire.specs.Splice.{splice, length-splice, take-front, splice-then}
 use Rattle.model.specs.Sizes.{outputMinimum, payloadLimit, sessionLimit}
+use Rattle.readings.specs.Watch.{Limits, Limits.off, Limits.above, Limits.outside}
 use Rattle.model.specs.State.{Server}
-use Rattle.model.specs.Interface.{Event, Event.opening, Event.delivery, Event.cut, Event.clock, Event.answer, Event.status, Reply, Reply.refused, Reply.done, Reply.withheld, Reply.took}
+use Rattle.model.specs.Interface.{Event, Event.opening, Event.delivery, Event.cut, Event.clock, Event.answer, Event.status, Event.setting, Setting.watch, Reply, Reply.refused, Reply.done, Reply.withheld, Reply.took}
 use Rattle.model.specs.Refusals.{causes, refusal}
 use Rattle.model.specs.Step.{Result, answered, step}
 use Rattle.model.specs.Bound.{roomOf, outputBound}
@@ -122,9 +123,13 @@ row-length : (r : List ℕ) → length (layout.row r) ≡ 4 + length r
 unfolding row
 row-length r = simp (length-append, length-field)
 
-or-first : (a b : Bool) → (a || b) ≡ false → a ≡ false
+pub or-first : (a b : Bool) → (a || b) ≡ false → a ≡ false
 or-first true b e = e
 or-first false b e = refl
+
+pub or-second : (a b : Bool) → (a || b) ≡ false → b ≡ false
+or-second true b e = absurd (true≢false e)
+or-second false b e = e
 
 -- an answer that is not refused is no longer than 1,024 bytes
 pub payload-within : (d : Server) (n : ℕ) (p : List ℕ) (end : Bool) (sh : List ℕ) (room : ℕ) → refusal d (answer n p end sh room) ≡ 0 → length p ≤ payloadLimit
@@ -144,6 +149,9 @@ body-within m (answer n p end sh room) z =
     let e : Event = answer n p end (take layout.mostShown sh) room in
     simp (length-append, length-field, row-length, length-take) (omega (arith, few-given m e, payload-within (view m) n p end (take layout.mostShown sh) room z))
 body-within m (status b) z = simp (length-append, length-field) (omega (arith, few-given m (status b)))
+body-within m (setting (watch n off)) z = simp (length-append, length-field) (omega (arith, few-given m (setting (watch n off))))
+body-within m (setting (watch n (above b))) z = simp (length-append, length-field) (omega (arith, few-given m (setting (watch n (above b)))))
+body-within m (setting (watch n (outside b c))) z = simp (length-append, length-field) (omega (arith, few-given m (setting (watch n (outside b c)))))
 
 -- the bodies of the events, in the parts that the code has; `out` is the buffer after the call, of which the frames are the first n bytes
 pub short-parts : (head : List ℕ) (e : layout.Event) (frames given : List ℕ) → head ≡ layout.encode e → frames ≡ given → head ++ frames ≡ layout.bodyBytes e given
@@ -178,3 +186,12 @@ row-taken blank one both s h p q =
     let l : length x ≡ 4 + length s = length-append (field 4 (length s)) s ∙ ap (λ (n : ℕ). n + length s) (length-field 4 (length s)) in
     let e : both ≡ splice blank 0 x = q ∙ ap (λ (y : List ℕ). splice y 4 s) p ∙ splice-then blank 0 (field 4 (length s)) 4 s (length-field 4 (length s)) (omega arith) in
     ap (λ (n : ℕ). take n both) (sym l) ∙ ap (take (length x)) e ∙ take-front blank x (omega (arith, l))
+
+-- of a refused event the body does not matter
+pub kept-if : (z : ℕ) (words book x y : List ℕ) (k : ℕ) (words′ book′ : List ℕ) → (z ≡ 0 → x ≡ y) → Keeps (entryUnless z words book x) k words′ book′ → Keeps (entryUnless z words book y) k words′ book′
+unfolding entryUnless
+kept-if zero words book x y k words′ book′ p h = subst (λ (i : List ℕ). Keeps (entryUnless zero words book i) k words′ book′) (p refl) h
+kept-if (suc z) words book x y k words′ book′ p h =
+    let D : Done = record { answer = Written; words = words; book = book } in
+    let n : eqb (suc z) 0 ≡ false = ne-eqb (suc z) 0 (λ q. omega (arith, q)) in
+    subst (λ (i : Done). Keeps i k words′ book′) (no-is {A = Done} (appendOf words book x) D n ∙ sym (no-is {A = Done} (appendOf words book y) D n)) h

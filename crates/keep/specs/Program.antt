@@ -7,8 +7,9 @@ use mathlib.Core.List.{List, [], _∷_, _++_, reverse}
 use Prim.Native.Nat.{ℕ, _^_, _≤_, _<_}
 use lib.Dec.{eqb}
 use lib.ListN.{length, take}
+use Rattle.readings.specs.Watch.{Limits.off, Limits.above, Limits.outside}
 use Rattle.model.specs.State.{Making}
-use Rattle.model.specs.Interface.{Event, Event.opening, Event.delivery, Event.cut, Event.clock, Event.answer, Event.status}
+use Rattle.model.specs.Interface.{Event, Event.opening, Event.delivery, Event.cut, Event.clock, Event.answer, Event.status, Event.setting, Setting.watch}
 use Rattle.model.specs.Demand3.{Seen, seenEvents}
 use Rattle.model.specs.Possible.{AllPossible}
 use Rattle.state.specs.View.{Memory, view}
@@ -53,7 +54,7 @@ abbrev pub AllWritten : List Told → Type 0
 AllWritten [] = Unit {0}
 AllWritten (t ∷ ts) = (t .kept ≡ 0) × AllWritten ts
 
--- what the C interface's types say of an event's numbers, beside `Possible`: a session is a uint32_t. (The other numbers of an accepted event
+-- what the C interface's types say of an event's numbers, beside `Possible`: a session is a uint32_t, a limit a float. (The other numbers of an accepted event
 -- are small by the rules themselves.)
 abbrev pub Typed : Event → Type 0
 Typed (opening c) = Unit {0}
@@ -62,6 +63,9 @@ Typed (cut c room) = Unit {0}
 Typed (clock t room) = Unit {0}
 Typed (answer n p end sh room) = n < 256 ^ 4
 Typed (status b) = Unit {0}
+Typed (setting (watch n off)) = n < 256 ^ 4
+Typed (setting (watch n (above b))) = (n < 256 ^ 4) × (b < 256 ^ 4)
+Typed (setting (watch n (outside b c))) = (n < 256 ^ 4) × (b < 256 ^ 4) × (c < 256 ^ 4)
 
 abbrev pub AllTyped : List Event → Type 0
 AllTyped [] = Unit {0}

@@ -23,6 +23,12 @@ pub const ANSWER: u8 = 4;
 
 pub const STATUS: u8 = 5;
 
+pub const WATCH_OFF: u8 = 6;
+
+pub const WATCH_ABOVE: u8 = 7;
+
+pub const WATCH_OUTSIDE: u8 = 8;
+
 // One byte.
 pub fn byte(tag: u8, x: u64) -> [u8; 2]
     ensures { λ r. ⌜ r ≡ tag ∷ field 1 x ⌝ }
@@ -57,6 +63,27 @@ pub fn two(tag: u8, x: u64, y: u64) -> [u8; 9]
         (y / 65536 % 256) as u8,
         (y / 256 % 256) as u8,
         (y / 1 % 256) as u8,
+    ]
+}
+
+// Three of them.
+pub fn triple(tag: u8, x: u64, y: u64, z: u64) -> [u8; 13]
+    ensures { λ r. ⌜ r ≡ tag ∷ (field 4 x ++ (field 4 y ++ field 4 z)) ⌝ }
+{
+    [
+        tag,
+        (x / 16777216 % 256) as u8,
+        (x / 65536 % 256) as u8,
+        (x / 256 % 256) as u8,
+        (x / 1 % 256) as u8,
+        (y / 16777216 % 256) as u8,
+        (y / 65536 % 256) as u8,
+        (y / 256 % 256) as u8,
+        (y / 1 % 256) as u8,
+        (z / 16777216 % 256) as u8,
+        (z / 65536 % 256) as u8,
+        (z / 256 % 256) as u8,
+        (z / 1 % 256) as u8,
     ]
 }
 

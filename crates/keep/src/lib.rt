@@ -16,6 +16,7 @@ ghost use mathlib.Core.Path.{_≡_};
 
 mod book;
 mod heads;
+mod watches;
 
 use journal::writer;
 use record::events::MOST_DELIVERED;
@@ -252,5 +253,5 @@ pub extern "C" fn hislip_keep_answer(
     }
 }
 
-// An event more is a call like these, with a line each in `looked` and `recorded` (specs/Keeping.antt) and a head in heads.rt. To come: setting a
-// watch (Q-11; tags 6 to 8: heads of one, two and three numbers) and a list of patterns (Q-12; tag 9: a row of rows).
+// An event more is a call like these (watches.rt has three), with a line each in `looked` and `recorded` (specs/Keeping.antt) and a head in heads.rt. To
+// come: a list of patterns (Q-12; tag 9: a row of rows).
