@@ -1,8 +1,8 @@
 # `make` alone lists the targets. `rt` is the prover; RT=.. names another command for it.
 RT      ?= rt
 ARCHIVE ?= target/libhislip.a
-# where the prover leaves the code of `server`, which has every function of the interface
-PROVED  ?= target/staticlib/libserver.a
+# the crates whose exported functions are the interface
+EXPORTS  = server keep
 
 .PHONY: help test library
 
@@ -27,7 +27,7 @@ test:
 
 # What is proved already is not proved again: nothing at all if no source has changed, else rt says which crates.
 library:
-	@bash host/build_archive.sh $(ARCHIVE) $(PROVED) $(RT) staticlib server
+	@bash host/build_archive.sh $(ARCHIVE) $(RT) $(EXPORTS)
 
 include include/install.mk
 include host/Makefile.inc
