@@ -9,7 +9,7 @@ use hislip::sys::journal::*;
 use reference::journal::keep::{keep, Book};
 use reference::journal::{Kept, Writer};
 use reference::verifier::{judge, Verdict};
-use reference::{Event, Fresh, Reply, Server, Subject};
+use reference::{Event, Fresh, Reply, Server, Subject, Watch};
 
 const LONGEST: usize = 4096;
 const GUARD: u8 = 0xa5;
@@ -95,7 +95,7 @@ impl Library {
                     taken: told.taken,
                     output: told.output,
                     missing: told.missing,
-                    withheld: 0,
+                    ..Reply::default()
                 };
                 (reply, told.kept)
             }
@@ -119,7 +119,41 @@ impl Library {
                 };
                 (reply, told.kept)
             }
+            Event::Watch { session, watch } => self.watch(*session, *watch),
+            Event::Patterns { text } => self.patterns(text),
         }
+    }
+
+    fn watch(&mut self, n: u32, watch: Watch) -> (Reply, u64) {
+        let (book, length) = self.book();
+        let (w, s) = (self.words.as_mut_ptr(), self.strings.as_mut_ptr());
+        let j = self.journal.as_mut_ptr();
+        done(unsafe {
+            match watch {
+                Watch::Off => hislip_keep_watch_off(w, s, n, j, book, length),
+                Watch::Above { limit } => {
+                    hislip_keep_watch_above(w, s, n, limit.0, j, book, length)
+                }
+                Watch::Outside { low, high } => {
+                    hislip_keep_watch_outside(w, s, n, low.0, high.0, j, book, length)
+                }
+            }
+        })
+    }
+
+    fn patterns(&mut self, text: &[u8]) -> (Reply, u64) {
+        let (book, length) = self.book();
+        let (w, s) = (self.words.as_mut_ptr(), self.strings.as_mut_ptr());
+        let j = self.journal.as_mut_ptr();
+        let (t, l) = (text.as_ptr(), text.len());
+        let told = unsafe { hislip_keep_patterns(w, s, t, l, j, book, length) };
+        let reply = Reply {
+            refusal: told.refusal,
+            pattern: told.pattern,
+            place: told.place,
+            ..Reply::default()
+        };
+        (reply, told.kept)
     }
 }
 

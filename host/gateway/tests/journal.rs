@@ -20,6 +20,8 @@ const DATA_END: u8 = 7;
 const ASYNC_INITIALIZE: u8 = 17;
 /// The tag of an answer's body.
 const ANSWER: u8 = 4;
+/// The tag of a watch with one limit.
+const WATCH_ABOVE: u8 = 7;
 const KILLED: u64 = 200;
 
 fn file(name: &str) -> PathBuf {
@@ -28,8 +30,12 @@ fn file(name: &str) -> PathBuf {
 }
 
 fn start(path: &std::path::Path) -> Program {
+    start_with(path, &[])
+}
+
+fn start_with(path: &std::path::Path, more: &[&str]) -> Program {
     let path = path.to_str().expect("plain text");
-    Program::start("127.0.0.1:0", &["--journal", path])
+    Program::start("127.0.0.1:0", &[&["--journal", path], more].concat())
 }
 
 /// One message; None if the gateway is gone.
@@ -131,6 +137,32 @@ fn a_run_that_ends_in_order_leaves_a_closed_journal() {
     assert_eq!(last.found, 1);
     assert_eq!(four(&book, end + 4) as u64, last.next);
     fs::remove_file(path).expect("it was there");
+}
+
+/// The list is the first entry, without its newlines; the watch is set when the session opens.
+#[test]
+fn the_list_and_the_watches_are_entries() {
+    let (path, list) = (file("settings"), file("allowed"));
+    fs::write(&list, "*IDN?\nREAD?\n").expect("a place for files");
+    let allow = list.to_str().expect("plain text");
+    let mut program = start_with(&path, &["--allow", allow, "--watch", "2.5"]);
+    assert_eq!(ask(&program.address, 1).len(), 1);
+    program.signal("TERM");
+    assert!(program.ended().is_some_and(|status| status.success()));
+    let book = fs::read(&path).expect("the journal");
+    let (bodies, _) = entries(&book);
+    assert_eq!(bodies[0], b"\x09\0\0\0\x02\0\0\0\x05*IDN?\0\0\0\x05READ?");
+    let watches = bodies.iter().filter(|body| body[0] == WATCH_ABOVE);
+    let limits: Vec<u32> = watches.map(|body| four(body, 5)).collect();
+    assert_eq!(limits, [2.5_f32.to_bits()]);
+    let fresh = Fresh {
+        vendor: u16::from_be_bytes(*b"EX"),
+        prefers: Mode::Synchronized,
+    };
+    let count = bodies.len() as u64;
+    assert_eq!(judge(fresh, &book), Verdict::Accepted { entries: count });
+    fs::remove_file(path).expect("it was there");
+    fs::remove_file(list).expect("it was there");
 }
 
 #[test]
