@@ -1,0 +1,71 @@
+// An entry's body: its event is done, and what it gives compared with the frames beside it.
+ghost use Prim.Native.Nat.{_-_, _≤_};
+ghost use Rattle.model.specs.Sizes.{outputMinimum};
+ghost use Rattle.replay.specs.Replays.{Judges};
+ghost use Rattle.state.specs.View.{memory};
+ghost use lib.ListN.{drop, length, take};
+ghost use mathlib.Core.Path.{_≡_};
+use crate::events;
+use record::parts::NO_LAYOUT;
+use state::sizes::Strings;
+use state::sizes::Words;
+use verifier::LAYOUT;
+use verifier::PARCELS;
+
+// 0, or the fault: of layout or of parcels.
+fn replay(words: &mut Words, strings: &mut Strings, out: &mut [u8], body: &[u8]) -> u64
+    requires { ⌜ length (now out) ≡ outputMinimum ⌝ }
+    ensures { λ r. ⌜ Judges r (memory (now (words .entry)) (now (strings .entry))) (memory (now (words .exit)) (now (strings .exit))) (now (body .entry)) ⌝ }
+{
+    let p = record::body::read(body);
+    if p.kind == NO_LAYOUT {
+        return LAYOUT;
+    }
+    let f = p.frames;
+    let i = p.first;
+    let e = i + p.size;
+    if p.kind == 0 {
+        return events::open(words, strings, p.a, &body[f..]);
+    }
+    if p.kind == 1 {
+        return events::deliver(words, strings, out, p.a, &body[i..e], &body[f..]);
+    }
+    if p.kind == 2 {
+        return events::cut_one(words, strings, out, p.a, &body[f..]);
+    }
+    if p.kind == 3 {
+        return events::clock_reads(words, strings, out, p.a, &body[f..]);
+    }
+    if p.kind == 4 {
+        let j = p.second;
+        let g = j + p.extent;
+        return events::answer_with(
+            words,
+            strings,
+            out,
+            p.a,
+            p.b,
+            &body[i..e],
+            &body[j..g],
+            &body[f..],
+        );
+    }
+    if p.kind == 5 {
+        return events::status_is(words, strings, p.a, &body[f..]);
+    }
+    PARCELS
+}
+
+// The body of the entry that the bytes up to e + 8 are.
+pub fn replay_part(
+    words: &mut Words,
+    strings: &mut Strings,
+    out: &mut [u8],
+    buf: &[u8],
+    e: usize,
+) -> u64
+    requires { ⌜ (4 ≤ e) × (e ≤ length (now buf)) × (length (now out) ≡ outputMinimum) ⌝ }
+    ensures { λ r. ⌜ Judges r (memory (now (words .entry)) (now (strings .entry))) (memory (now (words .exit)) (now (strings .exit))) (take (e - 4) (drop 4 (now (buf .entry)))) ⌝ }
+{
+    replay(words, strings, out, &buf[4..e])
+}
