@@ -5,7 +5,8 @@ use mathlib.Core.List.{List, [], _∷_, _++_}
 use Prim.Native.Nat.{ℕ, zero, suc, _+_, _-_, _^_, _≤_, _<_}
 use native.Mathlib.Omega.{arith}
 use lib.Dec.{eqb, leb}
-use lib.ListN.{length, take, drop, length-append, length-take, length-drop}
+use lib.ListN.{length, take, drop, length-append, length-drop}
+use lib.Seq.{take-length}
 use borrow.Author.Tests.{le-leb, lt-leb, eq-eqb, ne-eqb, eqb-true}
 use Rattle.wire.specs.Field.{Bytes}
 use Rattle.wire.specs.Frame.{Frame, bytesOf, written}
@@ -23,7 +24,10 @@ use Rattle.model.specs.State.{Server, connectionAt}
 use Rattle.model.specs.Interface.{Event, Event.opening, Event.delivery, Event.cut, Event.clock, Event.answer, Event.status, Reply, Reply.refused as turned-away, Reply.done, Reply.withheld, Reply.took, DoneAnswer, doneAnswer, DeliveryAnswer, deliveryAnswer, AnsweredAnswer, answeredAnswer}
 use Rattle.model.specs.Post.{Post}
 use Rattle.model.specs.Refusals.{refusal}
-use Rattle.model.specs.Step.{answered, finish, plan, received, step, withholds}
+use Rattle.model.specs.Checks.{verdict}
+use Rattle.model.specs.Place.{roleOf, slotOf}
+use Rattle.model.specs.Scan.{scan}
+use Rattle.model.specs.Step.{answered, effect, finish, plan, received, step, withholds}
 use Rattle.model.proofs.Refused.{Took, effect-took}
 use Rattle.state.specs.View.{Memory, view}
 use Rattle.effects.specs.declared.Delivery.{Delivery}
@@ -61,7 +65,11 @@ either-fair false = tt
 planned-fair : (d : Server) (e : Event) → Fair ((plan d e) .reply)
 unfolding plan received
 planned-fair d (opening c) = tt
-planned-fair d (delivery c bs room) = took-fair _ (effect-took _ _ _ d _ c)
+planned-fair d (delivery c bs room) =
+    let s = scan ((connectionAt (d .rest) c) .remainder) bs in
+    let r = roleOf (d .locks .entries) c in
+    let i = slotOf d c in
+    took-fair ((effect (verdict r d i s) s r d i c) .reply) (effect-took (verdict r d i s) s r d i c)
 planned-fair d (cut c room) = tt
 planned-fair d (clock t room) = tt
 planned-fair d (answer n p end sh room) = either-fair (withholds d n end sh)
@@ -268,35 +276,42 @@ module _ (p : Parts) (s : List ℕ) (o : Reads p s (decode s)) where
   pub fits-5 : Bytes s → p .kind ≡ 5 → p .a < 256 ^ 1
   fits-5 y e = fits-read y (r-status (p .a)) _ (at-5 e)
 
+  -- the frames, as the code cuts them out: up to the body's end
+  abbrev rest : List ℕ
+  rest = take (length s - p .frames) (drop (p .frames) s)
+
+  rest-is : rest ≡ drop (p .frames) s
+  rest-is = ap (λ (k : ℕ). take k (drop (p .frames) s)) (sym (length-drop (p .frames) s)) ∙ take-length (drop (p .frames) s)
+
   module _ (m m′ : Memory) (r : ℕ) where
-    judged : (e : Recorded) (x : List ℕ) → seen p s ≡ found e x → Replays r e m m′ x → Judges r m m′ s
+    judged : (e : Recorded) → seen p s ≡ found e (drop (p .frames) s) → Replays r e m m′ rest → Judges r m m′ s
     unfolding byEvent
-    judged e x q g = g ∙ ap (byEvent deed (view m)) (sym q ∙ o .says)
+    judged e q g = subst (λ (x : List ℕ). Replays r e m m′ x) rest-is g ∙ ap (byEvent deed (view m)) (sym q ∙ o .says)
 
-    pub judged-0 : p .kind ≡ 0 → Replays r (r-opening (p .a)) m m′ (drop (p .frames) s) → Judges r m m′ s
-    judged-0 e g = judged _ _ (at-0 e) g
+    pub judged-0 : p .kind ≡ 0 → Replays r (r-opening (p .a)) m m′ rest → Judges r m m′ s
+    judged-0 e g = judged _ (at-0 e) g
 
-    pub judged-1 : p .kind ≡ 1 → Replays r (r-delivery (p .a) (take (p .first + p .size - p .first) (drop (p .first) s))) m m′ (drop (p .frames) s) → Judges r m m′ s
+    pub judged-1 : p .kind ≡ 1 → Replays r (r-delivery (p .a) (take (p .first + p .size - p .first) (drop (p .first) s))) m m′ rest → Judges r m m′ s
     judged-1 e g =
         let k : p .first + p .size - p .first ≡ p .size = omega arith in
-        judged _ _ (at-1 e) (subst (λ (j : ℕ). Replays r (r-delivery (p .a) (take j (drop (p .first) s))) m m′ (drop (p .frames) s)) k g)
+        judged _ (at-1 e) (subst (λ (j : ℕ). Replays r (r-delivery (p .a) (take j (drop (p .first) s))) m m′ rest) k g)
 
-    pub judged-2 : p .kind ≡ 2 → Replays r (r-cut (p .a)) m m′ (drop (p .frames) s) → Judges r m m′ s
-    judged-2 e g = judged _ _ (at-2 e) g
+    pub judged-2 : p .kind ≡ 2 → Replays r (r-cut (p .a)) m m′ rest → Judges r m m′ s
+    judged-2 e g = judged _ (at-2 e) g
 
-    pub judged-3 : p .kind ≡ 3 → Replays r (r-clock (p .a)) m m′ (drop (p .frames) s) → Judges r m m′ s
-    judged-3 e g = judged _ _ (at-3 e) g
+    pub judged-3 : p .kind ≡ 3 → Replays r (r-clock (p .a)) m m′ rest → Judges r m m′ s
+    judged-3 e g = judged _ (at-3 e) g
 
-    pub judged-4 : p .kind ≡ 4 → Replays r (r-answer (p .a) (p .b) (take (p .first + p .size - p .first) (drop (p .first) s)) (take (p .second + p .extent - p .second) (drop (p .second) s))) m m′ (drop (p .frames) s) → Judges r m m′ s
+    pub judged-4 : p .kind ≡ 4 → Replays r (r-answer (p .a) (p .b) (take (p .first + p .size - p .first) (drop (p .first) s)) (take (p .second + p .extent - p .second) (drop (p .second) s))) m m′ rest → Judges r m m′ s
     judged-4 e g =
         let k : p .first + p .size - p .first ≡ p .size = omega arith in
         let i : p .second + p .extent - p .second ≡ p .extent = omega arith in
-        judged _ _ (at-4 e)
-        (subst (λ (j : ℕ). Replays r (r-answer (p .a) (p .b) (take (p .size) (drop (p .first) s)) (take j (drop (p .second) s))) m m′ (drop (p .frames) s)) i
-        (subst (λ (j : ℕ). Replays r (r-answer (p .a) (p .b) (take j (drop (p .first) s)) (take (p .second + p .extent - p .second) (drop (p .second) s))) m m′ (drop (p .frames) s)) k g))
+        judged _ (at-4 e)
+        (subst (λ (j : ℕ). Replays r (r-answer (p .a) (p .b) (take (p .size) (drop (p .first) s)) (take j (drop (p .second) s))) m m′ rest) i
+        (subst (λ (j : ℕ). Replays r (r-answer (p .a) (p .b) (take j (drop (p .first) s)) (take (p .second + p .extent - p .second) (drop (p .second) s))) m m′ rest) k g))
 
-    pub judged-5 : p .kind ≡ 5 → Replays r (r-status (p .a)) m m′ (drop (p .frames) s) → Judges r m m′ s
-    judged-5 e g = judged _ _ (at-5 e) g
+    pub judged-5 : p .kind ≡ 5 → Replays r (r-status (p .a)) m m′ rest → Judges r m m′ s
+    judged-5 e g = judged _ (at-5 e) g
 
   pub no-layout : (m : Memory) → p .kind ≡ 10 → Judges 4 m m s
   unfolding byEvent
@@ -336,3 +351,51 @@ module _ (p : Parts) (s : List ℕ) (o : Reads p s (decode s)) where
       (refusing-if m (eqb (p .kind) 9) _ none (λ _. refusing-list m _ _)
       (λ f. absurd (f refl))))))))))) (λ z. n (o .layout (sym (o .says) ∙ z))))
       ∙ ap (byEvent deed (view m)) (o .says)
+
+same-nil : same [] [] ≡ true
+unfolding same
+same-nil = refl
+
+same-cons : (y : ℕ) (x : List ℕ) → same [] (y ∷ x) ≡ false
+unfolding same
+same-cons y x = refl
+
+-- the comparison in code: one law for each way out
+module _ (n k : ℕ) (out frames : List ℕ) where
+  pub not-taken : (n ≡ 0 → ⊥) → 5 ≡ comparedOf n k out frames
+  unfolding comparedOf
+  not-taken h = sym (no-is _ _ (ne-eqb n 0 h))
+
+  pub too-much : n ≡ 0 → length out < k → 5 ≡ comparedOf n k out frames
+  unfolding comparedOf
+  too-much z h = sym (yes-is _ _ (eq-eqb n 0 z) ∙ no-is _ _ (lt-leb k (length out) h))
+
+  module _ (z : n ≡ 0) (l : k ≤ length out) (b : Bool) (e : b ≡ same (take k out) frames) where
+    to-same : comparedOf n k out frames ≡ choose b 0 5
+    unfolding comparedOf
+    to-same = yes-is _ _ (eq-eqb n 0 z) ∙ yes-is _ _ (le-leb k (length out) l) ∙ ap (λ (x : Bool). choose x 0 5) (sym e)
+
+    pub alike : b ≡ true → 0 ≡ comparedOf n k out frames
+    alike t = sym (to-same ∙ yes-is _ _ t)
+
+    pub unlike : b ≡ false → 5 ≡ comparedOf n k out frames
+    unlike t = sym (to-same ∙ no-is _ _ t)
+
+module _ (n : ℕ) (frames : List ℕ) (z : n ≡ 0) where
+  silent-is : comparedOf n 0 [] frames ≡ choose (same [] frames) 0 5
+  unfolding comparedOf
+  silent-is = yes-is _ _ (eq-eqb n 0 z) ∙ yes-is _ _ refl
+
+  pub no-frames : length frames ≡ 0 → 0 ≡ comparedOf n 0 [] frames
+  no-frames h = sym (silent-is ∙ empty frames h)
+    where
+      empty : (x : List ℕ) → length x ≡ 0 → _≡_ {A = ℕ} (choose (same [] x) 0 5) 0
+      empty [] e = yes-is _ _ same-nil
+      empty (y ∷ x) e = absurd (omega (arith, e))
+
+  pub some-frames : (length frames ≡ 0 → ⊥) → 5 ≡ comparedOf n 0 [] frames
+  some-frames h = sym (silent-is ∙ some frames h)
+    where
+      some : (x : List ℕ) → (length x ≡ 0 → ⊥) → _≡_ {A = ℕ} (choose (same [] x) 0 5) 5
+      some [] e = absurd (e refl)
+      some (y ∷ x) e = no-is _ _ (same-cons y x)

@@ -25,21 +25,21 @@ fn replay(words: &mut Words, strings: &mut Strings, out: &mut [u8], body: &[u8])
     let i = p.first;
     let e = i + p.size;
     if p.kind == 0 {
-        return events::open(words, strings, p.a, &body[f..]);
+        return events::opens(words, strings, p.a, &body[f..]);
     }
     if p.kind == 1 {
-        return events::deliver(words, strings, out, p.a, &body[i..e], &body[f..]);
+        return events::delivers(words, strings, out, p.a, &body[i..e], &body[f..]);
     }
     if p.kind == 2 {
-        return events::cut_one(words, strings, out, p.a, &body[f..]);
+        return events::cuts(words, strings, out, p.a, &body[f..]);
     }
     if p.kind == 3 {
-        return events::clock_reads(words, strings, out, p.a, &body[f..]);
+        return events::reads_clock(words, strings, out, p.a, &body[f..]);
     }
     if p.kind == 4 {
         let j = p.second;
         let g = j + p.extent;
-        return events::answer_with(
+        return events::answers(
             words,
             strings,
             out,
@@ -51,7 +51,7 @@ fn replay(words: &mut Words, strings: &mut Strings, out: &mut [u8], body: &[u8])
         );
     }
     if p.kind == 5 {
-        return events::status_is(words, strings, p.a, &body[f..]);
+        return events::sets_status(words, strings, p.a, &body[f..]);
     }
     PARCELS
 }

@@ -42,7 +42,7 @@ fn silent(refusal: u64, frames: &[u8]) -> u64
     ACCEPTED
 }
 
-pub fn open(words: &mut Words, strings: &mut Strings, connection: u64, frames: &[u8]) -> u64
+pub fn opens(words: &mut Words, strings: &mut Strings, connection: u64, frames: &[u8]) -> u64
     requires { ⌜ connection < 256 ^ 4 ⌝ }
     ensures { λ r. ⌜ Replays r (opening connection) (memory (now (words .entry)) (now (strings .entry))) (memory (now (words .exit)) (now (strings .exit))) (now (frames .entry)) ⌝ }
 {
@@ -50,7 +50,7 @@ pub fn open(words: &mut Words, strings: &mut Strings, connection: u64, frames: &
     silent(a.refusal, frames)
 }
 
-pub fn deliver(
+pub fn delivers(
     words: &mut Words,
     strings: &mut Strings,
     out: &mut [u8],
@@ -65,7 +65,7 @@ pub fn deliver(
     compared(a.refusal, a.output, out, frames)
 }
 
-pub fn cut_one(
+pub fn cuts(
     words: &mut Words,
     strings: &mut Strings,
     out: &mut [u8],
@@ -79,7 +79,7 @@ pub fn cut_one(
     compared(a.refusal, a.output, out, frames)
 }
 
-pub fn clock_reads(
+pub fn reads_clock(
     words: &mut Words,
     strings: &mut Strings,
     out: &mut [u8],
@@ -93,7 +93,7 @@ pub fn clock_reads(
     compared(a.refusal, a.output, out, frames)
 }
 
-pub fn answer_with(
+pub fn answers(
     words: &mut Words,
     strings: &mut Strings,
     out: &mut [u8],
@@ -118,7 +118,7 @@ pub fn answer_with(
     compared(a.refusal, a.output, out, frames)
 }
 
-pub fn status_is(words: &mut Words, strings: &mut Strings, byte: u64, frames: &[u8]) -> u64
+pub fn sets_status(words: &mut Words, strings: &mut Strings, byte: u64, frames: &[u8]) -> u64
     requires { ⌜ byte < 256 ^ 1 ⌝ }
     ensures { λ r. ⌜ Replays r (status byte) (memory (now (words .entry)) (now (strings .entry))) (memory (now (words .exit)) (now (strings .exit))) (now (frames .entry)) ⌝ }
 {
