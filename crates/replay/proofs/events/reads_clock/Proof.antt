@@ -11,4 +11,4 @@ returns c =
     clock-read (memory (a .words .now) (a .strings .now)) _ (a .frames .now) (a .out .now) _ (c .before .before .before .before .before .before .before .before .before .before .pre) (c .before .before .before .before .hislip-clock .kept .1 .1 .1 .0) (a .milliseconds) _ _ (c .before .before .before .before .hislip-clock .ensures) (c .compared .ensures)
 
 pub reads-clock-spec : {M : Type 1} → statement M
-reads-clock-spec = tie.close (tie.spec  (λ c κs. search needs) (λ c κs. search needs) (λ c. search needs) returns)
+reads-clock-spec = tie.close (tie.spec (λ c κs. search needs) (λ c κs. search needs) (λ c. search needs) returns)
