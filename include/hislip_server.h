@@ -203,18 +203,6 @@ typedef struct {
     uint64_t waiting, deadline;
 } hislip_deadlines;
 
-/* A session that holds a lock. `exclusive`, `shared`: 1 if it holds that one, else 0. `granted_at`: what
- * the clock read at its last grant. `grants`: locks granted to it since it opened, counted from the
- * answers sent; once at 2^62 it stays there. */
-typedef struct {
-    uint64_t session, exclusive, shared, granted_at, grants;
-} hislip_row;
-
-/* The answer to hislip_holders. `rows`: how many were written. */
-typedef struct {
-    uint64_t refusal, rows;
-} hislip_counted;
-
 /* The answer to hislip_client_size. `size`: the largest payload that the session's client takes. */
 typedef struct {
     uint64_t refusal, size;

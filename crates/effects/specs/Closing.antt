@@ -11,7 +11,7 @@ use lib.Seq.{set-out}
 use borrow.Author.Tests.{eq-eqb, ne-eqb}
 use Rattle.model.specs.Sizes.{sessionLimit, connectionLimit, noConnection}
 use Rattle.model.specs.Lists.{all, position, keep}
-use Rattle.model.specs.State.{Entry, Waiting, Locks, Exchange, Connection, Rest, Server, at, blank, live, freshExchange, openExchange, closedConnection, exchangeAt, withConnections, withExchange}
+use Rattle.model.specs.State.{Entry, Waiting, Locks, Exchange, Connection, Rest, Server, at, blank, live, freshExchange, openExchange, closedConnection, exchangeAt, withConnections, withExchange, freshSensing, withSensing}
 use Rattle.wire.specs.MessageId.{start}
 use Rattle.model.specs.Exchange.{withCount}
 use Rattle.model.specs.Place.{onConnection, placeOf, slotIn, slotOf}
@@ -39,6 +39,10 @@ pub exchanges-held : (w : List ℕ) → length (restOf w .exchanges) ≡ session
 unfolding restOf grid tab
 exchanges-held w = refl
 
+pub sensings-held : (w : List ℕ) → length (restOf w .sensings) ≡ sessionLimit
+unfolding restOf grid tab
+sensings-held w = refl
+
 -- connection x is closed
 abbrev pub shut : ℕ → Rest → Rest
 shut x r = withConnections r (set (r .connections) x closedConnection)
@@ -62,7 +66,7 @@ pub renewed : (i v : ℕ) (d d₁ d₂ d₃ d₄ d₅ d₆ d₇ d₈ : Server) �
     → d₇ ≡ onExchange d₆ i (exchangeWith 8 start) → d₈ ≡ onExchange d₇ i (withCount start false) → d₈ ≡ onRest d (λ (r : Rest). withExchange r i (openExchange (eqb v 1)))
 renewed i v d d₁ d₂ d₃ d₄ d₅ d₆ d₇ d₈ e₁ e₂ e₃ e₄ e₅ e₆ e₇ e₈ =
     rw (e₈, e₇, e₆, e₅, e₄, e₃, e₂, e₁, upd-upd, upd-upd, upd-upd, upd-upd, upd-upd, upd-upd, upd-upd)
-    (ap (λ (l : List Exchange). onRest d (λ (r : Rest). record { exchanges = l; connections = r .connections; lastIssued = r .lastIssued; made = r .made; status = r .status; remoteLocal = r .remoteLocal }))
+    (ap (λ (l : List Exchange). onRest d (λ (r : Rest). record { exchanges = l; sensings = r .sensings; connections = r .connections; lastIssued = r .lastIssued; made = r .made; status = r .status; remoteLocal = r .remoteLocal }))
     (sym (upd-set (d .rest .exchanges) i freshExchange (λ (x : Exchange). openExchange (eqb v 1)))))
 
 -- what a search finds passes
@@ -138,25 +142,27 @@ module _ (w s : List ℕ) (c i : ℕ) (found : slotIn (locksOf w s .entries) c �
   closed-alone h d e =
       let r : Rest = shut c (restOf w) in
       let l : length (r .exchanges) ≤ i = rw (exchanges-held w) h in
+      let n : length (r .sensings) ≤ i = rw (sensings-held w) h in
       e
       ∙ (λ k. record { locks = sym (close-past w s i h) k; rest = r })
       ∙ ap (λ (x : Rest). record { locks = (change (locksOf w s) (close i)) .locks; rest = x })
-      (ap (λ (x : List Exchange). record { exchanges = x; connections = r .connections; lastIssued = r .lastIssued; made = r .made; status = r .status; remoteLocal = r .remoteLocal }) (sym (set-out (r .exchanges) i freshExchange l))
-      ∙ ap₂ (λ (x : List ℕ) (j : ℕ). withExchange (withConnections (restOf w) (shutAll (restOf w .connections) x)) j freshExchange) (sym (channels-none w s c i found h)) (sym found))
+      ((λ k. record { exchanges = sym (set-out (r .exchanges) i freshExchange l) k; sensings = sym (set-out (r .sensings) i freshSensing n) k; connections = r .connections; lastIssued = r .lastIssued; made = r .made; status = r .status; remoteLocal = r .remoteLocal })
+      ∙ ap₂ (λ (x : List ℕ) (j : ℕ). withSensing (withExchange (withConnections (restOf w) (shutAll (restOf w .connections) x)) j freshExchange) j freshSensing) (sym (channels-none w s c i found h)) (sym found))
 
-  -- a session: its connections, its exchange, its slot and its request
-  pub closed-session : i < sessionLimit → (d₁ d₂ d₃ : Server)
+  -- a session: its connections, its exchange, its readings (02, Q-11), its slot and its request
+  pub closed-session : i < sessionLimit → (d₁ d₁′ d₂ d₃ : Server)
       → d₁ ≡ onRest (view (memory w s)) (λ (r : Rest). withConnections r (shutAll (r .connections) (channels (view (memory w s)) c)))
-      → d₂ ≡ onRest d₁ (λ (r : Rest). withExchange r i freshExchange)
+      → d₁′ ≡ onRest d₁ (λ (r : Rest). withExchange r i freshExchange)
+      → d₂ ≡ onRest d₁′ (λ (r : Rest). withSensing r i freshSensing)
       → d₃ .locks ≡ (change (d₂ .locks) (close i)) .locks → d₃ .rest ≡ d₂ .rest
       → d₃ ≡ closedServer (view (memory w s)) c i
-  closed-session h d₁ d₂ d₃ e₁ e₂ l r =
+  closed-session h d₁ d₁′ d₂ d₃ e₁ e₁′ e₂ l r =
       let d : Server = view (memory w s) in
-      let f : d₂ ≡ onRest (onRest d (λ (r : Rest). withConnections r (shutAll (r .connections) (channels d c)))) (λ (r : Rest). withExchange r i freshExchange) =
-      e₂ ∙ ap (λ (x : Server). onRest x (λ (r : Rest). withExchange r i freshExchange)) e₁ in
+      let f : d₂ ≡ onRest (onRest (onRest d (λ (r : Rest). withConnections r (shutAll (r .connections) (channels d c)))) (λ (r : Rest). withExchange r i freshExchange)) (λ (r : Rest). withSensing r i freshSensing) =
+      e₂ ∙ ap (λ (x : Server). onRest x (λ (r : Rest). withSensing r i freshSensing)) (e₁′ ∙ ap (λ (x : Server). onRest x (λ (r : Rest). withExchange r i freshExchange)) e₁) in
       λ k. record {
         locks = (l ∙ ap (λ (x : Server). (change (x .locks) (close i)) .locks) f) k;
-        rest = (r ∙ ap (λ (x : Server). x .rest) f ∙ ap (λ (j : ℕ). withExchange (withConnections (d .rest) (shutAll (d .rest .connections) (channels d c))) j freshExchange) (sym found)) k;
+        rest = (r ∙ ap (λ (x : Server). x .rest) f ∙ ap (λ (j : ℕ). withSensing (withExchange (withConnections (d .rest) (shutAll (d .rest .connections) (channels d c))) j freshExchange) j freshSensing) (sym found)) k;
       }
 
 -- what closing a connection's place does: the session is closed, and those that wait are looked at; r is the place behind the frames

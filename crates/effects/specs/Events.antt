@@ -1,21 +1,25 @@
 -- The events that are no deliveries, but for a cut and the clock: a connection opens, the status byte changes, the instrument answers. What
 -- the code's stores do is the model's plan. Assumes nothing.
-use mathlib.Core.Path.{_≡_, refl, sym, ap, _∙_}
+use mathlib.Core.Path.{_≡_, refl, sym, ap, _∙_, subst}
 use mathlib.Core.Bool.{Bool, true, false, cond}
 use mathlib.Core.List.{List, [], _∷_, _++_}
-use Prim.Native.Nat.{ℕ, _+_, _-_, _%_, _<_}
-use native.Mathlib.Nat.{mod-eq-of-lt}
-use lib.ListN.{length}
+use Prim.Native.Nat.{ℕ, _+_, _-_, _%_, _<_, _≤_}
+use native.Mathlib.Nat.{mod-eq-of-lt, zero-add}
+use lib.ListN.{length, set, length-append}
 use borrow.Author.Tests.{eq-eqb, ne-eqb}
 use Rattle.wire.specs.Frame.{Frame, frameOf, frameBytes, bytesOf, written, length-frame, bytes-one}
 use Rattle.wire.specs.Message.{header}
-use Rattle.wire.specs.Splice.{splice}
-use Rattle.model.specs.State.{Exchange, Rest, Server, at, slotOfNumber, exchangeAt, openConnection, withConnection, withExchange, withStatus}
+use Rattle.wire.specs.Splice.{splice, splice-then}
+use Rattle.readings.specs.Request.{requestCode}
+use Rattle.readings.specs.Watch.{Limits}
+use Rattle.model.specs.State.{Exchange, Rest, Server, at, slotOfNumber, exchangeAt, openConnection, withConnection, withExchange, withStatus, Entry, sensingAt, withSensing, withSensings}
 use Rattle.model.specs.Exchange.{numberAsked, answerNumber, answeredWith, interrupted}
-use Rattle.model.specs.Interface.{Event.opening, Event.answer, Event.status, Reply.done, Reply.withheld}
+use Rattle.model.specs.Interface.{Event.opening, Event.answer, Event.status, Reply.done, Reply.withheld, Event.setting, Setting.watch}
 use Rattle.model.specs.Locks.{change}
 use Rattle.model.specs.Acts.{interruptions}
 use Rattle.model.specs.Step.{Result, finish, plan, answerType}
+use Rattle.model.specs.Sensing.{armed, sensed, tripsFirst, requested, serviceAt, settingSensings}
+use Rattle.model.specs.MessageTypes.{AsyncServiceRequest}
 use Rattle.state.specs.Change.{onRest, onExchange, exchangeWith, singleWith}
 use Rattle.state.specs.View.{askedOf}
 use Rattle.effects.specs.Synchronous.{withSlot, slot-twice, slot-then}
@@ -62,6 +66,10 @@ module _ (d d₁ d₂ : Server) (i : ℕ) (e₁ : d₁ ≡ onExchange d i (excha
 abbrev pub answerFrame : Server → ℕ → Bool → List ℕ → Frame
 answerFrame d i end p = frameOf ((at (d .locks .entries) i) .synchronous) (answerType end) 0 (answerNumber (exchangeAt (d .rest) i)) p
 
+-- 02, Q-11: a request for service
+abbrev pub requestFrame : Entry → ℕ → Frame
+requestFrame e b = frameOf (e .asynchronous) AsyncServiceRequest (requestCode b) 0 []
+
 -- what sending an answer does; r is the place behind the frame
 pub record Answers (d : Server) (i : ℕ) (end : Bool) (p : List ℕ) (d′ : Server) (out out′ : List ℕ) (r : ℕ) : Type 0 where
   pub server : d′ ≡ onRest d (λ (q : Rest). withExchange q i (answeredWith end (exchangeAt q i)))
@@ -82,10 +90,62 @@ answers d i end p d′ out out′ r c t n v ec et en b q =
       place = q ∙ sym (length-frame f) ∙ ap length (sym (bytes-one f)) ∙ ap (λ (x : Frame). length (bytesOf (x ∷ []))) z;
     }
 
--- the model's results of the three events; the answer is that of the slot of session n
+-- 02, Q-11: what an answer that is sent does with its readings: behind its frame stands the request for service, if it is the first to trip the watch
+pub record Sends (d : Server) (i : ℕ) (end : Bool) (p : List ℕ) (d′ : Server) (out out′ : List ℕ) (r : ℕ) : Type 0 where
+  pub server : d′ ≡ onRest d (λ (q : Rest). withSensing (withExchange q i (answeredWith end (exchangeAt q i))) i (sensed p (sensingAt q i)))
+  pub buffer : out′ ≡ written out (answerFrame d i end p ∷ serviceAt d i p)
+  pub place : r ≡ length (bytesOf (answerFrame d i end p ∷ serviceAt d i p))
+
+pub answer-long : (d d₁ : Server) (i : ℕ) (end : Bool) (p out out₁ : List ℕ) (n : ℕ) → Answers d i end p d₁ out out₁ n → n ≡ 17 + length p
+answer-long d d₁ i end p out out₁ n a = a .place ∙ ap length (bytes-one (answerFrame d i end p)) ∙ length-frame (answerFrame d i end p)
+
+module _ (d d₁ d₂ : Server) (i : ℕ) (end : Bool) (p out out₁ : List ℕ) (n : ℕ) (a : Answers d i end p d₁ out out₁ n)
+    (v : d₂ ≡ onRest d₁ (λ (q : Rest). withSensing q i (sensed p (sensingAt q i)))) where
+  left : d₂ ≡ onRest d (λ (q : Rest). withSensing (withExchange q i (answeredWith end (exchangeAt q i))) i (sensed p (sensingAt q i)))
+  left = v ∙ ap (λ (x : Server). onRest x (λ (q : Rest). withSensing q i (sensed p (sensingAt q i)))) (a .server)
+
+  -- what was read behind the answer is as it was before it
+  read-before : tripsFirst p (sensingAt (d₁ .rest) i) ≡ tripsFirst p (sensingAt (d .rest) i)
+  read-before = ap (λ (x : Server). tripsFirst p (sensingAt (x .rest) i)) (a .server)
+
+  pub sends-answer : tripsFirst p (sensingAt (d₁ .rest) i) ≡ false → Sends d i end p d₂ out out₁ n
+  unfolding requested
+  sends-answer t =
+      let e : serviceAt d i p ≡ [] = ap (λ (b : Bool). requested b (at (d .locks .entries) i) (d .rest .status)) (sym read-before ∙ t) in
+      record { server = left; buffer = a .buffer ∙ ap (λ (fs : List Frame). written out (answerFrame d i end p ∷ fs)) (sym e); place = a .place ∙ ap (λ (fs : List Frame). length (bytesOf (answerFrame d i end p ∷ fs))) (sym e) }
+
+  pub sends-request : tripsFirst p (sensingAt (d₁ .rest) i) ≡ true → (out₂ : List ℕ) → 17 + length p ≤ length out
+      → out₂ ≡ splice out₁ n (frameBytes (requestFrame (at (d₂ .locks .entries) i) (d₂ .rest .status))) → Sends d i end p d₂ out out₂ (n + 17)
+  unfolding requested bytesOf
+  sends-request t out₂ h b =
+      let f : Frame = answerFrame d i end p in
+      let g : Frame = requestFrame (at (d .locks .entries) i) (d .rest .status) in
+      let e : serviceAt d i p ≡ g ∷ [] = ap (λ (b : Bool). requested b (at (d .locks .entries) i) (d .rest .status)) (sym read-before ∙ t) in
+      let z : n ≡ length (frameBytes f) = a .place ∙ ap length (bytes-one f) in
+      let l : length (frameBytes f) ≤ length out = subst (λ (x : ℕ). x ≤ length out) (sym (length-frame f)) h in
+      let same : requestFrame (at (d₂ .locks .entries) i) (d₂ .rest .status) ≡ g = ap (λ (x : Server). requestFrame (at (x .locks .entries) i) (x .rest .status)) left in
+      record {
+        server = left;
+        buffer =
+            b ∙ (λ k. splice (a .buffer k) (z k) (frameBytes (same k))) ∙ ap (λ (x : List ℕ). splice (splice out 0 x) (length (frameBytes f)) (frameBytes g)) (bytes-one f)
+            ∙ ap (λ (x : ℕ). splice (splice out 0 (frameBytes f)) x (frameBytes g)) (sym (zero-add (length (frameBytes f))))
+            ∙ splice-then out 0 (frameBytes f) (length (frameBytes f)) (frameBytes g) refl (subst (λ (x : ℕ). x ≤ length out) (sym (zero-add (length (frameBytes f)))) l)
+            ∙ ap (λ (x : List ℕ). splice out 0 (frameBytes f ++ x)) (sym (bytes-one g)) ∙ ap (λ (fs : List Frame). written out (f ∷ fs)) (sym e);
+        place =
+            ap (λ (x : ℕ). x + 17) z ∙ ap (λ (x : ℕ). length (frameBytes f) + x) (sym (ap length (bytes-one g) ∙ length-frame g)) ∙ sym (length-append (frameBytes f) (bytesOf (g ∷ [])))
+            ∙ ap (λ (fs : List Frame). length (bytesOf (f ∷ fs))) (sym e);
+      }
+
+-- the model's results of the events; the answer is that of the slot of session n
 pub opening-finishes : (d : Server) (c : ℕ) → finish d (plan d (opening c)) ≡ record { server = onRest d (λ (r : Rest). withConnection r c (openConnection 0)); reply = done; frames = [] }
 unfolding finish plan change
 opening-finishes d c = refl
+
+-- 02, Q-11: a watch that is set
+pub watch-finishes : (d : Server) (n i : ℕ) (l : Limits) → slotOfNumber (d .locks .entries) n ≡ i
+    → finish d (plan d (setting (watch n l))) ≡ record { server = onRest d (λ (r : Rest). withSensing r i (armed l (sensingAt r i))); reply = done; frames = [] }
+unfolding finish plan change settingSensings
+watch-finishes d n i l e = ap (λ (j : ℕ). record { server = onRest d (λ (r : Rest). withSensing r j (armed l (sensingAt r j))); reply = done; frames = [] }) e
 
 pub status-finishes : (d : Server) (b : ℕ) → finish d (plan d (status b)) ≡ record { server = onRest d (λ (r : Rest). withStatus r b); reply = done; frames = [] }
 unfolding finish plan change
@@ -95,9 +155,9 @@ status-finishes d b = refl
 abbrev pub answeredAs : Server → ℕ → List ℕ → Bool → List ℕ → Bool → Result
 answeredAs d i p end sh b =
     record {
-      server = onRest d (λ (q : Rest). withExchange q i (cond b (interrupted (exchangeAt q i)) (answeredWith end (exchangeAt q i))));
+      server = onRest d (λ (q : Rest). withSensings (withExchange q i (cond b (interrupted (exchangeAt q i)) (answeredWith end (exchangeAt q i)))) (cond b (q .sensings) (set (q .sensings) i (sensed p (sensingAt q i)))));
       reply = cond b withheld done;
-      frames = cond b (interruptions (at (d .locks .entries) i) ((header sh) .param)) (answerFrame d i end p ∷ []) ++ [];
+      frames = cond b (interruptions (at (d .locks .entries) i) ((header sh) .param)) (answerFrame d i end p ∷ serviceAt d i p) ++ [];
     }
 
 module _ (d : Server) (n i : ℕ) (p : List ℕ) (end : Bool) (sh : List ℕ) (room : ℕ) (found : slotOfNumber (d .locks .entries) n ≡ i) where

@@ -47,7 +47,7 @@ pub connection-written : (x v l : ℕ) (d d₁ d₂ : Server) → d₁ ≡ onCon
 connection-written x v l d d₁ d₂ e₁ e₂ =
     e₂
     ∙ ap (λ (y : Server). onConnection y x (connectionWith 1 l)) e₁
-    ∙ ap (λ (z : List Connection). onRest d (λ (r : Rest). record { exchanges = r .exchanges; connections = z; lastIssued = r .lastIssued; made = r .made; status = r .status; remoteLocal = r .remoteLocal }))
+    ∙ ap (λ (z : List Connection). onRest d (λ (r : Rest). record { exchanges = r .exchanges; sensings = r .sensings; connections = z; lastIssued = r .lastIssued; made = r .made; status = r .status; remoteLocal = r .remoteLocal }))
     (upd-upd (d .rest .connections) x (connectionWith 0 v) (connectionWith 1 l) ∙ sym (upd-set (d .rest .connections) x (record { isOpen = flag v; remainder = l }) (λ (y : Connection). record { isOpen = flag v; remainder = l })))
 
 -- frames in a row

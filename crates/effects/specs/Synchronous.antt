@@ -34,13 +34,13 @@ withSlot i g r = withExchange r i (g (exchangeAt r i))
 -- a change of one exchange, as the state has it and as the model has it
 pub slot-changed : (d : Server) (i : ℕ) (g : Exchange → Exchange) → onExchange d i g ≡ onRest d (withSlot i g)
 slot-changed d i g =
-    ap (λ (l : List Exchange). onRest d (λ (r : Rest). record { exchanges = l; connections = r .connections; lastIssued = r .lastIssued; made = r .made; status = r .status; remoteLocal = r .remoteLocal })) (sym (upd-set (d .rest .exchanges) i freshExchange g))
+    ap (λ (l : List Exchange). onRest d (λ (r : Rest). record { exchanges = l; sensings = r .sensings; connections = r .connections; lastIssued = r .lastIssued; made = r .made; status = r .status; remoteLocal = r .remoteLocal })) (sym (upd-set (d .rest .exchanges) i freshExchange g))
 
 -- two changes of one exchange
 pub slot-twice : (d d₁ d₂ : Server) (i : ℕ) (f g : Exchange → Exchange) → d₁ ≡ onExchange d i f → d₂ ≡ onRest d₁ (withSlot i g) → d₂ ≡ onRest d (withSlot i (λ (x : Exchange). g (f x)))
 slot-twice d d₁ d₂ i f g e₁ e₂ =
     e₂ ∙ sym (slot-changed d₁ i g) ∙ ap (λ (x : Server). onExchange x i g) e₁
-    ∙ ap (λ (l : List Exchange). onRest d (λ (r : Rest). record { exchanges = l; connections = r .connections; lastIssued = r .lastIssued; made = r .made; status = r .status; remoteLocal = r .remoteLocal })) (upd-upd (d .rest .exchanges) i f g)
+    ∙ ap (λ (l : List Exchange). onRest d (λ (r : Rest). record { exchanges = l; sensings = r .sensings; connections = r .connections; lastIssued = r .lastIssued; made = r .made; status = r .status; remoteLocal = r .remoteLocal })) (upd-upd (d .rest .exchanges) i f g)
     ∙ slot-changed d i (λ (x : Exchange). g (f x))
 
 pub slot-then : (d d₁ d₂ : Server) (i : ℕ) (f g : Exchange → Exchange) → d₁ ≡ onRest d (withSlot i f) → d₂ ≡ onExchange d₁ i g → d₂ ≡ onRest d (withSlot i (λ (x : Exchange). g (f x)))

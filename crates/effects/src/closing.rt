@@ -18,6 +18,7 @@ ghost use Rattle.model.specs.Sizes.{sessionLimit};
 use crate::mode::reset_count;
 use locks::grant_pass;
 use locks::sessions;
+use sensing::sense;
 use state::fresh::START;
 use state::sizes::CONNECTIONS;
 use state::sizes::NO_CONNECTION;
@@ -78,6 +79,7 @@ fn close_parts(w: &mut Words, strings: &mut Strings, c: u64, i: usize)
     }
     shut_channels(w, i);
     renew_exchange(w, i, 0);
+    sense::forget(w, i);
     sessions::close_slot(w, strings, i);
 }
 

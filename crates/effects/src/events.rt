@@ -1,12 +1,14 @@
 // The events that are no deliveries, but for a cut and the clock: a connection opens, the status byte changes, the instrument answers.
-ghost use Prim.Native.Nat.{ℕ, _<_, _≤_};
-ghost use Rattle.effects.specs.Events.{Answers};
+ghost use Prim.Native.Nat.{ℕ, _+_, _<_, _≤_};
+ghost use Rattle.effects.specs.Events.{Answers, Sends, requestFrame};
 ghost use Rattle.model.specs.Exchange.{answerNumber, answeredWith};
-ghost use Rattle.model.specs.State.{exchangeAt, openConnection, withConnection, withExchange, withStatus};
+ghost use Rattle.model.specs.State.{at, exchangeAt, openConnection, withConnection, withExchange, withStatus};
 ghost use Rattle.model.specs.Step.{answerType};
 ghost use Rattle.state.specs.Change.{onRest};
 ghost use Rattle.state.specs.Tidy.{Tidy};
-ghost use Rattle.state.specs.View.{memory, restOf, view};
+ghost use Rattle.state.specs.View.{locksOf, memory, restOf, view};
+ghost use Rattle.wire.specs.Frame.{frameBytes};
+ghost use Rattle.wire.specs.Splice.{splice};
 ghost use lib.ListN.{length};
 ghost use mathlib.Core.List.{List};
 ghost use mathlib.Core.Path.{_≡_};
@@ -14,6 +16,8 @@ ghost use Rattle.model.specs.Sizes.{connectionLimit, outputMinimum, payloadLimi
 use crate::mode;
 use crate::mode::NUMBERS;
 use crate::replies::keep_open;
+use readings::request::request_code;
+use sensing::sense;
 use state::sizes::Words;
 use state::tables;
 use wire::frame;
@@ -84,4 +88,30 @@ pub fn send_answer(w: &mut Words, out: &mut [u8], i: usize, end: bool, payload: 
     note_answer(w, i, end);
     frame::put_message(out, 0, c, answer_kind(end), 0, id.number, payload);
     17 + payload.len()
+}
+
+// AsyncServiceRequest
+const ASYNC_SERVICE_REQUEST: u8 = 20;
+
+// The request for service of slot i, from a place on: the code is the status byte with values 16 and 64 set.
+fn put_request(w: &Words, out: &mut [u8], place: usize, i: usize)
+    requires { ⌜ (i < sessionLimit) × (place + 17 ≤ length (now out)) ⌝ }
+    ensures { λ _. ⌜ ((s : List ℕ) → now (out .exit) ≡ splice (now (out .entry)) place (frameBytes (requestFrame (at (locksOf (now (w .entry)) s .entries) i) (restOf (now (w .entry)) .status)))) ⌝ }
+{
+    let c = (tables::entry(w, i, tables::ASYNCHRONOUS) % 256) as u8;
+    let b = (tables::single(w, tables::STATUS) % 256) as u8;
+    frame::put_frame(out, place, c, ASYNC_SERVICE_REQUEST, request_code(b), 0);
+}
+
+// The same with its readings (02, Q-11): behind the answer stands the request for service, if it is the first to trip the watch.
+pub fn send_readings(w: &mut Words, out: &mut [u8], i: usize, end: bool, payload: &[u8]) -> usize
+    requires { ⌜ (i < sessionLimit) × (length (now payload) ≤ payloadLimit) × (outputMinimum ≤ length (now out)) ⌝ }
+    ensures { λ r. ⌜ ((s : List ℕ) → Sends (view (memory (now (w .entry)) s)) i end (now (payload .entry)) (view (memory (now (w .exit)) s)) (now (out .entry)) (now (out .exit)) r) × ((s : List ℕ) → Tidy (memory (now (w .entry)) s) → Tidy (memory (now (w .exit)) s)) ⌝ }
+{
+    let n = send_answer(w, out, i, end, payload);
+    if !sense::sense(w, i, payload) {
+        return n;
+    }
+    put_request(w, out, n, i);
+    n + 17
 }

@@ -8,8 +8,8 @@ use Rattle.wire.specs.Message.{header}
 use Rattle.wire.specs.Frame.{Frame, frameOf}
 use Rattle.model.specs.MessageTypes.{FatalError}
 use Rattle.model.specs.Lists.{keep}
-use Rattle.model.specs.State.{Server, Entry, slotOfNumber, Exchange, at, exchangeAt, fresh, Making}
-use Rattle.model.specs.Interface.{Event, Event.opening, Event.delivery, Event.cut, Event.clock, Event.answer, Event.status}
+use Rattle.model.specs.State.{Server, Entry, slotOfNumber, Exchange, at, exchangeAt, fresh, Making, sensingAt}
+use Rattle.model.specs.Interface.{Event, Event.opening, Event.delivery, Event.cut, Event.clock, Event.answer, Event.status, Event.setting}
 use Rattle.model.specs.Scan.{Scan, Scan.empty, Scan.few, Scan.wrong, Scan.skipping, Scan.long, Scan.part, Scan.whole}
 use Rattle.model.specs.Place.{Role, Role.r-none, Role.r-halfOpen, Role.r-synchronous, Role.r-asynchronous}
 use Rattle.model.specs.Locks.{Answer, change, grantPass}
@@ -20,6 +20,7 @@ use Rattle.model.specs.Refusals.{refusal}
 use Rattle.model.specs.Step.{answerType, withholds, effect, received, plan, answered, finish, step, final, log, lockFrame, channels}
 use Rattle.model.specs.LockModel.{Model, Told, modelStep, modelRun, freshModel}
 use Rattle.model.specs.Agreement.{feed, feeds, Agrees, toldFrame, isLock, lockSent, Agreement}
+use Rattle.model.specs.Sensing.{requested, tripsFirst}
 use Rattle.model.proofs.Invariant.{Inv}
 use Rattle.model.proofs.Events.{change-sound, always-settled, inv-fresh}
 use Rattle.model.proofs.Fits.{plan-fit, inv-call}
@@ -76,6 +77,12 @@ effect-no v-acts (long h) r d i c = refl
 effect-no v-acts (part h) r d i c = refl
 effect-no v-acts (whole h p) r d i c = acts-no r d i c h p
 
+-- nor is a request for service
+request-no : (t : Bool) (e : Entry) (b : ℕ) → keep isLock (requested t e b) ≡ []
+unfolding requested
+request-no true e b = refl
+request-no false e b = refl
+
 plan-no : (d : Server) (e : Event) → keep isLock ((plan d e) .said) ≡ []
 unfolding plan received
 plan-no d (opening c) = refl
@@ -84,13 +91,14 @@ plan-no d (cut c room) = refl
 plan-no d (clock t room) = refl
 plan-no d (answer n p end sh room) =
     let i = slotOfNumber (d .locks .entries) n in
-    go (withholds d n end sh) end (at (d .locks .entries) i) ((header sh) .param) (answerNumber (exchangeAt (d .rest) i))
+    go (withholds d n end sh) end (at (d .locks .entries) i) ((header sh) .param) (answerNumber (exchangeAt (d .rest) i)) _ (request-no (tripsFirst p (sensingAt (d .rest) i)) (at (d .locks .entries) i) (d .rest .status))
   where
-    go : (w end : Bool) (e : Entry) (x k : ℕ) → keep isLock (cond w (Acts.interruptions e x) (frameOf (e .synchronous) (answerType end) 0 k p ∷ [])) ≡ []
-    go true end e x k = refl
-    go false true e x k = refl
-    go false false e x k = refl
+    go : (w end : Bool) (e : Entry) (x k : ℕ) (fs : List Frame) → keep isLock fs ≡ [] → keep isLock (cond w (Acts.interruptions e x) (frameOf (e .synchronous) (answerType end) 0 k p ∷ fs)) ≡ []
+    go true end e x k fs n = refl
+    go false true e x k fs n = n
+    go false false e x k fs n = n
 plan-no d (status b) = refl
+plan-no d (setting s) = refl
 
 -- nor is what it says first
 first-no : (w : Bool) (e : Entry) (n : ℕ) → keep isLock (cond w (Acts.interruptions e n) []) ≡ []
@@ -139,6 +147,7 @@ plan-first-no d (cut c room) = refl
 plan-first-no d (clock t room) = refl
 plan-first-no d (answer n p end sh room) = refl
 plan-first-no d (status b) = refl
+plan-first-no d (setting s) = refl
 
 pub keep-append : (xs ys : List Frame) → keep isLock (xs ++ ys) ≡ keep isLock xs ++ keep isLock ys
 keep-append [] ys = refl

@@ -10,12 +10,13 @@ use lib.ListN.{drop}
 use borrow.Author.Tests.{eqb-true, eq-eqb}
 use Rattle.wire.specs.Class.{one-of}
 use Rattle.wire.specs.Frame.{Frame, frameOf}
+use Rattle.readings.specs.Request.{requestCode}
 use Rattle.model.specs.Lists.{all, keep}
-use Rattle.model.specs.State.{Server, Entry, Waiting, Standing, Standing.no-release, Standing.release-of, Kind.exclusive-lock, Kind.shared-lock, at, slotOfNumber, exchangeAt}
+use Rattle.model.specs.State.{Server, Entry, Waiting, Standing, Standing.no-release, Standing.release-of, Kind.exclusive-lock, Kind.shared-lock, at, slotOfNumber, exchangeAt, sensingAt, Sensing}
 use Rattle.model.specs.Step.{Result}
-use Rattle.model.specs.Happening.{Heard, Heard.silence, Heard.with-code, Action, Happening, Happening.unmoved, Happening.connected, Happening.disconnected, Happening.skipped-over, Happening.errored, Happening.message-acted, Happening.clock-read, Happening.status-set, Happening.answer-sent, Happening.answer-withheld, heard}
-use Rattle.model.specs.LocalityRows.{kindOf, slotActed, isCode, codeWhere, endedWith, interruptedBy, requestsOf, reachedBy, looksAfter}
-use Rattle.model.specs.LocalityReplies.{preferred, numberSent, plainTo, ReplyTo, replyIn, replies, saidTo, fatalTo, pairTo, saidFirst, direct, answeredFirst, answerTo}
+use Rattle.model.specs.Happening.{Heard, Heard.silence, Heard.with-code, Action, Happening, Happening.unmoved, Happening.connected, Happening.disconnected, Happening.skipped-over, Happening.errored, Happening.message-acted, Happening.clock-read, Happening.status-set, Happening.setting-made, Happening.answer-sent, Happening.answer-withheld, heard}
+use Rattle.model.specs.LocalityRows.{kindOf, slotActed, isCode, codeWhere, endedWith, interruptedBy, requestsOf, reachedBy, looksAfter, tripsBy}
+use Rattle.model.specs.LocalityReplies.{preferred, numberSent, plainTo, ReplyTo, replyIn, replies, saidTo, fatalTo, pairTo, saidFirst, direct, answeredFirst, answerTo, serviceTo}
 use Rattle.model.specs.Locality.{Local}
 use Rattle.model.specs.AnsweredOnce.{lockOnly}
 use Rattle.model.specs.GrantsSeen.{ofClear, toWaiting}
@@ -69,6 +70,7 @@ module _ (d : Server) where
   taken (skipped-over c k) = []
   taken (errored c h k) = []
   taken (status-set b) = []
+  taken (setting-made s) = []
   taken (answer-sent n p end) = []
   taken (answer-withheld n m) = []
 
@@ -229,12 +231,23 @@ frames-told d (message-acted a) r l t = acted-frames d a (r .frames) (l .due) (l
     nobody e = (rw e at (l .waiting)) .2
 frames-told d (clock-read u) r l t = ap lockOnly (l .frames) ∙ lock-append (map (answerTo 0 (d .locks .entries)) (keep (reachedBy u) (d .locks .waiting))) _ ∙ ap₂ _++_ (lock-to 0 (d .locks .entries) (keep (reachedBy u) (d .locks .waiting))) (lock-to 1 (l .due) (l .granted))
 frames-told d (status-set b) r l t = ap lockOnly (l .frames) ∙ lock-to 1 (l .due) (l .granted)
-frames-told d (answer-sent n p end) r l t = ap lockOnly (l .frames) ∙ lock-append (f ∷ []) (map (answerTo 1 (l .due)) (l .granted)) ∙ ap₂ _++_ (go end) (lock-to 1 (l .due) (l .granted))
+frames-told d (setting-made s) r l t = ap lockOnly (l .frames) ∙ lock-to 1 (l .due) (l .granted)
+frames-told d (answer-sent n p end) r l t = ap lockOnly (l .frames) ∙ lock-append (f ∷ fs) (map (answerTo 1 (l .due)) (l .granted)) ∙ ap₂ _++_ (go end (lockOnly fs) (none-served (not (s .tripped) && tripsBy p s))) (lock-to 1 (l .due) (l .granted))
   where
     f : Frame
     f = frameOf ((at (d .locks .entries) (slotOfNumber (d .locks .entries) n)) .synchronous) (cond end 7 6) 0 (numberSent (exchangeAt (d .rest) (slotOfNumber (d .locks .entries) n))) p
 
-    go : (b : Bool) → cond (eqb (cond b 7 6) 5) (f ∷ []) [] ≡ []
-    go true = refl
-    go false = refl
+    s : Sensing
+    s = sensingAt (d .rest) (slotOfNumber (d .locks .entries) n)
+
+    fs : List Frame
+    fs = serviceTo (at (d .locks .entries) (slotOfNumber (d .locks .entries) n)) s p (d .rest .status)
+
+    none-served : (t : Bool) → lockOnly (cond t (plainTo ((at (d .locks .entries) (slotOfNumber (d .locks .entries) n)) .asynchronous) 20 (requestCode (d .rest .status)) 0 ∷ []) []) ≡ []
+    none-served true = refl
+    none-served false = refl
+
+    go : (b : Bool) (gs : List Frame) → gs ≡ [] → cond (eqb (cond b 7 6) 5) (f ∷ gs) gs ≡ []
+    go true gs e = e
+    go false gs e = e
 frames-told d (answer-withheld n m) r l t = ap lockOnly (l .frames) ∙ lock-to 1 (l .due) (l .granted)

@@ -18,7 +18,7 @@ use Rattle.model.specs.Interface.{Event, Event.delivery, Event.clock, Ou
 use Rattle.model.specs.Place.{onConnection, slotIn, slotOf, entryOf, Role.r-asynchronous, roleOf}
 use Rattle.model.specs.Locks.{Answer, LockEvent.request, elsewhere, noPlace, holds, mayGrant, stands, ruling, respond, change}
 use Rattle.model.specs.Step.{Result, finish, lockFrame, step, final, log}
-use Rattle.model.specs.Happening.{Heard, Action, Happening, Happening.unmoved, Happening.connected, Happening.disconnected, Happening.skipped-over, Happening.errored, Happening.message-acted, Happening.clock-read, Happening.status-set, Happening.answer-sent, Happening.answer-withheld, heard, happened}
+use Rattle.model.specs.Happening.{Heard, Action, Happening, Happening.unmoved, Happening.connected, Happening.disconnected, Happening.skipped-over, Happening.errored, Happening.message-acted, Happening.clock-read, Happening.status-set, Happening.setting-made, Happening.answer-sent, Happening.answer-withheld, heard, happened}
 use Rattle.model.specs.LocalityRows.{kindOf, slotActed, inSlot, asynchronous-row, synchronous-row, number-row, isSilence, endedWith, waits, requestsOf, reachedBy, requestsLeft, looksAfter}
 use Rattle.model.specs.LocalityReplies.{answerTo}
 use Rattle.model.specs.Locality.{atCall, Local}
@@ -319,6 +319,7 @@ module _ (c : ℕ) (real : c ≡ noConnection → ⊥) (s t j : ℕ) (p : Releas
   met (message-acted a) r l f v′ = message-met a r l f v′
   met (clock-read u) r l f v′ = reading-met u r l f v′
   met (status-set b) r l f v′ = plainly (status-set b) r l f v′ (calm (status-set b) r l f v′ refl refl refl (rows (status-set b) r l f v′ refl refl refl))
+  met (setting-made s) r l f v′ = plainly (setting-made s) r l f v′ (calm (setting-made s) r l f v′ refl refl refl (rows (setting-made s) r l f v′ refl refl refl))
   met (answer-sent m p end) r l f v′ = let b = eqb j (slotOfNumber E m) in plainly (answer-sent m p end) r l f v′ (calm (answer-sent m p end) r l f v′ refl refl refl (rows (answer-sent m p end) r l f v′ (same-both₀ b ((at E j) .number)) (same-both₀ b ((at E j) .synchronous)) (same-both₀ b ((at E j) .asynchronous))))
   met (answer-withheld m q) r l f v′ = let b = eqb j (slotOfNumber E m) in plainly (answer-withheld m q) r l f v′ (calm (answer-withheld m q) r l f v′ refl refl refl (rows (answer-withheld m q) r l f v′ (same-both₀ b ((at E j) .number)) (same-both₀ b ((at E j) .synchronous)) (same-both₀ b ((at E j) .asynchronous))))
 
@@ -332,6 +333,7 @@ module _ (c : ℕ) (real : c ≡ noConnection → ⊥) (s t j : ℕ) (p : Releas
   unjoined (errored x g q) r l f v′ = refl
   unjoined (clock-read u) r l f v′ = refl
   unjoined (status-set b) r l f v′ = refl
+  unjoined (setting-made s) r l f v′ = refl
   unjoined (answer-sent m x end) r l f v′ = refl
   unjoined (answer-withheld m q) r l f v′ = refl
 

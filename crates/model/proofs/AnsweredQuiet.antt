@@ -14,11 +14,11 @@ use Rattle.wire.specs.Frame.{Frame}
 use Rattle.model.specs.Sizes.{noConnection}
 use Rattle.model.specs.Lists.{all, keep}
 use Rattle.model.specs.State.{Server, Entry, Waiting, Making, at, live, blank, slotOfNumber, fresh}
-use Rattle.model.specs.Interface.{Event, Event.opening, Event.delivery, Event.cut, Event.clock, Event.answer, Event.status, Outcome, Outcome.more-needed, Outcome.skipped, Outcome.held, Outcome.ignored, Outcome.error-sent, Outcome.closed, Outcome.acted, Reply, Reply.refused, Reply.done, Reply.withheld, Reply.took}
+use Rattle.model.specs.Interface.{Event, Event.opening, Event.delivery, Event.cut, Event.clock, Event.answer, Event.status, Event.setting, Outcome, Outcome.more-needed, Outcome.skipped, Outcome.held, Outcome.ignored, Outcome.error-sent, Outcome.closed, Outcome.acted, Reply, Reply.refused, Reply.done, Reply.withheld, Reply.took}
 use Rattle.model.specs.Place.{slotIn, slotOf, Role.r-synchronous, Role.r-asynchronous, roleBy, roleOf}
 use Rattle.model.specs.Refusals.{refusal}
 use Rattle.model.specs.Step.{Result, answered, step, final}
-use Rattle.model.specs.Happening.{Heard, Heard.silence, Action, Happening, Happening.unmoved, Happening.connected, Happening.disconnected, Happening.skipped-over, Happening.errored, Happening.message-acted, Happening.clock-read, Happening.status-set, Happening.answer-sent, Happening.answer-withheld, heard, happened}
+use Rattle.model.specs.Happening.{Heard, Heard.silence, Action, Happening, Happening.unmoved, Happening.connected, Happening.disconnected, Happening.skipped-over, Happening.errored, Happening.message-acted, Happening.clock-read, Happening.status-set, Happening.setting-made, Happening.answer-sent, Happening.answer-withheld, heard, happened}
 use Rattle.model.specs.LocalityRows.{kindOf, slotActed, inSlot, asynchronous-row, isSilence, waits, requestsOf, reachedBy, requestsLeft, looksAfter}
 use Rattle.model.specs.LocalityReplies.{answerTo}
 use Rattle.model.specs.Locality.{atCall, Local}
@@ -58,6 +58,7 @@ Facts d (errored c h k) fs = Unit {0}
 Facts d (message-acted a) fs = ActedFacts d a fs
 Facts d (clock-read t) fs = Unit {0}
 Facts d (status-set b) fs = Unit {0}
+Facts d (setting-made s) fs = Unit {0}
 Facts d (answer-sent n p end) fs = Unit {0}
 Facts d (answer-withheld n m) fs = Unit {0}
 
@@ -159,9 +160,13 @@ facts d i z (answer m x end sh room) done q = tt
 facts d i z (answer m x end sh room) withheld q = tt
 facts d i z (answer m x end sh room) (took o k n) q = tt
 facts d i z (status b) (refused n) q = tt
+facts d i z (setting s) (refused n) q = tt
 facts d i z (status b) done q = tt
+facts d i z (setting s) done q = tt
 facts d i z (status b) withheld q = tt
+facts d i z (setting s) withheld q = tt
 facts d i z (status b) (took o k n) q = tt
+facts d i z (setting s) (took o k n) q = tt
 
 pub told-own : (d : Server) (h : Happening) (fs : List Frame) → Facts d h fs → Told d h fs
 told-own d (message-acted b) fs f = record { own = λ a e. subst (λ (x : Heard). x ≡ heard 5 fs) (same a e) (f .told) }
@@ -175,6 +180,7 @@ told-own d (skipped-over c k) fs f = record { own = λ a e. absurd (let z : _≡
 told-own d (errored c h k) fs f = record { own = λ a e. absurd (let z : _≡_ {A = ℕ} 0 1 = cc in omega arith) }
 told-own d (clock-read t) fs f = record { own = λ a e. absurd (let z : _≡_ {A = ℕ} 0 1 = cc in omega arith) }
 told-own d (status-set b) fs f = record { own = λ a e. absurd (let z : _≡_ {A = ℕ} 0 1 = cc in omega arith) }
+told-own d (setting-made s) fs f = record { own = λ a e. absurd (let z : _≡_ {A = ℕ} 0 1 = cc in omega arith) }
 told-own d (answer-sent n p end) fs f = record { own = λ a e. absurd (let z : _≡_ {A = ℕ} 0 1 = cc in omega arith) }
 told-own d (answer-withheld n m) fs f = record { own = λ a e. absurd (let z : _≡_ {A = ℕ} 0 1 = cc in omega arith) }
 
@@ -206,6 +212,7 @@ row-away c real es i (message-acted a) x n e = go (eqb i (slotActed es a)) (eqb 
     go true false false n = e
 row-away c real es i (clock-read t) x n e = e
 row-away c real es i (status-set b) x n e = e
+row-away c real es i (setting-made s) x n e = e
 row-away c real es i (answer-sent m p end) x n e = go (eqb i (slotOfNumber es m))
   where
     go : (b : Bool) → eqb (cond b x x) c ≡ false
@@ -342,6 +349,7 @@ module _ (c : ℕ) (real : c ≡ noConnection → ⊥) (d : Server) (q : Quiet c
   quiet-at (message-acted a) r l f v′ n m = acted-quiet a r l f v′ n m
   quiet-at (clock-read t) r l f v′ n m = stays (clock-read t) r l f v′ refl (kept (reachedBy t)) (kept (λ w. not (reachedBy t w)))
   quiet-at (status-set b) r l f v′ n m = stays (status-set b) r l f v′ refl refl (q .none)
+  quiet-at (setting-made s) r l f v′ n m = stays (setting-made s) r l f v′ refl refl (q .none)
   quiet-at (answer-sent k p end) r l f v′ n m = stays (answer-sent k p end) r l f v′ refl refl (q .none)
   quiet-at (answer-withheld j k) r l f v′ n m = stays (answer-withheld j k) r l f v′ refl refl (q .none)
 
@@ -470,6 +478,7 @@ module _ (d : Server) (v : Inv (d .locks)) (s : all (away noConnection 0 (d .loc
   second-after (skipped-over x k) = calm-second (skipped-over x k) refl (λ i. refl)
   second-after (errored x g k) = calm-second (errored x g k) refl (λ i. same-both₂ (eqb i (slotIn E₂ x) && eqb ((at E₂ i) .synchronous) x) ((at E₂ i) .asynchronous))
   second-after (status-set b) = calm-second (status-set b) refl (λ i. refl)
+  second-after (setting-made s) = calm-second (setting-made s) refl (λ i. refl)
   second-after (answer-sent k p end) = calm-second (answer-sent k p end) refl (λ i. same-both₂ (eqb i (slotOfNumber E₂ k)) ((at E₂ i) .asynchronous))
   second-after (answer-withheld j k) = calm-second (answer-withheld j k) refl (λ i. same-both₂ (eqb i (slotOfNumber E₂ j)) ((at E₂ i) .asynchronous))
 

@@ -16,7 +16,7 @@ use Rattle.model.specs.State.{Server, Entry, Waiting, Standing, Standing
 use Rattle.model.specs.Interface.{Event}
 use Rattle.model.specs.Place.{onConnection, slotIn}
 use Rattle.model.specs.Step.{Result, step, log}
-use Rattle.model.specs.Happening.{Heard, Heard.silence, Heard.with-code, Action, Happening, Happening.unmoved, Happening.connected, Happening.disconnected, Happening.skipped-over, Happening.errored, Happening.message-acted, Happening.clock-read, Happening.status-set, Happening.answer-sent, Happening.answer-withheld}
+use Rattle.model.specs.Happening.{Heard, Heard.silence, Heard.with-code, Action, Happening, Happening.unmoved, Happening.connected, Happening.disconnected, Happening.skipped-over, Happening.errored, Happening.message-acted, Happening.clock-read, Happening.status-set, Happening.setting-made, Happening.answer-sent, Happening.answer-withheld}
 use Rattle.model.specs.LocalityRows.{kindOf, slotActed, inSlot, number-row, synchronous-row, asynchronous-row, standing-row, isSilence, codeWhere, endedWith, requestsOf, looksAfter}
 use Rattle.model.specs.LocalityReplies.{saidTo, answerTo}
 use Rattle.model.specs.Locality.{atCall, Local}
@@ -337,6 +337,7 @@ codes-read c s p d (skipped-over x q) r l f k alone = refl
 codes-read c s p d (errored x n q) r l f k alone = refl
 codes-read c s p d (clock-read t) r l f k alone = refl
 codes-read c s p d (status-set b) r l f k alone = refl
+codes-read c s p d (setting-made u) r l f k alone = refl
 codes-read c s p d (answer-sent n x end) r l f k alone = refl
 codes-read c s p d (answer-withheld n m) r l f k alone = refl
 
@@ -531,6 +532,7 @@ module _ (c : ℕ) (real : c ≡ noConnection → ⊥) (s : ℕ) (p : Release) (
       built p (at E i) (rowed (errored x m q) i) (same-both b ((at E i) .number)) (same-both b ((at E i) .synchronous)) (same-both b ((at E i) .asynchronous)) (same-both b ((at E i) .standing)) (k i)
   row-known (clock-read t) fs f n i = k i
   row-known (status-set b) fs f n i = k i
+  row-known (setting-made s) fs f n i = k i
   row-known (answer-sent m x end) fs f n i =
       let b = eqb i (slotOfNumber E m) in
       built p (at E i) (rowed (answer-sent m x end) i) (same-both b ((at E i) .number)) (same-both b ((at E i) .synchronous)) (same-both b ((at E i) .asynchronous)) (same-both b ((at E i) .standing)) (k i)
@@ -557,6 +559,7 @@ any-read c d (skipped-over x q) r l f none = none
 any-read c d (errored x n q) r l f none = none
 any-read c d (clock-read t) r l f none = none
 any-read c d (status-set b) r l f none = none
+any-read c d (setting-made s) r l f none = none
 any-read c d (answer-sent n x end) r l f none = none
 any-read c d (answer-withheld n m) r l f none = none
 
@@ -620,6 +623,7 @@ module _ (c : ℕ) (d : Server) (q : Quiet c d) where
   joins-at (errored x g k) r l f n = absurd (true≢false (sym n))
   joins-at (clock-read t) r l f n = absurd (true≢false (sym n))
   joins-at (status-set b) r l f n = absurd (true≢false (sym n))
+  joins-at (setting-made s) r l f n = absurd (true≢false (sym n))
   joins-at (answer-sent m x end) r l f n = absurd (true≢false (sym n))
   joins-at (answer-withheld m k) r l f n = absurd (true≢false (sym n))
 

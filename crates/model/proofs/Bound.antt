@@ -11,11 +11,12 @@ use Rattle.wire.specs.Field.{length-field}
 use Rattle.wire.specs.declared.Header.{Header}
 use Rattle.wire.specs.Message.{header}
 use Rattle.wire.specs.Frame.{Frame, bytesOf, frameOf, length-frame}
+use Rattle.readings.specs.Request.{requestCode}
 use Rattle.model.specs.Sizes.{beforeFirst, payloadLimit, sessionLimit, outputMinimum, noConnection}
-use Rattle.model.specs.MessageTypes.{FatalError}
+use Rattle.model.specs.MessageTypes.{FatalError, AsyncServiceRequest}
 use Rattle.model.specs.Lists.{all, keep}
-use Rattle.model.specs.State.{Locks, Entry, Waiting, Exchange, slotOfNumber, exchangeAt, at, live, Server, fresh, Making, blank}
-use Rattle.model.specs.Interface.{Event, Event.opening, Event.delivery, Event.cut, Event.clock, Event.answer, Event.status}
+use Rattle.model.specs.State.{Locks, Entry, Waiting, Exchange, slotOfNumber, exchangeAt, at, live, Server, fresh, Making, blank, sensingAt}
+use Rattle.model.specs.Interface.{Event, Event.opening, Event.delivery, Event.cut, Event.clock, Event.answer, Event.status, Event.setting, Setting}
 use Rattle.model.specs.Scan.{Scan, Scan.empty, Scan.few, Scan.wrong, Scan.skipping, Scan.long, Scan.part, Scan.whole}
 use Rattle.model.specs.Place.{entryOf, Role, Role.r-none, Role.r-halfOpen, Role.r-synchronous, Role.r-asynchronous}
 use Rattle.model.specs.Locks
@@ -26,6 +27,7 @@ use Rattle.model.specs.Acts
 use Rattle.model.specs.Refusals.{causes, refusal}
 use Rattle.model.specs.Step.{answerType, withholds, effect, received, plan, answered, finish, step, final, lockFrame}
 use Rattle.model.specs.Bound.{outputBound, roomOf, Output, Bound, BoundRun, OutputFits, frameSize}
+use Rattle.model.specs.Sensing.{requested, tripsFirst}
 use Rattle.model.proofs.Waiting.{few-wait}
 use Rattle.model.proofs.Fits.{uncaused, inv-run}
 
@@ -114,11 +116,17 @@ answers-bound l (Locks.reading t) = omega (arith, refuse-length (l .entries) (un
 
 -- what a call says directly
 abbrev Small : List Frame → Type 0
-Small fs = length (bytesOf fs) ≤ frameSize + payloadLimit
+Small fs = length (bytesOf fs) ≤ frameSize + payloadLimit + frameSize
 
 one-small : (f : Frame) → length (f .message .payload) ≤ payloadLimit → Small (f ∷ [])
 unfolding bytesOf
 one-small f l = simp length-append (omega (arith, length-frame f))
+
+-- an answer and a request for service
+answer-small : (f : Frame) → length (f .message .payload) ≤ payloadLimit → (t : Bool) (e : Entry) (b : ℕ) → Small (f ∷ requested t e b)
+unfolding bytesOf requested
+answer-small f l true e b = simp length-append (omega (arith, length-frame f, length-frame (frameOf (e .asynchronous) AsyncServiceRequest (requestCode b) 0 [])))
+answer-small f l false e b = simp length-append (omega (arith, length-frame f))
 
 none-small : Small []
 unfolding bytesOf
@@ -194,13 +202,14 @@ plan-small d (cut c room) z = none-small
 plan-small d (clock t room) z = none-small
 plan-small d (answer n p end sh room) z =
     let i = slotOfNumber (d .locks .entries) n in
-    go (withholds d n end sh) (at (d .locks .entries) i) ((header sh) .param) (answerNumber (exchangeAt (d .rest) i)) (answerType end)
+    go (withholds d n end sh) (at (d .locks .entries) i) ((header sh) .param) (answerNumber (exchangeAt (d .rest) i)) (answerType end) (tripsFirst p (sensingAt (d .rest) i))
     (ltb-false payloadLimit (length p) (neither _ _ ((uncaused (causes d (answer n p end sh room)) refl z) .1 .1 .1 .0)))
   where
-    go : (w : Bool) (e : Entry) (x k t : ℕ) → length p ≤ payloadLimit → Small (cond w (Acts.interruptions e x) (frameOf (e .synchronous) t 0 k p ∷ []))
-    go true e x k t l = interrupted-small e x
-    go false e x k t l = one-small _ l
+    go : (w : Bool) (e : Entry) (x k t : ℕ) (f : Bool) → length p ≤ payloadLimit → Small (cond w (Acts.interruptions e x) (frameOf (e .synchronous) t 0 k p ∷ requested f e (d .rest .status)))
+    go true e x k t f l = interrupted-small e x
+    go false e x k t f l = answer-small _ l f e (d .rest .status)
 plan-small d (status b) z = none-small
+plan-small d (setting s) z = none-small
 
 -- what a call says first
 abbrev Brief : List Frame → Type 0
@@ -256,12 +265,13 @@ plan-brief d (cut c room) = none-brief
 plan-brief d (clock t room) = none-brief
 plan-brief d (answer n p end sh room) = none-brief
 plan-brief d (status b) = none-brief
+plan-brief d (setting s) = none-brief
 
 pub output : (d : Server) (e : Event) → Output d e
 unfolding step answered finish bytesOf
 output d e = record { total = go (refusal d e) refl }
   where
-    go : (n : ℕ) → refusal d e ≡ n → length (bytesOf ((answered n d e) .frames)) ≤ frameSize + payloadLimit + frameSize * (length (d .locks .waiting) + 3)
+    go : (n : ℕ) → refusal d e ≡ n → length (bytesOf ((answered n d e) .frames)) ≤ frameSize + payloadLimit + frameSize * (length (d .locks .waiting) + 4)
     go (suc n) z = omega arith
     go zero z =
         let x = change (d .locks) ((plan d e) .event) in
@@ -287,6 +297,10 @@ statuses-silent : (d : Server) (b : ℕ) → length (bytesOf ((finish d (plan d 
 unfolding finish plan change bytesOf
 statuses-silent d b = omega arith
 
+settings-silent : (d : Server) (s : Setting) → length (bytesOf ((finish d (plan d (setting s))) .frames)) ≤ 0
+unfolding finish plan change bytesOf
+settings-silent d s = omega arith
+
 pub bound : (d : Server) → length (d .locks .waiting) ≤ sessionLimit → Bound d
 unfolding step answered refusal causes
 bound d l = record { within = within; has-room = has-room }
@@ -304,6 +318,7 @@ bound d l = record { within = within; has-room = has-room }
     has-room (clock t room) z = roomy room _ ((uncaused (causes d (clock t room)) refl z) .0) (within (clock t room))
     has-room (answer n p end sh room) z = roomy room _ ((uncaused (causes d (answer n p end sh room)) refl z) .0) (within (answer n p end sh room))
     has-room (status b) z = rw z (statuses-silent d b)
+    has-room (setting s) z = rw z (settings-silent d s)
 
 pub bound-run : (v : Making) (es : List Event) → BoundRun v es
 bound-run v es = record { waiting = few; bound = bound (final (fresh v) es) few }

@@ -16,7 +16,7 @@ use Rattle.model.specs.Sizes.{noConnection, stringLimit}
 use Rattle.model.specs.MessageTypes.{AsyncLock, AsyncLockInfo, AsyncLockInfoResponse}
 use Rattle.model.specs.Lists.{all, any, tally, keep}
 use Rattle.model.specs.State.{Entry, blank, at, live, Server, fresh, Making}
-use Rattle.model.specs.Interface.{Event, Event.opening, Event.delivery, Event.cut, Event.clock, Event.answer, Event.status, Outcome.held, Outcome.acted, Reply, Reply.took}
+use Rattle.model.specs.Interface.{Event, Event.opening, Event.delivery, Event.cut, Event.clock, Event.answer, Event.status, Event.setting, Outcome.held, Outcome.acted, Reply, Reply.took}
 use Rattle.model.specs.Scan.{Scan}
 use Rattle.model.specs.Place.{onConnection, slotIn, slotOf, entryOf, Role, Role.r-none, Role.r-halfOpen, Role.r-synchronous, Role.r-asynchronous, roleBy, roleOf}
 use Rattle.model.specs.Locks
@@ -277,6 +277,7 @@ each-decides (e ∷ es) d m a v = (one e, each-decides es ((step d e) .server) (
     one (clock t room) = tt
     one (answer n p end sh room) = tt
     one (status b) = tt
+    one (setting s) = tt
 
 pub run-decides : (v : Making) (es : List Event) → EachDecides (fresh v) freshModel es
 run-decides v es = each-decides es (fresh v) freshModel (fresh-agrees v) inv-fresh

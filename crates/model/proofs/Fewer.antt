@@ -14,7 +14,7 @@ use Rattle.wire.specs.Class.{one-of, classOf, synchronous}
 use Rattle.model.specs.Sizes.{stringLimit, noConnection}
 use Rattle.model.specs.MessageTypes.{AsyncLock, commands}
 use Rattle.model.specs.Lists.{all, any}
-use Rattle.model.specs.State.{Locks, Entry, Waiting, at, live, blank, Server, Rest, connectionAt, exchangeAt, freshExchange, withConnections, withExchange}
+use Rattle.model.specs.State.{Locks, Entry, Waiting, at, live, blank, Server, Rest, connectionAt, exchangeAt, freshExchange, withConnections, withExchange, withSensing, freshSensing}
 use Rattle.model.specs.Interface.{Event, Event.delivery, Outcome.held, Outcome.closed, Outcome.acted, Reply.took}
 use Rattle.model.specs.Scan.{Scan, Scan.whole, scan}
 use Rattle.model.specs.Place.{onConnection, slotOf, entryOf, Role, Role.r-none, Role.r-halfOpen, Role.r-synchronous, Role.r-asynchronous, roleIn, roleOf}
@@ -312,7 +312,7 @@ module _ (d : Server) (l′ : Locks) (c : ℕ) (f : FewerLocks (slotOf d c) d re
 
   closing₁ : closing d₁ c ≡ closing d c
   closing₁ =
-      ap₂ (λ (e : Entry) (i : ℕ). withExchange (withConnections (d .rest) (shutAll (d .rest .connections) (cond (live e) (e .synchronous ∷ cond (eqb (e .asynchronous) noConnection) [] (e .asynchronous ∷ [])) (c ∷ [])))) i freshExchange) entry₁ slot₁
+      ap₂ (λ (e : Entry) (i : ℕ). withSensing (withExchange (withConnections (d .rest) (shutAll (d .rest .connections) (cond (live e) (e .synchronous ∷ cond (eqb (e .asynchronous) noConnection) [] (e .asynchronous ∷ [])) (c ∷ [])))) i freshExchange) i freshSensing) entry₁ slot₁
 
   acts₁ : (r : Role) (h : Header) (p : List ℕ) → (r ≡ r-none → ⊥) → Alike (Acts.acts r d₁ i₀ c h p) (Acts.acts r d i₀ c h p)
   unfolding Acts.acts

@@ -17,7 +17,7 @@ use Rattle.model.specs.State.{Server, Granted, Entry, Waiting, at, live,
 use Rattle.model.specs.Interface.{Event}
 use Rattle.model.specs.Place.{onConnection, slotIn}
 use Rattle.model.specs.Step.{Result, step, final, log}
-use Rattle.model.specs.Happening.{Heard.silence, Action, Happening, Happening.unmoved, Happening.connected, Happening.disconnected, Happening.skipped-over, Happening.errored, Happening.message-acted, Happening.clock-read, Happening.status-set, Happening.answer-sent, Happening.answer-withheld}
+use Rattle.model.specs.Happening.{Heard.silence, Action, Happening, Happening.unmoved, Happening.connected, Happening.disconnected, Happening.skipped-over, Happening.errored, Happening.message-acted, Happening.clock-read, Happening.status-set, Happening.setting-made, Happening.answer-sent, Happening.answer-withheld}
 use Rattle.model.specs.LocalityRows.{kindOf, slotActed, inSlot, isCode, codeWhere, obtains, waits, number-row, asynchronous-row, moreGranted, granted-row, requestsOf, requestsLeft, looksAfter, singly, clock-row}
 use Rattle.model.specs.LocalityReplies.{answerTo}
 use Rattle.model.specs.Locality.{atCall, givenGrants, Local}
@@ -216,6 +216,7 @@ module _ (d : Server) (f : ℕ → Grants) (g : Counts d f) (r : Result) where
   own-at (message-acted a) l k i v = acted-at a k i v (l .number i (within (message-acted a) l i v))
   own-at (clock-read t) l k i v = known i v (l .number i (within (clock-read t) l i v))
   own-at (status-set b) l k i v = known i v (l .number i (within (status-set b) l i v))
+  own-at (setting-made s) l k i v = known i v (l .number i (within (setting-made s) l i v))
   own-at (answer-sent m p end) l k i v = flat (eqb i (slotOfNumber es m)) i v (l .number i (within (answer-sent m p end) l i v))
   own-at (answer-withheld m j) l k i v = flat (eqb i (slotOfNumber es m)) i v (l .number i (within (answer-withheld m j) l i v))
 
@@ -305,6 +306,7 @@ module _ (d : Server) (f : ℕ → Grants) (g : Counts d f) (r : Result) where
       go false false e = all-fixed
   lefts (clock-read t) q = absurd (false≢true q)
   lefts (status-set b) q = absurd (false≢true q)
+  lefts (setting-made s) q = absurd (false≢true q)
   lefts (answer-sent m p end) q = absurd (false≢true q)
   lefts (answer-withheld m j) q = absurd (false≢true q)
 
@@ -321,6 +323,7 @@ module _ (d : Server) (f : ℕ → Grants) (g : Counts d f) (r : Result) where
   goes-on (message-acted a) l q i v = (l .number i (within (message-acted a) l i v) ∙ number-fixed a q i, acted-fixed a q i)
   goes-on (clock-read t) l q i v = absurd (false≢true q)
   goes-on (status-set b) l q i v = absurd (false≢true q)
+  goes-on (setting-made s) l q i v = absurd (false≢true q)
   goes-on (answer-sent m p end) l q i v = absurd (false≢true q)
   goes-on (answer-withheld m j) l q i v = absurd (false≢true q)
 

@@ -175,7 +175,7 @@ module _ (d : Server) (c : ℕ) (bs : List ℕ) (room : ℕ) where
   told-so s = record { server = s; reply = took error-sent (16 + (header bs) .len) 0; frames = error-0 c }
 
   abbrev left : List Exchange → List Connection → Result
-  left ns ks = told-so record { locks = d .locks; rest = record { exchanges = ns; connections = ks; lastIssued = d .rest .lastIssued; made = d .rest .made; status = d .rest .status; remoteLocal = d .rest .remoteLocal } }
+  left ns ks = told-so record { locks = d .locks; rest = record { exchanges = ns; sensings = d .rest .sensings; connections = ks; lastIssued = d .rest .lastIssued; made = d .rest .made; status = d .rest .status; remoteLocal = d .rest .remoteLocal } }
 
   errs : finish d (effect (v-error 0) (Scan.whole (header bs) p₀) r-synchronous d i₀ c) ≡ left (set (d .rest .exchanges) i₀ (counted r-synchronous (Scan.whole (header bs) p₀) x₁)) (set (d .rest .connections) c (openConnection 0))
   unfolding finish effect change

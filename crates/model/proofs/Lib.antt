@@ -64,6 +64,7 @@ pub mod Sending
 pub mod LocalityTable
 pub mod Outcomes
 pub mod Missing
+pub mod SentTypes
 pub mod NextQuestion
 pub mod Numbering
 pub mod InStep
@@ -75,3 +76,4 @@ pub mod AnsweredOnce
 pub mod Asking
 pub mod Holders
 pub mod GrantsSeen
+pub mod Watching

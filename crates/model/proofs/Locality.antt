@@ -6,15 +6,15 @@ use mathlib.Core.Logic.{_⊎_, inl, inr}
 use Prim.Native.Nat.{ℕ, zero, suc, _+_}
 use native.Mathlib.Omega.{arith}
 use lib.Dec.{eqb}
-use lib.ListN.{take, drop, length}
+use lib.ListN.{take, drop, length, set}
 use borrow.Author.Tests.{eqb-true, ne-eqb}
 use Rattle.wire.specs.declared.Header.{Header}
 use Rattle.wire.specs.Message.{Message, header, messageOf}
 use Rattle.wire.specs.Frame.{Frame, frameOf}
 use Rattle.wire.specs.Class.{one-of, synchronous, asynchronous}
 use Rattle.model.specs.Sizes.{noConnection}
-use Rattle.model.specs.State.{Making, Server, Entry, at, live, halfOpen, blank, slotOfNumber, connectionAt, exchangeAt, Asked, Asked.none, Asked.some, Exchange, withExchange}
-use Rattle.model.specs.Interface.{Event, Event.opening, Event.delivery, Event.cut, Event.clock, Event.answer, Event.status, Outcome.acted, Outcome.closed, Reply, Reply.done, Reply.withheld, Reply.took}
+use Rattle.model.specs.State.{Making, Server, Entry, at, live, halfOpen, blank, slotOfNumber, connectionAt, exchangeAt, Asked, Asked.none, Asked.some, Exchange, withExchange, sensingAt, withSensings}
+use Rattle.model.specs.Interface.{Event, Event.opening, Event.delivery, Event.cut, Event.clock, Event.answer, Event.status, Event.setting, Outcome.acted, Outcome.closed, Reply, Reply.done, Reply.withheld, Reply.took}
 use Rattle.model.specs.Scan.{Scan, Scan.empty, Scan.few, Scan.wrong, Scan.skipping, Scan.long, Scan.part, Scan.whole, scan, size, leftover}
 use Rattle.model.specs.Place.{slotIn, slotOf, roleOf, roleBy, onConnection, entryOf, Role, Role.r-none, Role.r-halfOpen, Role.r-synchronous, Role.r-asynchronous}
 use Rattle.model.specs.Locks
@@ -30,6 +30,7 @@ use Rattle.model.specs.Happening.{Heard, Heard.silence, Heard.with-code,
 use Rattle.model.specs.LocalityReplies.{saidTo, askedNumber, numberSent}
 use Rattle.model.specs.LocalityRows.{step-row, isSilence, Single, singly, clock-row, status-row, made-row, issued-row, enable-row, lockout-row, remote-row}
 use Rattle.model.specs.Locality.{atCall, Local, clientsFatalError, Locality, EachLocal, overLog, LocalRun}
+use Rattle.model.specs.Sensing.{sensed, serviceAfter}
 use Rattle.model.proofs.Basics.{and-l, and-r, or→, not-off}
 use Rattle.model.proofs.Scanning.{whole-scan, long-scan}
 use Rattle.model.proofs.Place.{place-sound, place-role, no-role, async-live}
@@ -38,8 +39,8 @@ use Rattle.model.proofs.Numbers.{live-found}
 use Rattle.model.proofs.Fits.{Passes, uncaused, opening-passed, sync-passed, async-passed, real-delivery, real-cut}
 use Rattle.model.proofs.Closing.{pass-looks}
 use Rattle.model.proofs.LocalityParts.{assemble}
-use Rattle.model.proofs.LocalityRest.{rest-unmoved, rest-clock, rest-status, rest-answer, rest-withheld, rest-opening, rest-skipped, rest-error, scan-error, rest-closing}
-use Rattle.model.proofs.LocalityLocks.{locks-unmoved, locks-opening, locks-skipped, locks-error, locks-status, locks-answer, locks-withheld, locks-clock, locks-closing, freed, stay, pass-frames, refused-frames}
+use Rattle.model.proofs.LocalityRest.{rest-unmoved, rest-clock, rest-status, rest-setting, service-due, rest-answer, rest-withheld, rest-opening, rest-skipped, rest-error, scan-error, rest-closing}
+use Rattle.model.proofs.LocalityLocks.{locks-unmoved, locks-opening, locks-skipped, locks-error, locks-status, locks-setting, locks-answer, locks-withheld, locks-clock, locks-closing, freed, stay, pass-frames, refused-frames}
 use Rattle.model.proofs.LocalitySilence.{fatal-heard, none-heard, closes-silently}
 use Rattle.model.proofs.LocalityMessages.{num, synchronously, asynchronously, local-synchronous, local-asynchronous, issuedNow, local-0, local-17}
 
@@ -271,9 +272,9 @@ plan-local d (answer n p end sh room) q = go (withholds d n end sh)
     by w =
         record {
           reply = cond w withheld done;
-          rest = withExchange (d .rest) i (cond w (interrupted (exchangeAt (d .rest) i)) (answeredWith end (exchangeAt (d .rest) i)));
+          rest = withSensings (withExchange (d .rest) i (cond w (interrupted (exchangeAt (d .rest) i)) (answeredWith end (exchangeAt (d .rest) i)))) (cond w (d .rest .sensings) (set (d .rest .sensings) i (sensed p (sensingAt (d .rest) i))));
           first = [];
-          said = cond w (Acts.interruptions (at (d .locks .entries) i) ((header sh) .param)) (frameOf ((at (d .locks .entries) i) .synchronous) (answerType end) 0 (answerNumber (exchangeAt (d .rest) i)) p ∷ []);
+          said = cond w (Acts.interruptions (at (d .locks .entries) i) ((header sh) .param)) (frameOf ((at (d .locks .entries) i) .synchronous) (answerType end) 0 (answerNumber (exchangeAt (d .rest) i)) p ∷ serviceAfter d n p);
           event = LockEvent.nothing;
         }
 
@@ -281,9 +282,11 @@ plan-local d (answer n p end sh room) q = go (withholds d n end sh)
     go true = assemble d _ _ (d .locks .entries) [] (rest-withheld d n ((header sh) .param)) (locks-withheld d n ((header sh) .param)) refl withheld-none
     go false =
         assemble d _ _ (d .locks .entries) [] (rest-answer d n p end) (locks-answer d n p end)
-        (ap₂ (λ (t x : ℕ). frameOf ((at (d .locks .entries) i) .synchronous) t 0 x p ∷ []) (type-same end) (number-same (exchangeAt (d .rest) i)))
+        (ap (λ (fs : List Frame). fs ++ []) (ap₂ (λ (t x : ℕ). frameOf ((at (d .locks .entries) i) .synchronous) t 0 x p ∷ serviceAfter d n p) (type-same end) (number-same (exchangeAt (d .rest) i))
+        ∙ ap (λ (fs : List Frame). frameOf ((at (d .locks .entries) i) .synchronous) (cond end 7 6) 0 (numberSent (exchangeAt (d .rest) i)) p ∷ fs) (service-due d n p)))
         done-none
 plan-local d (status b) q = assemble d _ _ (d .locks .entries) [] (rest-status d b) (locks-status d b) refl (λ o k n e. absurd (let y : _≡_ {A = ℕ} 0 1 = cc in omega arith))
+plan-local d (setting s) q = assemble d _ _ (d .locks .entries) [] (rest-setting d s) (locks-setting d s) refl (λ o k n e. absurd (let y : _≡_ {A = ℕ} 0 1 = cc in omega arith))
 
 -- any call
 pub local-call : (d : Server) (e : Event) → Local d (atCall d e) (step d e)
@@ -330,6 +333,7 @@ same-made (e ∷ es) d = same-made es ((step d e) .server) ∙ (local-call d e) 
     never (message-acted a) x = refl
     never (Happening.clock-read t) x = refl
     never (Happening.status-set b) x = refl
+    never (Happening.setting-made s) x = refl
     never (Happening.answer-sent n p end) x = refl
     never (Happening.answer-withheld n m) x = refl
 

@@ -14,7 +14,7 @@ use Rattle.model.specs.Place.{slotIn}
 use Rattle.model.specs.Locks.{withLocks, withGranted, giveAt}
 use Rattle.model.specs.Exchange
 use Rattle.model.specs.Closing.{OldestFirst, OldestFirst.pass-end, OldestFirst.pass-grant, OldestFirst.pass-wait}
-use Rattle.model.specs.Happening.{Action, Happening, Happening.unmoved, Happening.connected, Happening.disconnected, Happening.skipped-over, Happening.errored, Happening.message-acted, Happening.clock-read, Happening.status-set, Happening.answer-sent, Happening.answer-withheld}
+use Rattle.model.specs.Happening.{Action, Happening, Happening.unmoved, Happening.connected, Happening.disconnected, Happening.skipped-over, Happening.errored, Happening.message-acted, Happening.clock-read, Happening.status-set, Happening.setting-made, Happening.answer-sent, Happening.answer-withheld}
 use Rattle.model.specs.LocalityRows.{Row, inSlot, slotActed, clear-row, asked-row, available-row, size-row, mode-row, count-row, sent-row, expected-row, step-row, number-row, synchronous-row, asynchronous-row, exclusive-row, shared-row, last-row, standing-row, moreGranted, granted-row}
 use Rattle.model.specs.Locality.{entryDue, givenExclusive, givenShared, givenGrants, Look}
 use Rattle.model.proofs.Basics.{same?}
@@ -78,6 +78,7 @@ project g r s m n w v q es i (message-acted a) x = push (eqb i (slotActed es a))
     push false = refl
 project g r s m n w v q es i (clock-read t) x = refl
 project g r s m n w v q es i (status-set b) x = refl
+project g r s m n w v q es i (setting-made u) x = refl
 project g r s m n w v q es i (answer-sent k p end) x = push (eqb i _)
   where
     push : (b : Bool) → g (cond b (r .by-answer end x) x) ≡ cond b ((s x) .by-answer end (g x)) (g x)
@@ -143,6 +144,7 @@ due-entry now es i (errored c h k) x = split-entry (eqb i (slotIn es c) && eqb (
 due-entry now es i (message-acted a) x = split-entry (eqb i (slotActed es a)) ((entryRow now) .by-message a x) x
 due-entry now es i (clock-read t) x = refl
 due-entry now es i (status-set b) x = refl
+due-entry now es i (setting-made s) x = refl
 due-entry now es i (answer-sent k p end) x = split-entry (eqb i (slotOfNumber es k)) x x
 due-entry now es i (answer-withheld k p) x = split-entry (eqb i (slotOfNumber es k)) x x
 

@@ -13,10 +13,11 @@ use Rattle.model.specs.Place.{slotOf}
 use Rattle.model.specs.Locks
 use Rattle.model.specs.Locks.{withLocks, withOrder, tell, refuse, unexpired, elsewhere, isDue, passOver, grantPass, settle}
 use Rattle.model.specs.Step.{lockFrame}
-use Rattle.model.specs.Happening.{Heard, Action, Happening.unmoved, Happening.connected, Happening.disconnected, Happening.skipped-over, Happening.errored, Happening.message-acted, Happening.clock-read, Happening.status-set, Happening.answer-sent, Happening.answer-withheld}
+use Rattle.model.specs.Happening.{Heard, Action, Happening.unmoved, Happening.connected, Happening.disconnected, Happening.skipped-over, Happening.errored, Happening.message-acted, Happening.clock-read, Happening.status-set, Happening.setting-made, Happening.answer-sent, Happening.answer-withheld}
 use Rattle.model.specs.LocalityRows.{kindOf, slotActed, isCode, isSilence, codeWhere, requestsLeft, looksAfter}
 use Rattle.model.specs.LocalityReplies.{saidTo, answerTo}
 use Rattle.model.specs.Locality.{Look}
+use Rattle.model.specs.Interface.{Setting}
 use Rattle.model.proofs.Simulation.{dueBy}
 use Rattle.model.proofs.Closing.{told, pass-looks}
 use Rattle.model.proofs.LocalityLists.{set-at, same-both, row-message, row-kept, entryRow}
@@ -43,6 +44,9 @@ module _ (d : Server) where
 
   pub locks-status : (b : ℕ) → LocksPart d (status-set b) (d .locks) (d .locks .entries) []
   locks-status b = record { clock = refl; rows = record { size = refl; each = λ i l. refl }; look = (refl, refl, refl) }
+
+  pub locks-setting : (s : Setting) → LocksPart d (setting-made s) (d .locks) (d .locks .entries) []
+  locks-setting s = record { clock = refl; rows = record { size = refl; each = λ i l. refl }; look = (refl, refl, refl) }
 
   pub locks-answer : (n : ℕ) (p : List ℕ) (end : Bool) → LocksPart d (answer-sent n p end) (d .locks) (d .locks .entries) []
   locks-answer n p end =

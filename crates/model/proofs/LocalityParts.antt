@@ -3,11 +3,11 @@ use mathlib.Core.Path.{_≡_, refl, ap, _∙_}
 use mathlib.Core.List.{List, _++_, map}
 use Prim.Native.Nat.{ℕ, _<_}
 use lib.ListN.{getD, length}
-use Rattle.model.specs.State.{Making, Server, Locks, Rest, Entry, Waiting, Exchange, Connection, RemoteLocal, at, blank, freshExchange, closedConnection, connectionAt}
+use Rattle.model.specs.State.{Making, Server, Locks, Rest, Entry, Waiting, Exchange, Connection, RemoteLocal, at, blank, freshExchange, closedConnection, connectionAt, Sensing, freshSensing, sensingAt}
 use Rattle.model.specs.Interface.{Outcome, Reply.took}
 use Rattle.model.specs.Step.{Result}
 use Rattle.model.specs.Happening.{Happening}
-use Rattle.model.specs.LocalityRows.{clear-row, asked-row, available-row, size-row, mode-row, count-row, sent-row, expected-row, step-row, requestsLeft, looksAfter, open-row, remainder-row, singly, clock-row, status-row, made-row, issued-row, enable-row, lockout-row, remote-row}
+use Rattle.model.specs.LocalityRows.{clear-row, asked-row, available-row, size-row, mode-row, count-row, sent-row, expected-row, step-row, requestsLeft, looksAfter, open-row, remainder-row, singly, clock-row, status-row, made-row, issued-row, enable-row, lockout-row, remote-row, sensing-row}
 use Rattle.model.specs.LocalityReplies.{saidFirst, direct, answeredFirst, answerTo, sessionSaid}
 use Rattle.model.specs.Locality.{entryDue, Look, Local}
 use Rattle.model.proofs.LocalityLists.{Rowed, project, exchangeRow, entryRow, due-entry, lookedAt, look-sized, look-each}
@@ -28,9 +28,15 @@ pub record Singles (d : Server) (h : Happening) (b : ℕ) (v : Making) (n : ℕ)
   pub lockout : f .lockout ≡ singly lockout-row h (d .rest .remoteLocal .lockout)
   pub remote : f .remote ≡ singly remote-row h (d .rest .remoteLocal .remote)
 
+-- of readings
+pub record Sensings (d : Server) (h : Happening) (ss : List Sensing) : Type 0 where
+  pub size : length ss ≡ length (d .rest .sensings)
+  pub each : (i : ℕ) → i < length (d .rest .sensings) → getD ss i freshSensing ≡ sensing-row (d .locks .entries) i h (sensingAt (d .rest) i)
+
 pub record RestPart (d : Server) (h : Happening) (r : Rest) : Type 0 where
   pub singles : Singles d h (r .status) (r .made) (r .lastIssued) (r .remoteLocal)
   pub exchanges : Rowed freshExchange (exchangeRow (d .rest .made .prefersOverlap)) (d .locks .entries) h (d .rest .exchanges) (r .exchanges)
+  pub sensings : Sensings d h (r .sensings)
   pub connections : Places d h (r .connections)
 
 pub record LocksPart (d : Server) (h : Happening) (l : Locks) (due : List Entry) (granted : List Waiting) : Type 0 where
@@ -59,6 +65,8 @@ assemble d h r due granted p l f s =
       any-sent = λ i q. ap (λ (x : Exchange). x .anySent) (p .exchanges .each i q) ∙ project (λ (x : Exchange). x .anySent) (exchangeRow (d .rest .made .prefersOverlap)) (λ x. sent-row) (λ a x. refl) (λ b x. refl) (λ x. refl) (λ k x. refl) (λ x. refl) es i h _;
       rmt-expected = λ i q. ap (λ (x : Exchange). x .rmtExpected) (p .exchanges .each i q) ∙ project (λ (x : Exchange). x .rmtExpected) (exchangeRow (d .rest .made .prefersOverlap)) (λ x. expected-row) (λ a x. refl) (λ b x. refl) (λ x. refl) (λ k x. refl) (λ x. refl) es i h _;
       number-expected = λ i q. ap (λ (x : Exchange). x .numberExpected) (p .exchanges .each i q) ∙ project (λ (x : Exchange). x .numberExpected) (exchangeRow (d .rest .made .prefersOverlap)) step-row (λ a x. refl) (λ b x. refl) (λ x. refl) (λ k x. refl) (λ x. refl) es i h _;
+      sensing-slots = p .sensings .size;
+      sensing = λ i q. p .sensings .each i q;
       connection-places = p .connections .size;
       is-open = λ x q. ap (λ (y : Connection). y .isOpen) (p .connections .each x q);
       remainder = λ x q. ap (λ (y : Connection). y .remainder) (p .connections .each x q);

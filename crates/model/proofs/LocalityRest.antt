@@ -1,6 +1,6 @@
 -- Locality of all but the locks: what each kind of call leaves of the exchanges, the connections and the single fields.
 use mathlib.Core.Path.{_≡_, refl, sym, ap, _∙_}
-use mathlib.Core.Bool.{Bool, true, false, _&&_, _||_, cond, true≢false}
+use mathlib.Core.Bool.{Bool, true, false, not, _&&_, _||_, cond, true≢false}
 use mathlib.Core.List.{List, [], _∷_}
 use mathlib.Core.Logic.{_⊎_, inl, inr}
 use Prim.Native.Nat.{ℕ, zero, suc, _+_, _-_, _<_, _≤_}
@@ -11,15 +11,23 @@ use borrow.Author.Tests.{eqb-true, eq-eqb, ltb-false}
 use Rattle.wire.specs.declared.Header.{Header}
 use Rattle.wire.specs.Message.{header, prologue}
 use Rattle.wire.specs.Class.{one-of}
+use Rattle.readings.specs.Watch.{Limits}
+use Rattle.readings.specs.Payload.{Noticed, noticed, watched, stepped, readingsOf}
+use Rattle.readings.specs.Some.{tripped-some}
+use Rattle.readings.specs.Request.{requestCode}
 use Rattle.model.specs.Sizes.{noConnection, payloadLimit}
-use Rattle.model.specs.State.{Server, Entry, Exchange, Connection, RemoteLocal, at, live, blank, freshExchange, openExchange, closedConnection, openConnection, exchangeAt, connectionAt, slotOfNumber, withConnection, withExchange, withRemoteLocal, withSession, withStatus}
+use Rattle.model.specs.State.{Server, Entry, Exchange, Connection, RemoteLocal, at, live, blank, freshExchange, openExchange, closedConnection, openConnection, exchangeAt, connectionAt, slotOfNumber, withConnection, withExchange, withRemoteLocal, withSession, withStatus, Sensing, freshSensing, sensingAt, withSensing}
 use Rattle.model.specs.Place.{slotOf, entryOf, onConnection}
 use Rattle.model.specs.Scan.{Scan, Scan.skipping, Scan.part, sorted, freshScan, scan, size, leftover}
 use Rattle.model.specs.Exchange
 use Rattle.model.specs.Exchange.{controlled}
 use Rattle.model.specs.Step.{channels, shutAll, closing}
-use Rattle.model.specs.Happening.{Heard, Action, Happening, Happening.unmoved, Happening.connected, Happening.disconnected, Happening.skipped-over, Happening.errored, Happening.message-acted, Happening.clock-read, Happening.status-set, Happening.answer-sent, Happening.answer-withheld}
-use Rattle.model.specs.LocalityRows.{kindOf, concerns, connectionsOf, Single, singly, status-row, made-row, issued-row, enable-row, lockout-row, remote-row}
+use Rattle.model.specs.Happening.{Heard, Action, Happening, Happening.unmoved, Happening.connected, Happening.disconnected, Happening.skipped-over, Happening.errored, Happening.message-acted, Happening.clock-read, Happening.status-set, Happening.setting-made, Happening.answer-sent, Happening.answer-withheld}
+use Rattle.model.specs.LocalityRows.{kindOf, concerns, connectionsOf, Single, singly, status-row, made-row, issued-row, enable-row, lockout-row, remote-row, tripsBy, notedAll}
+use Rattle.model.specs.Sensing.{armed, sensed, requested, serviceAfter, settingSensings, settingRest}
+use Rattle.model.specs.LocalityReplies.{serviceTo}
+use Rattle.model.specs.Interface.{Setting, Setting.watch}
+use Rattle.model.specs.Acts.{say}
 use Rattle.model.proofs.Basics.{or→, or-of, or-r}
 use Rattle.model.proofs.Place.{place-sound}
 use Rattle.model.proofs.LocalityLists.{set-at, touch, row-message, row-kept, exchangeRow}
@@ -35,6 +43,7 @@ Still (errored c h k) = Unit {0}
 Still (message-acted a) = ⊥
 Still (clock-read t) = ⊥
 Still (status-set b) = ⊥
+Still (setting-made s) = Unit {0}
 Still (answer-sent n p end) = Unit {0}
 Still (answer-withheld n m) = Unit {0}
 
@@ -47,6 +56,7 @@ as-it-was r (errored c h k) x s = refl
 as-it-was r (message-acted a) x s = absurd s
 as-it-was r (clock-read t) x s = absurd s
 as-it-was r (status-set b) x s = absurd s
+as-it-was r (setting-made u) x s = refl
 as-it-was r (answer-sent n p end) x s = refl
 as-it-was r (answer-withheld n m) x s = refl
 
@@ -67,6 +77,7 @@ rest-unmoved d =
     record {
       singles = singles-still d unmoved tt;
       exchanges = record { size = refl; each = λ i l. refl };
+      sensings = record { size = refl; each = λ i l. refl };
       connections = record { size = refl; each = λ x l. refl };
     }
 
@@ -75,6 +86,7 @@ rest-clock d t =
     record {
       singles = record { status = refl; made = refl; last-issued = refl; enable = refl; lockout = refl; remote = refl };
       exchanges = record { size = refl; each = λ i l. refl };
+      sensings = record { size = refl; each = λ i l. refl };
       connections = record { size = refl; each = λ x l. refl };
     }
 
@@ -83,6 +95,7 @@ rest-status d b =
     record {
       singles = record { status = refl; made = refl; last-issued = refl; enable = refl; lockout = refl; remote = refl };
       exchanges = record { size = refl; each = λ i l. refl };
+      sensings = record { size = refl; each = λ i l. refl };
       connections = record { size = refl; each = λ x l. refl };
     }
 
@@ -90,7 +103,44 @@ answered-row : (b end : Bool) (x : Exchange) → Exchange.answeredWith end x ≡
 answered-row b true x = refl
 answered-row b false x = refl
 
-pub rest-answer : (d : Server) (n : ℕ) (p : List ℕ) (end : Bool) → RestPart d (answer-sent n p end) (withExchange (d .rest) (slotOfNumber (d .locks .entries) n) (Exchange.answeredWith end (exchangeAt (d .rest) (slotOfNumber (d .locks .entries) n))))
+-- 02, Q-11: the readings of an answer, all at once
+abbrev sensedDue : List ℕ → Sensing → Sensing
+sensedDue p s = record { watch = s .watch; tripped = s .tripped || tripsBy p s; recorded = notedAll (readingsOf p) (s .recorded) }
+
+noted-all : (l : Limits) (o : Noticed) (bs : List ℕ) → (watched l o bs) .recorded ≡ notedAll bs (o .recorded)
+unfolding watched stepped
+noted-all l o [] = refl
+noted-all l o (b ∷ bs) = noted-all l _ bs
+
+sensed-due : (p : List ℕ) (s : Sensing) → sensed p s ≡ sensedDue p s
+unfolding sensed
+sensed-due p s = λ j. record { watch = s .watch; tripped = tripped-some (s .watch) (noticed (s .recorded) (s .tripped)) (readingsOf p) j; recorded = noted-all (s .watch) (noticed (s .recorded) (s .tripped)) (readingsOf p) j }
+
+-- the first trip since the watch was set
+first-trip : (t u : Bool) → (not t && (t || u)) ≡ (not t && u)
+first-trip true u = refl
+first-trip false u = refl
+
+pub service-due : (d : Server) (n : ℕ) (p : List ℕ) → serviceAfter d n p ≡ serviceTo (at (d .locks .entries) (slotOfNumber (d .locks .entries) n)) (sensingAt (d .rest) (slotOfNumber (d .locks .entries) n)) p (d .rest .status)
+unfolding requested
+service-due d n p =
+    let i = slotOfNumber (d .locks .entries) n in
+    let s = sensingAt (d .rest) i in
+    ap (λ (t : Bool). cond t (say ((at (d .locks .entries) i) .asynchronous) 20 (requestCode (d .rest .status)) 0) []) (ap (λ (x : Sensing). not (s .tripped) && x .tripped) (sensed-due p s) ∙ first-trip (s .tripped) (tripsBy p s))
+
+-- what the host sets
+pub rest-setting : (d : Server) (x : Setting) → RestPart d (setting-made x) (settingRest d x)
+unfolding settingSensings
+rest-setting d (watch n l) =
+    let i = slotOfNumber (d .locks .entries) n in
+    record {
+      singles = singles-still d (setting-made (watch n l)) tt;
+      exchanges = record { size = refl; each = λ i l. refl };
+      sensings = record { size = length-set (d .rest .sensings) i _; each = λ j q. touch (d .rest .sensings) i (armed l) _ freshSensing j q refl };
+      connections = record { size = refl; each = λ x l. refl };
+    }
+
+pub rest-answer : (d : Server) (n : ℕ) (p : List ℕ) (end : Bool) → RestPart d (answer-sent n p end) (withSensing (withExchange (d .rest) (slotOfNumber (d .locks .entries) n) (Exchange.answeredWith end (exchangeAt (d .rest) (slotOfNumber (d .locks .entries) n)))) (slotOfNumber (d .locks .entries) n) (sensed p (sensingAt (d .rest) (slotOfNumber (d .locks .entries) n))))
 rest-answer d n p end =
     let i = slotOfNumber (d .locks .entries) n in
     record {
@@ -100,6 +150,7 @@ rest-answer d n p end =
             size = length-set (d .rest .exchanges) i _;
             each = λ j l. touch (d .rest .exchanges) i ((exchangeRow (d .rest .made .prefersOverlap)) .by-answer end) _ freshExchange j l (answered-row (d .rest .made .prefersOverlap) end (exchangeAt (d .rest) i));
           };
+      sensings = record { size = length-set (d .rest .sensings) i _; each = λ j l. touch (d .rest .sensings) i (sensedDue p) _ freshSensing j l (sensed-due p (sensingAt (d .rest) i)) };
       connections = record { size = refl; each = λ x l. refl };
     }
 
@@ -110,6 +161,7 @@ rest-withheld d n m =
     record {
       singles = singles-still d (answer-withheld n m) tt;
       exchanges = record { size = length-set (d .rest .exchanges) i _; each = λ j l. touch (d .rest .exchanges) i ((exchangeRow (d .rest .made .prefersOverlap)) .when-withheld) _ freshExchange j l refl };
+      sensings = record { size = refl; each = λ i l. refl };
       connections = record { size = refl; each = λ x l. refl };
     }
 
@@ -123,6 +175,7 @@ rest-opening d c =
     record {
       singles = singles-still d (connected c) tt;
       exchanges = record { size = refl; each = λ i l. refl };
+      sensings = record { size = refl; each = λ i l. refl };
       connections = record { size = length-set (d .rest .connections) c _; each = λ x l. set-at (d .rest .connections) c (openConnection 0) closedConnection x l ∙ split-connection (eqb x c) (openConnection 0) (connectionAt (d .rest) x) };
     }
 
@@ -132,6 +185,7 @@ rest-skipped d c k o =
     record {
       singles = singles-still d (skipped-over c k) tt;
       exchanges = record { size = refl; each = λ i l. refl };
+      sensings = record { size = refl; each = λ i l. refl };
       connections =
           record {
             size = length-set (d .rest .connections) c _;
@@ -158,6 +212,7 @@ rest-error d c h m y k o e ey =
             size = length-set (d .rest .exchanges) (slotOf d c) y;
             each = λ i l. touch (d .rest .exchanges) (slotOf d c) g y freshExchange i l ey ∙ here i (eqb i (slotOf d c)) refl (exchangeAt (d .rest) i);
           };
+      sensings = record { size = refl; each = λ i l. refl };
       connections =
           record {
             size = length-set (d .rest .connections) c _;
@@ -258,6 +313,7 @@ module _ (d : Server) (c : ℕ) (real : c ≡ noConnection → ⊥) where
       record {
         singles = singles-still d (disconnected c k) tt;
         exchanges = record { size = length-set (d .rest .exchanges) (slotOf d c) freshExchange; each = λ i l. set-at (d .rest .exchanges) (slotOf d c) freshExchange freshExchange i l };
+        sensings = record { size = length-set (d .rest .sensings) (slotOf d c) freshSensing; each = λ i l. set-at (d .rest .sensings) (slotOf d c) freshSensing freshSensing i l };
         connections =
             record {
               size = shut-size (d .rest .connections) (channels d c);
@@ -277,6 +333,7 @@ module _ (d : Server) (a : Action) (q0 : eqb (kindOf a) 0 ≡ false) where
       record {
         singles = no-singles q10;
         exchanges = row-message freshExchange (exchangeRow (d .rest .made .prefersOverlap)) (d .locks .entries) (d .rest .exchanges) a (slotOf d (a .connection)) y (rw (q0, q17)) e;
+        sensings = record { size = refl; each = λ i l. refl };
         connections = record { size = refl; each = λ x l. refl };
       }
 
@@ -286,6 +343,7 @@ module _ (d : Server) (a : Action) (q0 : eqb (kindOf a) 0 ≡ false) where
       record {
         singles = no-singles q10;
         exchanges = row-kept freshExchange (exchangeRow (d .rest .made .prefersOverlap)) (d .locks .entries) (d .rest .exchanges) a f;
+        sensings = record { size = refl; each = λ i l. refl };
         connections = record { size = refl; each = λ x l. refl };
       }
 
@@ -326,6 +384,7 @@ rest-flags d a e l =
             remote = rw e (ap (λ (x : RemoteLocal). x .remote) f);
           };
       exchanges = row-kept freshExchange (exchangeRow (d .rest .made .prefersOverlap)) (d .locks .entries) (d .rest .exchanges) a (λ x. rw e);
+      sensings = record { size = refl; each = λ i l. refl };
       connections = record { size = refl; each = λ x l. refl };
     }
 
@@ -335,5 +394,6 @@ rest-enter d a e =
     record {
       singles = record { status = refl; made = refl; last-issued = rw e; enable = rw e; lockout = rw e; remote = rw e };
       exchanges = row-message freshExchange (exchangeRow (d .rest .made .prefersOverlap)) (d .locks .entries) (d .rest .exchanges) a (slotOfNumber (d .locks .entries) 0) (openExchange (d .rest .made .prefersOverlap)) (rw e) (rw e);
+      sensings = record { size = refl; each = λ i l. refl };
       connections = record { size = refl; each = λ x l. refl };
     }

@@ -5,7 +5,7 @@ use mathlib.Core.List.{List, [], _∷_, _++_, map}
 use Prim.Native.Nat.{ℕ, suc, _<_}
 use native.Mathlib.Omega.{arith}
 use lib.ListN.{getD, length}
-use Rattle.model.specs.State.{Server, Entry, Waiting, at, blank, freshExchange, closedConnection}
+use Rattle.model.specs.State.{Server, Entry, Waiting, at, blank, freshExchange, closedConnection, freshSensing}
 use Rattle.model.specs.Locks.{mayGrant, after, passOver}
 use Rattle.model.specs.Step.{Result}
 use Rattle.model.specs.Closing.{OldestFirst, OldestFirst.pass-end, OldestFirst.pass-grant, OldestFirst.pass-wait}
@@ -66,6 +66,11 @@ module _ (d : Server) (h : Happening) (r r′ : Result) (a : Local d h r) (b : L
         numberExpected = (a .number-expected i l ∙ sym (b .number-expected i l)) j;
       })
 
+  same-sensings : r .server .rest .sensings ≡ r′ .server .rest .sensings
+  same-sensings =
+      same-list freshSensing (r .server .rest .sensings) (r′ .server .rest .sensings) (a .sensing-slots ∙ sym (b .sensing-slots))
+      (λ i q. let l : i < length (d .rest .sensings) = rw (b .sensing-slots) at q in a .sensing i l ∙ sym (b .sensing i l))
+
   same-connections : r .server .rest .connections ≡ r′ .server .rest .connections
   same-connections =
       same-list closedConnection (r .server .rest .connections) (r′ .server .rest .connections) (a .connection-places ∙ sym (b .connection-places))
@@ -79,6 +84,7 @@ module _ (d : Server) (h : Happening) (r r′ : Result) (a : Local d h r) (b : L
         locks = record { clock = (a .clock ∙ sym (b .clock)) j; entries = same-locks .0 j; waiting = same-locks .1 j };
         rest = record {
           exchanges = same-exchanges j;
+          sensings = same-sensings j;
           connections = same-connections j;
           lastIssued = (a .last-issued ∙ sym (b .last-issued)) j;
           made = (a .made ∙ sym (b .made)) j;

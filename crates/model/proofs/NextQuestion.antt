@@ -8,10 +8,11 @@ use lib.ListN.{getD, set}
 use borrow.Author.Tests.{eqb-true, eq-eqb}
 use Rattle.wire.specs.Message.{header}
 use Rattle.wire.specs.Frame.{Frame, frameOf}
+use Rattle.wire.specs.Class.{one-of}
 use Rattle.model.specs.Sizes.{noConnection}
 use Rattle.model.specs.Lists.{all, any, keep}
 use Rattle.model.specs.State.{Server, Entry, Waiting, Connection, at, live, slotOfNumber, exchangeAt, connectionAt, closedConnection, fresh, Making}
-use Rattle.model.specs.Interface.{Event, Event.opening, Event.delivery, Event.cut, Event.clock, Event.answer, Event.status, Outcome.more-needed, Outcome.skipped, Outcome.held, Outcome.ignored, Outcome.error-sent, Outcome.closed, Outcome.acted, Reply, Reply.refused, Reply.done, Reply.withheld, Reply.took}
+use Rattle.model.specs.Interface.{Event, Event.opening, Event.delivery, Event.cut, Event.clock, Event.answer, Event.status, Event.setting, Outcome.more-needed, Outcome.skipped, Outcome.held, Outcome.ignored, Outcome.error-sent, Outcome.closed, Outcome.acted, Reply, Reply.refused, Reply.done, Reply.withheld, Reply.took}
 use Rattle.model.specs.Scan.{Scan, Scan.empty, Scan.few, Scan.wrong, Scan.skipping, Scan.long, Scan.part, Scan.whole}
 use Rattle.model.specs.Place.{Role}
 use Rattle.model.specs.Locks.{change}
@@ -27,11 +28,13 @@ use Rattle.model.specs.LockModel.{Session, own, secondConnection}
 use Rattle.model.specs.Agreement.{asSession}
 use Rattle.model.specs.Deciding.{modelAfter}
 use Rattle.model.specs.Tie.{Track, said}
-use Rattle.model.specs.Happening.{Heard, Heard.silence, Heard.with-code, Action, Happening, Happening.unmoved, Happening.connected, Happening.disconnected, Happening.skipped-over, Happening.errored, Happening.message-acted, Happening.clock-read, Happening.status-set, Happening.answer-sent, Happening.answer-withheld, seenDelivery, happened}
+use Rattle.model.specs.Happening.{Heard, Heard.silence, Heard.with-code, Action, Happening, Happening.unmoved, Happening.connected, Happening.disconnected, Happening.skipped-over, Happening.errored, Happening.message-acted, Happening.clock-read, Happening.status-set, Happening.setting-made, Happening.answer-sent, Happening.answer-withheld, seenDelivery, happened}
 use Rattle.model.specs.LocalityRows.{kindOf, slotActed, endedWith, interruptedBy, requestsOf, reachedBy}
 use Rattle.model.specs.LocalityReplies.{plainTo, ReplyTo, replyIn, replies, saidTo, fatalTo, pairTo, saidFirst, direct, answeredFirst, answerTo}
 use Rattle.model.specs.Locality.{atCall}
 use Rattle.model.specs.NextQuestion.{isAnswer, questionUnread, firstConnection, synchronousOf, asynchronousOf, owes, Answered, NextQuestion}
+use Rattle.model.specs.Sensing.{serviceAfter}
+use Rattle.model.specs.MessageTypes.{Data, DataEND}
 use Rattle.model.proofs.Basics.{and-l, and-r, both, not-of, not-off, not-not, all-set}
 use Rattle.model.proofs.Fits.{uncaused, inv-run}
 use Rattle.model.proofs.Numbers.{live-found}
@@ -41,6 +44,7 @@ use Rattle.model.proofs.Owed.{acts-connections}
 use Rattle.model.proofs.OnlyWhole.{owed-run}
 use Rattle.model.proofs.Tied.{tie, track-run}
 use Rattle.model.proofs.Locality.{local-call}
+use Rattle.model.proofs.SentTypes.{Mute, none-sent}
 
 -- session n, and the remainder to skip on its synchronous connection
 abbrev sessionOf : Server → ℕ → Entry
@@ -87,6 +91,7 @@ plan-shut d (cut c room) a = shut-all (d .rest .connections) (channels d c) a
 plan-shut d (clock t room) a = a
 plan-shut d (answer n p end sh room) a = a
 plan-shut d (status b) a = a
+plan-shut d (setting s) a = a
 
 step-shut : (d : Server) (e : Event) → all shut (d .rest .connections) ≡ true → all shut ((step d e) .server .rest .connections) ≡ true
 unfolding step answered finish
@@ -135,7 +140,7 @@ module _ (v : Making) (es : List Event) (n : ℕ) (alive : live (sessionOf (fina
       (not-off _ (own-is (λ x. not (eqb (getD (x .connections) 0 noConnection) (e₁ .synchronous))) ∙ ap not (eq-eqb (e₁ .synchronous) (e₁ .synchronous) refl)))
       (not-of _ (own-is (λ x. true)))
 
-  second-is : asynchronousOf v es n ≡ e₁ .asynchronous
+  pub second-is : asynchronousOf v es n ≡ e₁ .asynchronous
   second-is =
       ap (λ (m : ℕ). secondConnection m ((modelAfter v es) .sessions)) (sym (live-found ((final (fresh v) es) .locks .entries) n alive))
       ∙ channel-seen ((modelAfter v es) .sessions) ((final (fresh v) es) .locks .entries) ((agreement v es) .locks .sessions) ((inv-run v es) .sound .firm) (slotOfNumber ((final (fresh v) es) .locks .entries) n) alive
@@ -143,112 +148,11 @@ module _ (v : Making) (es : List Event) (n : ℕ) (alive : live (sessionOf (fina
   nothing-to-skip : AllPossible es → owes v es n ≡ 0 → toSkip (final (fresh v) es) n ≡ 0
   nothing-to-skip p z = skips-none v es (e₁ .synchronous) p (ap (owedIn (λ c. 0) (kept (log (fresh v) es))) (sym first-is) ∙ z)
 
--- no answer among some frames
-abbrev none : List Frame → Bool
-none fs = all (λ f. not (isAnswer f)) fs
-
-none-append : (xs ys : List Frame) → none xs ≡ true → none ys ≡ true → none (xs ++ ys) ≡ true
-none-append [] ys a b = b
-none-append (x ∷ xs) ys a b = both _ _ (and-l (not (isAnswer x)) (none xs) a) (none-append xs ys (and-r (not (isAnswer x)) (none xs) a) b)
-
-none-to : (k : ℕ) (es : List Entry) (ws : List Waiting) → none (map (answerTo k es) ws) ≡ true
-none-to k es [] = refl
-none-to k es (w ∷ ws) = none-to k es ws
-
-none-all : (t k : ℕ) (cs : List ℕ) → isAnswer (plainTo 0 t k 0) ≡ false → none (map (λ c. plainTo c t k 0) cs) ≡ true
-none-all t k [] e = refl
-none-all t k (c ∷ cs) e = both _ _ (ap not e) (none-all t k cs e)
-
-none-said : (h : Heard) (t : ℕ) (cs : List ℕ) → isAnswer (plainTo 0 t 0 0) ≡ false → none (saidTo h t cs) ≡ true
-none-said silence t cs e = refl
-none-said (with-code k) t cs e = none-all t k cs e
-
-none-in : (rs : List ReplyTo) (t : ℕ) → all (λ r. not (isAnswer (r .reply))) rs ≡ true → none (replyIn rs t) ≡ true
-none-in [] t a = refl
-none-in (r ∷ rs) t a = go (eqb t (r .type)) (none-in rs t (and-r (not (isAnswer (r .reply))) _ a))
-  where
-    go : (b : Bool) → none (replyIn rs t) ≡ true → none (cond b (r .reply ∷ []) (replyIn rs t)) ≡ true
-    go true h = both _ _ (and-l (not (isAnswer (r .reply))) _ a) refl
-    go false h = h
-
--- what no answer was sent by
-abbrev Mute : Happening → Type 0
-Mute unmoved = Unit {0}
-Mute (connected c) = Unit {0}
-Mute (disconnected c k) = Unit {0}
-Mute (skipped-over c k) = Unit {0}
-Mute (errored c h k) = Unit {0}
-Mute (message-acted a) = Unit {0}
-Mute (clock-read t) = Unit {0}
-Mute (status-set b) = Unit {0}
-Mute (answer-sent n p end) = ⊥
-Mute (answer-withheld n m) = Unit {0}
-
 module _ (d : Server) where
-  none-first : (h : Happening) → none (saidFirst d h) ≡ true
-  none-first unmoved = refl
-  none-first (connected c) = refl
-  none-first (disconnected c k) = refl
-  none-first (skipped-over c k) = refl
-  none-first (errored c h k) = refl
-  none-first (message-acted a) = go (interruptedBy (exchangeAt (d .rest) (slotActed (d .locks .entries) a)) a)
-    where
-      go : (b : Bool) → none (cond b (pairTo (at (d .locks .entries) (slotActed (d .locks .entries) a)) (a .message .param)) []) ≡ true
-      go true = refl
-      go false = refl
-  none-first (clock-read t) = refl
-  none-first (status-set b) = refl
-  none-first (answer-sent n p end) = refl
-  none-first (answer-withheld n m) = refl
-
-  none-answered : (h : Happening) → none (answeredFirst d h) ≡ true
-  none-answered unmoved = refl
-  none-answered (connected c) = refl
-  none-answered (disconnected c k) = refl
-  none-answered (skipped-over c k) = refl
-  none-answered (errored c h k) = refl
-  none-answered (message-acted a) = go (eqb (kindOf a) 4) (eqb (kindOf a) 19)
-    where
-      es : List Entry
-      es = d .locks .entries
-
-      e : Entry
-      e = at es (slotActed es a)
-
-      zeros : List Frame
-      zeros = map (answerTo 0 es) (keep (requestsOf (slotActed es a)) (d .locks .waiting))
-
-      cleared : (b : Bool) → none (cond b zeros []) ≡ true
-      cleared true = none-to 0 es (keep (requestsOf (slotActed es a)) (d .locks .waiting))
-      cleared false = refl
-
-      go : (x y : Bool) → none (cond x (saidTo (a .told) 5 (a .connection ∷ [])) (cond y zeros [] ++ saidTo (endedWith a (e .standing)) 5 (e .asynchronous ∷ []))) ≡ true
-      go true y = none-said (a .told) 5 (a .connection ∷ []) refl
-      go false y = none-append (cond y zeros []) (saidTo (endedWith a (e .standing)) 5 (e .asynchronous ∷ [])) (cleared y) (none-said (endedWith a (e .standing)) 5 (e .asynchronous ∷ []) refl)
-  none-answered (clock-read t) = none-to 0 (d .locks .entries) (keep (reachedBy t) (d .locks .waiting))
-  none-answered (status-set b) = refl
-  none-answered (answer-sent n p end) = refl
-  none-answered (answer-withheld n m) = refl
-
-  none-direct : (h : Happening) → Mute h → none (direct d h) ≡ true
-  none-direct unmoved q = refl
-  none-direct (connected c) q = refl
-  none-direct (disconnected c k) q = none-said k 2 (fatalTo (d .locks .entries) c) refl
-  none-direct (skipped-over c k) q = refl
-  none-direct (errored c h k) q = none-said k 3 (c ∷ []) refl
-  none-direct (message-acted a) q = none-in (replies d a) (kindOf a) refl
-  none-direct (clock-read t) q = refl
-  none-direct (status-set b) q = refl
-  none-direct (answer-sent n p end) q = absurd q
-  none-direct (answer-withheld n m) q = refl
-
   -- a call by which no answer was sent sends none
   mute : (e : Event) → Mute (atCall d e) → any isAnswer ((step d e) .frames) ≡ true → ⊥
   mute e q a =
-      let l = local-call d e in
-      let h = atCall d e in
-      let n : none ((step d e) .frames) ≡ true =
-      ap none (l .frames) ∙ none-append (saidFirst d h) _ (none-first h) (none-append (answeredFirst d h) _ (none-answered h) (none-append (direct d h) _ (none-direct h q) (none-to 1 (l .due) (l .granted)))) in
+      let n = none-sent (one-of (Data ∷ DataEND ∷ [])) refl d (atCall d e) (step d e) (local-call d e) q in
       false≢true (sym (ap not n) ∙ a)
 
   -- an answer that was sent was not withheld
@@ -257,7 +161,7 @@ module _ (d : Server) where
   unfolding step answered plan finish change
   sends n x end sh room a = go (refusal d (answer n x end sh room)) a
     where
-      by : (w : Bool) → any isAnswer (cond w (Acts.interruptions (sessionOf d n) ((header sh) .param)) (frameOf ((sessionOf d n) .synchronous) (answerType end) 0 (answerNumber (exchangeAt (d .rest) (slotOfNumber (d .locks .entries) n))) x ∷ []) ++ []) ≡ true
+      by : (w : Bool) → any isAnswer (cond w (Acts.interruptions (sessionOf d n) ((header sh) .param)) (frameOf ((sessionOf d n) .synchronous) (answerType end) 0 (answerNumber (exchangeAt (d .rest) (slotOfNumber (d .locks .entries) n))) x ∷ serviceAfter d n x) ++ []) ≡ true
           → (cond w withheld done ≡ done) × (w ≡ false)
       by true a = absurd (false≢true a)
       by false a = (refl, refl)
@@ -283,6 +187,7 @@ NoAnswer (cut c room) = Unit {0}
 NoAnswer (clock t room) = Unit {0}
 NoAnswer (answer n p end sh room) = ⊥
 NoAnswer (status b) = Unit {0}
+NoAnswer (setting s) = Unit {0}
 
 other : (e : Event) (r : Reply) (fs : List Frame) → NoAnswer e → Mute (happened e r fs)
 other (answer n p end sh room) r fs q = absurd q
@@ -303,9 +208,13 @@ other (clock t room) done fs q = tt
 other (clock t room) withheld fs q = tt
 other (clock t room) (took o k n) fs q = tt
 other (status b) (refused n) fs q = tt
+other (setting s) (refused n) fs q = tt
 other (status b) done fs q = tt
+other (setting s) done fs q = tt
 other (status b) withheld fs q = tt
+other (setting s) withheld fs q = tt
 other (status b) (took o k n) fs q = tt
+other (setting s) (took o k n) fs q = tt
 
 module _ (v : Making) (es : List Event) where
   abbrev d : Server
@@ -332,6 +241,7 @@ module _ (v : Making) (es : List Event) where
   answers-in (cut c room) a = not-answer (cut c room) tt a
   answers-in (clock t room) a = not-answer (clock t room) tt a
   answers-in (status b) a = not-answer (status b) tt a
+  answers-in (setting s) a = not-answer (setting s) tt a
   answers-in (answer n x end sh room) a =
       let s = sends d n x end sh room a in
       record {
@@ -352,7 +262,7 @@ module _ (v : Making) (es : List Event) where
   withheld-so n x sh room q w = (
     ap (λ k. (answered k d (answer n x true sh room)) .reply) q ∙ ap (λ b. cond b withheld done) w,
     ap (λ k. (answered k d (answer n x true sh room)) .frames) q
-        ∙ ap (λ b. cond b (Acts.interruptions (sessionOf d n) ((header sh) .param)) (frameOf ((sessionOf d n) .synchronous) (answerType true) 0 (answerNumber (exchangeAt (d .rest) (slotOfNumber (d .locks .entries) n))) x ∷ []) ++ []) w,
+        ∙ ap (λ b. cond b (Acts.interruptions (sessionOf d n) ((header sh) .param)) (frameOf ((sessionOf d n) .synchronous) (answerType true) 0 (answerNumber (exchangeAt (d .rest) (slotOfNumber (d .locks .entries) n))) x ∷ serviceAfter d n x) ++ []) w,
   )
 
   pub next-question : NextQuestion v es

@@ -15,11 +15,11 @@ use Rattle.wire.specs.Class.{one-of}
 use Rattle.model.specs.Sizes.{noConnection, sessionLimit}
 use Rattle.model.specs.MessageTypes.{commands}
 use Rattle.model.specs.State.{Server, Entry, Exchange, at, live, slotOfNumber, exchangeAt, fresh, Making}
-use Rattle.model.specs.Interface.{Event, Event.opening, Event.delivery, Event.cut, Event.clock, Event.answer, Event.status, Outcome, Outcome.more-needed, Outcome.skipped, Outcome.held, Outcome.ignored, Outcome.error-sent, Outcome.closed, Outcome.acted, Reply, Reply.refused, Reply.done, Reply.withheld, Reply.took}
+use Rattle.model.specs.Interface.{Event, Event.opening, Event.delivery, Event.cut, Event.clock, Event.answer, Event.status, Event.setting, Outcome, Outcome.more-needed, Outcome.skipped, Outcome.held, Outcome.ignored, Outcome.error-sent, Outcome.closed, Outcome.acted, Reply, Reply.refused, Reply.done, Reply.withheld, Reply.took}
 use Rattle.model.specs.Place.{onConnection, slotIn, slotOf}
 use Rattle.model.specs.Checks.{judged}
 use Rattle.model.specs.Step.{Result, step, final, log}
-use Rattle.model.specs.Happening.{Heard, Action, Happening, Happening.unmoved, Happening.connected, Happening.disconnected, Happening.skipped-over, Happening.errored, Happening.message-acted, Happening.clock-read, Happening.status-set, Happening.answer-sent, Happening.answer-withheld, happened}
+use Rattle.model.specs.Happening.{Heard, Action, Happening, Happening.unmoved, Happening.connected, Happening.disconnected, Happening.skipped-over, Happening.errored, Happening.message-acted, Happening.clock-read, Happening.status-set, Happening.setting-made, Happening.answer-sent, Happening.answer-withheld, happened}
 use Rattle.model.specs.LocalityRows.{kindOf, slotActed, inSlot, clear-row, step-row, number-row, synchronous-row}
 use Rattle.model.specs.LocalityReplies.{sessionSaid}
 use Rattle.model.specs.Locality.{atCall, Local}
@@ -70,6 +70,7 @@ Facts d (errored c h k) = c ≡ noConnection → ⊥
 Facts d (message-acted a) = ActedFacts d a
 Facts d (clock-read t) = Unit {0}
 Facts d (status-set b) = Unit {0}
+Facts d (setting-made s) = Unit {0}
 Facts d (answer-sent n p end) = Unit {0}
 Facts d (answer-withheld n m) = Unit {0}
 
@@ -121,9 +122,13 @@ facts d i z (answer m x end sh room) done q = tt
 facts d i z (answer m x end sh room) withheld q = tt
 facts d i z (answer m x end sh room) (took o k n) q = tt
 facts d i z (status b) (refused n) q = tt
+facts d i z (setting s) (refused n) q = tt
 facts d i z (status b) done q = tt
+facts d i z (setting s) done q = tt
 facts d i z (status b) withheld q = tt
+facts d i z (setting s) withheld q = tt
 facts d i z (status b) (took o k n) q = tt
+facts d i z (setting s) (took o k n) q = tt
 
 -- what a message of type t, not Initialize, makes of the three, by the table and by the reader
 abbrev clearBy : ℕ → Bool → Bool
@@ -430,6 +435,7 @@ module _ (d : Server) (f : ℕ → Numbering) (g : Reads d f) (r : Result) where
   call-at (message-acted a) l k i v = message-at a k i v (table (message-acted a) l i v)
   call-at (clock-read t) l k i v = untouched (clock-read t) i v (table (clock-read t) l i v) (λ n. refl)
   call-at (status-set b) l k i v = untouched (status-set b) i v (table (status-set b) l i v) (λ n. refl)
+  call-at (setting-made s) l k i v = untouched (setting-made s) i v (table (setting-made s) l i v) (λ n. refl)
   call-at (answer-sent m p end) l k i v = answered-not (answer-sent m p end) i v (eqb i (slotOfNumber es m)) (table (answer-sent m p end) l i v) (λ n. refl)
   call-at (answer-withheld m j) l k i v = answered-not (answer-withheld m j) i v (eqb i (slotOfNumber es m)) (table (answer-withheld m j) l i v) (λ n. refl)
 

@@ -19,7 +19,7 @@ use Rattle.wire.proofs.ReadFrames.{length-encode}
 use Rattle.model.specs.Sizes.{payloadLimit, connectionLimit, noConnection}
 use Rattle.model.specs.MessageTypes.{FatalError}
 use Rattle.model.specs.State.{Server, Entry, at, live, blank, Connection, closedConnection, connectionAt, fresh, Making}
-use Rattle.model.specs.Interface.{Event, Event.opening, Event.delivery, Event.cut, Event.clock, Event.answer, Event.status}
+use Rattle.model.specs.Interface.{Event, Event.opening, Event.delivery, Event.cut, Event.clock, Event.answer, Event.status, Event.setting}
 use Rattle.model.specs.Scan.{Scan, Scan.empty, Scan.few, Scan.wrong, Scan.skipping, Scan.long, Scan.part, Scan.whole, scan, size}
 use Rattle.model.specs.Place.{slotOf, entryOf, roleOf, Role, Role.r-none, Role.r-halfOpen, Role.r-synchronous, Role.r-asynchronous}
 use Rattle.model.specs.Locks.{change}
@@ -248,6 +248,7 @@ called d owed e t p o = let r = go (refusal d e) e refl p o in record { shows = 
     go zero (clock k room) z p o = (tt, t)
     go zero (answer n x end sh room) z p o = (tt, t)
     go zero (status k) z p o = (tt, t)
+    go zero (setting s) z p o = (tt, t)
 
 -- the whole list
 only-whole : (es : List Event) (d : Server) (owed : ℕ → ℕ) → Tracks (d .rest) owed → AllPossible es → OnlyWhole owed (kept (log d es))

@@ -15,7 +15,7 @@ use Rattle.wire.specs.Class.{classOf, synchronous, asynchronous}
 use Rattle.model.specs.Sizes.{sessionLimit, protocolVersion, noConnection}
 use Rattle.model.specs.MessageTypes.{Initialize, InitializeResponse, AsyncInitialize, AsyncInitializeResponse}
 use Rattle.model.specs.State.{Exchange, blank, live, slotOfNumber, Server, Rest, freshExchange, openExchange, fresh, Making}
-use Rattle.model.specs.Interface.{Event, Event.opening, Event.delivery, Event.cut, Event.clock, Event.answer, Event.status, Outcome.acted, Reply.took}
+use Rattle.model.specs.Interface.{Event, Event.opening, Event.delivery, Event.cut, Event.clock, Event.answer, Event.status, Event.setting, Outcome.acted, Reply.took}
 use Rattle.model.specs.Scan.{Scan, Scan.empty, Scan.few, Scan.wrong, Scan.skipping, Scan.long, Scan.part, Scan.whole, scan}
 use Rattle.model.specs.Place.{slotOf, Role, Role.r-none, Role.r-halfOpen, Role.r-synchronous, Role.r-asynchronous, roleOf}
 use Rattle.model.specs.Locks.{issued, change}

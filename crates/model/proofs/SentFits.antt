@@ -1,12 +1,12 @@
 -- Every frame that is sent fits: connections, what is asked, the vendor number and the status byte stay in range from call to call.
-use mathlib.Core.Path.{_≡_, refl, ap}
-use mathlib.Core.Bool.{Bool, true, false, not, _&&_, _||_, cond}
+use mathlib.Core.Path.{_≡_, refl, ap, sym, _∙_}
+use mathlib.Core.Bool.{Bool, true, false, not, _&&_, _||_, cond, true≢false}
 use mathlib.Core.List.{List, [], _∷_, _++_, map}
-use Prim.Native.Nat.{ℕ, zero, suc, _+_, _*_, _/_, _^_, _≤_, _<_, min}
+use Prim.Native.Nat.{ℕ, zero, suc, _+_, _*_, _/_, _^_, _≤_, _<_, min, _%_}
 use native.Mathlib.Omega.{arith}
 use lib.Dec.{eqb, leb, ltb, lit<}
-use lib.ListN.{getD, length, take, drop, length-take, length-drop}
-use borrow.Author.Tests.{ltb-true, ltb-false, lt-ltb, leb-true, leb-false}
+use lib.ListN.{getD, length, take, drop, length-take, length-drop, set}
+use borrow.Author.Tests.{ltb-true, ltb-false, lt-ltb, leb-true, leb-false, eq-eqb}
 use Rattle.wire.specs.declared.Header.{Header}
 use Rattle.wire.specs.Field.{Bytes, length-field, number-bound}
 use Rattle.wire.specs.Message.{Fits, header}
@@ -17,13 +17,14 @@ use Rattle.wire.proofs.Bytes.{take-bytes, drop-bytes, bytes-field}
 use Rattle.model.specs.Sizes.{connectionLimit, payloadLimit, sessionLimit, lastSessionId, protocolVersion, noConnection}
 use Rattle.model.specs.MessageTypes.{FatalError}
 use Rattle.model.specs.Lists.{all, tally}
-use Rattle.model.specs.State.{Asked, Asked.none, Asked.some, Exchange, Rest, Entry, Server, at, live, slotOfNumber, exchangeAt, connectionAt, freshExchange, openExchange, withExchange, fresh, Making}
-use Rattle.model.specs.Interface.{Event, Event.opening, Event.delivery, Event.cut, Event.clock, Event.answer, Event.status}
+use Rattle.model.specs.State.{Asked, Asked.none, Asked.some, Exchange, Rest, Entry, Server, at, live, slotOfNumber, exchangeAt, connectionAt, freshExchange, openExchange, withExchange, fresh, Making, sensingAt, withSensings}
+use Rattle.model.specs.Interface.{Event, Event.opening, Event.delivery, Event.cut, Event.clock, Event.answer, Event.status, Event.setting}
 use Rattle.model.specs.Scan.{Scan, Scan.empty, Scan.few, Scan.wrong, Scan.skipping, Scan.long, Scan.part, Scan.whole, scan}
 use Rattle.model.specs.Place.{slotOf, entryOf, roleOf, Role, Role.r-none, Role.r-halfOpen, Role.r-synchronous, Role.r-asynchronous}
 use Rattle.model.specs.Locks
 use Rattle.model.specs.Locks.{Answer, candidate, isLive, issued, change, frees, settle}
 use Rattle.wire.specs.MessageId.{next, next-fits}
+use Rattle.readings.specs.Request.{withValue, requestCode}
 use Rattle.model.specs.Exchange
 use Rattle.model.specs.Exchange.{answeredWith, answerNumber, answerNumberIn, numberAsked, statusByte, availableAt}
 use Rattle.model.specs.Checks.{Verdict, Verdict.v-more, Verdict.v-skipped, Verdict.v-held, Verdict.v-ignored, Verdict.v-closed, Verdict.v-acts, Verdict.v-error, Verdict.v-fatal, verdict}
@@ -33,6 +34,7 @@ use Rattle.model.specs.Step.{effect, received, plan, answered, finish, s
 use Rattle.model.specs.Reader.{messageWith}
 use Rattle.model.specs.Possible.{Possible, AllPossible}
 use Rattle.model.specs.SentFits.{LinesFit, SentFits}
+use Rattle.model.specs.Sensing.{requested, tripsFirst, serviceAfter, sensed}
 use Rattle.model.proofs.Basics.{and-l, and-r, both, all-set, all-at}
 use Rattle.model.proofs.Invariant.{Inv}
 use Rattle.model.proofs.Events.{inv-fresh}
@@ -148,6 +150,28 @@ pair-fits e n h l = (
   plain (e .asynchronous) 14 0 n (ltb-true _ _ (and-r (ltb (e .synchronous) 256) _ h)) (lit< tt) (lit< tt) l,
   (plain (e .synchronous) 13 0 n (ltb-true _ _ (and-l (ltb (e .synchronous) 256) _ h)) (lit< tt) (lit< tt) l, tt),
 )
+
+-- a request for service: the code is a byte
+with-16 : (b : ℕ) → b < 256 → withValue b 16 < 256
+unfolding withValue
+with-16 b l = go (eqb (b / 16 % 2) 1) refl
+  where
+    go : (t : Bool) → eqb (b / 16 % 2) 1 ≡ t → cond t b (b + 16) < 256
+    go true e = l
+    go false e = let n : b / 16 % 2 ≡ 1 → ⊥ = λ q. true≢false (sym (eq-eqb _ _ q) ∙ e) in omega arith
+
+with-64 : (b : ℕ) → b < 256 → withValue b 64 < 256
+unfolding withValue
+with-64 b l = go (eqb (b / 64 % 2) 1) refl
+  where
+    go : (t : Bool) → eqb (b / 64 % 2) 1 ≡ t → cond t b (b + 64) < 256
+    go true e = l
+    go false e = let n : b / 64 % 2 ≡ 1 → ⊥ = λ q. true≢false (sym (eq-eqb _ _ q) ∙ e) in omega arith
+
+request-fits : (t : Bool) (e : Entry) (b : ℕ) → reachable e ≡ true → b < 256 → AllFit (requested t e b)
+unfolding requested
+request-fits true e b h l = (plain (e .asynchronous) 20 (requestCode b) 0 (ltb-true _ _ (and-r (ltb (e .synchronous) 256) _ h)) (lit< tt) (with-64 (withValue b 16) (with-16 b l)) (lit< tt), tt)
+request-fits false e b h l = tt
 
 turn-fits : (w : Bool) (e : Entry) (n : ℕ) → reachable e ≡ true → n < 2 ^ 32 → AllFit (cond w (Acts.interruptions e n) [])
 turn-fits true e n h l = pair-fits e n h l
@@ -353,7 +377,7 @@ plan-fits d (answer n p end sh room) g q z = record { first = tt; said = says (w
     here : reachable (at es i) ≡ true
     here = all-at reachable es i refl (g .entries)
 
-    says : (w : Bool) → withholds d n end sh ≡ w → AllFit (cond w (Acts.interruptions (at es i) ((header sh) .param)) (frameOf ((at es i) .synchronous) (answerType end) 0 (answerNumber x) p ∷ []))
+    says : (w : Bool) → withholds d n end sh ≡ w → AllFit (cond w (Acts.interruptions (at es i) ((header sh) .param)) (frameOf ((at es i) .synchronous) (answerType end) 0 (answerNumber x) p ∷ serviceAfter d n p))
     says true e = pair-fits (at es i) ((header sh) .param) here (shown-parameter sh (q .1) (whole-header end ((exchangeAt (d .rest) i) .overlap) (eqb ((connectionAt (d .rest) ((at es i) .synchronous)) .remainder) 0) sh _ e))
     says false e =
         let l = ltb-false payloadLimit (length p) (neither _ _ ((uncaused (causes d (answer n p end sh room)) refl z) .1 .1 .1 .0)) in (
@@ -361,13 +385,14 @@ plan-fits d (answer n p end sh room) g q z = record { first = tt; said = says (w
             connection = ltb-true _ _ (and-l (ltb ((at es i) .synchronous) 256) _ here);
             fields = record { kind = answer-kind end; code = lit< tt; param = answer-number x f; length = omega arith; payload = q .0 };
           },
-          tt,
+          request-fits (tripsFirst p (sensingAt (d .rest) i)) (at es i) (d .rest .status) here (g .rest .status),
         )
 
-    leaves : (w : Bool) → RestFits (withExchange (d .rest) i (cond w (Exchange.interrupted x) (answeredWith end x)))
+    leaves : (w : Bool) → RestFits (withSensings (withExchange (d .rest) i (cond w (Exchange.interrupted x) (answeredWith end x))) (cond w (d .rest .sensings) (set (d .rest .sensings) i (sensed p (sensingAt (d .rest) i)))))
     leaves true = record { asked = all-set exchangeFits (d .rest .exchanges) i _ (both _ _ (and-l (ltb (x .count) (2 ^ 32)) _ f) refl) (g .rest .asked); vendor = g .rest .vendor; status = g .rest .status }
     leaves false = record { asked = all-set exchangeFits (d .rest .exchanges) i _ (answered-asked end x f) (g .rest .asked); vendor = g .rest .vendor; status = g .rest .status }
 plan-fits d (status b) g q z = record { first = tt; said = tt; rest = record { asked = g .rest .asked; vendor = g .rest .vendor; status = q }; brings = tt }
+plan-fits d (setting s) g q z = record { first = tt; said = tt; rest = record { asked = g .rest .asked; vendor = g .rest .vendor; status = g .rest .status }; brings = tt }
 
 -- one call
 record StepFits (d : Server) (e : Event) : Type 0 where

@@ -34,6 +34,7 @@ use Rattle.model.proofs.Fewer.{fewer-never-hurts}
 use Rattle.model.proofs.AnsweredOnce.{answered-once}
 use Rattle.model.proofs.Holders.{holders-shown}
 use Rattle.model.proofs.GrantsSeen.{grants-seen}
+use Rattle.model.proofs.Watching.{watches}
 use Rattle.model.proofs.Fits.{found-run, inv-run}
 use Rattle.model.proofs.OneString.{one-string}
 use Rattle.model.proofs.AlwaysRoom.{always-room}
@@ -83,6 +84,7 @@ statements =
         answered-once = answered-once;
         holders-shown = holders-shown;
         grants-seen = grants-seen;
+        watches = watches;
         found = found-run;
         one-string = one-string;
         always-room = always-room;

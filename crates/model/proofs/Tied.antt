@@ -1,7 +1,7 @@
 -- F, proved, from call to call and over any list from the fresh server.
 use mathlib.Core.Path.{subst, _≡_, refl, sym, ap, _∙_}
 use mathlib.Core.Bool.{Bool, true, false, _&&_, cond, false≢true}
-use mathlib.Core.List.{List, [], _∷_, _++_}
+use mathlib.Core.List.{List, [], _∷_, _++_, append-nil}
 use Prim.Native.Nat.{ℕ, zero, suc, _<_}
 use native.Mathlib.Omega.{arith}
 use lib.Dec.{eqb}
@@ -11,8 +11,8 @@ use Rattle.wire.specs.Message.{header}
 use Rattle.wire.specs.Frame.{Frame, frameOf}
 use Rattle.wire.specs.Class.{synchronous, asynchronous}
 use Rattle.model.specs.Sizes.{noConnection, sessionLimit}
-use Rattle.model.specs.State.{openExchange, Entry, at, live, slotOfNumber, Server, Rest, Exchange, Asked, Asked.none, exchangeAt, freshExchange, connectionAt, withExchange, withSession, fresh, Making}
-use Rattle.model.specs.Interface.{Event, Event.opening, Event.delivery, Event.cut, Event.clock, Event.answer, Event.status, Reply}
+use Rattle.model.specs.State.{openExchange, Entry, at, live, slotOfNumber, Server, Rest, Exchange, Asked, Asked.none, exchangeAt, freshExchange, connectionAt, withExchange, withSession, fresh, Making, sensingAt, withSensings}
+use Rattle.model.specs.Interface.{Event, Event.opening, Event.delivery, Event.cut, Event.clock, Event.answer, Event.status, Event.setting, Reply}
 use Rattle.model.specs.Scan.{Scan, Scan.empty, Scan.few, Scan.wrong, Scan.skipping, Scan.long, Scan.part, Scan.whole, scan}
 use Rattle.model.specs.Place.{slotOf, Role, Role.r-none, Role.r-halfOpen, Role.r-synchronous, Role.r-asynchronous, roleOf}
 use Rattle.model.specs.Locks.{LockEvent, change}
@@ -24,6 +24,7 @@ use Rattle.model.specs.Acts.{Plan}
 use Rattle.model.specs.Refusals.{causes, refusal}
 use Rattle.model.specs.Step.{counted, answerType, withholds, effect, received, plan, answered, finish, step, final, log, closing}
 use Rattle.model.specs.Tie.{Track, nothingYet, follows, track, answeredTrack, withheldTrack, trackOfLog, said, Tie}
+use Rattle.model.specs.Sensing.{serviceAfter, sensed}
 use Rattle.model.proofs.Basics.{not-off, inside}
 use Rattle.model.proofs.Scanning.{whole-scan}
 use Rattle.model.proofs.Place.{sync-live, async-live}
@@ -183,6 +184,7 @@ module _ (d : Server) (f : ℕ → Track) (i : Inv (d .locks)) (z : length (d .r
   plan-tied (cut c room) q = closes c _ _ _ (λ m. refl)
   plan-tied (clock y room) q = still (d .rest) _ _ _ tt refl (λ m. refl) []
   plan-tied (status b) q = still _ _ _ _ tt refl (λ m. refl) []
+  plan-tied (setting s) q = still _ _ _ _ tt refl (λ m. refl) []
   plan-tied (answer n x end sh room) q = go (withholds d n end sh) _
     where
       k : ℕ
@@ -199,7 +201,7 @@ module _ (d : Server) (f : ℕ → Track) (i : Inv (d .locks)) (z : length (d .r
           (λ m. ap (λ (w : ℕ). cond (eqb w m) (g (f m)) (f m)) (sym (live-found (d .locks .entries) n v)))
           t
 
-      go : (w : Bool) (fs : List Frame) → After d record { reply = cond w Reply.withheld Reply.done; rest = withExchange (d .rest) k (cond w (interrupted (exchangeAt (d .rest) k)) (answeredWith end (exchangeAt (d .rest) k))); first = []; said = fs; event = LockEvent.nothing }
+      go : (w : Bool) (fs : List Frame) → After d record { reply = cond w Reply.withheld Reply.done; rest = withSensings (withExchange (d .rest) k (cond w (interrupted (exchangeAt (d .rest) k)) (answeredWith end (exchangeAt (d .rest) k)))) (cond w (d .rest .sensings) (set (d .rest .sensings) k (sensed x (sensingAt (d .rest) k)))); first = []; said = fs; event = LockEvent.nothing }
           (λ m. track (d .rest .made .prefersOverlap) (answer n x end sh room) (cond w Reply.withheld Reply.done) m (f m))
       go true fs = record { tied = answers-tied (interrupted (exchangeAt (d .rest) k)) withheldTrack refl; sized = length-set (d .rest .exchanges) k _ ∙ z }
       go false fs = record { tied = answers-tied (answeredWith end (exchangeAt (d .rest) k)) (answeredTrack end) refl; sized = length-set (d .rest .exchanges) k _ ∙ z }
@@ -250,6 +252,7 @@ plan-made d (cut c room) = refl
 plan-made d (clock t room) = refl
 plan-made d (answer n p end sh room) = refl
 plan-made d (status b) = refl
+plan-made d (setting s) = refl
 
 -- a call, a list, from a server that prefers mode b
 pub record Ties (b : Bool) (d : Server) (f : ℕ → Track) : Type 0 where
@@ -301,7 +304,8 @@ tie v es n x end sh room r =
       counted = λ o. ap (λ (t : Track). t .count) (sym track-is) ∙ sym (answer-counts y (ap (λ (t : Track). t .overlap) track-is ∙ o));
       sent =
           ap (λ k. (answered k d (answer n x end sh room)) .frames) q
-          ∙ ap (λ (w : Bool). cond w (Acts.interruptions e ((header sh) .param)) (frameOf (e .synchronous) (answerType end) 0 (answerNumber y) x ∷ []) ++ []) (passed (withholds d n end sh) (ap (λ k. (answered k d (answer n x end sh room)) .reply) (sym q) ∙ r));
+          ∙ ap (λ (w : Bool). cond w (Acts.interruptions e ((header sh) .param)) (frameOf (e .synchronous) (answerType end) 0 (answerNumber y) x ∷ serviceAfter d n x) ++ []) (passed (withholds d n end sh) (ap (λ k. (answered k d (answer n x end sh room)) .reply) (sym q) ∙ r))
+          ∙ append-nil _;
     }
   where
     d : Server

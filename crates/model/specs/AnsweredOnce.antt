@@ -16,7 +16,7 @@ use Rattle.model.specs.Lists.{keep}
 use Rattle.model.specs.State.{fresh, Making}
 use Rattle.model.specs.Interface.{Event, Event.delivery, Outcome.acted, Reply.took}
 use Rattle.model.specs.Step.{Line, step, final, log}
-use Rattle.model.specs.Happening.{Action, Happening, Happening.unmoved, Happening.connected, Happening.disconnected, Happening.skipped-over, Happening.errored, Happening.message-acted, Happening.clock-read, Happening.status-set, Happening.answer-sent, Happening.answer-withheld, happened}
+use Rattle.model.specs.Happening.{Action, Happening, Happening.unmoved, Happening.connected, Happening.disconnected, Happening.skipped-over, Happening.errored, Happening.message-acted, Happening.clock-read, Happening.status-set, Happening.setting-made, Happening.answer-sent, Happening.answer-withheld, happened}
 use Rattle.model.specs.LocalityRows.{kindOf, isSilence, clock-row}
 use Rattle.model.specs.Locality.{overLog}
 use Rattle.model.specs.NextQuestion.{synchronousOf}
@@ -64,6 +64,7 @@ releaseAfter c s (skipped-over x k) p = p
 releaseAfter c s (errored x h k) p = p
 releaseAfter c s (clock-read t) p = p
 releaseAfter c s (status-set b) p = p
+releaseAfter c s (setting-made u) p = p
 releaseAfter c s (answer-sent n x end) p = p
 releaseAfter c s (answer-withheld n m) p = p
 
@@ -83,6 +84,7 @@ lessOwn c s p (skipped-over x k) xs = xs
 lessOwn c s p (errored x h k) xs = xs
 lessOwn c s p (clock-read t) xs = xs
 lessOwn c s p (status-set b) xs = xs
+lessOwn c s p (setting-made u) xs = xs
 lessOwn c s p (answer-sent n x end) xs = xs
 lessOwn c s p (answer-withheld n m) xs = xs
 
@@ -107,6 +109,7 @@ callOf c s t (connected x) = other
 callOf c s t (skipped-over x k) = other
 callOf c s t (errored x h k) = other
 callOf c s t (status-set b) = other
+callOf c s t (setting-made u) = other
 callOf c s t (answer-sent n p end) = other
 callOf c s t (answer-withheld n m) = other
 
@@ -124,6 +127,7 @@ begins c (skipped-over x k) fs = false
 begins c (errored x h k) fs = false
 begins c (clock-read t) fs = false
 begins c (status-set b) fs = false
+begins c (setting-made s) fs = false
 begins c (answer-sent n p end) fs = false
 begins c (answer-withheld n m) fs = false
 
@@ -137,6 +141,7 @@ joins c (skipped-over x k) = false
 joins c (errored x h k) = false
 joins c (clock-read t) = false
 joins c (status-set b) = false
+joins c (setting-made s) = false
 joins c (answer-sent n p end) = false
 joins c (answer-withheld n m) = false
 
@@ -150,6 +155,7 @@ lessAny c (skipped-over x k) xs = xs
 lessAny c (errored x h k) xs = xs
 lessAny c (clock-read t) xs = xs
 lessAny c (status-set b) xs = xs
+lessAny c (setting-made s) xs = xs
 lessAny c (answer-sent n x end) xs = xs
 lessAny c (answer-withheld n m) xs = xs
 

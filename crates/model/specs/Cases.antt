@@ -10,16 +10,19 @@ use Rattle.wire.specs.Field.{field}
 use Rattle.wire.specs.Message.{header, encode, headerBytes}
 use Rattle.wire.specs.Frame.{frameBytes, bytesOf}
 use Rattle.wire.specs.Class.{classOf}
+use Rattle.readings.specs.Payload.{watched, readingsIn}
+use Rattle.readings.specs.Block.{blockOf}
 use Rattle.model.specs.Sizes.{stringLimit, outputMinimum, lastSessionId}
 use Rattle.model.specs.Lists.{isNil, same, all, any, keep}
 use Rattle.model.specs.State.{Server, Entry, at, fresh}
-use Rattle.model.specs.Interface.{Event, Event.opening, Event.delivery, Event.cut, Event.clock, Event.answer, Event.status, Outcome.more-needed, Outcome.skipped, Outcome.held, Outcome.ignored, Outcome.error-sent, Outcome.closed, Outcome.acted, Reply, Reply.refused, Reply.done, Reply.withheld, Reply.took}
+use Rattle.model.specs.Interface.{Event, Event.opening, Event.delivery, Event.cut, Event.clock, Event.answer, Event.status, Event.setting, Setting.watch, Outcome.more-needed, Outcome.skipped, Outcome.held, Outcome.ignored, Outcome.error-sent, Outcome.closed, Outcome.acted, Reply, Reply.refused, Reply.done, Reply.withheld, Reply.took}
 use Rattle.model.specs.Scan.{freshScan, scan}
 use Rattle.model.specs.Place.{placeOf}
 use Rattle.model.specs.Locks.{mayGrant, access, elsewhere, opened, joined, withLocks, passOver, grantPass, change}
 use Rattle.model.specs.Exchange.{controlled, mayAnswer, answerNumber, availableAt}
 use Rattle.model.specs.Checks.{verdict}
 use Rattle.model.specs.Acts.{acts, synchronousExchange, synchronousSaid, asynchronousRest, asynchronousSaid, asynchronousEvent}
+use Rattle.model.specs.Sensing.{sensed, requested, settingSensings}
 use Rattle.model.specs.Refusals.{refusal, causes}
 use Rattle.model.specs.Step.{Result, final, log, step, answered, plan, finish, received, effect}
 use Rattle.model.specs.Canonical.{canonical}
@@ -101,7 +104,7 @@ withLast n b =
     let d = final (fresh benchMaking) b in
     record {
       locks = d .locks;
-      rest = record { exchanges = d .rest .exchanges; connections = d .rest .connections; lastIssued = n; made = d .rest .made; status = d .rest .status; remoteLocal = d .rest .remoteLocal };
+      rest = record { exchanges = d .rest .exchanges; sensings = d .rest .sensings; connections = d .rest .connections; lastIssued = n; made = d .rest .made; status = d .rest .status; remoteLocal = d .rest .remoteLocal };
     }
 
 pub number-cases : List Case
@@ -213,6 +216,7 @@ shapes (cut c room ∷ es) = 3 ∷ c ∷ shapes es
 shapes (clock t room ∷ es) = 4 ∷ t ∷ shapes es
 shapes (answer n p end sh room ∷ es) = 5 ∷ n ∷ shapes es
 shapes (status b ∷ es) = 6 ∷ b ∷ shapes es
+shapes (setting (watch n l) ∷ es) = 7 ∷ n ∷ shapes es
 
 pub fixed-case : Bool
 fixed-case =
@@ -221,27 +225,27 @@ fixed-case =
     same (shapes (canonical d once)) (shapes once) && eqb (length once) 18
 
 pub access-holds : map passes access-cases ≡ replicate 4 true
-unfolding access-cases passes after isHeld isActed unsent entryIn waitingIn answersTo fitsBuffer noneExpired final step refusal causes answered plan finish received effect verdict placeOf acts synchronousExchange synchronousSaid asynchronousRest asynchronousSaid asynchronousEvent controlled mayAnswer answerNumber availableAt scan freshScan header field encode headerBytes frameBytes bytesOf classOf mayGrant access passOver grantPass change
+unfolding access-cases passes after isHeld isActed unsent entryIn waitingIn answersTo fitsBuffer noneExpired final step refusal causes answered plan finish received effect verdict placeOf acts synchronousExchange synchronousSaid asynchronousRest asynchronousSaid asynchronousEvent controlled mayAnswer answerNumber availableAt sensed requested settingSensings watched readingsIn blockOf scan freshScan header field encode headerBytes frameBytes bytesOf classOf mayGrant access passOver grantPass change
 access-holds = refl
 
 pub number-holds : map passes number-cases ≡ replicate 3 true
-unfolding number-cases withLast passes after isHeld isActed unsent entryIn waitingIn answersTo fitsBuffer noneExpired final step refusal causes answered plan finish received effect verdict placeOf acts synchronousExchange synchronousSaid asynchronousRest asynchronousSaid asynchronousEvent controlled mayAnswer answerNumber availableAt scan freshScan header field encode headerBytes frameBytes bytesOf classOf mayGrant access passOver grantPass change
+unfolding number-cases withLast passes after isHeld isActed unsent entryIn waitingIn answersTo fitsBuffer noneExpired final step refusal causes answered plan finish received effect verdict placeOf acts synchronousExchange synchronousSaid asynchronousRest asynchronousSaid asynchronousEvent controlled mayAnswer answerNumber availableAt sensed requested settingSensings watched readingsIn blockOf scan freshScan header field encode headerBytes frameBytes bytesOf classOf mayGrant access passOver grantPass change
 number-holds = refl
 
 pub string-holds : map passes string-cases ≡ replicate 5 true
-unfolding string-cases passes after isHeld isActed unsent entryIn waitingIn answersTo fitsBuffer noneExpired final step refusal causes answered plan finish received effect verdict placeOf acts synchronousExchange synchronousSaid asynchronousRest asynchronousSaid asynchronousEvent controlled mayAnswer answerNumber availableAt scan freshScan header field encode headerBytes frameBytes bytesOf classOf mayGrant access passOver grantPass change
+unfolding string-cases passes after isHeld isActed unsent entryIn waitingIn answersTo fitsBuffer noneExpired final step refusal causes answered plan finish received effect verdict placeOf acts synchronousExchange synchronousSaid asynchronousRest asynchronousSaid asynchronousEvent controlled mayAnswer answerNumber availableAt sensed requested settingSensings watched readingsIn blockOf scan freshScan header field encode headerBytes frameBytes bytesOf classOf mayGrant access passOver grantPass change
 string-holds = refl
 
 pub output-holds : map passes output-cases ≡ replicate 2 true
-unfolding output-cases passes after isHeld isActed unsent entryIn waitingIn answersTo fitsBuffer noneExpired final step refusal causes answered plan finish received effect verdict placeOf acts synchronousExchange synchronousSaid asynchronousRest asynchronousSaid asynchronousEvent controlled mayAnswer answerNumber availableAt scan freshScan header field encode headerBytes frameBytes bytesOf classOf mayGrant access passOver grantPass change
+unfolding output-cases passes after isHeld isActed unsent entryIn waitingIn answersTo fitsBuffer noneExpired final step refusal causes answered plan finish received effect verdict placeOf acts synchronousExchange synchronousSaid asynchronousRest asynchronousSaid asynchronousEvent controlled mayAnswer answerNumber availableAt sensed requested settingSensings watched readingsIn blockOf scan freshScan header field encode headerBytes frameBytes bytesOf classOf mayGrant access passOver grantPass change
 output-holds = refl
 
 pub closing-holds : map passes closing-cases ≡ replicate 6 true
-unfolding closing-cases queue passes after isHeld isActed unsent entryIn waitingIn answersTo fitsBuffer noneExpired final step refusal causes answered plan finish received effect verdict placeOf acts synchronousExchange synchronousSaid asynchronousRest asynchronousSaid asynchronousEvent controlled mayAnswer answerNumber availableAt scan freshScan header field encode headerBytes frameBytes bytesOf classOf mayGrant access passOver grantPass change
+unfolding closing-cases queue passes after isHeld isActed unsent entryIn waitingIn answersTo fitsBuffer noneExpired final step refusal causes answered plan finish received effect verdict placeOf acts synchronousExchange synchronousSaid asynchronousRest asynchronousSaid asynchronousEvent controlled mayAnswer answerNumber availableAt sensed requested settingSensings watched readingsIn blockOf scan freshScan header field encode headerBytes frameBytes bytesOf classOf mayGrant access passOver grantPass change
 closing-holds = refl
 
 pub isolation-holds : map passes isolation-cases ≡ replicate 7 true
-unfolding isolation-cases passes after isHeld isActed unsent entryIn waitingIn answersTo fitsBuffer noneExpired final step refusal causes answered plan finish received effect verdict placeOf acts synchronousExchange synchronousSaid asynchronousRest asynchronousSaid asynchronousEvent controlled mayAnswer answerNumber availableAt scan freshScan header field encode headerBytes frameBytes bytesOf classOf mayGrant access passOver grantPass change
+unfolding isolation-cases passes after isHeld isActed unsent entryIn waitingIn answersTo fitsBuffer noneExpired final step refusal causes answered plan finish received effect verdict placeOf acts synchronousExchange synchronousSaid asynchronousRest asynchronousSaid asynchronousEvent controlled mayAnswer answerNumber availableAt sensed requested settingSensings watched readingsIn blockOf scan freshScan header field encode headerBytes frameBytes bytesOf classOf mayGrant access passOver grantPass change
 isolation-holds = refl
 
 pub fewer-holds : fewer-cases ≡ replicate 5 true
@@ -249,9 +253,9 @@ unfolding fewer-cases noWorse implies entry mayGrant access
 fewer-holds = refl
 
 pub request-holds : request-cases ≡ replicate 2 true
-unfolding request-cases grantedAt sharing implies final step refusal causes answered plan finish received effect verdict placeOf acts synchronousExchange synchronousSaid asynchronousRest asynchronousSaid asynchronousEvent controlled mayAnswer answerNumber availableAt scan freshScan header field encode headerBytes frameBytes bytesOf classOf mayGrant access passOver grantPass change
+unfolding request-cases grantedAt sharing implies final step refusal causes answered plan finish received effect verdict placeOf acts synchronousExchange synchronousSaid asynchronousRest asynchronousSaid asynchronousEvent controlled mayAnswer answerNumber availableAt sensed requested settingSensings watched readingsIn blockOf scan freshScan header field encode headerBytes frameBytes bytesOf classOf mayGrant access passOver grantPass change
 request-holds = refl
 
 pub fixed-holds : fixed-case ≡ true
-unfolding fixed-case shapes mixed log final step refusal causes answered plan finish received effect verdict placeOf acts synchronousExchange synchronousSaid asynchronousRest asynchronousSaid asynchronousEvent controlled mayAnswer answerNumber availableAt scan freshScan header field encode headerBytes frameBytes bytesOf classOf mayGrant access passOver grantPass change
+unfolding fixed-case shapes mixed log final step refusal causes answered plan finish received effect verdict placeOf acts synchronousExchange synchronousSaid asynchronousRest asynchronousSaid asynchronousEvent controlled mayAnswer answerNumber availableAt sensed requested settingSensings watched readingsIn blockOf scan freshScan header field encode headerBytes frameBytes bytesOf classOf mayGrant access passOver grantPass change
 fixed-holds = refl

@@ -12,7 +12,7 @@ use Rattle.model.specs.Sizes.{stringLimit}
 use Rattle.model.specs.MessageTypes.{AsyncLock, AsyncLockResponse, AsyncLockInfo, AsyncLockInfoResponse}
 use Rattle.model.specs.Lists.{all, any, tally}
 use Rattle.model.specs.State.{Server, fresh, Making}
-use Rattle.model.specs.Interface.{Event, Event.opening, Event.delivery, Event.cut, Event.clock, Event.answer, Event.status, Outcome.held, Outcome.acted, Reply.took}
+use Rattle.model.specs.Interface.{Event, Event.opening, Event.delivery, Event.cut, Event.clock, Event.answer, Event.status, Event.setting, Outcome.held, Outcome.acted, Reply.took}
 use Rattle.model.specs.Refusals.{refusal}
 use Rattle.model.specs.Step.{step, final, log}
 use Rattle.model.specs.LockModel
@@ -102,6 +102,7 @@ Decided d m (cut c room) = Unit {0}
 Decided d m (clock t room) = Unit {0}
 Decided d m (answer n p end sh room) = Unit {0}
 Decided d m (status b) = Unit {0}
+Decided d m (setting s) = Unit {0}
 
 abbrev pub EachDecides : Server → Model → List Event → Type 0
 EachDecides d m [] = Unit {0}

@@ -7,6 +7,8 @@ use Rattle.wire.specs.Field.{field}
 use Rattle.wire.specs.Message.{header, encode, headerBytes}
 use Rattle.wire.specs.Frame.{frameBytes, bytesOf}
 use Rattle.wire.specs.Class.{classOf}
+use Rattle.readings.specs.Payload.{watched, readingsIn}
+use Rattle.readings.specs.Block.{blockOf}
 use Rattle.model.specs.Interface.{Event, Event.opening, Outcome.error-sent, Outcome.acted, Reply.took}
 use Rattle.model.specs.Scan.{freshScan, scan}
 use Rattle.model.specs.Place.{placeOf}
@@ -14,6 +16,7 @@ use Rattle.model.specs.Locks.{mayGrant, access, passOver, grantPass, cha
 use Rattle.model.specs.Exchange.{controlled, mayAnswer, answerNumber, availableAt}
 use Rattle.model.specs.Checks.{verdict}
 use Rattle.model.specs.Acts.{acts, synchronousExchange, synchronousSaid, asynchronousRest, asynchronousSaid, asynchronousEvent}
+use Rattle.model.specs.Sensing.{sensed, requested, settingSensings}
 use Rattle.model.specs.Refusals.{refusal, causes}
 use Rattle.model.specs.Step.{final, log, step, answered, plan, finish, received, effect}
 use Rattle.model.specs.Table.{Corner, corner, found, sought, message, send, cal, eightZeros, initialize, three}
@@ -61,5 +64,5 @@ forms =
     ∷ []
 
 pub forms-hold : map found forms ≡ map sought forms
-unfolding forms log final step refusal causes answered plan finish received effect verdict placeOf acts synchronousExchange synchronousSaid asynchronousRest asynchronousSaid asynchronousEvent controlled mayAnswer answerNumber availableAt scan freshScan header field encode headerBytes frameBytes bytesOf classOf mayGrant access passOver grantPass change
+unfolding forms log final step refusal causes answered plan finish received effect verdict placeOf acts synchronousExchange synchronousSaid asynchronousRest asynchronousSaid asynchronousEvent controlled mayAnswer answerNumber availableAt sensed requested settingSensings watched readingsIn blockOf scan freshScan header field encode headerBytes frameBytes bytesOf classOf mayGrant access passOver grantPass change
 forms-hold = refl

@@ -13,7 +13,7 @@ use Rattle.model.specs.MessageTypes.{Initialize, AsyncInitialize}
 use Rattle.model.specs.State.{Entry, at, live, fresh, Making}
 use Rattle.model.specs.Interface.{Event}
 use Rattle.model.specs.Step.{Line, final, log}
-use Rattle.model.specs.Happening.{Action, Happening, Happening.unmoved, Happening.connected, Happening.disconnected, Happening.skipped-over, Happening.errored, Happening.message-acted, Happening.clock-read, Happening.status-set, Happening.answer-sent, Happening.answer-withheld}
+use Rattle.model.specs.Happening.{Action, Happening, Happening.unmoved, Happening.connected, Happening.disconnected, Happening.skipped-over, Happening.errored, Happening.message-acted, Happening.clock-read, Happening.status-set, Happening.setting-made, Happening.answer-sent, Happening.answer-withheld}
 use Rattle.model.specs.LocalityRows.{kindOf, obtains, singly, clock-row}
 use Rattle.model.specs.AnsweredOnce.{lockOnly, happening}
 
@@ -33,6 +33,7 @@ toWaiting (skipped-over c k) fs = lockOnly fs
 toWaiting (errored c h k) fs = lockOnly fs
 toWaiting (clock-read t) fs = lockOnly fs
 toWaiting (status-set b) fs = lockOnly fs
+toWaiting (setting-made s) fs = lockOnly fs
 toWaiting (answer-sent n p end) fs = lockOnly fs
 toWaiting (answer-withheld n m) fs = lockOnly fs
 
@@ -61,6 +62,7 @@ afterOwn now (skipped-over c k) n p = p
 afterOwn now (errored c h k) n p = p
 afterOwn now (clock-read t) n p = p
 afterOwn now (status-set b) n p = p
+afterOwn now (setting-made s) n p = p
 afterOwn now (answer-sent m x end) n p = p
 afterOwn now (answer-withheld m x) n p = p
 

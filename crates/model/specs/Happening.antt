@@ -6,7 +6,7 @@ use lib.Dec.{eqb}
 use Rattle.wire.specs.declared.Header.{Header}
 use Rattle.wire.specs.Message.{Message, header, messageOf}
 use Rattle.wire.specs.Frame.{Frame}
-use Rattle.model.specs.Interface.{Event, Event.opening, Event.delivery, Event.cut, Event.clock, Event.answer, Event.status, Outcome, Outcome.more-needed, Outcome.skipped, Outcome.held, Outcome.ignored, Outcome.error-sent, Outcome.closed, Outcome.acted, Reply, Reply.refused, Reply.done, Reply.withheld, Reply.took}
+use Rattle.model.specs.Interface.{Event, Event.opening, Event.delivery, Event.cut, Event.clock, Event.answer, Event.status, Event.setting, Setting, Outcome, Outcome.more-needed, Outcome.skipped, Outcome.held, Outcome.ignored, Outcome.error-sent, Outcome.closed, Outcome.acted, Reply, Reply.refused, Reply.done, Reply.withheld, Reply.took}
 
 -- the control code of the first frame of a call, if that frame has a given type
 pub data Heard : Type 0 where
@@ -38,6 +38,8 @@ pub data Happening : Type 0 where
   message-acted : Action → Happening
   -- the clock's reading; the instrument's status byte
   clock-read status-set : ℕ → Happening
+  -- what the host set
+  setting-made : Setting → Happening
   -- an answer was sent to a session: its payload, with END
   answer-sent : ℕ → List ℕ → Bool → Happening
   -- 02, Q-5: an answer to a session was withheld, interrupted by a message with this MessageID
@@ -61,6 +63,7 @@ seenCall (cut c room) = disconnected c silence
 seenCall (clock t room) = clock-read t
 seenCall (answer n p end sh room) = answer-sent n p end
 seenCall (status b) = status-set b
+seenCall (setting s) = setting-made s
 
 -- 02, Q-5: an answer that was withheld, by the bytes that were shown with it
 abbrev pub seenWithheld : Event → Happening
@@ -70,6 +73,7 @@ seenWithheld (cut c room) = unmoved
 seenWithheld (clock t room) = unmoved
 seenWithheld (answer n p end sh room) = answer-withheld n ((header sh) .param)
 seenWithheld (status b) = unmoved
+seenWithheld (setting s) = unmoved
 
 abbrev pub happened : Event → Reply → List Frame → Happening
 happened e (refused n) fs = unmoved
@@ -81,3 +85,4 @@ happened (cut c room) (took o k n) fs = unmoved
 happened (clock t room) (took o k n) fs = unmoved
 happened (answer s p end sh room) (took o k n) fs = unmoved
 happened (status b) (took o k n) fs = unmoved
+happened (setting s) (took o k n) fs = unmoved

@@ -22,7 +22,7 @@ use Rattle.model.specs.Refusals.{refusal}
 use Rattle.model.specs.Step.{Line, step, final, log}
 use Rattle.model.specs.Access.{Command, accessOf}
 use Rattle.model.specs.Permitted.{commandForms, permits}
-use Rattle.model.specs.Happening.{Happening, Happening.unmoved, Happening.connected, Happening.disconnected, Happening.skipped-over, Happening.errored, Happening.message-acted, Happening.clock-read, Happening.status-set, Happening.answer-sent, Happening.answer-withheld, happened}
+use Rattle.model.specs.Happening.{Happening, Happening.unmoved, Happening.connected, Happening.disconnected, Happening.skipped-over, Happening.errored, Happening.message-acted, Happening.clock-read, Happening.status-set, Happening.setting-made, Happening.answer-sent, Happening.answer-withheld, happened}
 
 -- what the taken messages say of a session: its synchronous connection, whether it is in a device clear, and the numbers of its Data, DataEND
 -- and Trigger messages since it opened or was last cleared, the last one first
@@ -69,6 +69,7 @@ noted (message-acted a) n p =
     cond (eqb (a .session) n) (actedFor (a .connection) (a .message .kind) (a .message .param) p) (actedForAnother (a .connection) (a .message .kind) p)
 noted (clock-read t) n p = p
 noted (status-set b) n p = p
+noted (setting-made s) n p = p
 noted (answer-sent m x end) n p = p
 noted (answer-withheld m x) n p = p
 

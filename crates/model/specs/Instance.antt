@@ -10,16 +10,19 @@ use Rattle.wire.specs.Field.{field}
 use Rattle.wire.specs.Message.{header, encode, headerBytes}
 use Rattle.wire.specs.Frame.{Frame, frameOf, frameBytes, bytesOf}
 use Rattle.wire.specs.Class.{classOf, one-of}
+use Rattle.readings.specs.Payload.{watched, readingsIn}
+use Rattle.readings.specs.Block.{blockOf}
 use Rattle.model.specs.Lists.{same, all, any, tally}
 use Rattle.model.specs.MessageTypes.{commands}
 use Rattle.model.specs.State.{Server, Rest, Locks, Entry, Waiting, Kind.exclusive-lock, Kind.shared-lock, Standing, Standing.no-release, Standing.release-of, Exchange, Asked, Asked.none, Asked.some, Connection, at, live, slotOfNumber, fresh}
-use Rattle.model.specs.Interface.{Event, Event.opening, Event.delivery, Event.cut, Event.clock, Event.answer, Event.status, Outcome.more-needed, Outcome.skipped, Outcome.held, Outcome.ignored, Outcome.error-sent, Outcome.closed, Outcome.acted, Reply, Reply.refused, Reply.done, Reply.withheld, Reply.took, outcomeNumber}
+use Rattle.model.specs.Interface.{Event, Event.opening, Event.delivery, Event.cut, Event.clock, Event.answer, Event.status, Event.setting, Outcome.more-needed, Outcome.skipped, Outcome.held, Outcome.ignored, Outcome.error-sent, Outcome.closed, Outcome.acted, Reply, Reply.refused, Reply.done, Reply.withheld, Reply.took, outcomeNumber}
 use Rattle.model.specs.Scan.{freshScan, scan}
 use Rattle.model.specs.Place.{placeOf}
 use Rattle.model.specs.Locks.{mayGrant, access, passOver, grantPass, change, noExclusive}
 use Rattle.model.specs.Exchange.{numberAsked, controlled, mayAnswer, answerNumber, availableAt}
 use Rattle.model.specs.Checks.{verdict}
 use Rattle.model.specs.Acts.{acts, synchronousExchange, synchronousSaid, asynchronousRest, asynchronousSaid, asynchronousEvent, holder}
+use Rattle.model.specs.Sensing.{sensed, requested, settingSensings}
 use Rattle.model.specs.Refusals.{refusal, causes}
 use Rattle.model.specs.Step.{Line, final, log, step, answered, plan, finish, received, effect, answerType}
 use Rattle.model.specs.Canonical.{canonical, kept, omits, taken, showed}
@@ -143,7 +146,7 @@ codes =
     ∷ []
 
 pub codes-at : map codeOf (log d₀ rich) ≡ codes
-unfolding codes rich log final step refusal causes answered plan finish received effect verdict placeOf acts synchronousExchange synchronousSaid asynchronousRest asynchronousSaid asynchronousEvent controlled mayAnswer answerNumber availableAt scan freshScan header field encode headerBytes frameBytes bytesOf classOf mayGrant access passOver grantPass change
+unfolding codes rich log final step refusal causes answered plan finish received effect verdict placeOf acts synchronousExchange synchronousSaid asynchronousRest asynchronousSaid asynchronousEvent controlled mayAnswer answerNumber availableAt sensed requested settingSensings watched readingsIn blockOf scan freshScan header field encode headerBytes frameBytes bytesOf classOf mayGrant access passOver grantPass change
 codes-at = refl
 
 -- A: the same server, the same lines, omitted calls silent, no more taken than shown
@@ -154,19 +157,19 @@ abbrev within : Line → Bool
 within l = leb (taken (l .reply)) (showed (l .event))
 
 pub canonical-at : same (serverNumbers (final d₀ (canonical d₀ rich))) (serverNumbers (final d₀ rich)) ≡ true
-unfolding rich log final step refusal causes answered plan finish received effect verdict placeOf acts synchronousExchange synchronousSaid asynchronousRest asynchronousSaid asynchronousEvent controlled mayAnswer answerNumber availableAt scan freshScan header field encode headerBytes frameBytes bytesOf classOf mayGrant access passOver grantPass change
+unfolding rich log final step refusal causes answered plan finish received effect verdict placeOf acts synchronousExchange synchronousSaid asynchronousRest asynchronousSaid asynchronousEvent controlled mayAnswer answerNumber availableAt sensed requested settingSensings watched readingsIn blockOf scan freshScan header field encode headerBytes frameBytes bytesOf classOf mayGrant access passOver grantPass change
 canonical-at = refl
 
 pub lines-at : same (lineNumbers (log d₀ (canonical d₀ rich))) (lineNumbers (kept (log d₀ rich))) ≡ true
-unfolding rich log final step refusal causes answered plan finish received effect verdict placeOf acts synchronousExchange synchronousSaid asynchronousRest asynchronousSaid asynchronousEvent controlled mayAnswer answerNumber availableAt scan freshScan header field encode headerBytes frameBytes bytesOf classOf mayGrant access passOver grantPass change
+unfolding rich log final step refusal causes answered plan finish received effect verdict placeOf acts synchronousExchange synchronousSaid asynchronousRest asynchronousSaid asynchronousEvent controlled mayAnswer answerNumber availableAt sensed requested settingSensings watched readingsIn blockOf scan freshScan header field encode headerBytes frameBytes bytesOf classOf mayGrant access passOver grantPass change
 lines-at = refl
 
 pub silent-at : all silent (log d₀ rich) ≡ true
-unfolding rich log final step refusal causes answered plan finish received effect verdict placeOf acts synchronousExchange synchronousSaid asynchronousRest asynchronousSaid asynchronousEvent controlled mayAnswer answerNumber availableAt scan freshScan header field encode headerBytes frameBytes bytesOf classOf mayGrant access passOver grantPass change
+unfolding rich log final step refusal causes answered plan finish received effect verdict placeOf acts synchronousExchange synchronousSaid asynchronousRest asynchronousSaid asynchronousEvent controlled mayAnswer answerNumber availableAt sensed requested settingSensings watched readingsIn blockOf scan freshScan header field encode headerBytes frameBytes bytesOf classOf mayGrant access passOver grantPass change
 silent-at = refl
 
 pub within-at : all within (log d₀ rich) ≡ true
-unfolding rich log final step refusal causes answered plan finish received effect verdict placeOf acts synchronousExchange synchronousSaid asynchronousRest asynchronousSaid asynchronousEvent controlled mayAnswer answerNumber availableAt scan freshScan header field encode headerBytes frameBytes bytesOf classOf mayGrant access passOver grantPass change
+unfolding rich log final step refusal causes answered plan finish received effect verdict placeOf acts synchronousExchange synchronousSaid asynchronousRest asynchronousSaid asynchronousEvent controlled mayAnswer answerNumber availableAt sensed requested settingSensings watched readingsIn blockOf scan freshScan header field encode headerBytes frameBytes bytesOf classOf mayGrant access passOver grantPass change
 within-at = refl
 
 -- A, call by call: what is omitted leaves the server as it was
@@ -175,7 +178,7 @@ changesNothing d [] = true
 changesNothing d (e ∷ es) = let r = step d e in (not (omits (r .reply)) || same (serverNumbers (r .server)) (serverNumbers d)) && changesNothing (r .server) es
 
 pub omitted-at : changesNothing d₀ rich ≡ true
-unfolding rich log final step refusal causes answered plan finish received effect verdict placeOf acts synchronousExchange synchronousSaid asynchronousRest asynchronousSaid asynchronousEvent controlled mayAnswer answerNumber availableAt scan freshScan header field encode headerBytes frameBytes bytesOf classOf mayGrant access passOver grantPass change
+unfolding rich log final step refusal causes answered plan finish received effect verdict placeOf acts synchronousExchange synchronousSaid asynchronousRest asynchronousSaid asynchronousEvent controlled mayAnswer answerNumber availableAt sensed requested settingSensings watched readingsIn blockOf scan freshScan header field encode headerBytes frameBytes bytesOf classOf mayGrant access passOver grantPass change
 omitted-at = refl
 
 -- B: after each call the clock, the waiting requests and the sessions agree, and its lock answers are those sent
@@ -214,7 +217,7 @@ agreeing d m (e ∷ es) =
     && (same (bytesOf (map toldFrame (o .told))) (bytesOf (lockFrames (r .frames))) && agreeing (r .server) (o .model) es)
 
 pub agreement-at : agreeing d₀ freshModel rich ≡ true
-unfolding rich log final step refusal causes answered plan finish received effect verdict placeOf acts synchronousExchange synchronousSaid asynchronousRest asynchronousSaid asynchronousEvent controlled mayAnswer answerNumber availableAt scan freshScan header field encode headerBytes frameBytes bytesOf classOf mayGrant access passOver grantPass change modelStep LockModel.request LockModel.release LockModel.message LockModel.reading LockModel.clearing LockModel.removal LockModel.delivered look looked allowed
+unfolding rich log final step refusal causes answered plan finish received effect verdict placeOf acts synchronousExchange synchronousSaid asynchronousRest asynchronousSaid asynchronousEvent controlled mayAnswer answerNumber availableAt sensed requested settingSensings watched readingsIn blockOf scan freshScan header field encode headerBytes frameBytes bytesOf classOf mayGrant access passOver grantPass change modelStep LockModel.request LockModel.release LockModel.message LockModel.reading LockModel.clearing LockModel.removal LockModel.delivered look looked allowed
 agreement-at = refl
 
 -- D: grants, access and AsyncLockInfo go by the lock model's holders, after each call, for every live slot
@@ -241,13 +244,13 @@ deciding d m (e ∷ es) =
     && (eqb (tally holder (r .server .locks .entries)) (tally (λ s. not (notExclusive s && notShared s)) (o .model .sessions)) && deciding (r .server) (o .model) es)
 
 pub decisions-at : deciding d₀ freshModel rich ≡ true
-unfolding rich log final step refusal causes answered plan finish received effect verdict placeOf acts synchronousExchange synchronousSaid asynchronousRest asynchronousSaid asynchronousEvent controlled mayAnswer answerNumber availableAt scan freshScan header field encode headerBytes frameBytes bytesOf classOf mayGrant access passOver grantPass change modelStep LockModel.request LockModel.release LockModel.message LockModel.reading LockModel.clearing LockModel.removal LockModel.delivered look looked allowed
+unfolding rich log final step refusal causes answered plan finish received effect verdict placeOf acts synchronousExchange synchronousSaid asynchronousRest asynchronousSaid asynchronousEvent controlled mayAnswer answerNumber availableAt sensed requested settingSensings watched readingsIn blockOf scan freshScan header field encode headerBytes frameBytes bytesOf classOf mayGrant access passOver grantPass change modelStep LockModel.request LockModel.release LockModel.message LockModel.reading LockModel.clearing LockModel.removal LockModel.delivered look looked allowed
 decisions-at = refl
 
 -- C: the count
 pub count-at : count isGrant ((modelRun freshModel (feeds (log d₀ rich))) .told)
     ≡ count isRelease ((modelRun freshModel (feeds (log d₀ rich))) .told) + dropped freshModel (feeds (log d₀ rich)) + locksHeld ((final d₀ rich) .locks .entries)
-unfolding rich log final step refusal causes answered plan finish received effect verdict placeOf acts synchronousExchange synchronousSaid asynchronousRest asynchronousSaid asynchronousEvent controlled mayAnswer answerNumber availableAt scan freshScan header field encode headerBytes frameBytes bytesOf classOf mayGrant access passOver grantPass change modelRun modelStep LockModel.request LockModel.release LockModel.message LockModel.reading LockModel.clearing LockModel.removal LockModel.delivered look looked allowed count dropped locksHeld
+unfolding rich log final step refusal causes answered plan finish received effect verdict placeOf acts synchronousExchange synchronousSaid asynchronousRest asynchronousSaid asynchronousEvent controlled mayAnswer answerNumber availableAt sensed requested settingSensings watched readingsIn blockOf scan freshScan header field encode headerBytes frameBytes bytesOf classOf mayGrant access passOver grantPass change modelRun modelStep LockModel.request LockModel.release LockModel.message LockModel.reading LockModel.clearing LockModel.removal LockModel.delivered look looked allowed count dropped locksHeld
 count-at = refl
 
 -- F: each answer that is sent carries the number that the log before it gives
@@ -264,6 +267,7 @@ tiedAnswer ls d (delivery c bs room) done fs = true
 tiedAnswer ls d (cut c room) done fs = true
 tiedAnswer ls d (clock t room) done fs = true
 tiedAnswer ls d (status b) done fs = true
+tiedAnswer ls d (setting s) done fs = true
 tiedAnswer ls d (answer n p end sh room) done fs = ties (trackOfLog false ls n (nothingYet false)) fs end p d n
 
 abbrev tied : List Line → Server → List Event → Bool
@@ -273,7 +277,7 @@ tied ls d (e ∷ es) =
     tiedAnswer ls d e (r .reply) (r .frames) && tied (ls ++ record { event = e; reply = r .reply; frames = r .frames } ∷ []) (r .server) es
 
 pub tie-at : tied [] d₀ rich ≡ true
-unfolding rich log final step refusal causes answered plan finish received effect verdict placeOf acts synchronousExchange synchronousSaid asynchronousRest asynchronousSaid asynchronousEvent controlled mayAnswer answerNumber availableAt scan freshScan header field encode headerBytes frameBytes bytesOf classOf mayGrant access passOver grantPass change trackOfLog
+unfolding rich log final step refusal causes answered plan finish received effect verdict placeOf acts synchronousExchange synchronousSaid asynchronousRest asynchronousSaid asynchronousEvent controlled mayAnswer answerNumber availableAt sensed requested settingSensings watched readingsIn blockOf scan freshScan header field encode headerBytes frameBytes bytesOf classOf mayGrant access passOver grantPass change trackOfLog
 tie-at = refl
 
 -- G: while some session holds exclusive, a command that acts is that session's
@@ -292,6 +296,7 @@ ownCommand es (opening c) (took o k n) = true
 ownCommand es (cut c room) (took o k n) = true
 ownCommand es (clock t room) (took o k n) = true
 ownCommand es (status b) (took o k n) = true
+ownCommand es (setting s) (took o k n) = true
 ownCommand es (answer m p end sh room) (took o k n) = true
 
 abbrev isolated : Server → List Event → Bool
@@ -299,5 +304,5 @@ isolated d [] = true
 isolated d (e ∷ es) = let r = step d e in ownCommand (d .locks .entries) e (r .reply) && isolated (r .server) es
 
 pub isolation-at : isolated d₀ rich ≡ true
-unfolding rich log final step refusal causes answered plan finish received effect verdict placeOf acts synchronousExchange synchronousSaid asynchronousRest asynchronousSaid asynchronousEvent controlled mayAnswer answerNumber availableAt scan freshScan header field encode headerBytes frameBytes bytesOf classOf mayGrant access passOver grantPass change
+unfolding rich log final step refusal causes answered plan finish received effect verdict placeOf acts synchronousExchange synchronousSaid asynchronousRest asynchronousSaid asynchronousEvent controlled mayAnswer answerNumber availableAt sensed requested settingSensings watched readingsIn blockOf scan freshScan header field encode headerBytes frameBytes bytesOf classOf mayGrant access passOver grantPass change
 isolation-at = refl

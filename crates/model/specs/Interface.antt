@@ -1,10 +1,16 @@
--- What passes between the host and the server: the six events, the replies, and the numbers of 01 that the C interface returns for
+-- What passes between the host and the server: the six events and what the host sets, the replies, and the numbers of 01 that the C interface returns for
 -- them. Assumes nothing.
 use mathlib.Core.Bool.{Bool}
 use mathlib.Core.List.{List}
 use Prim.Native.Nat.{ℕ}
+use Rattle.readings.specs.Watch.{Limits}
 
--- 01: six events. ROOM is the length of the lent output buffer
+-- what the host sets, without a buffer
+pub data Setting : Type 0 where
+  -- 02, Q-11: the watch of a session: its number, and the watch by its limits' bits
+  watch : ℕ → Limits → Setting
+
+-- 01: six events; 02 adds what the host sets (Q-11: "Setting a watch is an event for demand 3"). ROOM is the length of the lent output buffer
 pub data Event : Type 0 where
   -- a connection opens
   opening : ℕ → Event
@@ -18,6 +24,8 @@ pub data Event : Type 0 where
   answer : ℕ → List ℕ → Bool → List ℕ → ℕ → Event
   -- the instrument's status byte changes
   status : ℕ → Event
+  -- the host sets something
+  setting : Setting → Event
 
 -- 01: one outcome of a delivery
 pub data Outcome : Type 0 where
@@ -72,6 +80,10 @@ bufferTooSmall = 7
 -- no live session of that number
 abbrev pub noSuchSession : ℕ
 noSuchSession = 8
+
+-- 02, Q-11: a limit that is not a number, or low above high
+abbrev pub badLimits : ℕ
+badLimits = 10
 
 -- what hislip_deliver returns, from the reply, the bytes written and the bytes missing (specs/Missing.antt): on a refusal every other
 -- number is 0

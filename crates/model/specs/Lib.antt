@@ -9,12 +9,14 @@ pub mod Locks
 pub mod Exchange
 pub mod Checks
 pub mod Acts
+pub mod Sensing
 pub mod Refusals
 pub mod Step
 pub mod Table
 pub mod Bench
 pub mod Figures
 pub mod Corners
+pub mod WatchCorners
 pub mod Canonical
 pub mod Post
 pub mod LockModel
@@ -60,3 +62,4 @@ pub mod AnsweredOnce
 pub mod Asking
 pub mod Holders
 pub mod GrantsSeen
+pub mod Watching

@@ -9,13 +9,13 @@ use lib.ListN.{length}
 use Rattle.wire.specs.Message.{header, prologue}
 use Rattle.model.specs.Sizes.{noConnection}
 use Rattle.model.specs.Lists.{isNil, any}
-use Rattle.model.specs.State.{Server, Granted, Entry, Waiting, Exchange, Connection, at, live, exchangeAt, connectionAt}
+use Rattle.model.specs.State.{Server, Granted, Entry, Waiting, Exchange, Connection, at, live, exchangeAt, sensingAt, connectionAt}
 use Rattle.model.specs.Place.{entryOf}
 use Rattle.model.specs.Interface.{Event, Event.delivery, Outcome, Outcome.closed, Reply.took}
 use Rattle.model.specs.Step.{Line, Result, step, final, log}
 use Rattle.model.specs.Closing.{OldestFirst}
 use Rattle.model.specs.Happening.{Happening, heard, happened}
-use Rattle.model.specs.LocalityRows.{Row, inSlot, clear-row, asked-row, available-row, size-row, mode-row, count-row, sent-row, expected-row, step-row, number-row, synchronous-row, asynchronous-row, exclusive-row, shared-row, last-row, standing-row, moreGranted, granted-row, requestsLeft, looksAfter, open-row, remainder-row, isSilence, Single, singly, clock-row, status-row, made-row, issued-row, enable-row, lockout-row, remote-row}
+use Rattle.model.specs.LocalityRows.{Row, inSlot, clear-row, asked-row, available-row, size-row, mode-row, count-row, sent-row, expected-row, step-row, number-row, synchronous-row, asynchronous-row, exclusive-row, shared-row, last-row, standing-row, moreGranted, granted-row, sensing-row, requestsLeft, looksAfter, open-row, remainder-row, isSilence, Single, singly, clock-row, status-row, made-row, issued-row, enable-row, lockout-row, remote-row}
 use Rattle.model.specs.LocalityReplies.{saidFirst, direct, answeredFirst, answerTo, sessionSaid}
 
 -- what happened at a call, as the host sees it
@@ -94,6 +94,9 @@ pub record Local (d : Server) (h : Happening) (r : Result) : Type 0 where
   pub any-sent : EachExchange d h r (λ x. x .anySent) (λ x. sent-row)
   pub rmt-expected : EachExchange d h r (λ x. x .rmtExpected) (λ x. expected-row)
   pub number-expected : EachExchange d h r (λ x. x .numberExpected) step-row
+  -- readings
+  pub sensing-slots : length (r .server .rest .sensings) ≡ length (d .rest .sensings)
+  pub sensing : (i : ℕ) → i < length (d .rest .sensings) → sensingAt (r .server .rest) i ≡ sensing-row (d .locks .entries) i h (sensingAt (d .rest) i)
   -- connections
   pub connection-places : length (r .server .rest .connections) ≡ length (d .rest .connections)
   pub is-open : EachConnection d h r (λ y. y .isOpen) open-row
@@ -114,7 +117,7 @@ pub record Local (d : Server) (h : Happening) (r : Result) : Type 0 where
   pub due-slots : length due ≡ length (d .locks .entries)
   pub due-is : (i : ℕ) → i < length (d .locks .entries) → at due i ≡ entryDue (d .locks .clock) (d .locks .entries) h i (at (d .locks .entries) i)
   pub waiting : Look (d .locks .clock) (looksAfter (d .locks .entries) h) due (requestsLeft (d .locks .entries) (d .locks .clock) h (d .locks .waiting)) (r .server .locks .entries) (r .server .locks .waiting) granted
-  -- every frame: an interruption (02, Q-5), the lock answers that come first, direct replies, answers 1 to those granted
+  -- every frame: an interruption (02, Q-5), the lock answers that come first, direct replies (02, Q-11: with the request for service), answers 1 to those granted
   pub frames : r .frames ≡ saidFirst d h ++ (answeredFirst d h ++ (direct d h ++ map (answerTo 1 due) granted))
   -- the session's number in the reply
   pub session : (o : Outcome) (k n : ℕ) → r .reply ≡ took o k n → n ≡ sessionSaid d h n

@@ -5,11 +5,12 @@ use mathlib.Core.List.{List, [], _∷_, _++_, map}
 use Prim.Native.Nat.{ℕ, _+_, _*_, _/_, _%_, _^_, min}
 use lib.Dec.{eqb}
 use Rattle.wire.specs.Frame.{Frame, frameOf}
+use Rattle.readings.specs.Request.{requestCode}
 use Rattle.model.specs.Lists.{isNil, any, keep, tally}
-use Rattle.model.specs.State.{Server, Entry, Exchange, Waiting, Asked, Asked.none, Asked.some, at, live, slotOfNumber, exchangeAt}
+use Rattle.model.specs.State.{Server, Entry, Exchange, Waiting, Asked, Asked.none, Asked.some, at, live, slotOfNumber, exchangeAt, Sensing, sensingAt}
 use Rattle.model.specs.Place.{slotIn}
-use Rattle.model.specs.Happening.{Heard, Heard.silence, Heard.with-code, Action, Happening, Happening.unmoved, Happening.connected, Happening.disconnected, Happening.skipped-over, Happening.errored, Happening.message-acted, Happening.clock-read, Happening.status-set, Happening.answer-sent, Happening.answer-withheld}
-use Rattle.model.specs.LocalityRows.{kindOf, slotActed, available-row, interruptedBy, endedWith, requestsOf, reachedBy, connectionsOf}
+use Rattle.model.specs.Happening.{Heard, Heard.silence, Heard.with-code, Action, Happening, Happening.unmoved, Happening.connected, Happening.disconnected, Happening.skipped-over, Happening.errored, Happening.message-acted, Happening.clock-read, Happening.status-set, Happening.setting-made, Happening.answer-sent, Happening.answer-withheld}
+use Rattle.model.specs.LocalityRows.{kindOf, slotActed, tripsBy, available-row, interruptedBy, endedWith, requestsOf, reachedBy, connectionsOf}
 
 -- a message to a connection with a type, code and parameter and no payload
 abbrev pub plainTo : ℕ → ℕ → ℕ → ℕ → Frame
@@ -82,6 +83,13 @@ numberSent x = cond (x .overlap) (x .count) (askedNumber (x .asked))
 abbrev pub pairTo : Entry → ℕ → List Frame
 pairTo e n = plainTo (e .asynchronous) 14 0 n ∷ plainTo (e .synchronous) 13 0 n ∷ []
 
+-- 02, Q-11: the first trip since the watch was set: AsyncServiceRequest (20), "whose code is the meter's byte with values 16 and 64 set"
+abbrev pub serviceFrom : ℕ → Sensing → List ℕ → ℕ → List Frame
+serviceFrom c s p b = cond (not (s .tripped) && tripsBy p s) (plainTo c 20 (requestCode b) 0 ∷ []) []
+
+abbrev pub serviceTo : Entry → Sensing → List ℕ → ℕ → List Frame
+serviceTo e s p b = serviceFrom (e .asynchronous) s p b
+
 -- what stands before the lock answers: the pair of a message that interrupts
 abbrev pub saidFirst : Server → Happening → List Frame
 saidFirst d unmoved = []
@@ -92,6 +100,7 @@ saidFirst d (errored c h k) = []
 saidFirst d (message-acted a) = let i = slotActed (d .locks .entries) a in cond (interruptedBy (exchangeAt (d .rest) i) a) (pairTo (at (d .locks .entries) i) (a .message .param)) []
 saidFirst d (clock-read t) = []
 saidFirst d (status-set b) = []
+saidFirst d (setting-made s) = []
 saidFirst d (answer-sent n p end) = []
 saidFirst d (answer-withheld n m) = []
 
@@ -106,10 +115,12 @@ direct d (errored c h k) = saidTo k 3 (c ∷ [])
 direct d (message-acted a) = replyIn (replies d a) (kindOf a)
 direct d (clock-read t) = []
 direct d (status-set b) = []
--- 01: a meter answer is sent as Data (6) or DataEND (7) with the number that is asked; 02, Q-1: in overlap mode with the count of answers
+direct d (setting-made s) = []
+-- 01: a meter answer is sent as Data (6) or DataEND (7) with the number that is asked; 02, Q-1: in overlap mode with the count of answers;
+-- 02, Q-11: after it the request for service
 direct d (answer-sent n p end) =
     let i = slotOfNumber (d .locks .entries) n in
-    frameOf ((at (d .locks .entries) i) .synchronous) (cond end 7 6) 0 (numberSent (exchangeAt (d .rest) i)) p ∷ []
+    frameOf ((at (d .locks .entries) i) .synchronous) (cond end 7 6) 0 (numberSent (exchangeAt (d .rest) i)) p ∷ serviceTo (at (d .locks .entries) i) (sensingAt (d .rest) i) p (d .rest .status)
 -- 02, Q-5: the pair in place of the answer
 direct d (answer-withheld n m) = pairTo (at (d .locks .entries) (slotOfNumber (d .locks .entries) n)) m
 
@@ -132,6 +143,7 @@ answeredFirst d (message-acted a) =
     (cond (eqb (kindOf a) 19) (map (answerTo 0 es) (keep (requestsOf (slotActed es a)) (d .locks .waiting))) [] ++ saidTo (endedWith a (e .standing)) 5 (e .asynchronous ∷ []))
 answeredFirst d (clock-read t) = map (answerTo 0 (d .locks .entries)) (keep (reachedBy t) (d .locks .waiting))
 answeredFirst d (status-set b) = []
+answeredFirst d (setting-made s) = []
 answeredFirst d (answer-sent n p end) = []
 answeredFirst d (answer-withheld n m) = []
 
@@ -145,5 +157,6 @@ sessionSaid d (skipped-over c k) n = 0
 sessionSaid d (errored c h k) n = 0
 sessionSaid d (clock-read t) n = 0
 sessionSaid d (status-set b) n = 0
+sessionSaid d (setting-made s) n = 0
 sessionSaid d (answer-sent s p end) n = 0
 sessionSaid d (answer-withheld s m) n = 0

@@ -7,11 +7,16 @@ use lib.Dec.{eqb, leb, ltb}
 use Rattle.wire.specs.declared.Header.{Header}
 use Rattle.wire.specs.Field.{number}
 use Rattle.wire.specs.Class.{one-of}
+use Rattle.readings.specs.Watch.{Limits.off, trips}
+use Rattle.readings.specs.Record.{Recorded, nothing, noted}
+use Rattle.readings.specs.Payload.{readingsOf}
+use Rattle.readings.specs.Some as Some
 use Rattle.model.specs.Sizes.{noConnection}
 use Rattle.model.specs.Lists.{isNil, keep}
-use Rattle.model.specs.State.{Making, Granted, noGrants, Entry, Waiting, Kind.exclusive-lock, Kind.shared-lock, Standing, Standing.no-release, Standing.release-of, Asked, Asked.none, Asked.some, Exchange, at, live, slotOfNumber}
+use Rattle.model.specs.State.{Making, Granted, noGrants, Entry, Waiting, Kind.exclusive-lock, Kind.shared-lock, Standing, Standing.no-release, Standing.release-of, Asked, Asked.none, Asked.some, Exchange, Sensing, at, live, slotOfNumber}
+use Rattle.model.specs.Interface.{Setting, Setting.watch}
 use Rattle.model.specs.Place.{slotIn}
-use Rattle.model.specs.Happening.{Heard, Heard.silence, Heard.with-code, Action, Happening, Happening.unmoved, Happening.connected, Happening.disconnected, Happening.skipped-over, Happening.errored, Happening.message-acted, Happening.clock-read, Happening.status-set, Happening.answer-sent, Happening.answer-withheld}
+use Rattle.model.specs.Happening.{Heard, Heard.silence, Heard.with-code, Action, Happening, Happening.unmoved, Happening.connected, Happening.disconnected, Happening.skipped-over, Happening.errored, Happening.message-acted, Happening.clock-read, Happening.status-set, Happening.setting-made, Happening.answer-sent, Happening.answer-withheld}
 
 abbrev pub kindOf : Action → ℕ
 kindOf a = a .message .kind
@@ -41,6 +46,7 @@ inSlot r es i (errored c h k) x = cond (eqb i (slotIn es c) && eqb ((at es i) .s
 inSlot r es i (message-acted a) x = cond (eqb i (slotActed es a)) (r .by-message a x) x
 inSlot r es i (clock-read t) x = x
 inSlot r es i (status-set b) x = x
+inSlot r es i (setting-made s) x = x
 inSlot r es i (answer-sent n p end) x = cond (eqb i (slotOfNumber es n)) (r .by-answer end x) x
 inSlot r es i (answer-withheld n m) x = cond (eqb i (slotOfNumber es n)) (r .when-withheld x) x
 
@@ -258,6 +264,32 @@ granted-row now =
       once-closed = noGrants;
     }
 
+-- READINGS. 02, Q-11: what is set arms the watch, also the same one again, and leaves the record; the readings of an answer that is sent trip it
+-- and go to the record, one after the other; a closing forgets both. Nothing else changes them
+abbrev pub tripsBy : List ℕ → Sensing → Bool
+tripsBy p s = Some.some (trips (s .watch)) (readingsOf p)
+
+abbrev pub notedAll : List ℕ → Recorded → Recorded
+notedAll [] r = r
+notedAll (b ∷ bs) r = notedAll bs (noted r b)
+
+abbrev pub setBy : List Entry → ℕ → Setting → Sensing → Sensing
+setBy es i (watch n l) s = cond (eqb i (slotOfNumber es n)) (record { watch = l; tripped = false; recorded = s .recorded }) s
+
+abbrev pub sensing-row : List Entry → ℕ → Happening → Sensing → Sensing
+sensing-row es i unmoved s = s
+sensing-row es i (connected c) s = s
+sensing-row es i (disconnected c k) s = cond (eqb i (slotIn es c)) (record { watch = off; tripped = false; recorded = nothing }) s
+sensing-row es i (skipped-over c k) s = s
+sensing-row es i (errored c h k) s = s
+sensing-row es i (message-acted a) s = s
+sensing-row es i (clock-read t) s = s
+sensing-row es i (status-set b) s = s
+sensing-row es i (setting-made x) s = setBy es i x s
+sensing-row es i (answer-sent n p end) s =
+    cond (eqb i (slotOfNumber es n)) (record { watch = s .watch; tripped = s .tripped || tripsBy p s; recorded = notedAll (readingsOf p) (s .recorded) }) s
+sensing-row es i (answer-withheld n m) s = s
+
 -- REQUESTS, before they are looked at: one that waits is the last, until clock of arrival plus timeout; a clear (19) and a closing take
 -- the session's; a clock reading takes those at whose deadline it is, or past it
 abbrev pub requestsOf : ℕ → Waiting → Bool
@@ -277,6 +309,7 @@ requestsLeft es now (message-acted a) ws =
     (cond (eqb (kindOf a) 19) (keep (λ w. not (requestsOf (slotActed es a) w)) ws) ws)
 requestsLeft es now (clock-read t) ws = keep (λ w. not (reachedBy t w)) ws
 requestsLeft es now (status-set b) ws = ws
+requestsLeft es now (setting-made s) ws = ws
 requestsLeft es now (answer-sent n p end) ws = ws
 requestsLeft es now (answer-withheld n m) ws = ws
 
@@ -291,6 +324,7 @@ looksAfter es (errored c h k) = false
 looksAfter es (message-acted a) = let r = releasedWith (at es (slotActed es a)) a in isCode 1 r || isCode 2 r
 looksAfter es (clock-read t) = false
 looksAfter es (status-set b) = false
+looksAfter es (setting-made s) = false
 looksAfter es (answer-sent n p end) = false
 looksAfter es (answer-withheld n m) = false
 
@@ -311,6 +345,7 @@ open-row es x (errored c h k) b = b
 open-row es x (message-acted a) b = b
 open-row es x (clock-read t) b = b
 open-row es x (status-set s) b = b
+open-row es x (setting-made u) b = b
 open-row es x (answer-sent n p end) b = b
 open-row es x (answer-withheld n m) b = b
 
@@ -324,6 +359,7 @@ remainder-row es x (errored c h k) r = cond (eqb x c && ltb 1024 (h .len)) (h .l
 remainder-row es x (message-acted a) r = r
 remainder-row es x (clock-read t) r = r
 remainder-row es x (status-set b) r = r
+remainder-row es x (setting-made s) r = r
 remainder-row es x (answer-sent n p end) r = r
 remainder-row es x (answer-withheld n m) r = r
 
@@ -342,6 +378,7 @@ singly r (errored c h k) x = x
 singly r (message-acted a) x = r .on-message a x
 singly r (clock-read t) x = r .on-clock t x
 singly r (status-set b) x = r .on-status b x
+singly r (setting-made s) x = x
 singly r (answer-sent n p end) x = x
 singly r (answer-withheld n m) x = x
 

@@ -14,7 +14,7 @@ use Rattle.wire.specs.Frame.{Frame, frameOf}
 use Rattle.model.specs.Sizes.{payloadLimit}
 use Rattle.model.specs.MessageTypes.{FatalError, Error}
 use Rattle.model.specs.State.{fresh, Making}
-use Rattle.model.specs.Interface.{Event, Event.opening, Event.delivery, Event.cut, Event.clock, Event.answer, Event.status, Outcome, Outcome.more-needed, Outcome.skipped, Outcome.held, Outcome.ignored, Outcome.error-sent, Outcome.closed, Outcome.acted, Reply, Reply.refused, Reply.done, Reply.withheld, Reply.took}
+use Rattle.model.specs.Interface.{Event, Event.opening, Event.delivery, Event.cut, Event.clock, Event.answer, Event.status, Event.setting, Outcome, Outcome.more-needed, Outcome.skipped, Outcome.held, Outcome.ignored, Outcome.error-sent, Outcome.closed, Outcome.acted, Reply, Reply.refused, Reply.done, Reply.withheld, Reply.took}
 use Rattle.model.specs.Step.{Line, log}
 use Rattle.model.specs.Canonical.{kept}
 use Rattle.model.specs.Possible.{AllPossible}
@@ -89,6 +89,7 @@ Shows owed (cut c room) r fs = Unit {0}
 Shows owed (clock t room) r fs = Unit {0}
 Shows owed (answer n p end sh room) r fs = Unit {0}
 Shows owed (status b) r fs = Unit {0}
+Shows owed (setting s) r fs = Unit {0}
 
 -- what a connection owes, read off the calls alone: a header that is too long leaves its length, what is skipped is taken off
 abbrev pub owesBy : Outcome → ℕ → List ℕ → ℕ → ℕ
@@ -114,6 +115,7 @@ owesNext (cut c room) r owed x = owed x
 owesNext (clock t room) r owed x = owed x
 owesNext (answer n p end sh room) r owed x = owed x
 owesNext (status b) r owed x = owed x
+owesNext (setting s) r owed x = owed x
 
 abbrev pub OnlyWhole : (ℕ → ℕ) → List Line → Type 0
 OnlyWhole owed [] = Unit {0}

@@ -2,7 +2,7 @@
 use mathlib.Core.List.{List, [], _∷_}
 use Prim.Native.Nat.{_<_}
 use Rattle.wire.specs.Field.{Bytes}
-use Rattle.model.specs.Interface.{Event, Event.opening, Event.delivery, Event.cut, Event.clock, Event.answer, Event.status}
+use Rattle.model.specs.Interface.{Event, Event.opening, Event.delivery, Event.cut, Event.clock, Event.answer, Event.status, Event.setting}
 
 abbrev pub Possible : Event → Type 0
 Possible (opening c) = Unit {0}
@@ -11,6 +11,7 @@ Possible (cut c room) = Unit {0}
 Possible (clock t room) = Unit {0}
 Possible (answer n p end sh room) = Bytes p × Bytes sh
 Possible (status b) = b < 256
+Possible (setting s) = Unit {0}
 
 abbrev pub AllPossible : List Event → Type 0
 AllPossible [] = Unit {0}

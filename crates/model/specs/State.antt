@@ -6,6 +6,9 @@ use Prim.Native.Nat.{ℕ}
 use lib.Dec.{eqb}
 use lib.ListN.{getD, set, replicate}
 use Rattle.wire.specs.MessageId.{start}
+use Rattle.readings.specs.Watch.{Limits, Limits.off}
+use Rattle.readings.specs.Record.{Recorded}
+use Rattle.readings.specs.Record as Record
 use Rattle.model.specs.Lists.{position}
 use Rattle.model.specs.Sizes.{sessionLimit, connectionLimit, payloadLimit, noConnection, beforeFirst}
 
@@ -68,6 +71,13 @@ pub record Exchange : Type 0 where
   pub rmtExpected : Bool
   pub numberExpected : ℕ
 
+-- 02, Q-11: of a session's readings: its watch, whether a reading has tripped it since it was set, and the record of the readings sent, watch
+-- or none
+pub record Sensing : Type 0 where
+  pub watch : Limits
+  pub tripped : Bool
+  pub recorded : Recorded
+
 -- of a connection: whether it is open, the remainder to skip
 pub record Connection : Type 0 where
   pub isOpen : Bool
@@ -84,10 +94,11 @@ pub record Making : Type 0 where
   pub vendor : ℕ
   pub prefersOverlap : Bool
 
--- all of the server but its locks: an exchange for each slot, the connections by number, the SessionID issued last, how the server was
+-- all of the server but its locks: an exchange for each slot, a sensing for each slot, the connections by number, the SessionID issued last, how the server was
 -- made, the instrument's (01: meter's) status byte, the flags
 pub record Rest : Type 0 where
   pub exchanges : List Exchange
+  pub sensings : List Sensing
   pub connections : List Connection
   pub lastIssued : ℕ
   pub made : Making
@@ -125,6 +136,10 @@ openExchange b =
 abbrev pub freshExchange : Exchange
 freshExchange = openExchange false
 
+-- no watch is set, no reading was sent
+abbrev pub freshSensing : Sensing
+freshSensing = record { watch = off; tripped = false; recorded = Record.nothing }
+
 abbrev pub closedConnection : Connection
 closedConnection = record { isOpen = false; remainder = 0 }
 
@@ -141,6 +156,7 @@ fresh v =
       locks = freshLocks sessionLimit;
       rest = record {
         exchanges = replicate sessionLimit freshExchange;
+        sensings = replicate sessionLimit freshSensing;
         connections = replicate connectionLimit closedConnection;
         lastIssued = 0;
         made = v;
@@ -155,6 +171,9 @@ at es i = getD es i blank
 
 abbrev pub exchangeAt : Rest → ℕ → Exchange
 exchangeAt r i = getD (r .exchanges) i freshExchange
+
+abbrev pub sensingAt : Rest → ℕ → Sensing
+sensingAt r i = getD (r .sensings) i freshSensing
 
 abbrev pub connectionAt : Rest → ℕ → Connection
 connectionAt r c = getD (r .connections) c closedConnection
@@ -172,20 +191,26 @@ slotOfNumber es n = position (λ e. eqb (e .number) n) es
 
 -- a change of one part of the rest
 abbrev pub withConnections : Rest → List Connection → Rest
-withConnections r cs = record { exchanges = r .exchanges; connections = cs; lastIssued = r .lastIssued; made = r .made; status = r .status; remoteLocal = r .remoteLocal }
+withConnections r cs = record { exchanges = r .exchanges; sensings = r .sensings; connections = cs; lastIssued = r .lastIssued; made = r .made; status = r .status; remoteLocal = r .remoteLocal }
 
 abbrev pub withConnection : Rest → ℕ → Connection → Rest
 withConnection r c x = withConnections r (set (r .connections) c x)
 
 abbrev pub withExchange : Rest → ℕ → Exchange → Rest
-withExchange r i x = record { exchanges = set (r .exchanges) i x; connections = r .connections; lastIssued = r .lastIssued; made = r .made; status = r .status; remoteLocal = r .remoteLocal }
+withExchange r i x = record { exchanges = set (r .exchanges) i x; sensings = r .sensings; connections = r .connections; lastIssued = r .lastIssued; made = r .made; status = r .status; remoteLocal = r .remoteLocal }
+
+abbrev pub withSensings : Rest → List Sensing → Rest
+withSensings r ss = record { exchanges = r .exchanges; sensings = ss; connections = r .connections; lastIssued = r .lastIssued; made = r .made; status = r .status; remoteLocal = r .remoteLocal }
+
+abbrev pub withSensing : Rest → ℕ → Sensing → Rest
+withSensing r i x = withSensings r (set (r .sensings) i x)
 
 abbrev pub withRemoteLocal : Rest → RemoteLocal → Rest
-withRemoteLocal r x = record { exchanges = r .exchanges; connections = r .connections; lastIssued = r .lastIssued; made = r .made; status = r .status; remoteLocal = x }
+withRemoteLocal r x = record { exchanges = r .exchanges; sensings = r .sensings; connections = r .connections; lastIssued = r .lastIssued; made = r .made; status = r .status; remoteLocal = x }
 
 abbrev pub withStatus : Rest → ℕ → Rest
-withStatus r b = record { exchanges = r .exchanges; connections = r .connections; lastIssued = r .lastIssued; made = r .made; status = b; remoteLocal = r .remoteLocal }
+withStatus r b = record { exchanges = r .exchanges; sensings = r .sensings; connections = r .connections; lastIssued = r .lastIssued; made = r .made; status = b; remoteLocal = r .remoteLocal }
 
 -- session n opens in slot i
 abbrev pub withSession : Rest → ℕ → ℕ → Rest
-withSession r i n = record { exchanges = set (r .exchanges) i (openExchange (r .made .prefersOverlap)); connections = r .connections; lastIssued = n; made = r .made; status = r .status; remoteLocal = r .remoteLocal }
+withSession r i n = record { exchanges = set (r .exchanges) i (openExchange (r .made .prefersOverlap)); sensings = r .sensings; connections = r .connections; lastIssued = n; made = r .made; status = r .status; remoteLocal = r .remoteLocal }

@@ -45,6 +45,7 @@ use Rattle.model.specs.Fewer.{FewerNeverHurts}
 use Rattle.model.specs.AnsweredOnce.{AnsweredOnce}
 use Rattle.model.specs.Holders.{HoldersShown}
 use Rattle.model.specs.GrantsSeen.{GrantsSeen}
+use Rattle.model.specs.Watching.{Watches}
 use Rattle.model.specs.Locality.{LocalRun, NothingFree}
 use Rattle.model.specs.OneString.{OneStringRun}
 use Rattle.model.specs.AlwaysRoom.{AlwaysRoom}
@@ -132,6 +133,9 @@ pub record Beyond : Type 0 where
   -- to its requests since it opened, and its reading that of the last one
   pub holders-shown : (v : Making) (es : List Event) → HoldersShown v es
   pub grants-seen : (v : Making) (es : List Event) → GrantsSeen v es
+  -- 02, Q-11: each session's watch, its trip and its record are read off what the host set and saw, and so is every request for service: an answer that
+  -- is sent has one exactly if it is the first to trip the watch since it was set
+  pub watches : (v : Making) (es : List Event) → Watches v es
   -- the session that has a connection is the one that is found
   pub found : (v : Making) (es : List Event) (c j : ℕ) → (c ≡ noConnection → ⊥) → onConnection c (at ((final (fresh v) es) .locks .entries) j) ≡ true → j ≡ slotOf (final (fresh v) es) c
   pub one-string : (v : Making) (es : List Event) → OneStringRun v es

@@ -9,14 +9,15 @@ use Rattle.wire.specs.Message.{header}
 use Rattle.wire.specs.Frame.{Frame, frameOf}
 use Rattle.model.specs.Sizes.{noConnection}
 use Rattle.model.specs.MessageTypes.{FatalError, Error, AsyncLockResponse, Data, DataEND}
-use Rattle.model.specs.State.{Server, Rest, Exchange, Connection, at, live, slotOfNumber, exchangeAt, connectionAt, openConnection, closedConnection, freshExchange, withConnections, withConnection, withExchange, withStatus}
-use Rattle.model.specs.Interface.{Event, Event.opening, Event.delivery, Event.cut, Event.clock, Event.answer, Event.status, Outcome.more-needed, Outcome.skipped, Outcome.held, Outcome.ignored, Outcome.error-sent, Outcome.closed, Reply, Reply.refused, Reply.done, Reply.withheld, Reply.took}
+use Rattle.model.specs.State.{Server, Rest, Exchange, Connection, at, live, slotOfNumber, exchangeAt, connectionAt, openConnection, closedConnection, freshExchange, freshSensing, sensingAt, withConnections, withConnection, withExchange, withSensing, withSensings, withStatus}
+use Rattle.model.specs.Interface.{Event, Event.opening, Event.delivery, Event.cut, Event.clock, Event.answer, Event.status, Event.setting, Outcome.more-needed, Outcome.skipped, Outcome.held, Outcome.ignored, Outcome.error-sent, Outcome.closed, Reply, Reply.refused, Reply.done, Reply.withheld, Reply.took}
 use Rattle.model.specs.Scan.{Scan, Scan.empty, Scan.few, Scan.wrong, Scan.skipping, Scan.long, Scan.part, Scan.whole, scan, size, leftover}
 use Rattle.model.specs.Place.{Role, Role.r-none, Role.r-halfOpen, Role.r-synchronous, Role.r-asynchronous, slotOf, roleOf, entryOf}
 use Rattle.model.specs.Locks.{Answer, LockEvent.nothing, LockEvent.close, LockEvent.reading, change, frees, settle}
 use Rattle.model.specs.Exchange.{withNumber, numberAfter, answeredWith, answerNumber, interrupted, interrupts}
 use Rattle.model.specs.Checks.{Verdict, Verdict.v-more, Verdict.v-skipped, Verdict.v-held, Verdict.v-ignored, Verdict.v-closed, Verdict.v-acts, Verdict.v-error, Verdict.v-fatal, verdict}
 use Rattle.model.specs.Acts.{Plan, say, interruptions, acts}
+use Rattle.model.specs.Sensing.{sensed, serviceAfter, settingRest}
 use Rattle.model.specs.Refusals.{refusal}
 
 -- each connection of the session of a connection, synchronous first; without a session, that connection alone
@@ -30,9 +31,9 @@ shutAll cs [] = cs
 shutAll cs (x ∷ xs) = shutAll (set cs x closedConnection) xs
 
 -- 01: cutting either connection closes the session, if there is one; the connections concerned are then not open, and unread bytes
--- and remainders are dropped
+-- and remainders are dropped; 02, Q-11: "Closing forgets the watch and the record."
 abbrev pub closing : Server → ℕ → Rest
-closing d c = withExchange (withConnections (d .rest) (shutAll (d .rest .connections) (channels d c))) (slotOf d c) freshExchange
+closing d c = withSensing (withExchange (withConnections (d .rest) (shutAll (d .rest .connections) (channels d c))) (slotOf d c) freshExchange) (slotOf d c) freshSensing
 
 -- changes nothing, says nothing
 abbrev pub idle : Server → Reply → Plan
@@ -123,15 +124,17 @@ plan d (answer n p end sh room) =
     let i = slotOfNumber (d .locks .entries) n in
     let e = at (d .locks .entries) i in
     let x = exchangeAt (d .rest) i in
+    let s = sensingAt (d .rest) i in
     let w = withholds d n end sh in
     record {
       reply = cond w withheld done;
-      rest = withExchange (d .rest) i (cond w (interrupted x) (answeredWith end x));
+      rest = withSensings (withExchange (d .rest) i (cond w (interrupted x) (answeredWith end x))) (cond w (d .rest .sensings) (set (d .rest .sensings) i (sensed p s)));
       first = [];
-      said = cond w (interruptions e ((header sh) .param)) (frameOf (e .synchronous) (answerType end) 0 (answerNumber x) p ∷ []);
+      said = cond w (interruptions e ((header sh) .param)) (frameOf (e .synchronous) (answerType end) 0 (answerNumber x) p ∷ serviceAfter d n p);
       event = nothing;
     }
 plan d (status b) = record { reply = done; rest = withStatus (d .rest) b; first = []; said = []; event = nothing }
+plan d (setting s) = record { reply = done; rest = settingRest d s; first = []; said = []; event = nothing }
 
 pub record Result : Type 0 where
   pub server : Server

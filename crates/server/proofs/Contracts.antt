@@ -8,12 +8,14 @@ use lib.ListN.{length, take}
 use contract.Lifetimes.{Lfts}
 use borrow.Fn.Kinds.{Dens, resT, endedOf}
 use denote.Triple.Clauses.{AtExit}
-use Rattle.model.specs.Interface.{Event.opening, Event.delivery, Event.cut, Event.clock, Event.answer, Event.status, Reply.done}
+use Rattle.readings.specs.Bits.{bits}
+use Rattle.readings.specs.Watch.{Limits.off, Limits.above, Limits.outside}
+use Rattle.model.specs.Interface.{Event.opening, Event.delivery, Event.cut, Event.clock, Event.answer, Event.status, Reply.done, Event.setting, Setting.watch}
 use Rattle.model.specs.State.{Making}
 use Rattle.model.specs.Demand3.{Seen}
 use Rattle.state.specs.View.{Memory, memory}
 use Rattle.server.specs.Events.{Fresh}
-use Rattle.server.specs.Program.{deliveryReply, doneReply, answeredReply, Run, Run.stop, Run.hislip-open as ran-open, Run.hislip-deliver as ran-deliver, Run.hislip-cut as ran-cut, Run.hislip-clock as ran-clock, Run.hislip-answer as ran-answer, Run.hislip-status as ran-status, Program}
+use Rattle.server.specs.Program.{deliveryReply, doneReply, answeredReply, Run, Run.stop, Run.hislip-open as ran-open, Run.hislip-deliver as ran-deliver, Run.hislip-cut as ran-cut, Run.hislip-clock as ran-clock, Run.hislip-answer as ran-answer, Run.hislip-watch as ran-watch, Run.hislip-status as ran-status, Program}
 use Rattle.server.proofs.Program.{program}
 use Rattle.server.proofs.hislip_new.Reads as new-says
 use Rattle.server.proofs.hislip_new.Kinds as new-kinds
@@ -27,6 +29,12 @@ use Rattle.server.proofs.hislip_clock.Reads as clock-says
 use Rattle.server.proofs.hislip_clock.Kinds as clock-kinds
 use Rattle.server.proofs.hislip_answer.Reads as answer-says
 use Rattle.server.proofs.hislip_answer.Kinds as answer-kinds
+use Rattle.server.proofs.watches.hislip_watch_off.Reads as watch-off-says
+use Rattle.server.proofs.watches.hislip_watch_off.Kinds as watch-off-kinds
+use Rattle.server.proofs.watches.hislip_watch_above.Reads as watch-above-says
+use Rattle.server.proofs.watches.hislip_watch_above.Kinds as watch-above-kinds
+use Rattle.server.proofs.watches.hislip_watch_outside.Reads as watch-outside-says
+use Rattle.server.proofs.watches.hislip_watch_outside.Kinds as watch-outside-kinds
 use Rattle.server.proofs.hislip_status.Reads as status-says
 use Rattle.server.proofs.hislip_status.Kinds as status-kinds
 
@@ -55,6 +63,15 @@ pub data Executed : Memory → List Seen → Memory → Type 0 where
       → answer-says.Post κs a r s → Executed (memory (s .0 .now) (s .1 .0 .now)) ss m″
       → Executed (memory (a .0 .now) (a .1 .0 .now))
       (record { event = answer (a .1 .1 .0) (a .1 .1 .1 .0 .now) (not (eqb (a .1 .1 .1 .1 .0) 0)) (a .1 .1 .1 .1 .1 .0 .now) (length (a .1 .1 .1 .1 .1 .1 .0 .now)); reply = answeredReply r; output = take (r .output) (s .1 .1 .1 .1 .1 .1 .0 .now) } ∷ ss) m″
+  hislip-watch-off : {m″ : Memory} {ss : List Seen} (κs : Lfts 2) (a : Dens κs watch-off-kinds.ps) (r : resT watch-off-kinds.r κs .Denot) (s : AtExit (endedOf 2 watch-off-kinds.ps watch-off-kinds.r) κs)
+      → watch-off-says.Post κs a r s → Executed (memory (s .0 .now) (s .1 .0 .now)) ss m″
+      → Executed (memory (a .0 .now) (a .1 .0 .now)) (record { event = setting (watch (a .1 .1 .0) off); reply = doneReply r; output = [] } ∷ ss) m″
+  hislip-watch-above : {m″ : Memory} {ss : List Seen} (κs : Lfts 2) (a : Dens κs watch-above-kinds.ps) (r : resT watch-above-kinds.r κs .Denot) (s : AtExit (endedOf 2 watch-above-kinds.ps watch-above-kinds.r) κs)
+      → watch-above-says.Post κs a r s → Executed (memory (s .0 .now) (s .1 .0 .now)) ss m″
+      → Executed (memory (a .0 .now) (a .1 .0 .now)) (record { event = setting (watch (a .1 .1 .0) (above (bits (a .1 .1 .1 .0)))); reply = doneReply r; output = [] } ∷ ss) m″
+  hislip-watch-outside : {m″ : Memory} {ss : List Seen} (κs : Lfts 2) (a : Dens κs watch-outside-kinds.ps) (r : resT watch-outside-kinds.r κs .Denot) (s : AtExit (endedOf 2 watch-outside-kinds.ps watch-outside-kinds.r) κs)
+      → watch-outside-says.Post κs a r s → Executed (memory (s .0 .now) (s .1 .0 .now)) ss m″
+      → Executed (memory (a .0 .now) (a .1 .0 .now)) (record { event = setting (watch (a .1 .1 .0) (outside (bits (a .1 .1 .1 .0)) (bits (a .1 .1 .1 .1 .0)))); reply = doneReply r; output = [] } ∷ ss) m″
   hislip-status : {m″ : Memory} {ss : List Seen} (κs : Lfts 2) (a : Dens κs status-kinds.ps) (r : resT status-kinds.r κs .Denot) (s : AtExit (endedOf 2 status-kinds.ps status-kinds.r) κs)
       → status-says.Post κs a r s → Executed (memory (s .0 .now) (s .1 .0 .now)) ss m″
       → Executed (memory (a .0 .now) (a .1 .0 .now)) (record { event = status (a .1 .1 .0); reply = done; output = [] } ∷ ss) m″
@@ -70,6 +87,9 @@ runs (hislip-deliver κs a r s p g) = ran-deliver (a .1 .1 .0) (a .1 .1 .1 .0 .n
 runs (hislip-cut κs a r s p g) = ran-cut (a .1 .1 .0) (a .1 .1 .1 .0 .now) (s .1 .1 .1 .0 .now) r p (runs g)
 runs (hislip-clock κs a r s p g) = ran-clock (a .1 .1 .0) (a .1 .1 .1 .0 .now) (s .1 .1 .1 .0 .now) r p (runs g)
 runs (hislip-answer κs a r s p g) = ran-answer (a .1 .1 .0) (a .1 .1 .1 .0 .now) (a .1 .1 .1 .1 .0) (a .1 .1 .1 .1 .1 .0 .now) (a .1 .1 .1 .1 .1 .1 .0 .now) (s .1 .1 .1 .1 .1 .1 .0 .now) r p (runs g)
+runs (hislip-watch-off κs a r s p g) = ran-watch (a .1 .1 .0) off r p (runs g)
+runs (hislip-watch-above κs a r s p g) = ran-watch (a .1 .1 .0) (above (bits (a .1 .1 .1 .0))) r p (runs g)
+runs (hislip-watch-outside κs a r s p g) = ran-watch (a .1 .1 .0) (outside (bits (a .1 .1 .1 .0)) (bits (a .1 .1 .1 .1 .0))) r p (runs g)
 runs (hislip-status κs a r s p g) = ran-status (a .1 .1 .0) p (runs g)
 
 pub about-the-code : Program Written Executed
@@ -97,6 +117,8 @@ about-the-code =
       isolation = λ v m m′ m″ ss rs f g j h g′. program .isolation v m m′ m″ ss rs (fresh f) (runs g) j h (runs g′);
       fewer-locks = λ m m′ n n′ a b g g′. program .fewer-locks m m′ n n′ a b (runs g) (runs g′);
       answered-once = λ v m m′ m″ m‴ ss s rs l f g g′ g″. program .answered-once v m m′ m″ m‴ ss s rs l (fresh f) (runs g) (runs g′) (runs g″);
+      sensing-seen = λ v m m′ ss f g. program .sensing-seen v m m′ ss (fresh f) (runs g);
+      served = λ v m m′ m″ ss s l f g g′. program .served v m m′ m″ ss s l (fresh f) (runs g) (runs g′);
       holders-shown = λ v m m′ ss f g. program .holders-shown v m m′ ss (fresh f) (runs g);
       grants-seen = λ v m m′ ss l f g. program .grants-seen v m m′ ss l (fresh f) (runs g);
     }

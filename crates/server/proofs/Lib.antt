@@ -1,4 +1,5 @@
 pub mod Contracts
 pub mod Numbering
+pub mod Watching
 pub mod Program
 pub mod Table

@@ -7,7 +7,7 @@ use Rattle.wire.specs.Frame.{Frame, bytesOf, frameBytes, frameOf}
 use Rattle.wire.specs.Message.{encode, headerBytes}
 use Rattle.model.specs.MessageTypes.{Error}
 use Rattle.model.specs.State.{Server}
-use Rattle.model.specs.Interface.{Event, Event.opening, Event.delivery, Event.cut, Event.clock, Event.answer, Event.status, Outcome, Outcome.more-needed, Outcome.skipped, Outcome.held, Outcome.ignored, Outcome.error-sent, Outcome.closed, Outcome.acted, Reply, Reply.refused, Reply.done, Reply.withheld, Reply.took}
+use Rattle.model.specs.Interface.{Event, Event.opening, Event.delivery, Event.cut, Event.clock, Event.answer, Event.status, Event.setting, Outcome, Outcome.more-needed, Outcome.skipped, Outcome.held, Outcome.ignored, Outcome.error-sent, Outcome.closed, Outcome.acted, Reply, Reply.refused, Reply.done, Reply.withheld, Reply.took}
 use Rattle.model.specs.Step.{Line, log, step}
 use Rattle.model.specs.Demand3.{Seen, seen}
 use Rattle.model.specs.Happening.{happened}
@@ -32,6 +32,7 @@ noted-same (cut c room) (took o k m) fs n p = refl
 noted-same (clock t room) (took o k m) fs n p = refl
 noted-same (answer s x end sh room) (took o k m) fs n p = refl
 noted-same (status b) (took o k m) fs n p = refl
+noted-same (setting s) (took o k m) fs n p = refl
 
 pub noted-seen : (ls : List Line) (n : ℕ) (p : Numbering) → notedIn (map seen ls) n p ≡ numberingOf ls n p
 unfolding numberingOf

@@ -13,10 +13,10 @@ use Rattle.wire.specs.Class.{one-of}
 use Rattle.wire.specs.Message.{header, encode, headerBytes}
 use Rattle.wire.specs.Frame.{bytesOf, bytes-one, frameBytes, frameOf, Frame}
 use Rattle.model.specs.Sizes.{noConnection}
-use Rattle.model.specs.State.{Making, Server, at, exchangeAt, fresh, live, slotOfNumber, Entry, Rest}
+use Rattle.model.specs.State.{Making, Server, at, exchangeAt, fresh, live, slotOfNumber, Entry, Rest, freshSensing, sensingAt}
 use Rattle.wire.proofs.ReadFrames.{read-frames}
-use Rattle.model.specs.Lists.{any, tally}
-use Rattle.model.specs.Interface.{Event, Event.opening, Event.delivery, Event.cut, Event.clock, Event.answer, Event.status, Outcome, Outcome.more-needed, Outcome.skipped, Outcome.held, Outcome.ignored, Outcome.error-sent, Outcome.closed, Outcome.acted, Reply, Reply.refused, Reply.done, Reply.withheld, Reply.took, outcomeNumber, DeliveryAnswer, deliveryAnswer, DoneAnswer, doneAnswer, AnsweredAnswer, answeredAnswer}
+use Rattle.model.specs.Lists.{any, tally, keep}
+use Rattle.model.specs.Interface.{Event, Event.opening, Event.delivery, Event.cut, Event.clock, Event.answer, Event.status, Outcome, Outcome.more-needed, Outcome.skipped, Outcome.held, Outcome.ignored, Outcome.error-sent, Outcome.closed, Outcome.acted, Reply, Reply.refused, Reply.done, Reply.withheld, Reply.took, outcomeNumber, DeliveryAnswer, deliveryAnswer, DoneAnswer, doneAnswer, AnsweredAnswer, answeredAnswer, Event.setting, Setting.watch}
 use Rattle.model.specs.Scan.{Scan, Scan.empty, Scan.few, Scan.wrong, Scan.skipping, Scan.long, Scan.part, Scan.whole}
 use Rattle.model.specs.Place.{slotOf, Role, Role.r-none, Role.r-halfOpen, Role.r-synchronous, Role.r-asynchronous}
 use Rattle.model.specs.Checks.{Verdict, Verdict.v-more, Verdict.v-skipped, Verdict.v-held, Verdict.v-ignored, Verdict.v-closed, Verdict.v-acts, Verdict.v-error, Verdict.v-fatal}
@@ -63,6 +63,11 @@ use Rattle.model.specs.GrantsSeen.{noneYet, grantsOf, Shows}
 use Rattle.model.proofs.GrantsSeen.{grants-seen}
 use Rattle.model.proofs.IsolationRun.{isolation-run}
 use Rattle.model.specs.Canonical.{canonical}
+use Rattle.model.specs.Sensing.{serviceAfter}
+use Rattle.model.specs.Watching.{isService, servedBy}
+use Rattle.model.proofs.Watching.{watches}
+use Rattle.model.specs.ReadBack.{framesSeen}
+use Rattle.model.specs.Happening.{happened}
 use Rattle.state.specs.Fresh.{freshStrings, freshWords}
 use Rattle.state.specs.FreshTidy.{fresh-tidy}
 use Rattle.state.specs.OneMemory.{one-memory}
@@ -74,8 +79,9 @@ use Rattle.server.specs.declared.Answered.{Answered}
 use Rattle.server.specs.declared.Done.{Done}
 use Rattle.server.specs.Calls.{Delivered}
 use Rattle.server.specs.Events.{Called, Fresh, Replied, doneNumbers, answeredNumbers}
-use Rattle.server.specs.Program.{outcomeOf, refusedOr, deliveryReply, doneReply, answeredReply, Run, Run.stop, Run.hislip-open, Run.hislip-deliver, Run.hislip-cut, Run.hislip-clock, Run.hislip-answer, Run.hislip-status, trackIn, shownOf, Tied, takenOf, CountsIn, NeverOutIn, OnlyOf, Program, NoWorseSeen, lineSeen}
+use Rattle.server.specs.Program.{outcomeOf, refusedOr, deliveryReply, doneReply, answeredReply, Run, Run.stop, Run.hislip-open, Run.hislip-deliver, Run.hislip-cut, Run.hislip-clock, Run.hislip-answer, Run.hislip-watch, Run.hislip-status, sensingSeen, trackIn, shownOf, Tied, takenOf, CountsIn, NeverOutIn, OnlyOf, Program, NoWorseSeen, lineSeen}
 use Rattle.server.proofs.Numbering.{noted-seen, counts-seen, never-seen}
+use Rattle.server.proofs.Watching.{served-same, sensing-lines}
 
 -- was the call done?
 abbrev Done? : Reply → Type 0
@@ -199,6 +205,9 @@ calls {m = m} (hislip-clock {m′ = m′} t out out′ r p g) =
     call (clock t (length out)) out out′ (doneReply r) (r .output) (call-post (clock t (length out)) m m′ out out′ refl r p) (calls g)
 calls {m = m} (hislip-answer {m′ = m′} n q end sh out out′ r p g) =
     call (answer n q (not (eqb end 0)) sh (length out)) out out′ (answeredReply r) (r .output) (answer-post n q (not (eqb end 0)) sh (length out) m m′ out out′ r p) (calls g)
+calls {m = m} (hislip-watch {m′ = m′} {m″ = m″} {ss = ss} n l r p g) =
+    subst (λ (o : List ℕ). Calls view m (record { event = setting (watch n l); reply = doneReply r; output = o } ∷ ss) m″) (take-nil (r .output))
+    (call (setting (watch n l)) [] [] (doneReply r) (r .output) (call-post (setting (watch n l)) m m′ [] [] refl r p) (calls g))
 calls (hislip-status b p g) = call (status b) [] [] done 0 (p .0) (calls g)
 
 -- memory in order stays so over a run
@@ -209,6 +218,7 @@ tidies (hislip-deliver c bs out out′ r p g) t = tidies g (p .tidy t)
 tidies (hislip-cut c out out′ r p g) t = tidies g (p .tidy t)
 tidies (hislip-clock k out out′ r p g) t = tidies g (p .tidy t)
 tidies (hislip-answer n q end sh out out′ r p g) t = tidies g (p .tidy t)
+tidies (hislip-watch n l r p g) t = tidies g (p .tidy t)
 tidies (hislip-status b p g) t = tidies g (p .1 t)
 
 orderly : (v : Making) (m m′ : Memory) (ss : List Seen) → v .vendor < 2 ^ 16 → Fresh v m → Run m ss m′ → Tidy m′
@@ -312,8 +322,7 @@ module _ (v : Making) (m m′ m″ : Memory) (ss : List Seen) (s : Seen) (f : Fr
         sent =
             ap (λ (a : Seen). a .output) o
             ∙ ap bytesOf (q .sent)
-            ∙ bytes-one _
-            ∙ ap (λ (a : Server). frameBytes (frameOf ((at (a .locks .entries) (slotOfNumber (a .locks .entries) n)) .synchronous) (answerType end) 0 (q .number) payload)) (sym there);
+            ∙ ap (λ (a : Server). bytesOf (frameOf ((at (a .locks .entries) (slotOfNumber (a .locks .entries) n)) .synchronous) (answerType end) 0 (q .number) payload ∷ serviceAfter a n payload)) (sym there);
       }
 
   module _ (possible : AllPossible es) (n : ℕ) (payload shown : List ℕ) (room : ℕ) (x : s .event ≡ answer n payload true shown room) (o : (shownOf v ss n) .overlap ≡ false) (r : owes v es n ≡ 0) where
@@ -493,6 +502,34 @@ module _ (v : Making) (m m′ m″ m‴ : Memory) (ss : List Seen) (s : Seen) (r
       subst (λ (ls : List Line). Once c (synchronousOf v before n) (clockIn ls + (header bs) .param) none-stands (log ((step d₀ e₀) .server) behind)) (sym lines-before) r in
       subst (λ (ls : List Line). Once c (synchronousOf v before n) (clockIn (map lineSeen ss) + (header bs) .param) none-stands ls) (sym lines-behind) u
 
+-- 02, Q-11: a call, and its frames read off its bytes
+module _ (v : Making) (m m′ m″ : Memory) (ss : List Seen) (s : Seen) (small : v .vendor < 2 ^ 16) (f : Fresh v m) (g : Run m ss m′) (g′ : Run m′ (s ∷ []) m″) (p : AllPossible (seenEvents ss)) (p′ : AllPossible (seenEvents (s ∷ []))) where
+  abbrev d₁ : Server
+  d₁ = final (fresh v) (seenEvents ss)
+
+  abbrev e₁ : Event
+  e₁ = s .event
+
+  at-once : s ≡ seen record { event = e₁; reply = (step d₁ e₁) .reply; frames = (step d₁ e₁) .frames }
+  at-once = (one-call m′ m″ s g′ e₁ refl) .0 ∙ ap (λ (d : Server). seen record { event = e₁; reply = (step d e₁) .reply; frames = (step d e₁) .frames }) (left v m m′ ss f g)
+
+  abbrev framesFirst : List Line → List Frame
+  framesFirst [] = []
+  framesFirst (l ∷ ls) = l .frames
+
+  frames-read : framesSeen s ≡ (step d₁ e₁) .frames
+  unfolding log
+  frames-read =
+      ap framesSeen at-once
+      ∙ ap framesFirst (read-lines (log d₁ (e₁ ∷ [])) (fit-behind (seenEvents ss) (e₁ ∷ []) (fresh v) (sent-fits .any-run v (seenEvents ss ++ (e₁ ∷ [])) small (possible-both (seenEvents ss) (e₁ ∷ []) p p′))))
+
+  served-seen : keep isService (framesSeen s) ≡ servedBy v (seenEvents ss) (happened e₁ (s .reply) [])
+  served-seen =
+      ap (keep isService) frames-read
+      ∙ watches v (seenEvents ss) .serves e₁
+      ∙ served-same v (seenEvents ss) e₁ ((step d₁ e₁) .reply) ((step d₁ e₁) .frames)
+      ∙ ap (λ (y : Reply). servedBy v (seenEvents ss) (happened e₁ y [])) (sym (ap (λ (a : Seen). a .reply) at-once))
+
 -- who holds what, since when
 module _ (v : Making) (m m′ : Memory) (ss : List Seen) (f : Fresh v m) (g : Run m ss m′) where
   shown-holders : Ascending (holdersOf (view m′ .locks .entries))
@@ -546,6 +583,12 @@ program =
       isolation = isolated;
       fewer-locks = λ m m′ n n′ a b g g′ c bs room x y f. no-worse m m′ n n′ a b g g′ c bs room x y f;
       answered-once = λ v m m′ m″ m‴ ss s rs small f g g′ g″ p p′ p″ c bs room k n x e t o w. once-seen v m m′ m″ m‴ ss s rs small f g g′ g″ p p′ p″ c bs room x k n e t o w;
+      sensing-seen = λ v m m′ ss f g j.
+          subst (λ (d : Server). live (at (d .locks .entries) j) ≡ true → sensingAt (d .rest) j ≡ sensingSeen ss ((at (d .locks .entries) j) .number) freshSensing) (sym (left v m m′ ss f g))
+          (λ a. let d : Server = final (fresh v) (seenEvents ss) in
+          watches v (seenEvents ss) .known j a
+          ∙ sym (ap (λ (x : List Seen). sensingSeen x ((at (d .locks .entries) j) .number) freshSensing) (by-log v m m′ ss f g) ∙ sensing-lines (log (fresh v) (seenEvents ss)) ((at (d .locks .entries) j) .number) freshSensing));
+      served = λ v m m′ m″ ss s small f g g′ p p′. served-seen v m m′ m″ ss s small f g g′ p p′;
       holders-shown = λ v m m′ ss f g. shown-holders v m m′ ss f g;
       grants-seen = λ v m m′ ss small f g p j. seen-grants v m m′ ss f g small p j;
     }

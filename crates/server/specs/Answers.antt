@@ -1,25 +1,27 @@
 -- An instrument's answer: its refusals in 01's order, from the words that were read, and its frame. Assumes nothing.
 use mathlib.Core.Path.{_≡_, refl, sym, ap, subst, _∙_}
 use mathlib.Core.Bool.{Bool, true, false, not, _||_, cond}
-use mathlib.Core.List.{List, [], _∷_}
+use mathlib.Core.List.{List, [], _∷_, _++_, append-nil}
 use Prim.Native.Nat.{ℕ, _≤_, _<_}
 use lib.Dec.{ltb}
 use lib.ListN.{length, List·getD-eq-default}
 use borrow.Author.Tests.{lt-ltb, le-ltb, eq-eqb, ne-eqb}
-use Rattle.wire.specs.Frame.{bytesOf, written}
+use Rattle.wire.specs.Frame.{Frame, bytesOf, written}
 use Rattle.wire.specs.Message.{header}
+use Rattle.readings.specs.Watch.{Limits, refused}
 use Rattle.model.specs.Sizes.{sessionLimit, outputMinimum, payloadLimit}
 use Rattle.model.specs.State.{Server, Entry, Exchange, at, blank, live, slotOfNumber, exchangeAt}
-use Rattle.model.specs.Interface.{Event.answer, Reply.done, Reply.withheld, answeredAnswer}
+use Rattle.model.specs.Interface.{Event.answer, Reply.done, Reply.withheld, answeredAnswer, Event.setting, Setting.watch}
 use Rattle.model.specs.Exchange.{mayAnswer, interrupted}
 use Rattle.model.specs.Acts.{interruptions}
 use Rattle.model.specs.Canonical.{omits}
 use Rattle.model.specs.Refusals.{causes, refusal, firstCause, Cause, smallRoom}
+use Rattle.model.specs.Sensing.{serviceAt}
 use Rattle.state.specs.Change.{exchangeWith}
 use Rattle.state.specs.Tidy.{Tidy}
 use Rattle.state.specs.View.{Memory, view, locksOf}
 use Rattle.effects.specs.Closing.{sessions-held}
-use Rattle.effects.specs.Events.{Answers, answeredAs, answer-finishes}
+use Rattle.effects.specs.Events.{Sends, answerFrame, answeredAs, answer-finishes}
 use Rattle.effects.specs.Interrupted.{Noted, withheldAt}
 use Rattle.server.specs.declared.Answered.{Answered}
 use Rattle.server.specs.Causes.{short-room, enough-room}
@@ -100,8 +102,10 @@ module _ (d : Server) (i : ℕ) (end : Bool) (p sh : List ℕ) (r : Answered) (d
       → r ≡ record { refusal = 0; withheld = 1; output = k } → Gives d i end p sh r d′ out out′
   gives-withheld e n f = gives true e (n .server) (n .buffer) (f ∙ ap (λ (x : ℕ). record { refusal = 0; withheld = 1; output = x }) (n .place))
 
-  pub gives-sent : withheldAt d i end sh ≡ false → Answers d i end p d′ out out′ k → r ≡ record { refusal = 0; withheld = 0; output = k } → Gives d i end p sh r d′ out out′
-  gives-sent e a f = gives false e (a .server) (a .buffer) (f ∙ ap (λ (x : ℕ). record { refusal = 0; withheld = 0; output = x }) (a .place))
+  pub gives-sent : withheldAt d i end sh ≡ false → Sends d i end p d′ out out′ k → r ≡ record { refusal = 0; withheld = 0; output = k } → Gives d i end p sh r d′ out out′
+  gives-sent e a f =
+      let z : answerFrame d i end p ∷ serviceAt d i p ≡ (answerFrame d i end p ∷ serviceAt d i p) ++ [] = sym (append-nil (answerFrame d i end p ∷ serviceAt d i p)) in
+      gives false e (a .server) (a .buffer ∙ ap (written out) z) (f ∙ ap (λ (x : ℕ). record { refusal = 0; withheld = 0; output = x }) (a .place ∙ ap (λ (fs : List Frame). length (bytesOf fs)) z))
 
 pub answer-call : (n i : ℕ) (p : List ℕ) (end : Bool) (sh : List ℕ) (room : ℕ) (r : Answered) (m m′ : Memory) (out out′ : List ℕ) → slotOfNumber (view m .locks .entries) n ≡ i → refusal (view m) (answer n p end sh room) ≡ 0
     → Gives (view m) i end p sh r (view m′) out out′ → (Tidy m → Tidy m′) → Replied (answer n p end sh room) r m m′ out out′
@@ -121,3 +125,20 @@ answer-call n i p end sh room r m m′ out out′ e q a t =
 -- the same END bit, however it was computed
 pub same-end : (d d′ : Server) (i : ℕ) (end end′ : Bool) (p sh : List ℕ) (r : Answered) (out out′ : List ℕ) → end ≡ end′ → Gives d i end′ p sh r d′ out out′ → Gives d i end p sh r d′ out out′
 same-end d d′ i end end′ p sh r out out′ h a = subst (λ (x : Bool). Gives d i x p sh r d′ out out′) (sym h) a
+
+-- 02, Q-11: a watch: 8, then 10, by what was found
+module _ (d : Server) (n i : ℕ) (l : Limits) (found : slotOfNumber (d .locks .entries) n ≡ i) where
+  watch-row : (j : ℕ) → List Cause
+  watch-row j = record { test = not (live (at (d .locks .entries) j)); number = 8 } ∷ record { test = refused l; number = 10 } ∷ []
+
+  pub watch-nobody : live (at (d .locks .entries) i) ≡ false → refusal d (setting (watch n l)) ≡ 8
+  unfolding refusal causes watch-row
+  watch-nobody v = ap (λ (j : ℕ). firstCause (watch-row j)) found ∙ rw v
+
+  pub watch-bad : live (at (d .locks .entries) i) ≡ true → refused l ≡ true → refusal d (setting (watch n l)) ≡ 10
+  unfolding refusal causes watch-row
+  watch-bad v e = ap (λ (j : ℕ). firstCause (watch-row j)) found ∙ rw (v, e)
+
+  pub watch-taken : live (at (d .locks .entries) i) ≡ true → refused l ≡ false → refusal d (setting (watch n l)) ≡ 0
+  unfolding refusal causes watch-row
+  watch-taken v e = ap (λ (j : ℕ). firstCause (watch-row j)) found ∙ rw (v, e)

@@ -10,10 +10,11 @@ use lib.ListN.{length, take}
 use Rattle.wire.specs.Class.{one-of}
 use Rattle.wire.specs.Frame.{frameOf, frameBytes, bytesOf}
 use Rattle.wire.specs.Message.{header}
-use Rattle.model.specs.Interface.{Event.opening, Event.delivery, Event.cut, Event.clock, Event.answer, Event.status, Outcome, Outcome.more-needed, Outcome.skipped, Outcome.held, Outcome.ignored, Outcome.error-sent, Outcome.closed, Outcome.acted, Reply, Reply.refused, Reply.done, Reply.withheld, Reply.took}
+use Rattle.readings.specs.Watch.{Limits}
+use Rattle.model.specs.Interface.{Event.opening, Event.delivery, Event.cut, Event.clock, Event.answer, Event.status, Outcome, Outcome.more-needed, Outcome.skipped, Outcome.held, Outcome.ignored, Outcome.error-sent, Outcome.closed, Outcome.acted, Reply, Reply.refused, Reply.done, Reply.withheld, Reply.took, Event.setting, Setting.watch}
 use Rattle.model.specs.Sizes.{noConnection}
-use Rattle.model.specs.Lists.{tally}
-use Rattle.model.specs.State.{Asked.some, Kind, Making, at, exchangeAt, fresh, live, slotOfNumber, Server}
+use Rattle.model.specs.Lists.{tally, keep}
+use Rattle.model.specs.State.{Asked.some, Kind, Making, at, exchangeAt, fresh, live, slotOfNumber, Server, Sensing, freshSensing, sensingAt}
 use Rattle.model.specs.Step.{final, log, answerType, Line}
 use Rattle.model.specs.Post.{Post}
 use Rattle.model.specs.MessageTypes.{Trigger, Interrupted, AsyncInterrupted, commands, AsyncLock, AsyncLockResponse}
@@ -41,6 +42,8 @@ use Rattle.model.specs.Holders.{holdersOf, Ascending, holdsLock}
 use Rattle.model.specs.GrantsSeen.{noneYet, grantsOf, Shows}
 use Rattle.model.specs.Refusals.{refusal}
 use Rattle.model.specs.Standing.{StandsOn}
+use Rattle.model.specs.Sensing.{serviceAfter}
+use Rattle.model.specs.Watching.{senses, isService, servedBy}
 use Rattle.state.specs.Tidy.{Tidy}
 use Rattle.state.specs.View.{Memory, view}
 use Rattle.effects.specs.declared.Delivery.{Delivery}
@@ -86,6 +89,9 @@ pub data Run : Memory → List Seen → Memory → Type 0 where
       → Run m (record { event = clock t (length out); reply = doneReply r; output = take (r .output) out′ } ∷ ss) m″
   hislip-answer : {m m′ m″ : Memory} {ss : List Seen} (n : ℕ) (payload : List ℕ) (end : ℕ) (shown out out′ : List ℕ) (r : Answered) → Replied (answer n payload (not (eqb end 0)) shown (length out)) r m m′ out out′ → Run m′ ss m″
       → Run m (record { event = answer n payload (not (eqb end 0)) shown (length out); reply = answeredReply r; output = take (r .output) out′ } ∷ ss) m″
+  -- 02, Q-11: by whichever of the three functions
+  hislip-watch : {m m′ m″ : Memory} {ss : List Seen} (n : ℕ) (l : Limits) (r : Done) → Called (setting (watch n l)) r m m′ [] [] → Run m′ ss m″
+      → Run m (record { event = setting (watch n l); reply = doneReply r; output = [] } ∷ ss) m″
   hislip-status : {m m′ m″ : Memory} {ss : List Seen} (b : ℕ) → (Post view (status b) m m′ [] [] done 0 × (Tidy m → Tidy m′)) → Run m′ ss m″
       → Run m (record { event = status b; reply = done; output = [] } ∷ ss) m″
 
@@ -103,14 +109,20 @@ trackIn w (s ∷ ss) n p = trackIn w ss n (track w (s .event) (s .reply) n p)
 abbrev pub shownOf : Making → List Seen → ℕ → Track
 shownOf v ss n = trackIn (v .prefersOverlap) ss n (nothingYet (v .prefersOverlap))
 
--- F about the program: an answer of the instrument that is not refused and not withheld writes one frame, to the session's synchronous connection. In
+-- F about the program: an answer of the instrument that is not refused and not withheld writes one frame, to the session's synchronous connection (02,
+-- Q-11: and behind it the request for service, if it is the first to trip the watch). In
 -- synchronized mode its MessageID is that of the last DataEND or Trigger of the session that acted, with no device clear and no END answer
 -- since; 02, Q-1: in overlap mode it is the count of the session's answers since it opened or was cleared
 pub record Tied (v : Making) (ss : List Seen) (m : Memory) (n : ℕ) (payload : List ℕ) (end : Bool) (output : List ℕ) : Type 0 where
   pub number : ℕ
   pub asked : (shownOf v ss n) .overlap ≡ false → (shownOf v ss n) .asked ≡ some number
   pub counted : (shownOf v ss n) .overlap ≡ true → (shownOf v ss n) .count ≡ number
-  pub sent : output ≡ frameBytes (frameOf ((at (view m .locks .entries) (slotOfNumber (view m .locks .entries) n)) .synchronous) (answerType end) 0 number payload)
+  pub sent : output ≡ bytesOf (frameOf ((at (view m .locks .entries) (slotOfNumber (view m .locks .entries) n)) .synchronous) (answerType end) 0 number payload ∷ serviceAfter (view m) n payload)
+
+-- 02, Q-11: of session n, its watch, trip and record, read off what the host saw (the rule is the model's reader's)
+abbrev pub sensingSeen : List Seen → ℕ → Sensing → Sensing
+sensingSeen [] n x = x
+sensingSeen (s ∷ ss) n x = sensingSeen ss n (senses (happened (s .event) (s .reply) []) n x)
 
 -- 02, Q-10: of session n, the numbers of its Data, DataEND and Trigger messages, read off what the host saw (the rule is the model's reader's)
 abbrev pub notedSeen : Seen → ℕ → Numbering → Numbering
@@ -224,6 +236,12 @@ pub record Program (New : Making → Memory → Type 0) (Ran : Memory → List S
       → AllPossible (seenEvents ss) → AllPossible (seenEvents (s ∷ [])) → AllPossible (seenEvents rs)
       → (c : ℕ) (bs : List ℕ) (room k n : ℕ) → s .event ≡ delivery c bs room → s .reply ≡ took acted k n → (header bs) .kind ≡ AsyncLock → (header bs) .code ≡ 1 → s .output ≡ []
       → Once c (synchronousOf v (seenEvents ss) n) (clockIn (map lineSeen ss) + (header bs) .param) none-stands (map lineSeen rs)
+  -- 02, Q-11: of each live session the watch, whether it tripped, and the record that `hislip_readings` tells, as the host set and saw them
+  pub sensing-seen : (v : Making) (m m′ : Memory) (ss : List Seen) → New v m → Ran m ss m′ → (j : ℕ) → live (at (view m′ .locks .entries) j) ≡ true
+      → sensingAt (view m′ .rest) j ≡ sensingSeen ss ((at (view m′ .locks .entries) j) .number) freshSensing
+  -- every request for service: of an answer that is sent, exactly if its readings are the first to trip the watch since it was set
+  pub served : (v : Making) (m m′ m″ : Memory) (ss : List Seen) (s : Seen) → v .vendor < 2 ^ 16 → New v m → Ran m ss m′ → Ran m′ (s ∷ []) m″ → AllPossible (seenEvents ss) → AllPossible (seenEvents (s ∷ []))
+      → keep isService (framesSeen s) ≡ servedBy v (seenEvents ss) (happened (s .event) (s .reply) [])
   -- 02, Q-9: the rows that `hislip_holders` writes are the lock model's holders, each once, ascending by SessionID
   pub holders-shown : (v : Making) (m m′ : Memory) (ss : List Seen) → New v m → Ran m ss m′
       → Ascending (holdersOf (view m′ .locks .entries))

@@ -1,4 +1,4 @@
-// The server: the six events in code, and the C interface.
+// The server: the events in code, and the C interface.
 ghost use Rattle.model.specs.Interface.{Event, Event.answer, Event.clock, Event.cut, Event.delivery, Event.opening};
 ghost use Rattle.model.specs.Interface.Reply.{done};
 ghost use Rattle.model.specs.Post.{Post};
@@ -19,6 +19,7 @@ ghost use Rattle.state.specs.Layout.{STRINGS, WORDS};
 mod asking;
 mod deliver;
 mod holders;
+mod watches;
 
 use effects::Delivery;
 use effects::answer;
@@ -217,7 +218,7 @@ fn give_answer(
         let n = interrupted::withhold(words, out, i, shown);
         return replied(0, 1, n as u64);
     }
-    let n = events::send_answer(words, out, i, end, payload);
+    let n = events::send_readings(words, out, i, end, payload);
     replied(0, 0, n as u64)
 }
 

@@ -11,20 +11,24 @@ use lib.Dec.{eqb, lit<}
 use lib.ListN.{length, getD, set, take}
 use lib.Seq.{getD-set-same, getD-set-other}
 use borrow.Author.Tests.{eqb-true, eqb-false}
+use Rattle.readings.specs.Record.{Recorded}
 use Rattle.model.specs.Sizes.{sessionLimit, connectionLimit, stringLimit}
-use Rattle.model.specs.State.{Entry, Waiting, Locks, Exchange, Connection, RemoteLocal, Rest, Server, blank, at, freshExchange, closedConnection, exchangeAt, connectionAt}
+use Rattle.model.specs.State.{Entry, Waiting, Locks, Exchange, Connection, RemoteLocal, Rest, Server, blank, at, freshExchange, closedConnection, exchangeAt, connectionAt, Sensing, freshSensing, sensingAt}
 use Rattle.model.specs.Exchange.{withAnswering, withClear, withClientSize, withMode, withCount, withExpectation, withNumber}
 use Rattle.model.specs.Locks.{withOrder, withGranted}
 use Rattle.state.specs.Table.{tab, tab-same, tab-set, getD-tab, apart}
 use Rattle.state.specs.Grid.{upd, upd-set, part, grid, grid-set, grid-off, getD-grid, word-of}
 use Rattle.state.specs.Bits.{bit}
-use Rattle.state.specs.Layout.{LOCKS, CLOCK, VENDOR, PREFERENCE, STATUS, LAST, ENABLE, LOCKOUT, REMOTE, HOLDER, SHARERS, KEY, COUNT, ENTRIES, ENTRY, ORDERS, ORDER, EXCHANGES, EXCHANGE, CONNECTIONS, CONNECTION, HOME, REQUESTS, REQUEST, QUEUE, WORDS}
-use Rattle.state.specs.View.{Memory, memory, standingOf, word, flag, keyOf, rowWord, homeAt, homeOf, fieldOf, orderWord, entryFrom, entryAt, entriesOf, slotAt, requestAt, waitingOf, locksOf, askedOf, exchangeFrom, exchangeOf, connectionFrom, connectionOf, restFrom, restOf, view}
+use Rattle.state.specs.Layout.{LOCKS, CLOCK, VENDOR, PREFERENCE, STATUS, LAST, ENABLE, LOCKOUT, REMOTE, HOLDER, SHARERS, KEY, COUNT, ENTRIES, ENTRY, ORDERS, ORDER, EXCHANGES, EXCHANGE, CONNECTIONS, CONNECTION, HOME, REQUESTS, REQUEST, QUEUE, WORDS, SENSINGS, SENSING}
+use Rattle.state.specs.View.{Memory, memory, standingOf, word, flag, keyOf, rowWord, homeAt, homeOf, fieldOf, orderWord, entryFrom, entryAt, entriesOf, slotAt, requestAt, waitingOf, locksOf, askedOf, exchangeFrom, exchangeOf, connectionFrom, connectionOf, restFrom, restOf, view, watchOf, numeral, sensingFrom, sensingOf}
 use Rattle.state.specs.Confirmed.{field-same, field-small}
 
 -- the word of a field, in the row of a slot or of a connection
 abbrev pub exchangeWord : List ℕ → ℕ → ℕ → ℕ
 exchangeWord w i f = word w (EXCHANGES + i * EXCHANGE + f)
+
+abbrev pub sensingWord : List ℕ → ℕ → ℕ → ℕ
+sensingWord w i f = word w (SENSINGS + i * SENSING + f)
 
 abbrev pub connectionWord : List ℕ → ℕ → ℕ → ℕ
 connectionWord w i f = word w (CONNECTIONS + i * CONNECTION + f)
@@ -40,6 +44,17 @@ exchangeWith (suc (suc (suc (suc (suc zero))))) v x = withCount (v % 2 ^ 32) (x 
 exchangeWith (suc (suc (suc (suc (suc (suc zero)))))) v x = withCount (x .count) (flag v) x
 exchangeWith (suc (suc (suc (suc (suc (suc (suc zero))))))) v x = withExpectation (flag v) x
 exchangeWith (suc (suc (suc (suc (suc (suc (suc (suc f)))))))) v x = withNumber (v % 2 ^ 32) x
+
+abbrev pub recordWith : ℕ → ℕ → Recorded → Recorded
+recordWith zero v r = record { last = r .last; lowest = r .lowest; highest = r .highest; seen = flag v }
+recordWith (suc zero) v r = record { last = numeral v; lowest = r .lowest; highest = r .highest; seen = r .seen }
+recordWith (suc (suc zero)) v r = record { last = r .last; lowest = numeral v; highest = r .highest; seen = r .seen }
+recordWith (suc (suc (suc f))) v r = record { last = r .last; lowest = r .lowest; highest = numeral v; seen = r .seen }
+
+abbrev pub sensingWith : ℕ → ℕ → Sensing → Sensing
+sensingWith zero v x = record { watch = watchOf v; tripped = x .tripped; recorded = x .recorded }
+sensingWith (suc zero) v x = record { watch = x .watch; tripped = flag v; recorded = x .recorded }
+sensingWith (suc (suc f)) v x = record { watch = x .watch; tripped = x .tripped; recorded = recordWith f v (x .recorded) }
 
 abbrev pub connectionWith : ℕ → ℕ → Connection → Connection
 connectionWith zero v x = record { isOpen = flag v; remainder = x .remainder }
@@ -63,11 +78,11 @@ flagsWith (suc zero) v x = record { enable = x .enable; lockout = flag v; remote
 flagsWith (suc (suc f)) v x = record { enable = x .enable; lockout = x .lockout; remote = flag v }
 
 abbrev pub singleWith : ℕ → ℕ → Rest → Rest
-singleWith zero v r = record { exchanges = r .exchanges; connections = r .connections; lastIssued = r .lastIssued; made = record { vendor = v % 65536; prefersOverlap = r .made .prefersOverlap }; status = r .status; remoteLocal = r .remoteLocal }
-singleWith (suc zero) v r = record { exchanges = r .exchanges; connections = r .connections; lastIssued = r .lastIssued; made = record { vendor = r .made .vendor; prefersOverlap = flag v }; status = r .status; remoteLocal = r .remoteLocal }
-singleWith (suc (suc zero)) v r = record { exchanges = r .exchanges; connections = r .connections; lastIssued = r .lastIssued; made = r .made; status = v % 256; remoteLocal = r .remoteLocal }
-singleWith (suc (suc (suc zero))) v r = record { exchanges = r .exchanges; connections = r .connections; lastIssued = v % 65536; made = r .made; status = r .status; remoteLocal = r .remoteLocal }
-singleWith (suc (suc (suc (suc f)))) v r = record { exchanges = r .exchanges; connections = r .connections; lastIssued = r .lastIssued; made = r .made; status = r .status; remoteLocal = flagsWith f v (r .remoteLocal) }
+singleWith zero v r = record { exchanges = r .exchanges; sensings = r .sensings; connections = r .connections; lastIssued = r .lastIssued; made = record { vendor = v % 65536; prefersOverlap = r .made .prefersOverlap }; status = r .status; remoteLocal = r .remoteLocal }
+singleWith (suc zero) v r = record { exchanges = r .exchanges; sensings = r .sensings; connections = r .connections; lastIssued = r .lastIssued; made = record { vendor = r .made .vendor; prefersOverlap = flag v }; status = r .status; remoteLocal = r .remoteLocal }
+singleWith (suc (suc zero)) v r = record { exchanges = r .exchanges; sensings = r .sensings; connections = r .connections; lastIssued = r .lastIssued; made = r .made; status = v % 256; remoteLocal = r .remoteLocal }
+singleWith (suc (suc (suc zero))) v r = record { exchanges = r .exchanges; sensings = r .sensings; connections = r .connections; lastIssued = v % 65536; made = r .made; status = r .status; remoteLocal = r .remoteLocal }
+singleWith (suc (suc (suc (suc f)))) v r = record { exchanges = r .exchanges; sensings = r .sensings; connections = r .connections; lastIssued = r .lastIssued; made = r .made; status = r .status; remoteLocal = flagsWith f v (r .remoteLocal) }
 
 abbrev pub withClock : Server → ℕ → Server
 withClock d t = record { locks = record { clock = t; entries = d .locks .entries; waiting = d .locks .waiting }; rest = d .rest }
@@ -82,6 +97,22 @@ onExchange d i g =
       locks = d .locks;
       rest = record {
         exchanges = upd (d .rest .exchanges) i g;
+        sensings = d .rest .sensings;
+        connections = d .rest .connections;
+        lastIssued = d .rest .lastIssued;
+        made = d .rest .made;
+        status = d .rest .status;
+        remoteLocal = d .rest .remoteLocal;
+      };
+    }
+
+abbrev pub onSensing : Server → ℕ → (Sensing → Sensing) → Server
+onSensing d i g =
+    record {
+      locks = d .locks;
+      rest = record {
+        exchanges = d .rest .exchanges;
+        sensings = upd (d .rest .sensings) i g;
         connections = d .rest .connections;
         lastIssued = d .rest .lastIssued;
         made = d .rest .made;
@@ -96,6 +127,7 @@ onConnection d i g =
       locks = d .locks;
       rest = record {
         exchanges = d .rest .exchanges;
+        sensings = d .rest .sensings;
         connections = upd (d .rest .connections) i g;
         lastIssued = d .rest .lastIssued;
         made = d .rest .made;
@@ -200,6 +232,7 @@ module _ (w : List ℕ) where
   rest-off a v h =
       λ k. record {
         exchanges = grid-off exchangeOf EXCHANGES EXCHANGE sessionLimit w a v (inr (omega arith)) k;
+        sensings = grid-off sensingOf SENSINGS SENSING sessionLimit w a v (inr (omega arith)) k;
         connections = grid-off connectionOf CONNECTIONS CONNECTION connectionLimit w a v (inr (omega arith)) k;
         lastIssued = off a v LAST (omega arith) k % 65536;
         made = record { vendor = off a v VENDOR (omega arith) k % 65536; prefersOverlap = flag (off a v PREFERENCE (omega arith) k) };
@@ -246,6 +279,20 @@ exchange-row r f v h l =
     by (suc (suc (suc (suc (suc (suc (suc (suc zero)))))))) l = refl
     by (suc (suc (suc (suc (suc (suc (suc (suc (suc f))))))))) l = absurd (omega arith)
 
+sensing-row : (r : List ℕ) (f v : ℕ) → length r ≡ SENSING → f < SENSING → sensingOf (set r f v) ≡ sensingWith f v (sensingOf r)
+sensing-row r f v h l =
+    let t : (g : ℕ) → word (set r f v) g ≡ cond (eqb g f) v (word r g) = (λ g. row-stored r f v g (omega arith)) in
+    (λ k. record { watch = watchOf (t 0 k); tripped = flag (t 1 k); recorded = record { last = numeral (t 3 k); lowest = numeral (t 4 k); highest = numeral (t 5 k); seen = flag (t 2 k) } }) ∙ by f l
+  where
+    by : (f : ℕ) → f < SENSING → sensingFrom (λ (g : ℕ). cond (eqb g f) v (word r g)) ≡ sensingWith f v (sensingOf r)
+    by zero l = refl
+    by (suc zero) l = refl
+    by (suc (suc zero)) l = refl
+    by (suc (suc (suc zero))) l = refl
+    by (suc (suc (suc (suc zero)))) l = refl
+    by (suc (suc (suc (suc (suc zero))))) l = refl
+    by (suc (suc (suc (suc (suc (suc f)))))) l = absurd (omega arith)
+
 connection-row : (r : List ℕ) (f v : ℕ) → length r ≡ CONNECTION → f < HOME → connectionOf (set r f v) ≡ connectionWith f v (connectionOf r)
 connection-row r f v h l =
     let t : (g : ℕ) → word (set r f v) g ≡ cond (eqb g f) v (word r g) = (λ g. row-stored r f v g (omega arith)) in
@@ -266,7 +313,26 @@ module _ (w s : List ℕ) (i f v : ℕ) (long : length w ≡ WORDS) where
         locks = locks-off w s a v (omega arith) (λ c x e. omega arith) k;
         rest = record {
           exchanges = grid-set exchangeOf EXCHANGES EXCHANGE sessionLimit w i f v (exchangeWith f v) (λ r e. exchange-row r f v e l) h l (omega arith) k;
+          sensings = grid-off sensingOf SENSINGS SENSING sessionLimit w a v (inl (omega arith)) k;
           connections = grid-off connectionOf CONNECTIONS CONNECTION connectionLimit w a v (inl (omega arith)) k;
+          lastIssued = off w a v LAST (omega arith) k % 65536;
+          made = record { vendor = off w a v VENDOR (omega arith) k % 65536; prefersOverlap = flag (off w a v PREFERENCE (omega arith) k) };
+          status = off w a v STATUS (omega arith) k % 256;
+          remoteLocal = record { enable = flag (off w a v ENABLE (omega arith) k); lockout = flag (off w a v LOCKOUT (omega arith) k); remote = flag (off w a v REMOTE (omega arith) k) };
+        };
+      }
+
+  pub sensing-stored : i < sessionLimit → f < SENSING
+      → view (memory (set w (SENSINGS + i * SENSING + f) v) s) ≡ onSensing (view (memory w s)) i (sensingWith f v)
+  unfolding restOf
+  sensing-stored h l =
+      let a : ℕ = SENSINGS + i * SENSING + f in
+      λ k. record {
+        locks = locks-off w s a v (omega arith) (λ c x e. omega arith) k;
+        rest = record {
+          exchanges = grid-off exchangeOf EXCHANGES EXCHANGE sessionLimit w a v (inr (omega arith)) k;
+          sensings = grid-set sensingOf SENSINGS SENSING sessionLimit w i f v (sensingWith f v) (λ r e. sensing-row r f v e l) h l (omega arith) k;
+          connections = grid-off connectionOf CONNECTIONS CONNECTION connectionLimit w a v (inr (omega arith)) k;
           lastIssued = off w a v LAST (omega arith) k % 65536;
           made = record { vendor = off w a v VENDOR (omega arith) k % 65536; prefersOverlap = flag (off w a v PREFERENCE (omega arith) k) };
           status = off w a v STATUS (omega arith) k % 256;
@@ -283,6 +349,7 @@ module _ (w s : List ℕ) (i f v : ℕ) (long : length w ≡ WORDS) where
         locks = locks-off w s a v (omega arith) (λ c x e. omega arith) k;
         rest = record {
           exchanges = grid-off exchangeOf EXCHANGES EXCHANGE sessionLimit w a v (inr (omega arith)) k;
+          sensings = grid-off sensingOf SENSINGS SENSING sessionLimit w a v (inl (omega arith)) k;
           connections = grid-set connectionOf CONNECTIONS CONNECTION connectionLimit w i f v (connectionWith f v) (λ r e. connection-row r f v e l) h (omega arith) (omega arith) k;
           lastIssued = off w a v LAST (omega arith) k % 65536;
           made = record { vendor = off w a v VENDOR (omega arith) k % 65536; prefersOverlap = flag (off w a v PREFERENCE (omega arith) k) };
@@ -389,6 +456,18 @@ module _ (w : List ℕ) (i : ℕ) where
       again (suc (suc (suc (suc (suc (suc (suc (suc zero)))))))) l = refl
       again (suc (suc (suc (suc (suc (suc (suc (suc (suc f))))))))) l = absurd (omega arith)
 
+  pub sensing-at : i < sessionLimit → sensingAt (restOf w) i ≡ sensingFrom (sensingWord w i)
+  unfolding restOf
+  sensing-at h =
+      let b : ℕ = SENSINGS + i * SENSING in
+      let t : (f : ℕ) → f < SENSING → word (part w b SENSING) f ≡ word w (b + f) = (λ f l. word-of w b SENSING f l) in
+      getD-grid sensingOf SENSINGS SENSING sessionLimit w i freshSensing h
+      ∙ λ k. record {
+        watch = watchOf (t 0 (lit< tt) k);
+        tripped = flag (t 1 (lit< tt) k);
+        recorded = record { last = numeral (t 3 (lit< tt) k); lowest = numeral (t 4 (lit< tt) k); highest = numeral (t 5 (lit< tt) k); seen = flag (t 2 (lit< tt) k) };
+      }
+
   connection-at : i < connectionLimit → connectionAt (restOf w) i ≡ connectionOf (part w (CONNECTIONS + i * CONNECTION) CONNECTION)
   unfolding restOf
   connection-at h = getD-grid connectionOf CONNECTIONS CONNECTION connectionLimit w i closedConnection h
@@ -447,18 +526,21 @@ module _ (w s : List ℕ) (v : ℕ) (long : length w ≡ WORDS) where
 
 -- the rest's single values
 module _ (w : List ℕ) (v : ℕ) (long : length w ≡ WORDS) where
-  rest-by : (x : List Exchange) (y : List Connection) (t : ℕ → ℕ) (f : ℕ) → f < EXCHANGES → restFrom x y (λ (g : ℕ). cond (eqb g f) v (t g)) ≡ singleWith f v (restFrom x y t)
-  rest-by x y t zero h = refl
-  rest-by x y t (suc zero) h = refl
-  rest-by x y t (suc (suc zero)) h = refl
-  rest-by x y t (suc (suc (suc zero))) h = refl
-  rest-by x y t (suc (suc (suc (suc zero)))) h = refl
-  rest-by x y t (suc (suc (suc (suc (suc zero))))) h = refl
-  rest-by x y t (suc (suc (suc (suc (suc (suc zero)))))) h = refl
-  rest-by x y t (suc (suc (suc (suc (suc (suc (suc f))))))) h = absurd (omega arith)
+  rest-by : (x : List Exchange) (z : List Sensing) (y : List Connection) (t : ℕ → ℕ) (f : ℕ) → f < EXCHANGES → restFrom x z y (λ (g : ℕ). cond (eqb g f) v (t g)) ≡ singleWith f v (restFrom x z y t)
+  rest-by x z y t zero h = refl
+  rest-by x z y t (suc zero) h = refl
+  rest-by x z y t (suc (suc zero)) h = refl
+  rest-by x z y t (suc (suc (suc zero))) h = refl
+  rest-by x z y t (suc (suc (suc (suc zero)))) h = refl
+  rest-by x z y t (suc (suc (suc (suc (suc zero))))) h = refl
+  rest-by x z y t (suc (suc (suc (suc (suc (suc zero)))))) h = refl
+  rest-by x z y t (suc (suc (suc (suc (suc (suc (suc f))))))) h = absurd (omega arith)
 
   exchanges-keep : (f : ℕ) → f < EXCHANGES → grid exchangeOf EXCHANGES EXCHANGE sessionLimit (set w f v) ≡ grid exchangeOf EXCHANGES EXCHANGE sessionLimit w
   exchanges-keep f h = grid-off exchangeOf EXCHANGES EXCHANGE sessionLimit w f v (inl h)
+
+  sensings-keep : (f : ℕ) → f < EXCHANGES → grid sensingOf SENSINGS SENSING sessionLimit (set w f v) ≡ grid sensingOf SENSINGS SENSING sessionLimit w
+  sensings-keep f h = grid-off sensingOf SENSINGS SENSING sessionLimit w f v (inl (omega arith))
 
   connections-keep : (f : ℕ) → f < EXCHANGES → grid connectionOf CONNECTIONS CONNECTION connectionLimit (set w f v) ≡ grid connectionOf CONNECTIONS CONNECTION connectionLimit w
   connections-keep f h = grid-off connectionOf CONNECTIONS CONNECTION connectionLimit w f v (inl (omega arith))
@@ -469,13 +551,14 @@ module _ (w : List ℕ) (v : ℕ) (long : length w ≡ WORDS) where
       let t : (g : ℕ) → word (set w f v) g ≡ cond (eqb g f) v (word w g) = (λ g. row-stored w f v g (omega arith)) in
       (λ k. record {
         exchanges = exchanges-keep f h k;
+        sensings = sensings-keep f h k;
         connections = connections-keep f h k;
         lastIssued = t LAST k % 65536;
         made = record { vendor = t VENDOR k % 65536; prefersOverlap = flag (t PREFERENCE k) };
         status = t STATUS k % 256;
         remoteLocal = record { enable = flag (t ENABLE k); lockout = flag (t LOCKOUT k); remote = flag (t REMOTE k) };
       })
-      ∙ rest-by (grid exchangeOf EXCHANGES EXCHANGE sessionLimit w) (grid connectionOf CONNECTIONS CONNECTION connectionLimit w) (word w) f h
+      ∙ rest-by (grid exchangeOf EXCHANGES EXCHANGE sessionLimit w) (grid sensingOf SENSINGS SENSING sessionLimit w) (grid connectionOf CONNECTIONS CONNECTION connectionLimit w) (word w) f h
 
   pub single-stored : (s : List ℕ) (f : ℕ) → f < EXCHANGES → view (memory (set w f v) s) ≡ onRest (view (memory w s)) (singleWith f v)
   single-stored s f h = λ k. record { locks = locks-off w s f v (omega arith) (λ c x e. omega arith) k; rest = rest-row f h k }

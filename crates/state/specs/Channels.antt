@@ -14,8 +14,8 @@ use Rattle.model.specs.Locks.{joined}
 use Rattle.state.specs.Table.{tab-same}
 use Rattle.state.specs.Grid.{upd, upd-same, grid, grid-set, grid-off}
 use Rattle.state.specs.Bits.{bit}
-use Rattle.state.specs.Layout.{CLOCK, VENDOR, PREFERENCE, STATUS, LAST, ENABLE, LOCKOUT, REMOTE, HOLDER, SHARERS, ENTRIES, ENTRY, ORDERS, ORDER, EXCHANGES, EXCHANGE, CONNECTIONS, CONNECTION, HOME, WORDS}
-use Rattle.state.specs.View.{memory, standingOf, word, flag, keyOf, orderWord, rowWord, homeIn, homeAt, homeOf, fieldOf, entryAt, entriesOf, locksOf, exchangeOf, connectionOf, restOf, view}
+use Rattle.state.specs.Layout.{CLOCK, VENDOR, PREFERENCE, STATUS, LAST, ENABLE, LOCKOUT, REMOTE, HOLDER, SHARERS, ENTRIES, ENTRY, ORDERS, ORDER, EXCHANGES, EXCHANGE, CONNECTIONS, CONNECTION, HOME, WORDS, SENSINGS, SENSING}
+use Rattle.state.specs.View.{memory, standingOf, word, flag, keyOf, orderWord, rowWord, homeIn, homeAt, homeOf, fieldOf, entryAt, entriesOf, locksOf, exchangeOf, connectionOf, restOf, view, sensingOf}
 use Rattle.state.specs.Confirmed.{field-same, field-else, field-number, field-free, field-past, field-shown, Shows, shows}
 use Rattle.state.specs.Change.{onEntry, off, here, key-off, waiting-off, rest-off, entries-change}
 use Rattle.state.specs.Tidy.{Tidy, TidyHome, Shown}
@@ -56,6 +56,7 @@ home-rest w c v long h =
     let a : ℕ = CONNECTIONS + c * CONNECTION + HOME in
     λ k. record {
       exchanges = grid-off exchangeOf EXCHANGES EXCHANGE sessionLimit w a v (inr (omega arith)) k;
+      sensings = grid-off sensingOf SENSINGS SENSING sessionLimit w a v (inl (omega arith)) k;
       connections = (grid-set connectionOf CONNECTIONS CONNECTION connectionLimit w c HOME v (λ (x : Connection). x) (λ r e. home-row r v) h (lit< tt) (omega arith)
           ∙ upd-same (grid connectionOf CONNECTIONS CONNECTION connectionLimit w) c) k;
       lastIssued = off w a v LAST (omega arith) k % 65536;

@@ -9,12 +9,13 @@ use lib.Dec.{eqb, ltb}
 use lib.ListN.{length, getD, set, take, replicate}
 use lib.Seq.{take-all, take-suc, take-suc-set}
 use Rattle.wire.specs.MessageId.{start}
+use Rattle.readings.specs.Bits.{notNumber}
 use Rattle.model.specs.Sizes.{sessionLimit, connectionLimit, payloadLimit, beforeFirst}
 use Rattle.model.specs.State.{Making, Server, Rest, fresh}
 use Rattle.state.specs.Table.{tab, getD-tab}
 use Rattle.state.specs.Grid.{grid}
-use Rattle.state.specs.Layout.{EXCHANGES, EXCHANGE, CONNECTIONS, CONNECTION, ENTRY, ORDERS, ORDER, REQUESTS, REQUEST, WORDS, STRINGS}
-use Rattle.state.specs.View.{memory, view, keyOf, fieldOf, entryAt, entriesOf, waitingOf, locksOf, restOf}
+use Rattle.state.specs.Layout.{EXCHANGES, EXCHANGE, CONNECTIONS, CONNECTION, ENTRY, ORDERS, ORDER, REQUESTS, REQUEST, WORDS, STRINGS, SENSING}
+use Rattle.state.specs.View.{memory, view, keyOf, fieldOf, entryAt, entriesOf, waitingOf, locksOf, restOf, watchOf, numeral}
 
 -- n rows alike
 abbrev pub rows : ℕ → List ℕ → List ℕ
@@ -26,7 +27,7 @@ abbrev pub flagWord : Bool → ℕ
 flagWord b = cond b 1 0
 
 -- vendor number; preference; status, last SessionID and the flags; exchanges (the client's size is 1,024, the count and the number expected at their start);
--- connections; clock, holder, sharers, key, count; entries (free); orders (no message acted, no lock granted); requests; queue
+-- connections; sensings (no watch, no reading); clock, holder, sharers, key, count; entries (free); orders (no message acted, no lock granted); requests; queue
 abbrev pub freshWords : Making → List ℕ
 freshWords v =
     v .vendor
@@ -34,6 +35,7 @@ freshWords v =
     ∷ replicate 5 0
     ++ rows sessionLimit (0 ∷ 0 ∷ 0 ∷ payloadLimit ∷ 0 ∷ start ∷ 0 ∷ 0 ∷ start ∷ [])
     ++ replicate (connectionLimit * CONNECTION) 0
+    ++ replicate (sessionLimit * SENSING) 0
     ++ replicate 5 0
     ++ replicate (sessionLimit * ENTRY) 0
     ++ rows sessionLimit (beforeFirst ∷ 0 ∷ 0 ∷ 0 ∷ [])
@@ -71,10 +73,10 @@ flag-back true = refl
 flag-back false = refl
 
 pub fresh-view : (v : Making) → v .vendor < 2 ^ 16 → view (memory (freshWords v) freshStrings) ≡ fresh v
-unfolding locksOf restOf keyOf entriesOf entryAt fieldOf waitingOf grid tab
+unfolding locksOf restOf keyOf entriesOf entryAt fieldOf waitingOf grid tab watchOf numeral notNumber
 fresh-view v h =
     let r : Rest = fresh v .rest in
-    ap₂ (λ (x : ℕ) (b : Bool). record { locks = fresh v .locks; rest = record { exchanges = r .exchanges; connections = r .connections; lastIssued = 0; made = record { vendor = x; prefersOverlap = b }; status = 0; remoteLocal = r .remoteLocal } })
+    ap₂ (λ (x : ℕ) (b : Bool). record { locks = fresh v .locks; rest = record { exchanges = r .exchanges; sensings = r .sensings; connections = r .connections; lastIssued = 0; made = record { vendor = x; prefersOverlap = b }; status = 0; remoteLocal = r .remoteLocal } })
     (mod-eq-of-lt h) (flag-back (v .prefersOverlap))
 
 -- copying element by element: a turn, and the end

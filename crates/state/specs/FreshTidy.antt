@@ -8,12 +8,13 @@ use native.Mathlib.Omega.{arith}
 use lib.Dec.{lit<}
 use lib.ListN.{getD, getD-replicate}
 use borrow.Author.Tests.{lt-ltb, le-ltb, eq-eqb, ne-eqb}
+use Rattle.readings.specs.Bits.{notNumber}
 use Rattle.model.specs.Sizes.{sessionLimit, connectionLimit, stringLimit, beforeFirst}
 use Rattle.model.specs.State.{Making}
-use Rattle.state.specs.Layout.{EXCHANGES, EXCHANGE, CONNECTIONS, CONNECTION, HOME, ENTRIES, ENTRY, ORDERS, ORDER, REQUESTS, REQUEST, QUEUE, WORDS, STRINGS}
-use Rattle.state.specs.View.{memory, word, rowWord, fieldOf}
+use Rattle.state.specs.Layout.{EXCHANGES, EXCHANGE, CONNECTIONS, CONNECTION, HOME, ENTRIES, ENTRY, ORDERS, ORDER, REQUESTS, REQUEST, QUEUE, WORDS, STRINGS, SENSINGS, SENSING}
+use Rattle.state.specs.View.{memory, word, rowWord, fieldOf, watchOf, numeral}
 use Rattle.state.specs.Fresh.{freshWords, freshField, freshWord, flagWord, fresh-at, freshStrings}
-use Rattle.state.specs.Tidy.{Tidy, InRange, SingleRange, ExchangeRange, ConnectionRange, OrderRange}
+use Rattle.state.specs.Tidy.{Tidy, InRange, SingleRange, ExchangeRange, ConnectionRange, OrderRange, SensingRange}
 
 a-flag : (b : Bool) → flagWord b ≤ 1
 a-flag true = omega arith
@@ -40,6 +41,21 @@ module _ (v : Making) where
       let p : ℕ = CONNECTIONS + c * CONNECTION + f in
       behind-made p (omega arith) (omega arith)
       ∙ rw (le-ltb p EXCHANGES (omega arith), le-ltb p CONNECTIONS (omega arith), lt-ltb p ORDERS (omega arith))
+
+  sensing-0 : (i f : ℕ) → i < sessionLimit → f < SENSING → word (freshWords v) (SENSINGS + i * SENSING + f) ≡ 0
+  unfolding freshWord
+  sensing-0 i f h l =
+      let p : ℕ = SENSINGS + i * SENSING + f in
+      behind-made p (omega arith) (omega arith)
+      ∙ rw (le-ltb p EXCHANGES (omega arith), le-ltb p CONNECTIONS (omega arith), lt-ltb p ORDERS (omega arith))
+
+  -- no watch, and no reading
+  zero-sensing : (f : ℕ) → SensingRange f 0
+  unfolding watchOf numeral notNumber
+  zero-sensing zero = refl
+  zero-sensing (suc zero) = omega arith
+  zero-sensing (suc (suc zero)) = omega arith
+  zero-sensing (suc (suc (suc f))) = refl
 
   entry-0 : (i f : ℕ) → i < sessionLimit → f < ENTRY → word (freshWords v) (ENTRIES + i * ENTRY + f) ≡ 0
   unfolding freshWord
@@ -119,6 +135,7 @@ module _ (v : Making) where
         room = refl;
         values = fresh-value h;
         exchanges = fresh-exchange;
+        sensings = λ i f h l. subst (SensingRange f) (sym (sensing-0 i f h l)) (zero-sensing f);
         connections = fresh-connection;
         orders = fresh-order;
         singles = record { clock = lit< tt; holder = omega arith; sharers = lit< tt; count = omega arith };

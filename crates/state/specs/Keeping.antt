@@ -10,11 +10,11 @@ use lib.Dec.{eqb, lit<}
 use lib.ListN.{length, set, length-set}
 use borrow.Author.Tests.{eqb-true, eqb-false, ne-eqb}
 use Rattle.model.specs.Sizes.{sessionLimit, connectionLimit, stringLimit}
-use Rattle.state.specs.Layout.{EXCHANGES, EXCHANGE, CONNECTIONS, CONNECTION, HOME, LOCKS, CLOCK, HOLDER, SHARERS, KEY, COUNT, ENTRIES, ENTRY, ORDERS, ORDER, REQUESTS, REQUEST, QUEUE, WORDS, STRINGS}
+use Rattle.state.specs.Layout.{EXCHANGES, EXCHANGE, CONNECTIONS, CONNECTION, HOME, LOCKS, CLOCK, HOLDER, SHARERS, KEY, COUNT, ENTRIES, ENTRY, ORDERS, ORDER, REQUESTS, REQUEST, QUEUE, WORDS, STRINGS, SENSINGS, SENSING}
 use Rattle.state.specs.View.{memory, word, rowWord, homeAt, homeOf, fieldOf, slotAt}
 use Rattle.state.specs.Confirmed.{field-same}
 use Rattle.state.specs.Change.{off, here}
-use Rattle.state.specs.Tidy.{Tidy, TidyOver, Counted, Away, InRange, SingleRange, ExchangeRange, ConnectionRange, OrderRange, TidySingles, TidyRow, TidyHome, Shown, TidyRequest, TidyQueue, TidyKey}
+use Rattle.state.specs.Tidy.{Tidy, TidyOver, Counted, Away, InRange, SingleRange, ExchangeRange, ConnectionRange, OrderRange, TidySingles, TidyRow, TidyHome, Shown, TidyRequest, TidyQueue, TidyKey, SensingRange}
 
 -- from memory w, s in order: the parts of w′, s′
 module _ (In : ℕ → Type 0) (w w′ s s′ : List ℕ) (t : TidyOver In (memory w s)) where
@@ -101,6 +101,7 @@ module _ (w w′ : List ℕ) (e : word w′ COUNT ≡ word w COUNT) where
 pub record InPlace (w : List ℕ) (a v : ℕ) : Type 0 where
   pub value : (f : ℕ) → f < EXCHANGES → f ≡ a → SingleRange f v
   pub exchange : (i f : ℕ) → i < sessionLimit → f < EXCHANGE → EXCHANGES + i * EXCHANGE + f ≡ a → ExchangeRange f v
+  pub sensing : (i f : ℕ) → i < sessionLimit → f < SENSING → SENSINGS + i * SENSING + f ≡ a → SensingRange f v
   pub connection : (i f : ℕ) → i < connectionLimit → f < HOME → CONNECTIONS + i * CONNECTION + f ≡ a → ConnectionRange f v
   pub order : (i f : ℕ) → i < sessionLimit → f < ORDER → ORDERS + i * ORDER + f ≡ a → OrderRange f v
   pub clock : CLOCK ≡ a → v < 2 ^ 63
@@ -154,6 +155,7 @@ module _ (w s : List ℕ) (a v : ℕ) (t : Tidy (memory w s)) (x : InPlace w a v
         room = t .room;
         values = λ f h. placed (SingleRange f) f (t .values f h) (x .value f h);
         exchanges = λ i f h l. placed (ExchangeRange f) (EXCHANGES + i * EXCHANGE + f) (t .exchanges i f h l) (x .exchange i f h l);
+        sensings = λ i f h l. placed (SensingRange f) (SENSINGS + i * SENSING + f) (t .sensings i f h l) (x .sensing i f h l);
         connections = λ i f h l. placed (ConnectionRange f) (CONNECTIONS + i * CONNECTION + f) (t .connections i f h l) (x .connection i f h l);
         orders = λ i f h l. placed (OrderRange f) (ORDERS + i * ORDER + f) (t .orders i f h l) (x .order i f h l);
         singles = record {
@@ -179,6 +181,27 @@ module _ (w s : List ℕ) (i f v : ℕ) (t : Tidy (memory w s)) where
       record {
         value = λ g x e. absurd (omega arith);
         exchange = λ j g x y e. let z : f ≡ g = omega arith in subst (λ (k : ℕ). ExchangeRange k v) z r;
+        sensing = λ j g x y e. absurd (omega arith);
+        connection = λ j g x y e. absurd (omega arith);
+        order = λ j g x y e. absurd (omega arith);
+        clock = λ e. absurd (omega arith);
+        holder = λ e. absurd (omega arith);
+        sharers = λ e. absurd (omega arith);
+        shared = λ e. absurd (omega arith);
+        no-home = λ c x e. omega arith;
+        no-key = λ e. omega arith;
+        no-count = λ e. omega arith;
+        no-row = inl (omega arith);
+        before = omega arith;
+      }
+
+  pub sensing-tidy : i < sessionLimit → f < SENSING → SensingRange f v → Tidy (memory (set w (SENSINGS + i * SENSING + f) v) s)
+  sensing-tidy h l r =
+      stored-tidy w s (SENSINGS + i * SENSING + f) v t
+      record {
+        value = λ g x e. absurd (omega arith);
+        exchange = λ j g x y e. absurd (omega arith);
+        sensing = λ j g x y e. let z : f ≡ g = omega arith in subst (λ (k : ℕ). SensingRange k v) z r;
         connection = λ j g x y e. absurd (omega arith);
         order = λ j g x y e. absurd (omega arith);
         clock = λ e. absurd (omega arith);
@@ -198,6 +221,7 @@ module _ (w s : List ℕ) (i f v : ℕ) (t : Tidy (memory w s)) where
       record {
         value = λ g x e. absurd (omega arith);
         exchange = λ j g x y e. absurd (omega arith);
+        sensing = λ j g x y e. absurd (omega arith);
         connection = λ j g x y e. let z : f ≡ g = omega arith in subst (λ (k : ℕ). ConnectionRange k v) z r;
         order = λ j g x y e. absurd (omega arith);
         clock = λ e. absurd (omega arith);
@@ -217,6 +241,7 @@ module _ (w s : List ℕ) (i f v : ℕ) (t : Tidy (memory w s)) where
       record {
         value = λ g x e. absurd (omega arith);
         exchange = λ j g x y e. absurd (omega arith);
+        sensing = λ j g x y e. absurd (omega arith);
         connection = λ j g x y e. absurd (omega arith);
         order = λ j g x y e. let z : f ≡ g = omega arith in subst (λ (k : ℕ). OrderRange k v) z r;
         clock = λ e. absurd (omega arith);
@@ -237,6 +262,7 @@ module _ (w s : List ℕ) (v : ℕ) (t : Tidy (memory w s)) where
       record {
         value = λ g x e. subst (λ (k : ℕ). SingleRange k v) (sym e) r;
         exchange = λ j g x y e. absurd (omega arith);
+        sensing = λ j g x y e. absurd (omega arith);
         connection = λ j g x y e. absurd (omega arith);
         order = λ j g x y e. absurd (omega arith);
         clock = λ e. absurd (omega arith);
@@ -258,6 +284,7 @@ module _ (w s : List ℕ) (v : ℕ) (t : Tidy (memory w s)) where
       record {
         value = λ g x e. absurd (omega arith);
         exchange = λ j g x y e. absurd (omega arith);
+        sensing = λ j g x y e. absurd (omega arith);
         connection = λ j g x y e. absurd (omega arith);
         order = λ j g x y e. absurd (omega arith);
         clock = p;
@@ -293,6 +320,7 @@ module _ (w w′ s : List ℕ) (t : Tidy (memory w s)) (long : length w′ ≡ W
         room = t .room;
         values = kept-values (Counted w) w w′ s s t (λ p h. same p (inl (omega arith)) (λ c l e. omega arith));
         exchanges = kept-range (Counted w) w w′ s s t ExchangeRange EXCHANGES EXCHANGE EXCHANGE sessionLimit (λ i f h l. same (EXCHANGES + i * EXCHANGE + f) (inl (omega arith)) (λ c m e. omega arith)) (t .exchanges);
+        sensings = kept-range (Counted w) w w′ s s t SensingRange SENSINGS SENSING SENSING sessionLimit (λ i f h l. same (SENSINGS + i * SENSING + f) (inl (omega arith)) (λ c m e. omega arith)) (t .sensings);
         connections = kept-range (Counted w) w w′ s s t ConnectionRange CONNECTIONS CONNECTION HOME connectionLimit (λ i f h l. same (CONNECTIONS + i * CONNECTION + f) (inl (omega arith)) (λ c m e. omega arith)) (t .connections);
         orders = kept-range (Counted w) w w′ s s t OrderRange ORDERS ORDER ORDER sessionLimit (λ i f h l. same (ORDERS + i * ORDER + f) (inr (omega arith)) (λ c m e. omega arith)) (t .orders);
         singles = kept-singles (Counted w) w w′ s s t (same CLOCK (inl (omega arith)) (λ c l e. omega arith)) (same HOLDER (inl (omega arith)) (λ c l e. omega arith))

@@ -50,9 +50,17 @@ CONNECTION = 3
 abbrev pub HOME : ℕ
 HOME = 2
 
+-- 02, Q-11: a row for each slot: its watch, whether it has tripped, whether a reading was seen, the last, the lowest, the highest
+abbrev pub SENSINGS : ℕ
+SENSINGS = CONNECTIONS + connectionLimit * CONNECTION
+
+-- words a row
+abbrev pub SENSING : ℕ
+SENSING = 6
+
 -- here the words of the locks begin
 abbrev pub LOCKS : ℕ
-LOCKS = CONNECTIONS + connectionLimit * CONNECTION
+LOCKS = SENSINGS + sessionLimit * SENSING
 
 abbrev pub CLOCK : ℕ
 CLOCK = LOCKS

@@ -16,12 +16,12 @@ use Rattle.model.specs.State.{Waiting, Server}
 use Rattle.state.specs.Table.{apart, below}
 use Rattle.state.specs.Grid.{part, word-of}
 use Rattle.state.specs.Bits.{bit, with-bit, with-same, with-other, empty-bits}
-use Rattle.state.specs.Layout.{EXCHANGES, EXCHANGE, CONNECTIONS, CONNECTION, HOME, CLOCK, HOLDER, SHARERS, KEY, COUNT, ENTRIES, ENTRY, ORDERS, ORDER, REQUESTS, REQUEST, QUEUE, WORDS, STRINGS}
+use Rattle.state.specs.Layout.{EXCHANGES, EXCHANGE, CONNECTIONS, CONNECTION, HOME, CLOCK, HOLDER, SHARERS, KEY, COUNT, ENTRIES, ENTRY, ORDERS, ORDER, REQUESTS, REQUEST, QUEUE, WORDS, STRINGS, SENSINGS, SENSING}
 use Rattle.state.specs.View.{memory, word, homeAt, slotAt, view}
 use Rattle.state.specs.Change.{off, here}
 use Rattle.state.specs.Requests.{countOf, Idle, part-behind, part-before, slot-small, laid-view, laid-string}
 use Rattle.state.specs.Queue.{slot-off, past-count, onWaiting, queued}
-use Rattle.state.specs.Tidy.{Tidy, TidyOver, Counted, Away, ExchangeRange, ConnectionRange, OrderRange, TidyRequest, TidyQueue, TidyKey}
+use Rattle.state.specs.Tidy.{Tidy, TidyOver, Counted, Away, ExchangeRange, ConnectionRange, OrderRange, TidyRequest, TidyQueue, TidyKey, SensingRange}
 use Rattle.state.specs.Keeping.{kept-values, kept-range, kept-singles, kept-rows, kept-homes, kept-request, kept-queue, kept-key}
 use Rattle.state.specs.Wiping.{Wiped, undated, emptied, request-wiped}
 
@@ -38,6 +38,7 @@ module _ (In In′ : ℕ → Type 0) (w w′ s s′ : List ℕ) (t : TidyOver In
         room = room ∙ t .room;
         values = kept-values In w w′ s s′ t (λ p h. front p (omega arith) (omega arith));
         exchanges = kept-range In w w′ s s′ t ExchangeRange EXCHANGES EXCHANGE EXCHANGE sessionLimit (λ i f h l. front (EXCHANGES + i * EXCHANGE + f) (omega arith) (omega arith)) (t .exchanges);
+        sensings = kept-range In w w′ s s′ t SensingRange SENSINGS SENSING SENSING sessionLimit (λ i f h l. front (SENSINGS + i * SENSING + f) (omega arith) (omega arith)) (t .sensings);
         connections = kept-range In w w′ s s′ t ConnectionRange CONNECTIONS CONNECTION HOME connectionLimit (λ i f h l. front (CONNECTIONS + i * CONNECTION + f) (omega arith) (omega arith)) (t .connections);
         orders = kept-range In w w′ s s′ t OrderRange ORDERS ORDER ORDER sessionLimit (λ i f h l. front (ORDERS + i * ORDER + f) (omega arith) (omega arith)) (t .orders);
         singles = kept-singles In w w′ s s′ t (front CLOCK (omega arith) (omega arith)) (front HOLDER (omega arith) (omega arith)) (subst (λ (x : ℕ). x < 2 ^ sessionLimit) (sym sharers) (t .singles .sharers)) count;

@@ -11,18 +11,18 @@ use lib.ListN.{length, getD, take, length-take}
 use lib.Seq.{ext-getD, getD-take}
 use borrow.Author.Tests.{eq-eqb, ne-eqb, eqb-true, eqb-false, ltb-true, ltb-false}
 use Rattle.model.specs.Sizes.{sessionLimit, connectionLimit, stringLimit}
-use Rattle.model.specs.State.{Entry, Waiting, Locks, Kind, Kind.exclusive-lock, Kind.shared-lock, Standing, Standing.no-release, Standing.release-of, Asked, Asked.none, Asked.some, Exchange, Connection, Rest, Server, at, freshExchange, closedConnection}
+use Rattle.model.specs.State.{Entry, Waiting, Locks, Kind, Kind.exclusive-lock, Kind.shared-lock, Standing, Standing.no-release, Standing.release-of, Asked, Asked.none, Asked.some, Exchange, Connection, Rest, Server, at, freshExchange, closedConnection, Sensing, sensingAt}
 use Rattle.state.specs.Table.{below}
 use Rattle.state.specs.Grid.{part, word-of, grid, getD-grid}
 use Rattle.state.specs.Bits.{bit, low-bits, Member, member}
-use Rattle.state.specs.Layout.{LOCKS, VENDOR, PREFERENCE, STATUS, LAST, ENABLE, LOCKOUT, REMOTE, EXCHANGES, EXCHANGE, CONNECTIONS, CONNECTION, HOME, CLOCK, HOLDER, SHARERS, KEY, COUNT, ENTRIES, ENTRY, ORDERS, ORDER, REQUESTS, REQUEST, QUEUE, WORDS, STRINGS}
-use Rattle.state.specs.View.{Memory, memory, word, keyOf, rowWord, homeIn, homeOf, fieldOf, standingOf, entryAt, slotAt, requestAt, locksOf, askedOf, exchangeOf, connectionOf, restOf, view}
-use Rattle.state.specs.Change.{entry-at}
+use Rattle.state.specs.Layout.{LOCKS, VENDOR, PREFERENCE, STATUS, LAST, ENABLE, LOCKOUT, REMOTE, EXCHANGES, EXCHANGE, CONNECTIONS, CONNECTION, HOME, CLOCK, HOLDER, SHARERS, KEY, COUNT, ENTRIES, ENTRY, ORDERS, ORDER, REQUESTS, REQUEST, QUEUE, WORDS, STRINGS, SENSINGS, SENSING}
+use Rattle.state.specs.View.{Memory, memory, word, keyOf, rowWord, homeIn, homeOf, fieldOf, standingOf, entryAt, slotAt, requestAt, locksOf, askedOf, exchangeOf, connectionOf, restOf, view, numeral, sensingFrom}
+use Rattle.state.specs.Change.{entry-at, sensingWord, sensing-at}
 use Rattle.state.specs.Requests.{countOf, Idle, stringAt}
 use Rattle.state.specs.Queue.{noRequest, count-is, waiting-at}
 use Rattle.state.specs.Strings.{key-part, string-part, string-length}
 use Rattle.state.specs.Confirmed.{field-number, Shows, shows}
-use Rattle.state.specs.Tidy.{Tidy, Away, Counted, Shown}
+use Rattle.state.specs.Tidy.{Tidy, Away, Counted, Shown, Numeral, watchWord}
 
 -- words that are read alike, within the range that they are read in
 flag-one : (x y : ℕ) → x ≤ 1 → y ≤ 1 → eqb x 1 ≡ eqb y 1 → x ≡ y
@@ -218,6 +218,22 @@ module _ (w s w′ s′ : List ℕ) (t : Tidy (memory w s)) (t′ : Tidy (memory
   exchange-word i (suc (suc (suc (suc (suc (suc (suc zero))))))) h l = flag-one _ _ (t .exchanges i 7 h l) (t′ .exchanges i 7 h l) (read (λ (x : ℕ). eqb x 1) (EXCHANGES + i * EXCHANGE) EXCHANGE 7 l (ap (λ (x : Exchange). x .rmtExpected) (exchange-same i h)))
   exchange-word i (suc (suc (suc (suc (suc (suc (suc (suc zero)))))))) h l = mod-one _ _ (2 ^ 32) (t .exchanges i 8 h l) (t′ .exchanges i 8 h l) (read (λ (x : ℕ). x % 2 ^ 32) (EXCHANGES + i * EXCHANGE) EXCHANGE 8 l (ap (λ (x : Exchange). x .numberExpected) (exchange-same i h)))
   exchange-word i (suc (suc (suc (suc (suc (suc (suc (suc (suc f))))))))) h l = absurd (omega arith)
+
+  -- 02, Q-11: the readings
+  sensing-same : (i : ℕ) → i < sessionLimit → sensingFrom (sensingWord w i) ≡ sensingFrom (sensingWord w′ i)
+  sensing-same i h = sym (sensing-at w i h) ∙ ap (λ (r : Rest). sensingAt r i) rest-same ∙ sensing-at w′ i h
+
+  numeral-one : (x y : ℕ) → Numeral x → Numeral y → numeral x ≡ numeral y → x ≡ y
+  numeral-one x y h l q = h ∙ q ∙ sym l
+
+  sensing-word : (i f : ℕ) → i < sessionLimit → f < SENSING → word w (SENSINGS + i * SENSING + f) ≡ word w′ (SENSINGS + i * SENSING + f)
+  sensing-word i zero h l = t .sensings i 0 h l ∙ ap (λ (x : Sensing). watchWord (x .watch)) (sensing-same i h) ∙ sym (t′ .sensings i 0 h l)
+  sensing-word i (suc zero) h l = flag-one _ _ (t .sensings i 1 h l) (t′ .sensings i 1 h l) (ap (λ (x : Sensing). x .tripped) (sensing-same i h))
+  sensing-word i (suc (suc zero)) h l = flag-one _ _ (t .sensings i 2 h l) (t′ .sensings i 2 h l) (ap (λ (x : Sensing). x .recorded .seen) (sensing-same i h))
+  sensing-word i (suc (suc (suc zero))) h l = numeral-one _ _ (t .sensings i 3 h l) (t′ .sensings i 3 h l) (ap (λ (x : Sensing). x .recorded .last) (sensing-same i h))
+  sensing-word i (suc (suc (suc (suc zero)))) h l = numeral-one _ _ (t .sensings i 4 h l) (t′ .sensings i 4 h l) (ap (λ (x : Sensing). x .recorded .lowest) (sensing-same i h))
+  sensing-word i (suc (suc (suc (suc (suc zero))))) h l = numeral-one _ _ (t .sensings i 5 h l) (t′ .sensings i 5 h l) (ap (λ (x : Sensing). x .recorded .highest) (sensing-same i h))
+  sensing-word i (suc (suc (suc (suc (suc (suc f)))))) h l = absurd (omega arith)
 
   -- the connections
   connection-same : (i : ℕ) → i < connectionLimit → connectionOf (part w (CONNECTIONS + i * CONNECTION) CONNECTION) ≡ connectionOf (part w′ (CONNECTIONS + i * CONNECTION) CONNECTION)
@@ -463,8 +479,10 @@ module _ (w s w′ s′ : List ℕ) (t : Tidy (memory w s)) (t′ : Tidy (memory
       (λ (a : EXCHANGES ≤ p).
       ⊎-elim (λ (b : p < CONNECTIONS). rows-same w w′ EXCHANGES EXCHANGE sessionLimit exchange-word p a (omega arith))
       (λ (b : CONNECTIONS ≤ p).
-      ⊎-elim (λ (c : p < LOCKS). rows-same w w′ CONNECTIONS CONNECTION connectionLimit connection-row p b (omega arith))
-      (λ (c : LOCKS ≤ p).
+      ⊎-elim (λ (c : p < SENSINGS). rows-same w w′ CONNECTIONS CONNECTION connectionLimit connection-row p b (omega arith))
+      (λ (c : SENSINGS ≤ p).
+      ⊎-elim (λ (k : p < LOCKS). rows-same w w′ SENSINGS SENSING sessionLimit sensing-word p c (omega arith))
+      (λ (k : LOCKS ≤ p).
       ⊎-elim (λ (d : p < ENTRIES). let z : p ≡ LOCKS + (p - LOCKS) = omega arith in ap (word w) z ∙ lock-word (p - LOCKS) (omega arith) ∙ ap (word w′) (sym z))
       (λ (d : ENTRIES ≤ p).
       ⊎-elim (λ (o : p < ORDERS). rows-same w w′ ENTRIES ENTRY sessionLimit entry-word p d (omega arith))
@@ -478,6 +496,7 @@ module _ (w s w′ s′ : List ℕ) (t : Tidy (memory w s)) (t′ : Tidy (memory
       (below p ORDERS))
       (below p ENTRIES))
       (below p LOCKS))
+      (below p SENSINGS))
       (below p CONNECTIONS))
       (below p EXCHANGES)
 

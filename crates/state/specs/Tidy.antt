@@ -6,12 +6,13 @@ use mathlib.Core.Path.{_≡_}
 use mathlib.Core.Logic.{_⊎_}
 use mathlib.Core.Bool.{cond}
 use mathlib.Core.List.{List}
-use Prim.Native.Nat.{ℕ, zero, suc, _+_, _*_, _^_, _≤_, _<_}
+use Prim.Native.Nat.{ℕ, zero, suc, _+_, _*_, _^_, _≤_, _<_, _-_}
 use lib.Dec.{eqb}
 use lib.ListN.{length}
+use Rattle.readings.specs.Watch.{Limits, Limits.off, Limits.above, Limits.outside}
 use Rattle.model.specs.Sizes.{sessionLimit, connectionLimit, stringLimit}
-use Rattle.state.specs.Layout.{EXCHANGES, EXCHANGE, CONNECTIONS, CONNECTION, HOME, CLOCK, HOLDER, SHARERS, KEY, COUNT, ENTRY, ORDERS, ORDER, REQUESTS, REQUEST, QUEUE, WORDS, STRINGS}
-use Rattle.state.specs.View.{Memory, word, rowWord, homeOf, fieldOf, slotAt}
+use Rattle.state.specs.Layout.{EXCHANGES, EXCHANGE, CONNECTIONS, CONNECTION, HOME, CLOCK, HOLDER, SHARERS, KEY, COUNT, ENTRY, ORDERS, ORDER, REQUESTS, REQUEST, QUEUE, WORDS, STRINGS, SENSINGS, SENSING}
+use Rattle.state.specs.View.{Memory, word, rowWord, homeOf, fieldOf, slotAt, lastBits, watchOf, numeral}
 
 -- any word
 abbrev pub Any : ℕ → Type 0
@@ -43,6 +44,24 @@ ExchangeRange (suc (suc (suc (suc (suc zero))))) v = v < 2 ^ 32
 ExchangeRange (suc (suc (suc (suc (suc (suc zero)))))) v = Flag v
 ExchangeRange (suc (suc (suc (suc (suc (suc (suc zero))))))) v = Flag v
 ExchangeRange (suc (suc (suc (suc (suc (suc (suc (suc f)))))))) v = v < 2 ^ 32
+
+-- 02, Q-11: a watch as the word that it is stored as; the bits of a number
+abbrev pub watchWord : Limits → ℕ
+watchWord off = 0
+watchWord (above high) = (lastBits - high) * 2 ^ 32
+watchWord (outside low high) = (lastBits - high) * 2 ^ 32 + (lastBits - low)
+
+abbrev pub Watched : ℕ → Type 0
+Watched v = v ≡ watchWord (watchOf v)
+
+abbrev pub Numeral : ℕ → Type 0
+Numeral v = v ≡ numeral v
+
+abbrev pub SensingRange : ℕ → ℕ → Type 0
+SensingRange zero v = Watched v
+SensingRange (suc zero) v = Flag v
+SensingRange (suc (suc zero)) v = Flag v
+SensingRange (suc (suc (suc f))) v = Numeral v
 
 abbrev pub ConnectionRange : ℕ → ℕ → Type 0
 ConnectionRange zero v = Flag v
@@ -112,6 +131,7 @@ pub record TidyOver (In : ℕ → Type 0) (m : Memory) : Type 0 where
   pub room : length (m .strings) ≡ STRINGS
   pub values : (f : ℕ) → f < EXCHANGES → SingleRange f (word (m .words) f)
   pub exchanges : InRange ExchangeRange EXCHANGES EXCHANGE EXCHANGE sessionLimit (m .words)
+  pub sensings : InRange SensingRange SENSINGS SENSING SENSING sessionLimit (m .words)
   pub connections : InRange ConnectionRange CONNECTIONS CONNECTION HOME connectionLimit (m .words)
   pub orders : InRange OrderRange ORDERS ORDER ORDER sessionLimit (m .words)
   pub singles : TidySingles (m .words)

@@ -11,10 +11,10 @@ use Rattle.wire.specs.Splice.{splice, length-splice}
 use Rattle.model.specs.Sizes.{sessionLimit, connectionLimit, stringLimit}
 use Rattle.state.specs.Table.{below}
 use Rattle.state.specs.Bits.{bit, without, with-bit, with-small, with-some}
-use Rattle.state.specs.Layout.{EXCHANGES, EXCHANGE, CONNECTIONS, CONNECTION, HOME, CLOCK, HOLDER, SHARERS, KEY, COUNT, ENTRIES, ENTRY, ORDERS, ORDER, REQUESTS, REQUEST, QUEUE, WORDS, STRINGS}
+use Rattle.state.specs.Layout.{EXCHANGES, EXCHANGE, CONNECTIONS, CONNECTION, HOME, CLOCK, HOLDER, SHARERS, KEY, COUNT, ENTRIES, ENTRY, ORDERS, ORDER, REQUESTS, REQUEST, QUEUE, WORDS, STRINGS, SENSINGS, SENSING}
 use Rattle.state.specs.View.{memory, word, homeAt}
 use Rattle.state.specs.Change.{off, here}
-use Rattle.state.specs.Tidy.{Tidy, Counted, ExchangeRange, ConnectionRange, OrderRange, TidyKey}
+use Rattle.state.specs.Tidy.{Tidy, Counted, ExchangeRange, ConnectionRange, OrderRange, TidyKey, SensingRange}
 use Rattle.state.specs.Keeping.{kept-values, kept-range, kept-singles, kept-rows, kept-homes, kept-request, kept-queue, kept-away, count-from, count-to, sharers-tidy}
 use Rattle.state.specs.Leaving.{splice-off}
 use Rattle.state.specs.Wiping.{Wiped}
@@ -33,6 +33,7 @@ module _ (w w′ s s′ : List ℕ) (t : Tidy (memory w s)) (long : length w′ 
         room = room ∙ t .room;
         values = kept-values (Counted w) w w′ s s′ t (λ p h. same p (omega arith) (omega arith));
         exchanges = kept-range (Counted w) w w′ s s′ t ExchangeRange EXCHANGES EXCHANGE EXCHANGE sessionLimit (λ i f h l. same (EXCHANGES + i * EXCHANGE + f) (omega arith) (omega arith)) (t .exchanges);
+        sensings = kept-range (Counted w) w w′ s s′ t SensingRange SENSINGS SENSING SENSING sessionLimit (λ i f h l. same (SENSINGS + i * SENSING + f) (omega arith) (omega arith)) (t .sensings);
         connections = kept-range (Counted w) w w′ s s′ t ConnectionRange CONNECTIONS CONNECTION HOME connectionLimit (λ i f h l. same (CONNECTIONS + i * CONNECTION + f) (omega arith) (omega arith)) (t .connections);
         orders = kept-range (Counted w) w w′ s s′ t OrderRange ORDERS ORDER ORDER sessionLimit (λ i f h l. same (ORDERS + i * ORDER + f) (omega arith) (omega arith)) (t .orders);
         singles = kept-singles (Counted w) w w′ s s′ t (same CLOCK (omega arith) (omega arith)) (same HOLDER (omega arith) (omega arith)) sharers (subst (λ (x : ℕ). x ≤ sessionLimit) (sym count) (t .singles .count));

@@ -2,15 +2,17 @@
 -- Every later answer depends on the memory through this view alone. Assumes nothing.
 use mathlib.Core.Bool.{Bool, true, false, not, _&&_, cond}
 use mathlib.Core.List.{List, [], _∷_}
-use Prim.Native.Nat.{ℕ, zero, suc, _+_, _*_, _-_, _%_, _^_, min}
+use Prim.Native.Nat.{ℕ, zero, suc, _+_, _*_, _-_, _%_, _^_, min, _/_}
 use lib.Dec.{eqb, ltb}
 use lib.ListN.{getD, take}
+use Rattle.readings.specs.Bits.{notNumber}
+use Rattle.readings.specs.Watch.{Limits, Limits.off, Limits.above, Limits.outside}
 use Rattle.model.specs.Sizes.{sessionLimit, connectionLimit, stringLimit, noConnection}
-use Rattle.model.specs.State.{Entry, Kind.exclusive-lock, Kind.shared-lock, Standing, Standing.no-release, Standing.release-of, Waiting, Locks, Asked, Asked.none, Asked.some, Exchange, Connection, RemoteLocal, Rest, Server}
+use Rattle.model.specs.State.{Entry, Kind.exclusive-lock, Kind.shared-lock, Standing, Standing.no-release, Standing.release-of, Waiting, Locks, Asked, Asked.none, Asked.some, Exchange, Connection, RemoteLocal, Rest, Server, Sensing}
 use Rattle.state.specs.Table.{tab}
 use Rattle.state.specs.Grid.{part, grid}
 use Rattle.state.specs.Bits.{bit}
-use Rattle.state.specs.Layout.{CLOCK, VENDOR, PREFERENCE, STATUS, LAST, ENABLE, LOCKOUT, REMOTE, HOLDER, SHARERS, KEY, COUNT, ENTRIES, ENTRY, ORDERS, ORDER, EXCHANGES, EXCHANGE, CONNECTIONS, CONNECTION, HOME, REQUESTS, REQUEST, QUEUE}
+use Rattle.state.specs.Layout.{CLOCK, VENDOR, PREFERENCE, STATUS, LAST, ENABLE, LOCKOUT, REMOTE, HOLDER, SHARERS, KEY, COUNT, ENTRIES, ENTRY, ORDERS, ORDER, EXCHANGES, EXCHANGE, CONNECTIONS, CONNECTION, HOME, REQUESTS, REQUEST, QUEUE, SENSINGS, SENSING}
 
 -- all that the host lends
 pub record Memory : Type 0 where
@@ -116,10 +118,37 @@ connectionFrom t = record { isOpen = flag (t 0); remainder = t 1 }
 abbrev pub connectionOf : List ℕ → Connection
 connectionOf r = connectionFrom (word r)
 
-abbrev pub restFrom : List Exchange → List Connection → (ℕ → ℕ) → Rest
-restFrom x y t =
+-- 02, Q-11: a reading by its bits: what is no number's bits shows as 0
+unfoldable pub numeral : ℕ → ℕ
+numeral x = cond (notNumber (x % 2 ^ 32)) 0 (x % 2 ^ 32)
+
+-- a watch: the high limit's bits in the upper half of the word, the low limit's in the lower half, each less than ffffffff hex by them. What is
+-- not a number there is no limit; so 0, without a high limit, is no watch
+abbrev pub limitsOf : ℕ → ℕ → Limits
+limitsOf low high = cond (notNumber high) off (cond (notNumber low) (above high) (outside low high))
+
+abbrev pub lastBits : ℕ
+lastBits = 2 ^ 32 - 1
+
+unfoldable pub watchOf : ℕ → Limits
+watchOf x = limitsOf (lastBits - x % 2 ^ 32) (lastBits - x / 2 ^ 32)
+
+abbrev pub sensingFrom : (ℕ → ℕ) → Sensing
+sensingFrom t =
+    record {
+      watch = watchOf (t 0);
+      tripped = flag (t 1);
+      recorded = record { last = numeral (t 3); lowest = numeral (t 4); highest = numeral (t 5); seen = flag (t 2) };
+    }
+
+abbrev pub sensingOf : List ℕ → Sensing
+sensingOf r = sensingFrom (word r)
+
+abbrev pub restFrom : List Exchange → List Sensing → List Connection → (ℕ → ℕ) → Rest
+restFrom x z y t =
     record {
       exchanges = x;
+      sensings = z;
       connections = y;
       lastIssued = t LAST % 65536;
       made = record { vendor = t VENDOR % 65536; prefersOverlap = flag (t PREFERENCE) };
@@ -128,7 +157,7 @@ restFrom x y t =
     }
 
 unfoldable pub restOf : List ℕ → Rest
-restOf w = restFrom (grid exchangeOf EXCHANGES EXCHANGE sessionLimit w) (grid connectionOf CONNECTIONS CONNECTION connectionLimit w) (word w)
+restOf w = restFrom (grid exchangeOf EXCHANGES EXCHANGE sessionLimit w) (grid sensingOf SENSINGS SENSING sessionLimit w) (grid connectionOf CONNECTIONS CONNECTION connectionLimit w) (word w)
 
 abbrev pub view : Memory → Server
 view m = record { locks = locksOf (m .words) (m .strings); rest = restOf (m .words) }

@@ -18,7 +18,12 @@ pub const CONNECTION: usize = 3;
 // the place of the home in the row
 pub const HOME: usize = 2;
 
-pub const CLOCK: usize = CONNECTIONS + CONNECTION_LIMIT * CONNECTION;
+// a row for each slot: its watch, whether it has tripped, whether a reading was seen, the last, the lowest, the highest
+pub const SENSINGS: usize = CONNECTIONS + CONNECTION_LIMIT * CONNECTION;
+
+pub const SENSING: usize = 6;
+
+pub const CLOCK: usize = SENSINGS + SESSION_LIMIT * SENSING;
 
 // the slot of the exclusive holder, plus 1; 0 or a number past the slots: nobody
 pub const HOLDER: usize = CLOCK + 1;

@@ -2,8 +2,8 @@
 // Reading: the word at its place; stored again it would change nothing. Storing: the row changes in that field, and nothing else does.
 ghost use Prim.Native.Nat.{ℕ, _*_, _+_, _-_, _<_, _≤_, _^_};
 ghost use Rattle.model.specs.State.{at, connectionAt, exchangeAt};
-ghost use Rattle.state.specs.Change.{connectionWith, connectionWord, entryWith, exchangeWith, exchangeWord, onConnection, onEntry, onExchange, onRest, orderWith, singleWith, withClock};
-ghost use Rattle.state.specs.Tidy.{ConnectionRange, ExchangeRange, OrderRange, SingleRange, Tidy};
+ghost use Rattle.state.specs.Change.{connectionWith, connectionWord, entryWith, exchangeWith, exchangeWord, onConnection, onEntry, onExchange, onRest, onSensing, orderWith, sensingWith, sensingWord, singleWith, withClock};
+ghost use Rattle.state.specs.Tidy.{ConnectionRange, ExchangeRange, OrderRange, SensingRange, SingleRange, Tidy};
 ghost use Rattle.state.specs.View.{fieldOf, homeIn, homeOf, locksOf, memory, orderWord, restOf, rowWord, view, word};
 ghost use lib.ListN.{length};
 ghost use mathlib.Core.Bool.{cond};
@@ -21,6 +21,8 @@ use crate::layout::EXCHANGES;
 use crate::layout::HOME;
 use crate::layout::ORDER;
 use crate::layout::ORDERS;
+use crate::layout::SENSING;
+use crate::layout::SENSINGS;
 use crate::sizes;
 use crate::sizes::NO_CONNECTION;
 use crate::sizes::Words;
@@ -46,6 +48,20 @@ pub const ANY_SENT: usize = 6;
 pub const RMT_EXPECTED: usize = 7;
 
 pub const NUMBER_EXPECTED: usize = 8;
+
+// The fields of a session's readings: its watch (its high limit's bits above its low limit's, each subtracted from ffffffff hex; 0: none),
+// whether it has tripped, whether a reading was seen; the bits of the last, the lowest and the highest.
+pub const WATCH: usize = 0;
+
+pub const TRIPPED: usize = 1;
+
+pub const SEEN: usize = 2;
+
+pub const LAST_READING: usize = 3;
+
+pub const LOWEST: usize = 4;
+
+pub const HIGHEST: usize = 5;
 
 // The fields of a connection: open, remainder to skip.
 pub const IS_OPEN: usize = 0;
@@ -110,6 +126,21 @@ pub fn set_exchange(w: &mut Words, i: usize, f: usize, v: u64)
     ensures { λ _. ⌜ ((s : List ℕ) → view (memory (now (w .exit)) s) ≡ onExchange (view (memory (now (w .entry)) s)) i (exchangeWith f v)) × ((s : List ℕ) → ExchangeRange f v → Tidy (memory (now (w .entry)) s) → Tidy (memory (now (w .exit)) s)) ⌝ }
 {
     store(w, EXCHANGES + i * EXCHANGE + f, v);
+}
+
+// A session's readings.
+pub fn sensing(w: &Words, i: usize, f: usize) -> u64
+    requires { ⌜ (i < sessionLimit) × (f < 6) ⌝ }
+    ensures { λ r. ⌜ r ≡ sensingWord (now (w .entry)) i f ⌝ }
+{
+    w[SENSINGS + i * SENSING + f]
+}
+
+pub fn set_sensing(w: &mut Words, i: usize, f: usize, v: u64)
+    requires { ⌜ (i < sessionLimit) × (f < 6) ⌝ }
+    ensures { λ _. ⌜ ((s : List ℕ) → view (memory (now (w .exit)) s) ≡ onSensing (view (memory (now (w .entry)) s)) i (sensingWith f v)) × ((s : List ℕ) → SensingRange f v → Tidy (memory (now (w .entry)) s) → Tidy (memory (now (w .exit)) s)) ⌝ }
+{
+    store(w, SENSINGS + i * SENSING + f, v);
 }
 
 // A connection.

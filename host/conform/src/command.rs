@@ -19,18 +19,21 @@ pub const REFERENCE: Side = Side {
     name: "reference",
     new: |fresh| Box::new(<reference::Server as Subject>::new(fresh)),
     see_locks: true,
+    forgets: true,
 };
 
 pub const LIBRARY: Side = Side {
     name: "library",
     new: |fresh| Box::new(Library::new(fresh)),
     see_locks: false,
+    forgets: true,
 };
 
 pub const ORDINARY: Side = Side {
     name: "ordinary server",
     new: |fresh| Box::new(<ordinary::Server as Subject>::new(fresh)),
     see_locks: true,
+    forgets: false,
 };
 
 /// The reference and the library.

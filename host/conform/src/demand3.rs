@@ -7,6 +7,7 @@ use reference::lock_view::LockView;
 use reference::{Event, Fresh, Reply, Row, Subject};
 
 use crate::messages::{header, BEFORE_FIRST};
+use crate::traces::{self, strings_gone};
 use crate::watch::{Complaint, Side, Watch};
 
 const LOCK_RESPONSE: u8 = 5;
@@ -26,6 +27,8 @@ pub struct Trial {
     answers: Vec<LockAnswer>,
     /// The rows of the holders after the last event.
     pub rows: Vec<Row>,
+    /// It promises that nothing of a closed session's strings stays.
+    forgets: bool,
 }
 
 impl Trial {
@@ -36,6 +39,7 @@ impl Trial {
             model: LockModel::new(),
             answers: Vec::new(),
             rows: Vec::new(),
+            forgets: side.forgets,
         }
     }
 
@@ -56,6 +60,7 @@ impl Trial {
         let (reply, output) = self.watch.log.last();
         let sent = frames(output).ok_or("the output is not a row of whole frames")?;
         self.check_decision(event, &reply, &sent)?;
+        let gone = strings_gone(&self.model, event, &reply);
         self.answers.clear();
         self.model.event(event, &reply, &mut self.answers);
         self.compare_answers(&sent)?;
@@ -66,6 +71,9 @@ impl Trial {
         }
         if self.again.memory() != self.watch.memory() {
             return Err("the canonical history leaves another server than the list".into());
+        }
+        if self.forgets {
+            self.watch.log.sought += traces::look(&self.model, &gone, self.watch.memory())?;
         }
         if self.watch.log.replies.len().is_multiple_of(VIEW_EVERY) {
             self.compare_views()?;

@@ -11,8 +11,16 @@ use crate::reach::Reach;
 use crate::watch::{Side, LONGEST};
 use crate::world::{Known, Role, World};
 
-/// Lock strings: few, so that sessions meet.
-const STRINGS: [&[u8]; 7] = [b"", b"", b"", b"cal", b"cal", b"Cal", b"\0\xff"];
+/// Lock strings: few, so that sessions meet; most long enough to be looked for after a closing.
+const STRINGS: [&[u8]; 7] = [
+    b"",
+    b"",
+    b"",
+    b"cal bench",
+    b"cal bench",
+    b"Cal bench",
+    b"\0\xff",
+];
 const TIMEOUTS: [u32; 8] = [0, 0, 1, 5, 40, 300, 5000, u32::MAX];
 const LARGE: [u64; 8] = [
     1025,

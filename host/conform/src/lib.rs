@@ -24,6 +24,7 @@ pub mod sizes;
 pub mod soak;
 pub mod systematic;
 pub mod tally;
+pub mod traces;
 pub mod watch;
 pub mod world;
 pub mod wrap;

@@ -24,6 +24,8 @@ pub struct Reach {
     /// Events after which sessions held locks, and the most that did.
     pub holding: usize,
     pub most_holders: usize,
+    /// Strings of closed sessions that were looked for in the memory.
+    pub sought: usize,
 }
 
 fn bump(counts: &mut [usize], place: usize) {
@@ -40,6 +42,7 @@ impl Reach {
         self.holding += log.holders.iter().filter(|count| **count > 0).count();
         let most = log.holders.iter().max().copied();
         self.most_holders = self.most_holders.max(most.unwrap_or(0));
+        self.sought += log.sought;
     }
 
     fn event(&mut self, event: &Event, reply: &Reply, output: &[u8]) {
@@ -90,7 +93,7 @@ impl Reach {
     }
 
     /// In words, a line for each kind.
-    pub fn lines(&self) -> [String; 9] {
+    pub fn lines(&self) -> [String; 10] {
         [
             format!("reached: refusals 1 to 8 {:?}", &self.refusals[1..]),
             format!(
@@ -116,6 +119,10 @@ impl Reach {
                 "reached: {} events after which locks were held, at most by {} sessions",
                 self.holding, self.most_holders
             ),
+            format!(
+                "reached: {} strings of closed sessions looked for in the memory",
+                self.sought
+            ),
         ]
     }
 
@@ -133,6 +140,7 @@ impl Reach {
             ("most_lock_answers", self.most_lock_answers.to_string()),
             ("holding", self.holding.to_string()),
             ("most_holders", self.most_holders.to_string()),
+            ("strings_looked_for", self.sought.to_string()),
         ])
     }
 }

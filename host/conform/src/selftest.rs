@@ -101,6 +101,7 @@ fn side(fault: &Fault, see_locks: bool) -> Side {
         name: fault.name,
         new: fault.new,
         see_locks,
+        forgets: true,
     }
 }
 

@@ -34,6 +34,8 @@ pub struct Side {
     pub new: New,
     /// Look at the locks it holds, if it can show them. The library cannot.
     pub see_locks: bool,
+    /// It promises that nothing of a closed session's strings stays. The ordinary server does not.
+    pub forgets: bool,
 }
 
 /// Answers and output frames of a list, event by event.
@@ -44,6 +46,8 @@ pub struct Log {
     ends: Vec<usize>,
     /// How many sessions held a lock after each event, if somebody asked.
     pub holders: Vec<usize>,
+    /// Strings of closed sessions that were looked for in the memory, and are not there.
+    pub sought: usize,
 }
 
 impl Log {
@@ -58,6 +62,7 @@ impl Log {
         self.output.clear();
         self.ends.clear();
         self.holders.clear();
+        self.sought = 0;
     }
 
     /// The last event's answer and output.

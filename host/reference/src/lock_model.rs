@@ -128,6 +128,16 @@ impl LockModel {
         self.sessions.keys().copied()
     }
 
+    /// The strings that there are, each with its session: of shared locks and of waiting requests.
+    pub fn strings(&self) -> impl Iterator<Item = (u16, &[u8])> {
+        let shared = self.sessions.iter().filter_map(|(number, entry)| {
+            let string = entry.shared.as_deref()?;
+            Some((*number, string))
+        });
+        let waiting = self.waiting.iter();
+        shared.chain(waiting.map(|request| (request.session, &request.string[..])))
+    }
+
     /// How many requests wait, and the earliest deadline; 0 and 0 if none does.
     pub fn deadline(&self) -> Deadline {
         let earliest = self.waiting.iter().map(|request| request.deadline).min();

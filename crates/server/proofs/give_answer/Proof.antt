@@ -25,9 +25,9 @@ returns c = let a = c .before .before .before .before .before .before .before .b
 
 returns-2 : tie.Need-returns-2
 returns-2 c = let a = c .before .before .before .before .before .before .before .before .before .before .before .before .args in (
-  λ s. gives-sent (view (memory (a .words .now) s)) (a .i) (a .«end») (a .payload .now) (a .shown .now) _ _ _ _ (c .before .before .before .send-answer .result) (c .before .before .before .before .before .before .before .withholds .ensures s ∙ c .before .before .before .before .before .before .if1 .left)
-      (c .before .before .before .send-answer .ensures .0 s) (c .replied2 .ensures),
-  c .before .before .before .send-answer .ensures .1,
+  λ s. gives-sent (view (memory (a .words .now) s)) (a .i) (a .«end») (a .payload .now) (a .shown .now) _ _ _ _ (c .before .before .before .send-readings .result) (c .before .before .before .before .before .before .before .withholds .ensures s ∙ c .before .before .before .before .before .before .if1 .left)
+      (c .before .before .before .send-readings .ensures .0 s) (c .replied2 .ensures),
+  c .before .before .before .send-readings .ensures .1,
 )
 
 pub give-answer-spec : {M : Type 1} → statement M

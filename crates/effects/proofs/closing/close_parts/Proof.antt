@@ -19,17 +19,18 @@ returns c = let a = c .before .before .before .args in
     (closed-alone (a .w .now) s (a .c) (a .i) (c .before .before .before .pre s) (search needs) _ (x .0 s), x .1 s)
 
 returns-2 : tie.Need-returns-2
-returns-2 c = let a = c .before .before .before .before .before .before .before .before .args in
+returns-2 c = let a = c .before .before .before .before .before .before .before .before .before .before .args in
     let s = a .strings .now in
     let d : Server = view (memory (a .w .now) s) in
-    let f = c .before .before .before .before .before .before .before .before .pre s in
-    let x = c .before .before .before .before .before .shut-channels .ensures in
-    let y = c .before .before .before .renew-exchange .ensures in
+    let f = c .before .before .before .before .before .before .before .before .before .before .pre s in
+    let x = c .before .before .before .before .before .before .before .shut-channels .ensures in
+    let y = c .before .before .before .before .before .renew-exchange .ensures in
+    let f₂ = c .before .before .before .forget .ensures in
     let z = c .close-slot .ensures in (
-      closed-session (a .w .now) s (a .c) (a .i) f (search needs) _ _ _
+      closed-session (a .w .now) s (a .c) (a .i) f (search needs) _ _ _ _
           (x .0 s ∙ ap (λ (l : List ℕ). onRest d (λ (r : Rest). withConnections r (shutAll (r .connections) l))) (sym (channels-of (a .w .now) s (a .c) (a .i) f (search needs))))
-          (y .0 s) (z .locks) (z .rest),
-      λ t. z .tidy (y .1 s (omega arith) (x .1 s t)),
+          (y .0 s) (f₂ .0 s) (z .locks) (z .rest),
+      λ t. z .tidy (f₂ .1 s (y .1 s (omega arith) (x .1 s t))),
     )
 
 pub close-parts-spec : {M : Type 1} → statement M
@@ -38,6 +39,7 @@ close-parts-spec =
     (tie.spec
     (λ c κs. search needs)
     returns
+    (λ c κs. search needs)
     (λ c κs. search needs)
     (λ c κs. search needs)
     (λ c κs. search needs)
