@@ -13,14 +13,15 @@ use Rattle.record.specs.Layout.{Event as Recorded, opening as r-opening, delive
 use Rattle.verifier.specs.Judge.{Deed, refused, gave}
 use Rattle.verifier.specs.Right.{Yields, Right, none, more}
 use Rattle.model.specs.Sizes.{outputMinimum, payloadLimit}
+use Rattle.readings.specs.Watch.{Limits, Limits.off, Limits.above, Limits.outside}
 use Rattle.model.specs.State.{Server}
-use Rattle.model.specs.Interface.{Event, Event.opening, Event.delivery, Event.cut, Event.clock, Event.answer, Event.status, Reply, Reply.refused as turned-away, Reply.done, Reply.withheld, Reply.took}
+use Rattle.model.specs.Interface.{Event, Event.opening, Event.delivery, Event.cut, Event.clock, Event.answer, Event.status, Event.setting, Setting, Setting.watch, Reply, Reply.refused as turned-away, Reply.done, Reply.withheld, Reply.took}
 use Rattle.model.specs.Refusals.{causes, refusal}
 use Rattle.model.specs.Step.{Result, Line, answered, finish, plan, step, final, log}
 use Rattle.model.proofs.Fits.{uncaused}
 use Rattle.model.proofs.Refused.{changes-nothing}
 use Rattle.judging.specs.Replay.{Known, known, unknown, callOf, byReply, byCall, deed}
-use Rattle.judging.specs.Kept.{recorded, Keepable, AllKeepable, isRefused, bodiesOf, NoneRefused}
+use Rattle.judging.specs.Kept.{recordedSetting, recorded, KeepableSetting, Keepable, AllKeepable, isRefused, bodiesOf, NoneRefused}
 
 -- the call that is replayed: with the least buffer
 abbrev least : Event → Event
@@ -30,10 +31,16 @@ least (cut c room) = cut c outputMinimum
 least (clock t room) = clock t outputMinimum
 least (answer n p end sh room) = answer n p end sh outputMinimum
 least (status b) = status b
+least (setting s) = setting s
 
 end-again : (b : Bool) → not (eqb (cond b 1 0) 0) ≡ b
 end-again true = refl
 end-again false = refl
+
+setting-again : (s : Setting) → callOf (recordedSetting s) ≡ known (setting s)
+setting-again (watch n off) = refl
+setting-again (watch n (above l)) = refl
+setting-again (watch n (outside l h)) = refl
 
 call-again : (e : Event) → callOf (recorded e) ≡ known (least e)
 call-again (opening c) = refl
@@ -42,6 +49,7 @@ call-again (cut c room) = refl
 call-again (clock t room) = refl
 call-again (answer n p end sh room) = ap (λ (b : Bool). known (answer n p b sh outputMinimum)) (end-again end)
 call-again (status b) = refl
+call-again (setting s) = setting-again s
 
 behind : (b : Bool) (x : ℕ) → cond b 7 x ≡ 0 → x ≡ 0
 behind true x e = absurd (omega (arith, e))
@@ -55,6 +63,7 @@ least-taken d (cut c room) z = behind (ltb room outputMinimum) _ z
 least-taken d (clock t room) z = behind (ltb room outputMinimum) _ z
 least-taken d (answer n p end sh room) z = behind (ltb room outputMinimum) _ z
 least-taken d (status b) z = z
+least-taken d (setting s) z = z
 
 least-plan : (d : Server) (e : Event) → plan d (least e) ≡ plan d e
 unfolding plan
@@ -64,6 +73,7 @@ least-plan d (cut c room) = refl
 least-plan d (clock t room) = refl
 least-plan d (answer n p end sh room) = refl
 least-plan d (status b) = refl
+least-plan d (setting s) = refl
 
 step-taken : (d : Server) (e : Event) → refusal d e ≡ 0 → step d e ≡ finish d (plan d e)
 unfolding step answered
@@ -104,6 +114,11 @@ pub payload-short : (d : Server) (n : ℕ) (p : List ℕ) (end : Bool) (sh : Lis
 unfolding refusal causes
 payload-short d n p end sh room z = ltb-false payloadLimit (length p) (neither _ _ ((uncaused (causes d (answer n p end sh room)) refl z) .1 .1 .1 .0))
 
+fits-setting : (s : Setting) → KeepableSetting s → Fits (recordedSetting s)
+fits-setting (watch n off) k = k .0
+fits-setting (watch n (above l)) k = k
+fits-setting (watch n (outside l h)) k = (k .0, k .1 .0, k .1 .1)
+
 pub fits-recorded : (d : Server) (e : Event) → Keepable e → refusal d e ≡ 0 → Fits (recorded e)
 fits-recorded d (opening c) k z = k
 fits-recorded d (delivery c bs room) k z = k
@@ -115,6 +130,7 @@ fits-recorded d (answer n p end sh room) k z = (k .0, one end, record { bytes = 
     one true = omega arith
     one false = omega arith
 fits-recorded d (status b) k z = k
+fits-recorded d (setting s) k z = fits-setting s k
 
 -- a refused call leaves the server as it was
 same-server : (d : Server) (e : Event) (y : Reply) → (step d e) .reply ≡ y → isRefused y ≡ true → (step d e) .server ≡ d
@@ -193,9 +209,9 @@ one-call d (r-clock t) fs d′ f g = the-call d (r-clock t) fs d′ (clock t out
 one-call d (r-answer n e p sh) fs d′ f g =
     the-call d (r-answer n e p sh) fs d′ (answer n p (not (eqb e 0)) sh outputMinimum) refl (f .0, f .2 .bytes, f .3) (ap (λ (x : ℕ). r-answer n x p sh) (end-kept e (f .1))) g
 one-call d (r-status b) fs d′ f g = the-call d (r-status b) fs d′ (status b) refl f refl g
-one-call d (watchOff n) fs d′ f g = no-call d (watchOff n) fs d′ refl g
-one-call d (watchAbove n x) fs d′ f g = no-call d (watchAbove n x) fs d′ refl g
-one-call d (watchOutside n x y) fs d′ f g = no-call d (watchOutside n x y) fs d′ refl g
+one-call d (watchOff n) fs d′ f g = the-call d (watchOff n) fs d′ (setting (watch n off)) refl (f, tt) refl g
+one-call d (watchAbove n x) fs d′ f g = the-call d (watchAbove n x) fs d′ (setting (watch n (above x))) refl f refl g
+one-call d (watchOutside n x y) fs d′ f g = the-call d (watchOutside n x y) fs d′ (setting (watch n (outside x y))) refl (f .0, (f .1, f .2)) refl g
 one-call d (patterns list) fs d′ f g = no-call d (patterns list) fs d′ refl g
 
 first-call : {d c e : Server} {b : List ℕ} {bs : List (List ℕ)} (y : Yields deed d b c) → OneCall d (y .event) (y .frames) c → Replayed c bs e → Replayed d (b ∷ bs) e

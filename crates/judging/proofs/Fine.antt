@@ -15,14 +15,15 @@ use Rattle.record.specs.Layout.{Event as Recorded, opening as r-opening, delive
 use Rattle.record.specs.RoundTrip.{mostFrames, Taken, longest-body}
 use Rattle.model.specs.Sizes.{outputMinimum, sessionLimit}
 use Rattle.model.specs.State.{Server, Making, fresh}
-use Rattle.model.specs.Interface.{Event, Event.opening, Event.delivery, Event.cut, Event.clock, Event.answer, Event.status, Reply}
+use Rattle.model.specs.Interface.{Event, Event.opening, Event.delivery, Event.cut, Event.clock, Event.answer, Event.status, Event.setting, Setting, Setting.watch, Reply}
+use Rattle.readings.specs.Watch.{Limits, Limits.off, Limits.above, Limits.outside}
 use Rattle.model.specs.Possible.{Possible, AllPossible}
 use Rattle.model.specs.Refusals.{refusal}
 use Rattle.model.specs.SentFits.{LinesFit}
 use Rattle.model.specs.Step.{Line, step, final, log}
 use Rattle.model.proofs.Bound.{bound-run}
 use Rattle.model.proofs.SentFits.{sent-fits}
-use Rattle.judging.specs.Kept.{recorded, Keepable, AllKeepable, isRefused, bodiesOf}
+use Rattle.judging.specs.Kept.{recordedSetting, recorded, Keepable, AllKeepable, isRefused, bodiesOf}
 use Rattle.judging.proofs.Calls.{no-cause, payload-short, fits-recorded}
 
 -- bytes, as a record: the prover then finds the list
@@ -75,10 +76,21 @@ possible (cut c room) k = tt
 possible (clock t room) k = tt
 possible (answer n p end sh room) k = (k .1, k .2 .bytes)
 possible (status b) k = k
+possible (setting s) k = tt
 
 pub all-possible : (es : List Event) → AllKeepable es → AllPossible es
 all-possible [] k = tt
 all-possible (e ∷ es) k = (possible e (k .0), all-possible es (k .1))
+
+taken-setting : (s : Setting) → Taken (recordedSetting s)
+taken-setting (watch n off) = tt
+taken-setting (watch n (above l)) = tt
+taken-setting (watch n (outside l h)) = tt
+
+most-setting : (s : Setting) (k : ℕ) → k ≤ outputMinimum → k ≤ mostFrames (recordedSetting s)
+most-setting (watch n off) k h = h
+most-setting (watch n (above l)) k h = h
+most-setting (watch n (outside l h)) k q = q
 
 taken-recorded : (d : Server) (e : Event) → refusal d e ≡ 0 → Taken (recorded e)
 taken-recorded d (opening c) z = tt
@@ -87,6 +99,7 @@ taken-recorded d (cut c room) z = tt
 taken-recorded d (clock t room) z = tt
 taken-recorded d (answer n p end sh room) z = payload-short d n p end sh room z
 taken-recorded d (status b) z = tt
+taken-recorded d (setting s) z = taken-setting s
 
 most-recorded : (e : Event) (k : ℕ) → k ≤ outputMinimum → k ≤ mostFrames (recorded e)
 most-recorded (opening c) k h = h
@@ -95,6 +108,7 @@ most-recorded (cut c room) k h = h
 most-recorded (clock t room) k h = h
 most-recorded (answer n p end sh room) k h = h
 most-recorded (status b) k h = h
+most-recorded (setting s) k h = most-setting s k h
 
 -- the call after others is the next one's server
 further : (es : List Event) (d : Server) (e : Event) → final d (es ++ e ∷ []) ≡ (step (final d es) e) .server

@@ -7,10 +7,20 @@ use lib.ListN.{length}
 use Rattle.wire.specs.Field.{Bytes}
 use Rattle.wire.specs.Frame.{bytesOf}
 use Rattle.journal.specs.Journal.{closedJournal, lastOffset}
-use Rattle.record.specs.Layout.{Event as Recorded, opening as r-opening, delivery as r-delivery, cut as r-cut, clock as r-clock, answer as r-answer, status as r-status, Row, mostDelivered, mostShown, bodyBytes}
+use Rattle.record.specs.Layout.{Event as Recorded, opening as r-opening, delivery as r-delivery, cut as r-cut, clock as r-clock, answer as r-answer, status as r-status, watchOff, watchAbove, watchOutside, Row, mostDelivered, mostShown, bodyBytes}
+use Rattle.readings.specs.Watch.{Limits, Limits.off, Limits.above, Limits.outside}
 use Rattle.model.specs.State.{Making, fresh}
-use Rattle.model.specs.Interface.{Event, Event.opening, Event.delivery, Event.cut, Event.clock, Event.answer, Event.status, Reply, Reply.refused, Reply.done, Reply.withheld, Reply.took}
+use Rattle.model.specs.Interface.{Event, Event.opening, Event.delivery, Event.cut, Event.clock, Event.answer, Event.status, Event.setting, Setting, Setting.watch, Reply, Reply.refused, Reply.done, Reply.withheld, Reply.took}
 use Rattle.model.specs.Step.{Line, log}
+
+-- what the host sets, as it is recorded
+abbrev pub recordedWatch : ℕ → Limits → Recorded
+recordedWatch n off = watchOff n
+recordedWatch n (above limit) = watchAbove n limit
+recordedWatch n (outside low high) = watchOutside n low high
+
+abbrev pub recordedSetting : Setting → Recorded
+recordedSetting (watch n l) = recordedWatch n l
 
 -- a call as it is recorded: the output buffer's length is not
 abbrev pub recorded : Event → Recorded
@@ -20,9 +30,18 @@ recorded (cut c room) = r-cut c
 recorded (clock t room) = r-clock t
 recorded (answer n p end sh room) = r-answer n (cond end 1 0) p sh
 recorded (status b) = r-status b
+recorded (setting s) = recordedSetting s
 
 -- the calls of a host that keeps a journal: numbers as the C interface has them, bytes that are bytes; 02: "a delivery looks at no more than
 -- the first 1,040 unread bytes", "Of bytes shown with a meter answer only the first 16 count"
+abbrev pub KeepableLimits : Limits → Type 0
+KeepableLimits off = Unit {0}
+KeepableLimits (above limit) = limit < 256 ^ 4
+KeepableLimits (outside low high) = (low < 256 ^ 4) × (high < 256 ^ 4)
+
+abbrev pub KeepableSetting : Setting → Type 0
+KeepableSetting (watch n l) = (n < 256 ^ 4) × KeepableLimits l
+
 abbrev pub Keepable : Event → Type 0
 Keepable (opening c) = c < 256 ^ 4
 Keepable (delivery c bs room) = (c < 256 ^ 4) × Row mostDelivered bs
@@ -30,6 +49,7 @@ Keepable (cut c room) = c < 256 ^ 4
 Keepable (clock t room) = t < 256 ^ 8
 Keepable (answer n p end sh room) = (n < 256 ^ 4) × Bytes p × Row mostShown sh
 Keepable (status b) = b < 256 ^ 1
+Keepable (setting s) = KeepableSetting s
 
 abbrev pub AllKeepable : List Event → Type 0
 AllKeepable [] = Unit {0}

@@ -6,11 +6,12 @@ use Prim.Native.Nat.{ℕ}
 use lib.Dec.{eqb}
 use Rattle.wire.specs.Frame.{bytesOf}
 use Rattle.record.specs.Layout.{Event as Recorded, opening as r-opening, delivery as r-delivery, cut as r-cut, clock as r-clock, answer as r-answer, status as r-status, watchOff, watchAbove, watchOutside, patterns}
+use Rattle.readings.specs.Watch.{Limits.off, Limits.above, Limits.outside}
 use Rattle.verifier.specs.Judge.{Verdict, Deed, refused, gave, judge}
 use Rattle.verifier.specs.Feed.{Reading}
 use Rattle.model.specs.Sizes.{outputMinimum}
 use Rattle.model.specs.State.{Server, Making, fresh}
-use Rattle.model.specs.Interface.{Event, Event.opening, Event.delivery, Event.cut, Event.clock, Event.answer, Event.status, Reply, Reply.refused as turned-away, Reply.done, Reply.withheld, Reply.took}
+use Rattle.model.specs.Interface.{Event, Event.opening, Event.delivery, Event.cut, Event.clock, Event.answer, Event.status, Event.setting, Setting.watch, Reply, Reply.refused as turned-away, Reply.done, Reply.withheld, Reply.took}
 use Rattle.model.specs.Step.{Result, step}
 
 -- what a recorded event is to this server: one of its calls, or none that it knows
@@ -26,9 +27,9 @@ callOf (r-cut c) = known (cut c outputMinimum)
 callOf (r-clock t) = known (clock t outputMinimum)
 callOf (r-answer n end p sh) = known (answer n p (not (eqb end 0)) sh outputMinimum)
 callOf (r-status b) = known (status b)
-callOf (watchOff n) = unknown
-callOf (watchAbove n limit) = unknown
-callOf (watchOutside n low high) = unknown
+callOf (watchOff n) = known (setting (watch n off))
+callOf (watchAbove n limit) = known (setting (watch n (above limit)))
+callOf (watchOutside n low high) = known (setting (watch n (outside low high)))
 callOf (patterns list) = unknown
 
 -- 02: "A refused event is a fault of parcels"; else the frames, as bytes
