@@ -1,8 +1,9 @@
 -- Laws for the code: what a call gave beside the frames recorded; what a body that was read says; a turn.
 use mathlib.Core.Path.{_≡_, refl, sym, ap, ap₂, subst, _∙_}
-use mathlib.Core.Bool.{Bool, true, false, not, cond}
+use mathlib.Core.Bool.{Bool, true, false, not, _||_, cond, true≢false}
 use mathlib.Core.List.{List, [], _∷_, _++_}
-use Prim.Native.Nat.{ℕ, zero, suc, _+_, _-_, _^_, _≤_, _<_}
+use Prim.Native.Nat.{ℕ, zero, suc, _+_, _-_, _%_, _^_, _≤_, _<_}
+use native.Mathlib.Nat.{mod-eq-of-lt}
 use native.Mathlib.Omega.{arith}
 use lib.Dec.{eqb, leb}
 use lib.ListN.{length, take, drop, length-append, length-drop}
@@ -20,16 +21,19 @@ use Rattle.record.specs.declared.parts.Parts.{Parts}
 use Rattle.verifier.specs.Judge.{Fault, inLayout, inParcels, Deed, refused, gave, Went, on, fault, same, byDeed, byEvent}
 use Rattle.verifier.specs.Framing.{faultOf}
 use Rattle.model.specs.Sizes.{outputMinimum}
-use Rattle.model.specs.State.{Server, connectionAt}
-use Rattle.model.specs.Interface.{Event, Event.opening, Event.delivery, Event.cut, Event.clock, Event.answer, Event.status, Reply, Reply.refused as turned-away, Reply.done, Reply.withheld, Reply.took, DoneAnswer, doneAnswer, DeliveryAnswer, deliveryAnswer, AnsweredAnswer, answeredAnswer}
+use Rattle.readings.specs.Bits.{notNumber, below}
+use Rattle.readings.specs.Watch as Watch
+use Rattle.readings.specs.Watch.{Limits, Limits.off, Limits.above, Limits.outside}
+use Rattle.model.specs.State.{Server, at, live, slotOfNumber, connectionAt}
+use Rattle.model.specs.Interface.{Event, Event.opening, Event.delivery, Event.cut, Event.clock, Event.answer, Event.status, Event.setting, Setting, Setting.watch, Reply, Reply.refused as turned-away, Reply.done, Reply.withheld, Reply.took, DoneAnswer, doneAnswer, DeliveryAnswer, deliveryAnswer, AnsweredAnswer, answeredAnswer}
 use Rattle.model.specs.Post.{Post}
-use Rattle.model.specs.Refusals.{refusal}
+use Rattle.model.specs.Refusals.{causes, refusal}
 use Rattle.model.specs.Checks.{verdict}
 use Rattle.model.specs.Place.{roleOf, slotOf}
 use Rattle.model.specs.Scan.{scan}
 use Rattle.model.specs.Step.{answered, effect, finish, plan, received, step, withholds}
 use Rattle.model.proofs.Refused.{Took, effect-took}
-use Rattle.state.specs.View.{Memory, view}
+use Rattle.state.specs.View.{Memory, view, numeral}
 use Rattle.effects.specs.declared.Delivery.{Delivery}
 use Rattle.effects.specs.Did.{numbersOf}
 use Rattle.server.specs.declared.Answered.{Answered}
@@ -37,7 +41,7 @@ use Rattle.server.specs.declared.Done.{Done}
 use Rattle.server.specs.Calls.{Delivered}
 use Rattle.server.specs.Events.{Called, Replied, doneNumbers, answeredNumbers}
 use Rattle.judging.specs.Replay.{Known, known, unknown, callOf, byReply, byCall, deed}
-use Rattle.replay.specs.Replays.{wentOf, comparedOf, Replays, Judges}
+use Rattle.replay.specs.Replays.{wentOf, comparedOf, Replays, Judges, Later}
 
 -- the number of a refusal, 0 for none; a refusal's number is not 0
 abbrev numberOf : Reply → ℕ
@@ -74,6 +78,7 @@ planned-fair d (cut c room) = tt
 planned-fair d (clock t room) = tt
 planned-fair d (answer n p end sh room) = either-fair (withholds d n end sh)
 planned-fair d (status b) = tt
+planned-fair d (setting s) = tt
 
 fair : (d : Server) (e : Event) → Fair ((step d e) .reply)
 unfolding step answered finish
@@ -172,13 +177,30 @@ answered-output (took o i s) k f z = refl
 
 -- the six events
 module _ (m m′ : Memory) (frames : List ℕ) where
-  pub opened : (c r : ℕ) (a : Done) → Called (opening c) a m m′ [] [] → r ≡ comparedOf (a .refusal) 0 [] frames → Replays r (r-opening c) m m′ frames
-  opened c r a p q =
-      let y = (step (view m) (opening c)) .reply in
-      let x : List ℕ = bytesOf ((step (view m) (opening c)) .frames) in
-      let l = fronted [] [] x (p .post .buffer) refl .1 in
+  -- a call without a buffer
+  pub silenced : (e : Event) (x : Recorded) → callOf x ≡ known e → (r : ℕ) (a : Done) → Called e a m m′ [] [] → r ≡ comparedOf (a .refusal) 0 [] frames → Replays r x m m′ frames
+  silenced e x c r a p q =
+      let y = (step (view m) e) .reply in
+      let z : List ℕ = bytesOf ((step (view m) e) .frames) in
+      let l = fronted [] [] z (p .post .buffer) refl .1 in
       ap (λ (k : ℕ). wentOf k (view m′)) q
-      ∙ called (opening c) m m′ [] [] frames (a .refusal) 0 (p .post) refl (ap (λ (z : DoneAnswer). z .refusal) (p .numbers) ∙ done-refusal y (length x)) (λ z. omega (arith, l))
+      ∙ called e m m′ [] [] frames (a .refusal) 0 (p .post) refl (ap (λ (w : DoneAnswer). w .refusal) (p .numbers) ∙ done-refusal y (length z)) (λ _. omega (arith, l))
+      ∙ ap (λ (k : Known). byDeed (byCall (view m) k) frames) (sym c)
+
+  pub opened : (c r : ℕ) (a : Done) → Called (opening c) a m m′ [] [] → r ≡ comparedOf (a .refusal) 0 [] frames → Replays r (r-opening c) m m′ frames
+  opened c r a p q = silenced (opening c) (r-opening c) refl r a p q
+
+  pub set-off : (n r : ℕ) (a : Done) → Called (setting (watch n off)) a m m′ [] [] → r ≡ comparedOf (a .refusal) 0 [] frames → Replays r (watchOff n) m m′ frames
+  set-off n r a p q = silenced (setting (watch n off)) (watchOff n) refl r a p q
+
+  pub set-above : (n l x : ℕ) → x ≡ l → (r : ℕ) (a : Done) → Called (setting (watch n (above x))) a m m′ [] [] → r ≡ comparedOf (a .refusal) 0 [] frames → Replays r (watchAbove n l) m m′ frames
+  set-above n l x e r a p q = silenced (setting (watch n (above l))) (watchAbove n l) refl r a (subst (λ (k : ℕ). Called (setting (watch n (above k))) a m m′ [] []) e p) q
+
+  pub set-outside : (n l h x y : ℕ) → x ≡ l → y ≡ h → (r : ℕ) (a : Done) → Called (setting (watch n (outside x y))) a m m′ [] [] → r ≡ comparedOf (a .refusal) 0 [] frames
+      → Replays r (watchOutside n l h) m m′ frames
+  set-outside n l h x y e f r a p q =
+      silenced (setting (watch n (outside l h))) (watchOutside n l h) refl r a
+      (subst (λ (k : ℕ). Called (setting (watch n (outside l k))) a m m′ [] []) f (subst (λ (k : ℕ). Called (setting (watch n (outside k y))) a m m′ [] []) e p)) q
 
   module _ (out out′ : List ℕ) (h : length out ≡ outputMinimum) (l : length out′ ≡ length out) where
     by-done : (e : Event) (r : ℕ) (a : Done) → Called e a m m′ out out′ → r ≡ comparedOf (a .refusal) (a .output) out′ frames → wentOf r (view m′) ≡ byDeed (byCall (view m) (known e)) frames
@@ -227,6 +249,50 @@ module _ (m m′ : Memory) (frames : List ℕ) where
       ap (λ (k : ℕ). wentOf k (view m′)) q
       ∙ called e m m′ [] [] frames 0 0 g refl (ap numberOf (p .replies)) (λ z. p .output-length)
 
+-- the float of a number's bits has those bits
+pub float-bits : (x l : ℕ) → x ≡ numeral l → l < 256 ^ 4 → notNumber l ≡ false → x ≡ l
+unfolding numeral
+float-bits x l e h n =
+    let m : l % 2 ^ 32 ≡ l = mod-eq-of-lt h in
+    e ∙ ap (λ (k : ℕ). cond (notNumber k) 0 k) m ∙ ap (λ (b : Bool). cond b 0 l) n
+
+-- limits that are no numbers are refused
+not-zero : (a b : Bool) → b ≡ true → _≡_ {A = ℕ} (cond a 8 (cond b 10 0)) 0 → ⊥
+not-zero true b e z = omega (arith, z)
+not-zero false true e z = omega (arith, z)
+not-zero false false e z = true≢false (sym e)
+
+refused-step : (d : Server) (e : Event) (frames : List ℕ) → (refusal d e ≡ 0 → ⊥) → byDeed (byCall d (known e)) frames ≡ fault inParcels
+unfolding step answered byCall byReply byDeed
+refused-step d e frames = go (refusal d e)
+  where
+    go : (k : ℕ) → (k ≡ 0 → ⊥) → byDeed (byReply ((answered k d e) .reply) (bytesOf ((answered k d e) .frames)) ((answered k d e) .server)) frames ≡ fault inParcels
+    go zero n = absurd (n refl)
+    go (suc k) n = refl
+
+module _ (m : Memory) (frames : List ℕ) (n : ℕ) where
+  bad-limits : (l : Limits) → Watch.refused l ≡ true → refusal (view m) (setting (watch n l)) ≡ 0 → ⊥
+  unfolding refusal causes
+  bad-limits l e z = not-zero (not (live (at (view m .locks .entries) (slotOfNumber (view m .locks .entries) n)))) (Watch.refused l) e z
+
+  either-bad : (a b : Bool) → b ≡ true → (a || b) ≡ true
+  either-bad true b e = refl
+  either-bad false b e = e
+
+  pub no-above : (l : ℕ) → notNumber l ≡ true → Replays 5 (watchAbove n l) m m frames
+  unfolding Watch.refused
+  no-above l e = five (view m) ∙ sym (refused-step (view m) (setting (watch n (above l))) frames (bad-limits (above l) e))
+
+  pub no-low : (l h : ℕ) → notNumber l ≡ true → Replays 5 (watchOutside n l h) m m frames
+  unfolding Watch.refused
+  no-low l h e = five (view m) ∙ sym (refused-step (view m) (setting (watch n (outside l h))) frames (bad-limits (outside l h) (ap (λ (b : Bool). b || (notNumber h || below h l)) e)))
+
+  pub no-high : (l h : ℕ) → notNumber h ≡ true → Replays 5 (watchOutside n l h) m m frames
+  unfolding Watch.refused
+  no-high l h e =
+      five (view m)
+      ∙ sym (refused-step (view m) (setting (watch n (outside l h))) frames (bad-limits (outside l h) (either-bad (notNumber l) _ (ap (λ (b : Bool). b || below h l) e))))
+
 -- a body that was read
 module _ (p : Parts) (s : List ℕ) (o : Reads p s (decode s)) where
   at-0 : p .kind ≡ 0 → seen p s ≡ found (r-opening (p .a)) (drop (p .frames) s)
@@ -253,6 +319,18 @@ module _ (p : Parts) (s : List ℕ) (o : Reads p s (decode s)) where
   unfolding seen choose
   at-5 e = rw e
 
+  at-6 : p .kind ≡ 6 → seen p s ≡ found (watchOff (p .a)) (drop (p .frames) s)
+  unfolding seen choose
+  at-6 e = rw e
+
+  at-7 : p .kind ≡ 7 → seen p s ≡ found (watchAbove (p .a) (p .b)) (drop (p .frames) s)
+  unfolding seen choose
+  at-7 e = rw e
+
+  at-8 : p .kind ≡ 8 → seen p s ≡ found (watchOutside (p .a) (p .b) (p .c)) (drop (p .frames) s)
+  unfolding seen choose
+  at-8 e = rw e
+
   at-10 : p .kind ≡ 10 → seen p s ≡ none
   unfolding seen choose
   at-10 e = rw e
@@ -275,6 +353,15 @@ module _ (p : Parts) (s : List ℕ) (o : Reads p s (decode s)) where
 
   pub fits-5 : Bytes s → p .kind ≡ 5 → p .a < 256 ^ 1
   fits-5 y e = fits-read y (r-status (p .a)) _ (at-5 e)
+
+  pub fits-6 : Bytes s → p .kind ≡ 6 → p .a < 256 ^ 4
+  fits-6 y e = fits-read y (watchOff (p .a)) _ (at-6 e)
+
+  pub fits-7 : Bytes s → p .kind ≡ 7 → (p .a < 256 ^ 4) × (p .b < 256 ^ 4)
+  fits-7 y e = fits-read y (watchAbove (p .a) (p .b)) _ (at-7 e)
+
+  pub fits-8 : Bytes s → p .kind ≡ 8 → (p .a < 256 ^ 4) × (p .b < 256 ^ 4) × (p .c < 256 ^ 4)
+  fits-8 y e = fits-read y (watchOutside (p .a) (p .b) (p .c)) _ (at-8 e)
 
   -- the frames, as the code cuts them out: up to the body's end
   abbrev rest : List ℕ
@@ -313,6 +400,15 @@ module _ (p : Parts) (s : List ℕ) (o : Reads p s (decode s)) where
     pub judged-5 : p .kind ≡ 5 → Replays r (r-status (p .a)) m m′ rest → Judges r m m′ s
     judged-5 e g = judged _ (at-5 e) g
 
+    pub judged-6 : p .kind ≡ 6 → Replays r (watchOff (p .a)) m m′ rest → Judges r m m′ s
+    judged-6 e g = judged _ (at-6 e) g
+
+    pub judged-7 : p .kind ≡ 7 → Replays r (watchAbove (p .a) (p .b)) m m′ rest → Judges r m m′ s
+    judged-7 e g = judged _ (at-7 e) g
+
+    pub judged-8 : p .kind ≡ 8 → Replays r (watchOutside (p .a) (p .b) (p .c)) m m′ rest → Judges r m m′ s
+    judged-8 e g = judged _ (at-8 e) g
+
   pub no-layout : (m : Memory) → p .kind ≡ 10 → Judges 4 m m s
   unfolding byEvent
   no-layout m e = four (view m) ∙ ap (byEvent deed (view m)) (sym (at-10 e) ∙ o .says)
@@ -334,22 +430,22 @@ module _ (p : Parts) (s : List ℕ) (o : Reads p s (decode s)) where
   refusing-list m (found rs u) t h = refl
   refusing-list m none t h = absurd (h refl)
 
-  pub unknown-event : (m : Memory) → (p .kind ≡ 10 → ⊥) → (p .kind ≡ 0 → ⊥) → (p .kind ≡ 1 → ⊥) → (p .kind ≡ 2 → ⊥) → (p .kind ≡ 3 → ⊥) → (p .kind ≡ 4 → ⊥) → (p .kind ≡ 5 → ⊥) → Judges 5 m m s
+  pub unknown-event : (m : Memory) → Later p → (p .kind ≡ 6 → ⊥) → (p .kind ≡ 7 → ⊥) → (p .kind ≡ 8 → ⊥) → Judges 5 m m s
   unfolding seen byEvent byDeed byCall
-  unknown-event m n n₀ n₁ n₂ n₃ n₄ n₅ =
+  unknown-event m l n₆ n₇ n₈ =
       five (view m)
       ∙ sym
-      (refusing-if m (eqb (p .kind) 0) _ _ (not-kind m 0 _ n₀)
-      (refusing-if m (eqb (p .kind) 1) _ _ (not-kind m 1 _ n₁)
-      (refusing-if m (eqb (p .kind) 2) _ _ (not-kind m 2 _ n₂)
-      (refusing-if m (eqb (p .kind) 3) _ _ (not-kind m 3 _ n₃)
-      (refusing-if m (eqb (p .kind) 4) _ _ (not-kind m 4 _ n₄)
-      (refusing-if m (eqb (p .kind) 5) _ _ (not-kind m 5 _ n₅)
-      (refusing-if m (eqb (p .kind) 6) _ _ (λ _ _. refl)
-      (refusing-if m (eqb (p .kind) 7) _ _ (λ _ _. refl)
-      (refusing-if m (eqb (p .kind) 8) _ _ (λ _ _. refl)
+      (refusing-if m (eqb (p .kind) 0) _ _ (not-kind m 0 _ (l .0 .1))
+      (refusing-if m (eqb (p .kind) 1) _ _ (not-kind m 1 _ (l .0 .2))
+      (refusing-if m (eqb (p .kind) 2) _ _ (not-kind m 2 _ (l .0 .3))
+      (refusing-if m (eqb (p .kind) 3) _ _ (not-kind m 3 _ (l .0 .4))
+      (refusing-if m (eqb (p .kind) 4) _ _ (not-kind m 4 _ (l .1))
+      (refusing-if m (eqb (p .kind) 5) _ _ (not-kind m 5 _ (l .2))
+      (refusing-if m (eqb (p .kind) 6) _ _ (not-kind m 6 _ n₆)
+      (refusing-if m (eqb (p .kind) 7) _ _ (not-kind m 7 _ n₇)
+      (refusing-if m (eqb (p .kind) 8) _ _ (not-kind m 8 _ n₈)
       (refusing-if m (eqb (p .kind) 9) _ none (λ _. refusing-list m _ _)
-      (λ f. absurd (f refl))))))))))) (λ z. n (o .layout (sym (o .says) ∙ z))))
+      (λ f. absurd (f refl))))))))))) (λ z. l .0 .0 (o .layout (sym (o .says) ∙ z))))
       ∙ ap (byEvent deed (view m)) (o .says)
 
 same-nil : same [] [] ≡ true

@@ -6,6 +6,7 @@ use lib.Dec.{eqb, leb}
 use lib.ListN.{length, take}
 use Rattle.journal.specs.Journal.{choose}
 use Rattle.record.specs.Layout.{Event as Recorded, decode}
+use Rattle.record.specs.declared.parts.Parts.{Parts}
 use Rattle.verifier.specs.Judge.{Went, on, fault, same, byDeed, byEvent}
 use Rattle.verifier.specs.Framing.{faultOf}
 use Rattle.model.specs.State.{Server}
@@ -25,3 +26,10 @@ Replays r e m m′ frames = wentOf r (view m′) ≡ byDeed (deed (view m) e) fr
 
 abbrev pub Judges : ℕ → Memory → Memory → List ℕ → Type 0
 Judges r m m′ body = wentOf r (view m′) ≡ byEvent deed (view m) (decode body)
+
+-- a body with a layout whose event is none of the first four, none of the first six
+abbrev pub Late : Parts → Type 0
+Late p = (p .kind ≡ 10 → ⊥) × (p .kind ≡ 0 → ⊥) × (p .kind ≡ 1 → ⊥) × (p .kind ≡ 2 → ⊥) × (p .kind ≡ 3 → ⊥)
+
+abbrev pub Later : Parts → Type 0
+Later p = Late p × (p .kind ≡ 4 → ⊥) × (p .kind ≡ 5 → ⊥)

@@ -1,12 +1,15 @@
 // One recorded event, done by the server's own function: 0 if it gives the very frames beside it, else the fault of parcels.
 ghost use Prim.Native.Nat.{_^_, _<_};
 ghost use Rattle.model.specs.Sizes.{outputMinimum};
-ghost use Rattle.record.specs.Layout.{answer, clock, cut, delivery, opening, status};
+ghost use Rattle.readings.specs.Bits.{notNumber};
+ghost use Rattle.record.specs.Layout.{answer, clock, cut, delivery, opening, status, watchAbove, watchOff, watchOutside};
 ghost use Rattle.replay.specs.Replays.{Replays, comparedOf};
 ghost use Rattle.state.specs.View.{memory};
 ghost use lib.ListN.{length};
 ghost use mathlib.Core.List.{[]};
 ghost use mathlib.Core.Path.{_≡_};
+use sensing::floats;
+use server::watches;
 use state::sizes::Strings;
 use state::sizes::Words;
 use verifier::ACCEPTED;
@@ -124,4 +127,61 @@ pub fn sets_status(words: &mut Words, strings: &mut Strings, byte: u64, frames: 
 {
     server::hislip_status(words, strings, byte as u8);
     silent(0, frames)
+}
+
+// Are the 32 bits not a number's: above the infinity, below the sign?
+fn is_no_number(b: u64) -> bool
+    ensures { λ r. ⌜ r ≡ notNumber b ⌝ }
+{
+    b % 2147483648 > 2139095040
+}
+
+pub fn sets_off(words: &mut Words, strings: &mut Strings, session: u64, frames: &[u8]) -> u64
+    requires { ⌜ session < 256 ^ 4 ⌝ }
+    ensures { λ r. ⌜ Replays r (watchOff session) (memory (now (words .entry)) (now (strings .entry))) (memory (now (words .exit)) (now (strings .exit))) (now (frames .entry)) ⌝ }
+{
+    let a = watches::hislip_watch_off(words, strings, session as u32);
+    silent(a.refusal, frames)
+}
+
+// A limit that is not a number is refused; no float has its bits.
+pub fn sets_above(
+    words: &mut Words,
+    strings: &mut Strings,
+    session: u64,
+    limit: u64,
+    frames: &[u8],
+) -> u64
+    requires { ⌜ (session < 256 ^ 4) × (limit < 256 ^ 4) ⌝ }
+    ensures { λ r. ⌜ Replays r (watchAbove session limit) (memory (now (words .entry)) (now (strings .entry))) (memory (now (words .exit)) (now (strings .exit))) (now (frames .entry)) ⌝ }
+{
+    if is_no_number(limit) {
+        return PARCELS;
+    }
+    let x = floats::float_of(limit);
+    let a = watches::hislip_watch_above(words, strings, session as u32, x);
+    silent(a.refusal, frames)
+}
+
+pub fn sets_outside(
+    words: &mut Words,
+    strings: &mut Strings,
+    session: u64,
+    low: u64,
+    high: u64,
+    frames: &[u8],
+) -> u64
+    requires { ⌜ (session < 256 ^ 4) × (low < 256 ^ 4) × (high < 256 ^ 4) ⌝ }
+    ensures { λ r. ⌜ Replays r (watchOutside session low high) (memory (now (words .entry)) (now (strings .entry))) (memory (now (words .exit)) (now (strings .exit))) (now (frames .entry)) ⌝ }
+{
+    if is_no_number(low) {
+        return PARCELS;
+    }
+    if is_no_number(high) {
+        return PARCELS;
+    }
+    let x = floats::float_of(low);
+    let y = floats::float_of(high);
+    let a = watches::hislip_watch_outside(words, strings, session as u32, x, y);
+    silent(a.refusal, frames)
 }

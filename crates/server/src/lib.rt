@@ -19,7 +19,7 @@ ghost use Rattle.state.specs.Layout.{STRINGS, WORDS};
 mod asking;
 mod deliver;
 mod holders;
-mod watches;
+pub mod watches;
 
 use effects::Delivery;
 use effects::answer;

@@ -1,7 +1,7 @@
 -- `replay::body::replay` meets its contract.
 use native.Mathlib.Omega.{arith}
 use Rattle.state.specs.View.{memory}
-use Rattle.replay.proofs.Laws.{fits-0, fits-1, fits-2, fits-4, fits-5, judged-0, judged-1, judged-2, judged-3, judged-4, judged-5, no-layout, unknown-event}
+use Rattle.replay.proofs.Laws.{fits-0, fits-1, fits-2, judged-0, judged-1, judged-2, judged-3, no-layout}
 use borrow.Author.Needs.{needs}
 use Rattle.replay.proofs.body.replay.Statement.{statement}
 use Rattle.replay.proofs.body.replay.Tie as tie
@@ -10,61 +10,31 @@ returns : tie.Need-returns
 returns c = let a = c .before .before .before .before .before .args in no-layout _ (a .body .now) (c .before .before .read .ensures) (memory (a .words .now) (a .strings .now)) (c .if1 .taken)
 
 opens-requires : tie.Need-opens-requires
-opens-requires c κs = fits-0 _ _ (c .before .before .before .before .before .before .before .before .read .ensures) (λ i. c .before .before .before .before .before .before .before .before .before .shared-slice-known .given i .fits) (c .before .before .before .if2 .taken)
+opens-requires c κs = fits-0 _ _ (c .before .before .before .before .before .before .before .read .ensures) (λ i. c .before .before .before .before .before .before .before .before .shared-slice-known .given i .fits) (c .before .before .before .if2 .taken)
 
 returns-2 : tie.Need-returns-2
-returns-2 c = let a = c .before .before .before .before .before .before .before .before .before .before .before .before .args in judged-0 _ (a .body .now) (c .before .before .before .before .before .before .before .before .before .read .ensures) (memory (a .words .now) (a .strings .now)) _ _ (c .before .before .before .before .if2 .taken) (c .opens .ensures)
+returns-2 c = let a = c .before .before .before .before .before .before .before .before .before .before .before .args in judged-0 _ (a .body .now) (c .before .before .before .before .before .before .before .before .read .ensures) (memory (a .words .now) (a .strings .now)) _ _ (c .before .before .before .before .if2 .taken) (c .opens .ensures)
 
 delivers-requires : tie.Need-delivers-requires
-delivers-requires c κs = (fits-1 _ _ (c .before .before .before .before .before .before .before .before .before .before .before .before .read .ensures) (λ i. c .before .before .before .before .before .before .before .before .before .before .before .before .before .shared-slice-known .given i .fits) (c .before .before .before .before .before .if3 .taken), c .before .before .before .before .before .before .before .before .before .before .before .before .before .before .before .pre)
+delivers-requires c κs = (fits-1 _ _ (c .before .before .before .before .before .before .before .before .before .before .before .before .read .ensures) (λ i. c .before .before .before .before .before .before .before .before .before .before .before .before .before .shared-slice-known .given i .fits) (c .before .before .before .before .before .before .if3 .taken), c .before .before .before .before .before .before .before .before .before .before .before .before .before .before .before .pre)
 
 returns-3 : tie.Need-returns-3
-returns-3 c = let a = c .before .before .before .before .before .before .before .before .before .before .before .before .before .before .before .before .before .before .args in judged-1 _ (a .body .now) (c .before .before .before .before .before .before .before .before .before .before .before .before .before .before .before .read .ensures) (memory (a .words .now) (a .strings .now)) _ _ (c .before .before .before .before .before .before .before .before .if3 .taken) (c .before .before .delivers .ensures)
+returns-3 c = let a = c .before .before .before .before .before .before .before .before .before .before .before .before .before .before .before .before .before .before .args in judged-1 _ (a .body .now) (c .before .before .before .before .before .before .before .before .before .before .before .before .before .before .before .read .ensures) (memory (a .words .now) (a .strings .now)) _ _ (c .before .before .before .before .before .before .before .before .before .if3 .taken) (c .before .before .delivers .ensures)
 
 cuts-requires : tie.Need-cuts-requires
-cuts-requires c κs = (fits-2 _ _ (c .before .before .before .before .before .before .before .before .before .before .before .before .before .read .ensures) (λ i. c .before .before .before .before .before .before .before .before .before .before .before .before .before .before .shared-slice-known .given i .fits) (c .before .before .before .before .if4 .taken), c .before .before .before .before .before .before .before .before .before .before .before .before .before .before .before .before .pre)
+cuts-requires c κs = (fits-2 _ _ (c .before .before .before .before .before .before .before .before .before .before .before .before .read .ensures) (λ i. c .before .before .before .before .before .before .before .before .before .before .before .before .before .shared-slice-known .given i .fits) (c .before .before .before .before .if4 .taken), c .before .before .before .before .before .before .before .before .before .before .before .before .before .before .before .pre)
 
 returns-4 : tie.Need-returns-4
-returns-4 c = let a = c .before .before .before .before .before .before .before .before .before .before .before .before .before .before .before .before .before .before .before .args in judged-2 _ (a .body .now) (c .before .before .before .before .before .before .before .before .before .before .before .before .before .before .before .before .read .ensures) (memory (a .words .now) (a .strings .now)) _ _ (c .before .before .before .before .before .before .before .if4 .taken) (c .before .before .cuts .ensures)
+returns-4 c = let a = c .before .before .before .before .before .before .before .before .before .before .before .before .before .before .before .before .before .before .args in judged-2 _ (a .body .now) (c .before .before .before .before .before .before .before .before .before .before .before .before .before .before .before .read .ensures) (memory (a .words .now) (a .strings .now)) _ _ (c .before .before .before .before .before .before .before .if4 .taken) (c .before .before .cuts .ensures)
 
 returns-5 : tie.Need-returns-5
-returns-5 c = let a = c .before .before .before .before .before .before .before .before .before .before .before .before .before .before .before .before .before .before .before .before .before .args in judged-3 _ (a .body .now) (c .before .before .before .before .before .before .before .before .before .before .before .before .before .before .before .before .before .before .read .ensures) (memory (a .words .now) (a .strings .now)) _ _ (c .before .before .before .before .before .before .before .if5 .taken) (c .before .before .reads-clock .ensures)
+returns-5 c = let a = c .before .before .before .before .before .before .before .before .before .before .before .before .before .before .before .before .before .before .before .before .args in judged-3 _ (a .body .now) (c .before .before .before .before .before .before .before .before .before .before .before .before .before .before .before .before .before .read .ensures) (memory (a .words .now) (a .strings .now)) _ _ (c .before .before .before .before .before .before .before .if5 .taken) (c .before .before .reads-clock .ensures)
 
-add-g : tie.Need-add-g
-add-g c = omega (arith, c .before .before .before .before .before .before .before .before .before .before .before .before .before .before .read .ensures .two, c .before .before .before .before .before .before .before .before .before .before .before .before .before .before .before .before .before .good .1 .1 .1 .0)
-
-part-answers-end : tie.Need-part-answers-end
-part-answers-end c = omega (arith, c .before .before .before .before .before .before .before .before .before .before .before .before .before .before .before .before .before .read .ensures .one)
-
-part-answers-end-2 : tie.Need-part-answers-end-2
-part-answers-end-2 c = omega (arith, c .before .before .before .before .before .before .before .before .before .before .before .before .before .before .before .before .before .before .read .ensures .two)
-
-sub-answers-3 : tie.Need-sub-answers-3
-sub-answers-3 c = omega (arith, c .before .before .before .before .before .before .before .before .before .before .before .before .before .before .before .before .before .before .before .read .ensures .end)
-
-part-answers-start-3 : tie.Need-part-answers-start-3
-part-answers-start-3 c = omega (arith, c .before .before .before .before .before .before .before .before .before .before .before .before .before .before .before .before .before .before .before .read .ensures .end)
-
-answers-requires : tie.Need-answers-requires
-answers-requires c κs = let f = fits-4 _ _ (c .before .before .before .before .before .before .before .before .before .before .before .before .before .before .before .before .before .before .before .before .read .ensures) (λ i. c .before .before .before .before .before .before .before .before .before .before .before .before .before .before .before .before .before .before .before .before .before .shared-slice-known .given i .fits) (c .before .before .before .before .before .before .before .if6 .taken) in (f .0, f .1, c .before .before .before .before .before .before .before .before .before .before .before .before .before .before .before .before .before .before .before .before .before .before .before .pre)
+replay-instrument-requires : tie.Need-replay-instrument-requires
+replay-instrument-requires c κs = (c .before .before .before .before .before .before .before .before .before .before .before .before .before .read .ensures, (c .before .before .before .before .before .before .before .before .before .before .before .if1 .left, c .before .before .before .before .before .before .before .before .before .if2 .left, c .before .before .before .before .before .before .before .if3 .left, c .before .before .before .before .before .if4 .left, c .before .before .before .if5 .left), c .before .before .before .before .before .before .before .before .before .before .before .before .before .before .before .before .pre)
 
 returns-6 : tie.Need-returns-6
-returns-6 c = let a = c .before .before .before .before .before .before .before .before .before .before .before .before .before .before .before .before .before .before .before .before .before .before .before .before .before .before .args in judged-4 _ (a .body .now) (c .before .before .before .before .before .before .before .before .before .before .before .before .before .before .before .before .before .before .before .before .before .before .before .read .ensures) (memory (a .words .now) (a .strings .now)) _ _ (c .before .before .before .before .before .before .before .before .before .before .if6 .taken) (c .before .before .answers .ensures)
-
-sub-sets-status : tie.Need-sub-sets-status
-sub-sets-status c = omega (arith, c .before .before .before .before .before .before .before .before .before .before .before .before .before .before .before .before .before .read .ensures .end)
-
-part-sets-status-start : tie.Need-part-sets-status-start
-part-sets-status-start c = omega (arith, c .before .before .before .before .before .before .before .before .before .before .before .before .before .before .before .before .before .read .ensures .end)
-
-sets-status-requires : tie.Need-sets-status-requires
-sets-status-requires c κs = fits-5 _ _ (c .before .before .before .before .before .before .before .before .before .before .before .before .before .before .before .before .before .before .read .ensures) (λ i. c .before .before .before .before .before .before .before .before .before .before .before .before .before .before .before .before .before .before .before .shared-slice-known .given i .fits) (c .before .before .before .if7 .taken)
-
-returns-7 : tie.Need-returns-7
-returns-7 c = let a = c .before .before .before .before .before .before .before .before .before .before .before .before .before .before .before .before .before .before .before .before .before .before .args in judged-5 _ (a .body .now) (c .before .before .before .before .before .before .before .before .before .before .before .before .before .before .before .before .before .before .before .read .ensures) (memory (a .words .now) (a .strings .now)) _ _ (c .before .before .before .before .if7 .taken) (c .sets-status .ensures)
-
-returns-8 : tie.Need-returns-8
-returns-8 c = let a = c .before .before .before .before .before .before .before .before .before .before .before .before .before .before .before .before .before .before .args in unknown-event _ (a .body .now) (c .before .before .before .before .before .before .before .before .before .before .before .before .before .before .before .read .ensures) (memory (a .words .now) (a .strings .now)) (c .before .before .before .before .before .before .before .before .before .before .before .before .before .if1 .left) (c .before .before .before .before .before .before .before .before .before .before .if2 .left) (c .before .before .before .before .before .before .before .before .if3 .left) (c .before .before .before .before .before .before .if4 .left) (c .before .before .before .before .if5 .left) (c .before .before .if6 .left) (c .if7 .left)
+returns-6 c = c .before .before .replay-instrument .ensures
 
 pub replay-spec : {M : Type 1} → statement M
 replay-spec =
@@ -75,9 +45,9 @@ replay-spec =
     (λ c. search needs)
     (λ c. search needs)
     (λ c. search needs)
-    (λ c. search needs)
     opens-requires
     returns-2
+    (λ c. search needs)
     (λ c. search needs)
     (λ c. search needs)
     (λ c. search needs)
@@ -99,22 +69,6 @@ replay-spec =
     (λ c κs. search needs)
     (λ c. search needs)
     returns-5
-    add-g
+    replay-instrument-requires
     (λ c. search needs)
-    (λ c. search needs)
-    part-answers-end
-    (λ c. search needs)
-    (λ c. search needs)
-    part-answers-end-2
-    sub-answers-3
-    part-answers-start-3
-    (λ c. search needs)
-    answers-requires
-    (λ c. search needs)
-    returns-6
-    sub-sets-status
-    part-sets-status-start
-    (λ c. search needs)
-    sets-status-requires
-    returns-7
-    returns-8)
+    returns-6)
