@@ -132,15 +132,7 @@ fn replayed(server: &mut Server, recorded: Recorded, out: &mut [u8]) -> Reply {
             let (low, high) = (Single::of_bits(low), Single::of_bits(high));
             server.watch(session, Watch::Outside { low, high })
         }
-        Recorded::Patterns { patterns } => {
-            if patterns.iter().any(|pattern| pattern.contains(&b'\n')) {
-                return Reply::refused(11);
-            }
-            let ended = patterns
-                .iter()
-                .map(|pattern| [pattern, &b"\n"[..]].concat());
-            server.patterns(&ended.collect::<Vec<_>>().concat())
-        }
+        Recorded::Patterns { text } => server.patterns(&text),
     }
 }
 
