@@ -9,18 +9,20 @@ use lib.ListN.{length}
 use borrow.Author.Tests.{ltb-false}
 use Rattle.wire.specs.Frame.{bytesOf}
 use Rattle.journal.specs.Journal.{bodyLimit, Fine, AllFine}
-use Rattle.record.specs.Layout.{Event as Recorded, opening as r-opening, delivery as r-delivery, cut as r-cut, clock as r-clock, answer as r-answer, status as r-status, watchOff, watchAbove, watchOutside, patterns, Row, Fits, bodyBytes}
+use Rattle.record.specs.Layout.{Event as Recorded, opening as r-opening, delivery as r-delivery, cut as r-cut, clock as r-clock, answer as r-answer, status as r-status, watchOff, watchAbove, watchOutside, patterns as r-patterns, Row, Fits, bodyBytes}
 use Rattle.verifier.specs.Judge.{Deed, refused, gave}
 use Rattle.verifier.specs.Right.{Yields, Right, none, more}
-use Rattle.model.specs.Sizes.{outputMinimum, payloadLimit}
+use Rattle.model.specs.Sizes.{outputMinimum, payloadLimit, listLimit}
+use Rattle.commands.specs.Lines.{listed-room}
 use Rattle.readings.specs.Watch.{Limits, Limits.off, Limits.above, Limits.outside}
 use Rattle.model.specs.State.{Server}
-use Rattle.model.specs.Interface.{Event, Event.opening, Event.delivery, Event.cut, Event.clock, Event.answer, Event.status, Event.setting, Setting, Setting.watch, Reply, Reply.refused as turned-away, Reply.done, Reply.withheld, Reply.took}
+use Rattle.model.specs.Interface.{Event, Event.opening, Event.delivery, Event.cut, Event.clock, Event.answer, Event.status, Event.setting, Setting, Setting.watch, Setting.patterns, Reply, Reply.refused as turned-away, Reply.done, Reply.withheld, Reply.took}
 use Rattle.model.specs.Refusals.{causes, refusal}
 use Rattle.model.specs.Step.{Result, Line, answered, finish, plan, step, final, log}
 use Rattle.model.proofs.Fits.{uncaused}
+use Rattle.model.proofs.Listing.{tells-bad}
 use Rattle.model.proofs.Refused.{changes-nothing}
-use Rattle.judging.specs.Replay.{Known, known, unknown, callOf, byReply, byCall, deed}
+use Rattle.judging.specs.Replay.{callOf, byReply, byCall, deed}
 use Rattle.judging.specs.Kept.{recordedSetting, recorded, KeepableSetting, Keepable, AllKeepable, isRefused, bodiesOf, NoneRefused}
 
 -- the call that is replayed: with the least buffer
@@ -37,17 +39,18 @@ end-again : (b : Bool) → not (eqb (cond b 1 0) 0) ≡ b
 end-again true = refl
 end-again false = refl
 
-setting-again : (s : Setting) → callOf (recordedSetting s) ≡ known (setting s)
+setting-again : (s : Setting) → callOf (recordedSetting s) ≡ setting s
 setting-again (watch n off) = refl
 setting-again (watch n (above l)) = refl
 setting-again (watch n (outside l h)) = refl
+setting-again (patterns text) = refl
 
-call-again : (e : Event) → callOf (recorded e) ≡ known (least e)
+call-again : (e : Event) → callOf (recorded e) ≡ least e
 call-again (opening c) = refl
 call-again (delivery c bs room) = refl
 call-again (cut c room) = refl
 call-again (clock t room) = refl
-call-again (answer n p end sh room) = ap (λ (b : Bool). known (answer n p b sh outputMinimum)) (end-again end)
+call-again (answer n p end sh room) = ap (λ (b : Bool). answer n p b sh outputMinimum) (end-again end)
 call-again (status b) = refl
 call-again (setting s) = setting-again s
 
@@ -75,7 +78,7 @@ least-plan d (answer n p end sh room) = refl
 least-plan d (status b) = refl
 least-plan d (setting s) = refl
 
-step-taken : (d : Server) (e : Event) → refusal d e ≡ 0 → step d e ≡ finish d (plan d e)
+pub step-taken : (d : Server) (e : Event) → refusal d e ≡ 0 → step d e ≡ finish d (plan d e)
 unfolding step answered
 step-taken d e z = ap (λ (k : ℕ). answered k d e) z
 
@@ -114,10 +117,16 @@ pub payload-short : (d : Server) (n : ℕ) (p : List ℕ) (end : Bool) (sh : Lis
 unfolding refusal causes
 payload-short d n p end sh room z = ltb-false payloadLimit (length p) (neither _ _ ((uncaused (causes d (answer n p end sh room)) refl z) .1 .1 .1 .0))
 
-fits-setting : (s : Setting) → KeepableSetting s → Fits (recordedSetting s)
-fits-setting (watch n off) k = k .0
-fits-setting (watch n (above l)) k = k
-fits-setting (watch n (outside l h)) k = (k .0, k .1 .0, k .1 .1)
+-- a list that was not refused has at most 4,128 bytes
+pub list-short : (d : Server) (text : List ℕ) → refusal d (setting (patterns text)) ≡ 0 → length text ≤ listLimit
+unfolding finish plan
+list-short d text z = listed-room text ((tells-bad d text) .done-only (ap (λ (x : Result). x .reply) (step-taken d (setting (patterns text)) z)))
+
+fits-setting : (d : Server) (s : Setting) → KeepableSetting s → refusal d (setting s) ≡ 0 → Fits (recordedSetting s)
+fits-setting d (watch n off) k z = k .0
+fits-setting d (watch n (above l)) k z = k
+fits-setting d (watch n (outside l h)) k z = (k .0, k .1 .0, k .1 .1)
+fits-setting d (patterns text) k z = record { bytes = k; within = omega (arith, list-short d text z) }
 
 pub fits-recorded : (d : Server) (e : Event) → Keepable e → refusal d e ≡ 0 → Fits (recorded e)
 fits-recorded d (opening c) k z = k
@@ -130,7 +139,7 @@ fits-recorded d (answer n p end sh room) k z = (k .0, one end, record { bytes = 
     one true = omega arith
     one false = omega arith
 fits-recorded d (status b) k z = k
-fits-recorded d (setting s) k z = fits-setting s k
+fits-recorded d (setting s) k z = fits-setting d s k z
 
 -- a refused call leaves the server as it was
 same-server : (d : Server) (e : Event) (y : Reply) → (step d e) .reply ≡ y → isRefused y ≡ true → (step d e) .server ≡ d
@@ -184,17 +193,11 @@ by-reply done fs s frames d′ e = (refl, cc, cc)
 by-reply withheld fs s frames d′ e = (refl, cc, cc)
 by-reply (took o k n) fs s frames d′ e = (refl, cc, cc)
 
-the-call : (d : Server) (r : Recorded) (frames : List ℕ) (d′ : Server) (e : Event) → callOf r ≡ known e → Keepable e → recorded e ≡ r → deed d r ≡ gave frames d′ → OneCall d r frames d′
+the-call : (d : Server) (r : Recorded) (frames : List ℕ) (d′ : Server) (e : Event) → callOf r ≡ e → Keepable e → recorded e ≡ r → deed d r ≡ gave frames d′ → OneCall d r frames d′
 unfolding byCall
 the-call d r frames d′ e c k s g =
     let b = by-reply ((step d e) .reply) (bytesOf ((step d e) .frames)) ((step d e) .server) frames d′ (ap (byCall d) (sym c) ∙ g) in
     record { call = e; keepable = k; same = s; taken = b .0; gives = b .1; leaves = b .2 }
-
-no-call : (d : Server) (r : Recorded) (frames : List ℕ) (d′ : Server) → callOf r ≡ unknown → deed d r ≡ gave frames d′ → OneCall d r frames d′
-unfolding byCall
-no-call d r frames d′ c g =
-    let h : _≡_ {A = Deed Server} refused (gave frames d′) = ap (byCall d) (sym c) ∙ g in
-    let z : _≡_ {A = ℕ} 0 1 = cc in absurd (omega arith)
 
 end-kept : (e : ℕ) → e < 2 → cond (not (eqb e 0)) 1 0 ≡ e
 end-kept zero h = refl
@@ -212,7 +215,7 @@ one-call d (r-status b) fs d′ f g = the-call d (r-status b) fs d′ (status b)
 one-call d (watchOff n) fs d′ f g = the-call d (watchOff n) fs d′ (setting (watch n off)) refl (f, tt) refl g
 one-call d (watchAbove n x) fs d′ f g = the-call d (watchAbove n x) fs d′ (setting (watch n (above x))) refl f refl g
 one-call d (watchOutside n x y) fs d′ f g = the-call d (watchOutside n x y) fs d′ (setting (watch n (outside x y))) refl (f .0, (f .1, f .2)) refl g
-one-call d (patterns list) fs d′ f g = no-call d (patterns list) fs d′ refl g
+one-call d (r-patterns text) fs d′ f g = the-call d (r-patterns text) fs d′ (setting (patterns text)) refl (f .bytes) refl g
 
 first-call : {d c e : Server} {b : List ℕ} {bs : List (List ℕ)} (y : Yields deed d b c) → OneCall d (y .event) (y .frames) c → Replayed c bs e → Replayed d (b ∷ bs) e
 unfolding log final bodiesOf

@@ -9,22 +9,23 @@ use Rattle.wire.specs.Field.{Bytes, field}
 use Rattle.wire.specs.Frame.{Frame, bytesOf}
 use Rattle.wire.specs.ReadFrames.{AllFit}
 use Rattle.wire.proofs.ReadFrames.{rows-read}
-use Rattle.journal.specs.Journal.{bodyLimit, Fine, AllFine}
+use Rattle.journal.specs.Journal.{Fine, AllFine}
 use Rattle.journal.specs.Bytes.{append-bytes, field-bytes}
-use Rattle.record.specs.Layout.{Event as Recorded, opening as r-opening, delivery as r-delivery, cut as r-cut, clock as r-clock, answer as r-answer, status as r-status, watchOff, watchAbove, watchOutside, patterns, Row, Rows, row, rows, Fits, encode, bodyBytes}
+use Rattle.record.specs.Layout.{Event as Recorded, opening as r-opening, delivery as r-delivery, cut as r-cut, clock as r-clock, answer as r-answer, status as r-status, watchOff, watchAbove, watchOutside, patterns as r-patterns, Row, row, Fits, encode, bodyBytes}
 use Rattle.record.specs.RoundTrip.{mostFrames, Taken, longest-body}
 use Rattle.model.specs.Sizes.{outputMinimum, sessionLimit}
 use Rattle.model.specs.State.{Server, Making, fresh}
-use Rattle.model.specs.Interface.{Event, Event.opening, Event.delivery, Event.cut, Event.clock, Event.answer, Event.status, Event.setting, Setting, Setting.watch, Reply}
+use Rattle.model.specs.Interface.{Event, Event.opening, Event.delivery, Event.cut, Event.clock, Event.answer, Event.status, Event.setting, Setting, Setting.watch, Setting.patterns, Reply}
 use Rattle.readings.specs.Watch.{Limits, Limits.off, Limits.above, Limits.outside}
 use Rattle.model.specs.Possible.{Possible, AllPossible}
+use Rattle.model.specs.Locks.{change}
 use Rattle.model.specs.Refusals.{refusal}
 use Rattle.model.specs.SentFits.{LinesFit}
-use Rattle.model.specs.Step.{Line, step, final, log}
+use Rattle.model.specs.Step.{Result, Line, finish, plan, step, final, log}
 use Rattle.model.proofs.Bound.{bound-run}
 use Rattle.model.proofs.SentFits.{sent-fits}
 use Rattle.judging.specs.Kept.{recordedSetting, recorded, Keepable, AllKeepable, isRefused, bodiesOf}
-use Rattle.judging.proofs.Calls.{no-cause, payload-short, fits-recorded}
+use Rattle.judging.proofs.Calls.{step-taken, no-cause, payload-short, list-short, fits-recorded}
 
 -- bytes, as a record: the prover then finds the list
 record AreBytes (bs : List ℕ) : Type 0 where
@@ -47,14 +48,6 @@ row-bytes : {most : ℕ} {r : List ℕ} → Row most r → AreBytes (row r)
 unfolding row
 row-bytes {r = r} h = both (numeral 4 (length r)) (record { are = h .bytes })
 
-no-bytes : Bytes []
-no-bytes i = omega arith
-
-rows-bytes : (most : ℕ) (rs : List (List ℕ)) → Rows most rs → AreBytes (rows rs)
-unfolding rows Rows
-rows-bytes most [] h = record { are = no-bytes }
-rows-bytes most (r ∷ rs) h = both (row-bytes (h .0)) (rows-bytes most rs (h .1))
-
 -- a recorded event is bytes
 encoded : (e : Recorded) → Fits e → AreBytes (encode e)
 unfolding encode
@@ -67,7 +60,7 @@ encoded (r-status b) f = tagged (omega arith) (numeral 1 b)
 encoded (watchOff n) f = tagged (omega arith) (numeral 4 n)
 encoded (watchAbove n l) f = tagged (omega arith) (both (numeral 4 n) (numeral 4 l))
 encoded (watchOutside n l h) f = tagged (omega arith) (both (numeral 4 n) (both (numeral 4 l) (numeral 4 h)))
-encoded (patterns list) f = tagged (omega arith) (both (numeral 4 (length list)) (rows-bytes bodyLimit list (f .1)))
+encoded (r-patterns text) f = tagged (omega arith) (row-bytes f)
 
 pub possible : (e : Event) → Keepable e → Possible e
 possible (opening c) k = tt
@@ -82,15 +75,26 @@ pub all-possible : (es : List Event) → AllKeepable es → AllPossible es
 all-possible [] k = tt
 all-possible (e ∷ es) k = (possible e (k .0), all-possible es (k .1))
 
-taken-setting : (s : Setting) → Taken (recordedSetting s)
-taken-setting (watch n off) = tt
-taken-setting (watch n (above l)) = tt
-taken-setting (watch n (outside l h)) = tt
+taken-setting : (d : Server) (s : Setting) → refusal d (setting s) ≡ 0 → Taken (recordedSetting s)
+taken-setting d (watch n off) z = tt
+taken-setting d (watch n (above l)) z = tt
+taken-setting d (watch n (outside l h)) z = tt
+taken-setting d (patterns text) z = list-short d text z
 
-most-setting : (s : Setting) (k : ℕ) → k ≤ outputMinimum → k ≤ mostFrames (recordedSetting s)
-most-setting (watch n off) k h = h
-most-setting (watch n (above l)) k h = h
-most-setting (watch n (outside l h)) k q = q
+-- what a call gave, in bytes
+abbrev given : Server → Event → ℕ
+given d e = length (bytesOf ((step d e) .frames))
+
+-- setting a list gives nothing
+no-frames : (d : Server) (text : List ℕ) → refusal d (setting (patterns text)) ≡ 0 → given d (setting (patterns text)) ≡ 0
+unfolding finish plan change bytesOf
+no-frames d text z = ap (λ (x : Result). length (bytesOf (x .frames))) (step-taken d (setting (patterns text)) z)
+
+most-setting : (d : Server) (s : Setting) → refusal d (setting s) ≡ 0 → given d (setting s) ≤ outputMinimum → given d (setting s) ≤ mostFrames (recordedSetting s)
+most-setting d (watch n off) z h = h
+most-setting d (watch n (above l)) z h = h
+most-setting d (watch n (outside l k)) z h = h
+most-setting d (patterns text) z h = omega (arith, no-frames d text z)
 
 taken-recorded : (d : Server) (e : Event) → refusal d e ≡ 0 → Taken (recorded e)
 taken-recorded d (opening c) z = tt
@@ -99,16 +103,16 @@ taken-recorded d (cut c room) z = tt
 taken-recorded d (clock t room) z = tt
 taken-recorded d (answer n p end sh room) z = payload-short d n p end sh room z
 taken-recorded d (status b) z = tt
-taken-recorded d (setting s) z = taken-setting s
+taken-recorded d (setting s) z = taken-setting d s z
 
-most-recorded : (e : Event) (k : ℕ) → k ≤ outputMinimum → k ≤ mostFrames (recorded e)
-most-recorded (opening c) k h = h
-most-recorded (delivery c bs room) k h = h
-most-recorded (cut c room) k h = h
-most-recorded (clock t room) k h = h
-most-recorded (answer n p end sh room) k h = h
-most-recorded (status b) k h = h
-most-recorded (setting s) k h = most-setting s k h
+most-recorded : (d : Server) (e : Event) → refusal d e ≡ 0 → given d e ≤ outputMinimum → given d e ≤ mostFrames (recorded e)
+most-recorded d (opening c) z h = h
+most-recorded d (delivery c bs room) z h = h
+most-recorded d (cut c room) z h = h
+most-recorded d (clock t room) z h = h
+most-recorded d (answer n p end sh room) z h = h
+most-recorded d (status b) z h = h
+most-recorded d (setting s) z h = most-setting d s z h
 
 -- the call after others is the next one's server
 further : (es : List Event) (d : Server) (e : Event) → final d (es ++ e ∷ []) ≡ (step (final d es) e) .server
@@ -126,7 +130,7 @@ module _ (v : Making) where
       let b = (bound-run v before) .bound .within e in
       record {
         bytes = append-bytes (encode (recorded e)) (bytesOf ((step d e) .frames)) (encoded (recorded e) f .are) (rows-read .bytes ((step d e) .frames) a);
-        within = longest-body (recorded e) (bytesOf ((step d e) .frames)) f (taken-recorded d e z) (most-recorded e (length (bytesOf ((step d e) .frames))) (omega (arith, b)));
+        within = longest-body (recorded e) (bytesOf ((step d e) .frames)) f (taken-recorded d e z) (most-recorded d e z (omega (arith, b)));
       }
 
   all-fine : (es before : List Event) (d : Server) → d ≡ final (fresh v) before → LinesFit (log d es) → AllKeepable es → AllFine (bodiesOf (log d es))

@@ -7,10 +7,10 @@ use lib.ListN.{length}
 use Rattle.wire.specs.Field.{Bytes}
 use Rattle.wire.specs.Frame.{bytesOf}
 use Rattle.journal.specs.Journal.{closedJournal, lastOffset}
-use Rattle.record.specs.Layout.{Event as Recorded, opening as r-opening, delivery as r-delivery, cut as r-cut, clock as r-clock, answer as r-answer, status as r-status, watchOff, watchAbove, watchOutside, Row, mostDelivered, mostShown, bodyBytes}
+use Rattle.record.specs.Layout.{Event as Recorded, opening as r-opening, delivery as r-delivery, cut as r-cut, clock as r-clock, answer as r-answer, status as r-status, watchOff, watchAbove, watchOutside, patterns as r-patterns, Row, mostDelivered, mostShown, bodyBytes}
 use Rattle.readings.specs.Watch.{Limits, Limits.off, Limits.above, Limits.outside}
 use Rattle.model.specs.State.{Making, fresh}
-use Rattle.model.specs.Interface.{Event, Event.opening, Event.delivery, Event.cut, Event.clock, Event.answer, Event.status, Event.setting, Setting, Setting.watch, Reply, Reply.refused, Reply.done, Reply.withheld, Reply.took}
+use Rattle.model.specs.Interface.{Event, Event.opening, Event.delivery, Event.cut, Event.clock, Event.answer, Event.status, Event.setting, Setting, Setting.watch, Setting.patterns, Reply, Reply.refused, Reply.done, Reply.withheld, Reply.took}
 use Rattle.model.specs.Step.{Line, log}
 
 -- what the host sets, as it is recorded
@@ -21,6 +21,7 @@ recordedWatch n (outside low high) = watchOutside n low high
 
 abbrev pub recordedSetting : Setting → Recorded
 recordedSetting (watch n l) = recordedWatch n l
+recordedSetting (patterns text) = r-patterns text
 
 -- a call as it is recorded: the output buffer's length is not
 abbrev pub recorded : Event → Recorded
@@ -41,6 +42,7 @@ KeepableLimits (outside low high) = (low < 256 ^ 4) × (high < 256 ^ 4)
 
 abbrev pub KeepableSetting : Setting → Type 0
 KeepableSetting (watch n l) = (n < 256 ^ 4) × KeepableLimits l
+KeepableSetting (patterns text) = Bytes text
 
 abbrev pub Keepable : Event → Type 0
 Keepable (opening c) = c < 256 ^ 4
