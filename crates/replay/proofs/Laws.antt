@@ -14,9 +14,9 @@ use Rattle.wire.specs.Frame.{Frame, bytesOf, written}
 use Rattle.wire.specs.Splice.{splice, take-front}
 use Rattle.journal.specs.Journal.{choose, bodyLimit}
 use Rattle.journal.specs.Bytes.{yes-is, no-is}
-use Rattle.record.specs.Layout.{Event as Recorded, opening as r-opening, delivery as r-delivery, cut as r-cut, clock as r-clock, answer as r-answer, status as r-status, watchOff, watchAbove, watchOutside, patterns, Read, found, none, andThen, Fits, decode}
+use Rattle.record.specs.Layout.{Event as Recorded, opening as r-opening, delivery as r-delivery, cut as r-cut, clock as r-clock, answer as r-answer, status as r-status, watchOff, watchAbove, watchOutside, patterns as r-patterns, Read, found, none, Fits, decode}
 use Rattle.record.specs.RoundTrip.{read-written}
-use Rattle.record.specs.Parts.{seen, Reads}
+use Rattle.record.specs.Parts.{seen, Reads, nine}
 use Rattle.record.specs.declared.parts.Parts.{Parts}
 use Rattle.verifier.specs.Judge.{Fault, inLayout, inParcels, Deed, refused, gave, Went, on, fault, same, byDeed, byEvent}
 use Rattle.verifier.specs.Framing.{faultOf}
@@ -25,7 +25,9 @@ use Rattle.readings.specs.Bits.{notNumber, below}
 use Rattle.readings.specs.Watch as Watch
 use Rattle.readings.specs.Watch.{Limits, Limits.off, Limits.above, Limits.outside}
 use Rattle.model.specs.State.{Server, at, live, slotOfNumber, connectionAt}
-use Rattle.model.specs.Interface.{Event, Event.opening, Event.delivery, Event.cut, Event.clock, Event.answer, Event.status, Event.setting, Setting, Setting.watch, Reply, Reply.refused as turned-away, Reply.done, Reply.withheld, Reply.took, DoneAnswer, doneAnswer, DeliveryAnswer, deliveryAnswer, AnsweredAnswer, answeredAnswer}
+use Rattle.model.specs.Interface.{Event, Event.opening, Event.delivery, Event.cut, Event.clock, Event.answer, Event.status, Event.setting, Setting, Setting.watch, Setting.patterns, Reply, Reply.refused as turned-away, Reply.done, Reply.withheld, Reply.took, DoneAnswer, doneAnswer, DeliveryAnswer, deliveryAnswer, AnsweredAnswer, answeredAnswer}
+use Rattle.commands.specs.declared.Judged.{Judged}
+use Rattle.model.specs.Listing.{ListedAnswer, listedAnswer}
 use Rattle.model.specs.Post.{Post}
 use Rattle.model.specs.Refusals.{causes, refusal}
 use Rattle.model.specs.Checks.{verdict}
@@ -38,9 +40,11 @@ use Rattle.sessions.specs.declared.Delivery.{Delivery}
 use Rattle.sessions.specs.Did.{numbersOf}
 use Rattle.server.specs.declared.Answered.{Answered}
 use Rattle.server.specs.declared.Done.{Done}
+use Rattle.server.specs.declared.listing.Listed.{Listed}
 use Rattle.server.specs.Calls.{Delivered}
+use Rattle.server.specs.Listing.{SetsList}
 use Rattle.server.specs.Events.{Called, Replied, doneNumbers, answeredNumbers}
-use Rattle.judging.specs.Replay.{Known, known, unknown, callOf, byReply, byCall, deed}
+use Rattle.judging.specs.Replay.{byReply, byCall, deed}
 use Rattle.replay.specs.Replays.{wentOf, comparedOf, Replays, Judges, Later}
 
 -- the number of a refusal, 0 for none; a refusal's number is not 0
@@ -130,7 +134,7 @@ module _ (fs : List ℕ) (d : Server) (out frames : List ℕ) (n k : ℕ) (t : t
 called : (e : Event) (m m′ : Memory) (out out′ frames : List ℕ) (n k : ℕ)
     → Post view e m m′ out out′ ((step (view m) e) .reply) (length (bytesOf ((step (view m) e) .frames))) → length out′ ≡ length out
     → n ≡ numberOf ((step (view m) e) .reply) → (n ≡ 0 → k ≡ length (bytesOf ((step (view m) e) .frames)))
-    → wentOf (comparedOf n k out′ frames) (view m′) ≡ byDeed (byCall (view m) (known e)) frames
+    → wentOf (comparedOf n k out′ frames) (view m′) ≡ byDeed (byCall (view m) e) frames
 unfolding byCall
 called e m m′ out out′ frames n k p l q r =
     let x : List ℕ = bytesOf ((step (view m) e) .frames) in
@@ -175,35 +179,47 @@ answered-output done k f z = refl
 answered-output withheld k f z = refl
 answered-output (took o i s) k f z = refl
 
--- the six events
+listed-refusal : (y : Reply) (j : Judged) → (listedAnswer y j) .refusal ≡ numberOf y
+listed-refusal (turned-away n) j = refl
+listed-refusal done j = refl
+listed-refusal withheld j = refl
+listed-refusal (took o i s) j = refl
+
+-- the events
 module _ (m m′ : Memory) (frames : List ℕ) where
   -- a call without a buffer
-  pub silenced : (e : Event) (x : Recorded) → callOf x ≡ known e → (r : ℕ) (a : Done) → Called e a m m′ [] [] → r ≡ comparedOf (a .refusal) 0 [] frames → Replays r x m m′ frames
-  silenced e x c r a p q =
-      let y = (step (view m) e) .reply in
-      let z : List ℕ = bytesOf ((step (view m) e) .frames) in
-      let l = fronted [] [] z (p .post .buffer) refl .1 in
-      ap (λ (k : ℕ). wentOf k (view m′)) q
-      ∙ called e m m′ [] [] frames (a .refusal) 0 (p .post) refl (ap (λ (w : DoneAnswer). w .refusal) (p .numbers) ∙ done-refusal y (length z)) (λ _. omega (arith, l))
-      ∙ ap (λ (k : Known). byDeed (byCall (view m) k) frames) (sym c)
+  quiet : (e : Event) (n r : ℕ) → Post view e m m′ [] [] ((step (view m) e) .reply) (length (bytesOf ((step (view m) e) .frames))) → n ≡ numberOf ((step (view m) e) .reply)
+      → r ≡ comparedOf n 0 [] frames → wentOf r (view m′) ≡ byDeed (byCall (view m) e) frames
+  quiet e n r p h q =
+      let l = fronted [] [] (bytesOf ((step (view m) e) .frames)) (p .buffer) refl .1 in
+      ap (λ (k : ℕ). wentOf k (view m′)) q ∙ called e m m′ [] [] frames n 0 p refl h (λ _. omega (arith, l))
+
+  silenced : (e : Event) (r : ℕ) (a : Done) → Called e a m m′ [] [] → r ≡ comparedOf (a .refusal) 0 [] frames → wentOf r (view m′) ≡ byDeed (byCall (view m) e) frames
+  silenced e r a p q =
+      quiet e (a .refusal) r (p .post) (ap (λ (w : DoneAnswer). w .refusal) (p .numbers) ∙ done-refusal ((step (view m) e) .reply) _) q
+
+  pub set-list : (text : List ℕ) (r : ℕ) (a : Listed) → SetsList text a m m′ → r ≡ comparedOf (a .refusal) 0 [] frames → Replays r (r-patterns text) m m′ frames
+  set-list text r a p q =
+      quiet (setting (patterns text)) (a .refusal) r (p .post)
+      (ap (λ (w : ListedAnswer). w .refusal) (p .numbers) ∙ listed-refusal ((step (view m) (setting (patterns text))) .reply) _) q
 
   pub opened : (c r : ℕ) (a : Done) → Called (opening c) a m m′ [] [] → r ≡ comparedOf (a .refusal) 0 [] frames → Replays r (r-opening c) m m′ frames
-  opened c r a p q = silenced (opening c) (r-opening c) refl r a p q
+  opened c r a p q = silenced (opening c) r a p q
 
   pub set-off : (n r : ℕ) (a : Done) → Called (setting (watch n off)) a m m′ [] [] → r ≡ comparedOf (a .refusal) 0 [] frames → Replays r (watchOff n) m m′ frames
-  set-off n r a p q = silenced (setting (watch n off)) (watchOff n) refl r a p q
+  set-off n r a p q = silenced (setting (watch n off)) r a p q
 
   pub set-above : (n l x : ℕ) → x ≡ l → (r : ℕ) (a : Done) → Called (setting (watch n (above x))) a m m′ [] [] → r ≡ comparedOf (a .refusal) 0 [] frames → Replays r (watchAbove n l) m m′ frames
-  set-above n l x e r a p q = silenced (setting (watch n (above l))) (watchAbove n l) refl r a (subst (λ (k : ℕ). Called (setting (watch n (above k))) a m m′ [] []) e p) q
+  set-above n l x e r a p q = silenced (setting (watch n (above l))) r a (subst (λ (k : ℕ). Called (setting (watch n (above k))) a m m′ [] []) e p) q
 
   pub set-outside : (n l h x y : ℕ) → x ≡ l → y ≡ h → (r : ℕ) (a : Done) → Called (setting (watch n (outside x y))) a m m′ [] [] → r ≡ comparedOf (a .refusal) 0 [] frames
       → Replays r (watchOutside n l h) m m′ frames
   set-outside n l h x y e f r a p q =
-      silenced (setting (watch n (outside l h))) (watchOutside n l h) refl r a
+      silenced (setting (watch n (outside l h))) r a
       (subst (λ (k : ℕ). Called (setting (watch n (outside l k))) a m m′ [] []) f (subst (λ (k : ℕ). Called (setting (watch n (outside k y))) a m m′ [] []) e p)) q
 
   module _ (out out′ : List ℕ) (h : length out ≡ outputMinimum) (l : length out′ ≡ length out) where
-    by-done : (e : Event) (r : ℕ) (a : Done) → Called e a m m′ out out′ → r ≡ comparedOf (a .refusal) (a .output) out′ frames → wentOf r (view m′) ≡ byDeed (byCall (view m) (known e)) frames
+    by-done : (e : Event) (r : ℕ) (a : Done) → Called e a m m′ out out′ → r ≡ comparedOf (a .refusal) (a .output) out′ frames → wentOf r (view m′) ≡ byDeed (byCall (view m) e) frames
     by-done e r a p q =
         let y = (step (view m) e) .reply in
         let k : ℕ = length (bytesOf ((step (view m) e) .frames)) in
@@ -262,7 +278,7 @@ not-zero true b e z = omega (arith, z)
 not-zero false true e z = omega (arith, z)
 not-zero false false e z = true≢false (sym e)
 
-refused-step : (d : Server) (e : Event) (frames : List ℕ) → (refusal d e ≡ 0 → ⊥) → byDeed (byCall d (known e)) frames ≡ fault inParcels
+refused-step : (d : Server) (e : Event) (frames : List ℕ) → (refusal d e ≡ 0 → ⊥) → byDeed (byCall d e) frames ≡ fault inParcels
 unfolding step answered byCall byReply byDeed
 refused-step d e frames = go (refusal d e)
   where
@@ -330,6 +346,10 @@ module _ (p : Parts) (s : List ℕ) (o : Reads p s (decode s)) where
   at-8 : p .kind ≡ 8 → seen p s ≡ found (watchOutside (p .a) (p .b) (p .c)) (drop (p .frames) s)
   unfolding seen choose
   at-8 e = rw e
+
+  at-9 : p .kind ≡ 9 → seen p s ≡ found (r-patterns (take (p .size) (drop (p .first) s))) (drop (p .frames) s)
+  unfolding seen choose
+  at-9 e = rw e
 
   at-10 : p .kind ≡ 10 → seen p s ≡ none
   unfolding seen choose
@@ -409,44 +429,18 @@ module _ (p : Parts) (s : List ℕ) (o : Reads p s (decode s)) where
     pub judged-8 : p .kind ≡ 8 → Replays r (watchOutside (p .a) (p .b) (p .c)) m m′ rest → Judges r m m′ s
     judged-8 e g = judged _ (at-8 e) g
 
+    -- what is none of the others is a list
+    pub judged-9 : Later p → (p .kind ≡ 6 → ⊥) → (p .kind ≡ 7 → ⊥) → (p .kind ≡ 8 → ⊥) → Replays r (r-patterns (take (p .first + p .size - p .first) (drop (p .first) s))) m m′ rest → Judges r m m′ s
+    judged-9 l n₆ n₇ n₈ g =
+        let t : p .kind ≤ 10 = o .top in
+        let n : p .kind ≡ 10 → ⊥ = l .0 .0 in
+        let e : p .kind ≡ 9 = nine (p .kind) (omega arith) (l .0 .1) (l .0 .2) (l .0 .3) (l .0 .4) (l .1) (l .2) n₆ n₇ n₈ in
+        let k : p .first + p .size - p .first ≡ p .size = omega arith in
+        judged _ (at-9 e) (subst (λ (j : ℕ). Replays r (r-patterns (take j (drop (p .first) s))) m m′ rest) k g)
+
   pub no-layout : (m : Memory) → p .kind ≡ 10 → Judges 4 m m s
   unfolding byEvent
   no-layout m e = four (view m) ∙ ap (byEvent deed (view m)) (sym (at-10 e) ∙ o .says)
-
-  -- an event that this server does not know is refused
-  abbrev Refusing : Memory → Read Recorded → Type 0
-  Refusing m x = (x ≡ none → ⊥) → byEvent deed (view m) x ≡ fault inParcels
-
-  refusing-if : (m : Memory) (c : Bool) (x y : Read Recorded) → (c ≡ true → Refusing m x) → Refusing m y → Refusing m (choose c x y)
-  unfolding choose
-  refusing-if m true x y f g = f refl
-  refusing-if m false x y f g = g
-
-  not-kind : (m : Memory) (k : ℕ) (x : Read Recorded) → (p .kind ≡ k → ⊥) → eqb (p .kind) k ≡ true → Refusing m x
-  not-kind m k x n e = absurd (n (eqb-true (p .kind) k e))
-
-  refusing-list : (m : Memory) (x : Read (List (List ℕ))) (t : List ℕ) → Refusing m (andThen x λ list u. found (patterns list) t)
-  unfolding andThen byEvent byDeed byCall
-  refusing-list m (found rs u) t h = refl
-  refusing-list m none t h = absurd (h refl)
-
-  pub unknown-event : (m : Memory) → Later p → (p .kind ≡ 6 → ⊥) → (p .kind ≡ 7 → ⊥) → (p .kind ≡ 8 → ⊥) → Judges 5 m m s
-  unfolding seen byEvent byDeed byCall
-  unknown-event m l n₆ n₇ n₈ =
-      five (view m)
-      ∙ sym
-      (refusing-if m (eqb (p .kind) 0) _ _ (not-kind m 0 _ (l .0 .1))
-      (refusing-if m (eqb (p .kind) 1) _ _ (not-kind m 1 _ (l .0 .2))
-      (refusing-if m (eqb (p .kind) 2) _ _ (not-kind m 2 _ (l .0 .3))
-      (refusing-if m (eqb (p .kind) 3) _ _ (not-kind m 3 _ (l .0 .4))
-      (refusing-if m (eqb (p .kind) 4) _ _ (not-kind m 4 _ (l .1))
-      (refusing-if m (eqb (p .kind) 5) _ _ (not-kind m 5 _ (l .2))
-      (refusing-if m (eqb (p .kind) 6) _ _ (not-kind m 6 _ n₆)
-      (refusing-if m (eqb (p .kind) 7) _ _ (not-kind m 7 _ n₇)
-      (refusing-if m (eqb (p .kind) 8) _ _ (not-kind m 8 _ n₈)
-      (refusing-if m (eqb (p .kind) 9) _ none (λ _. refusing-list m _ _)
-      (λ f. absurd (f refl))))))))))) (λ z. l .0 .0 (o .layout (sym (o .says) ∙ z))))
-      ∙ ap (byEvent deed (view m)) (o .says)
 
 same-nil : same [] [] ≡ true
 unfolding same

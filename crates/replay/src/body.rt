@@ -13,9 +13,8 @@ use record::parts::Parts;
 use state::sizes::Strings;
 use state::sizes::Words;
 use verifier::LAYOUT;
-use verifier::PARCELS;
 
-// What the host set, for a body that was read; an event that this server does not know is refused.
+// What the host set, for a body that was read.
 fn replay_setting(words: &mut Words, strings: &mut Strings, body: &[u8], p: Parts) -> u64
     requires { ⌜ Reads p (now body) (decode (now body)) × Later p ⌝ }
     ensures { λ r. ⌜ Judges r (memory (now (words .entry)) (now (strings .entry))) (memory (now (words .exit)) (now (strings .exit))) (now (body .entry)) ⌝ }
@@ -30,7 +29,9 @@ fn replay_setting(words: &mut Words, strings: &mut Strings, body: &[u8], p: Part
     if p.kind == 8 {
         return events::sets_outside(words, strings, p.a, p.b, p.c, &body[f..]);
     }
-    PARCELS
+    let i = p.first;
+    let e = i + p.size;
+    events::sets_list(words, strings, &body[i..e], &body[f..])
 }
 
 // An answer and a status change, else what the host set.

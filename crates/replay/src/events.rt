@@ -2,13 +2,14 @@
 ghost use Prim.Native.Nat.{_^_, _<_};
 ghost use Rattle.model.specs.Sizes.{outputMinimum};
 ghost use Rattle.readings.specs.Bits.{notNumber};
-ghost use Rattle.record.specs.Layout.{answer, clock, cut, delivery, opening, status, watchAbove, watchOff, watchOutside};
+ghost use Rattle.record.specs.Layout.{answer, clock, cut, delivery, opening, patterns, status, watchAbove, watchOff, watchOutside};
 ghost use Rattle.replay.specs.Replays.{Replays, comparedOf};
 ghost use Rattle.state.specs.View.{memory};
 ghost use lib.ListN.{length};
 ghost use mathlib.Core.List.{[]};
 ghost use mathlib.Core.Path.{_≡_};
 use sensing::floats;
+use server::listing;
 use server::watches;
 use state::sizes::Strings;
 use state::sizes::Words;
@@ -183,5 +184,12 @@ pub fn sets_outside(
     let x = floats::float_of(low);
     let y = floats::float_of(high);
     let a = watches::hislip_watch_outside(words, strings, session as u32, x, y);
+    silent(a.refusal, frames)
+}
+
+pub fn sets_list(words: &mut Words, strings: &mut Strings, text: &[u8], frames: &[u8]) -> u64
+    ensures { λ r. ⌜ Replays r (patterns (now (text .entry))) (memory (now (words .entry)) (now (strings .entry))) (memory (now (words .exit)) (now (strings .exit))) (now (frames .entry)) ⌝ }
+{
+    let a = listing::hislip_patterns(words, strings, text);
     silent(a.refusal, frames)
 }

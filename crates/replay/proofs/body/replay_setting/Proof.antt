@@ -1,7 +1,7 @@
 -- `replay::body::replay_setting` meets its contract.
 use native.Mathlib.Omega.{arith}
 use Rattle.state.specs.View.{memory}
-use Rattle.replay.proofs.Laws.{fits-6, fits-7, fits-8, judged-6, judged-7, judged-8, unknown-event}
+use Rattle.replay.proofs.Laws.{fits-6, fits-7, fits-8, judged-6, judged-7, judged-8, judged-9}
 use borrow.Author.Needs.{needs}
 use Rattle.replay.proofs.body.replay_setting.Statement.{statement}
 use Rattle.replay.proofs.body.replay_setting.Tie as tie
@@ -43,7 +43,7 @@ returns-3 : tie.Need-returns-3
 returns-3 c = let a = c .before .before .before .before .before .before .before .before .before .before .before .args in judged-8 (a .p) (a .body .now) (c .before .before .before .before .before .before .before .before .before .before .before .pre .0) (memory (a .words .now) (a .strings .now)) _ _ (c .before .before .before .before .if3 .taken) (c .sets-outside .ensures)
 
 returns-4 : tie.Need-returns-4
-returns-4 c = let a = c .before .before .before .before .before .before .before .args in unknown-event (a .p) (a .body .now) (c .before .before .before .before .before .before .before .pre .0) (memory (a .words .now) (a .strings .now)) (c .before .before .before .before .before .before .before .pre .1) (c .before .before .before .before .if1 .left) (c .before .before .if2 .left) (c .if3 .left)
+returns-4 c = let a = c .before .before .before .before .before .before .before .before .before .before .before .before .before .args in judged-9 (a .p) (a .body .now) (c .before .before .before .before .before .before .before .before .before .before .before .before .before .pre .0) (memory (a .words .now) (a .strings .now)) _ _ (c .before .before .before .before .before .before .before .before .before .before .before .before .before .pre .1) (c .before .before .before .before .before .before .before .before .before .before .if1 .left) (c .before .before .before .before .before .before .before .before .if2 .left) (c .before .before .before .before .before .before .if3 .left) (c .sets-list .ensures)
 
 pub replay-setting-spec : {M : Type 1} → statement M
 replay-setting-spec =
@@ -64,4 +64,12 @@ replay-setting-spec =
     (λ c. search needs)
     sets-outside-requires
     returns-3
+    (λ c. search needs)
+    (λ c. search needs)
+    (λ c. search needs)
+    (λ c. search needs)
+    (λ c. search needs)
+    (λ c. search needs)
+    (λ c. search needs)
+    (λ c κs. search needs)
     returns-4)
