@@ -1,5 +1,6 @@
 //! The verdicts of the program `verify` beside the reference's, over many books: a morning at the bench in both
-//! modes, every byte of it flipped, every prefix, entries swapped, doubled and left out, and books of random bytes.
+//! modes, watches and lists of allowed commands, every byte flipped, every prefix, entries swapped, doubled, left
+//! out and replaced.
 //!
 //! `verdicts PROGRAM` runs it once for each book; the last line says how many verdicts were equal.
 //! `verdicts --book FILE` writes the morning's journal, the one that the gate stores.
@@ -8,8 +9,10 @@
 #[path = "../tests/books/mod.rs"]
 mod books;
 
-use books::{bodies, book, closed, kept, morning};
+use books::{bodies, book, closed, kept, listed, morning, watched};
 use reference::compose::{answer, clock, deliver, message};
+use reference::journal::layout::body;
+use reference::journal::Recorded;
 use reference::verifier::judge;
 use reference::{Event, Fresh, Mode};
 use std::path::{Path, PathBuf};
@@ -86,6 +89,23 @@ impl Beside {
         }
     }
 
+    /// Other watches and lists in the place of each one, with no frames and with one byte of them.
+    fn replaced(&mut self, all: &[Vec<u8>], events: &[Event]) {
+        let is_setting =
+            |event: &Event| matches!(event, Event::Watch { .. } | Event::Patterns { .. });
+        let places = (0..all.len()).filter(|place| is_setting(&events[*place]));
+        for place in places {
+            for other in [watches(), lists()].concat() {
+                for frames in [&b""[..], b"\0"] {
+                    let mut changed = all.to_vec();
+                    changed[place] = body(&other, frames);
+                    let what = format!("entry {place} is {other:?}");
+                    self.judge(Fresh::BENCH, &closed(&changed), &what);
+                }
+            }
+        }
+    }
+
     fn moved(&mut self, all: &[Vec<u8>]) {
         for place in 0..all.len() {
             let mut without = all.to_vec();
@@ -111,6 +131,52 @@ impl Beside {
             );
         }
     }
+}
+
+/// Watches with each limit, good and bad, and of a session that is not there.
+fn watches() -> Vec<Recorded> {
+    let limits = [0.0, -0.0, 1.0, f32::MIN_POSITIVE, f32::INFINITY];
+    let numbers = limits
+        .iter()
+        .flat_map(|limit| [limit.to_bits(), (-limit).to_bits()]);
+    let bits: Vec<u32> = numbers
+        .chain([0x7f80_0001, 0x7fc0_0000, 0xffff_ffff])
+        .collect();
+    let mut watches = Vec::new();
+    for session in [0, 1, 2] {
+        watches.push(Recorded::WatchOff { session });
+        for &low in &bits {
+            let limit = low;
+            watches.push(Recorded::WatchAbove { session, limit });
+            let outside = |&high: &u32| Recorded::WatchOutside { session, low, high };
+            watches.extend(bits.iter().map(outside));
+        }
+    }
+    watches
+}
+
+/// Lists by their text, good and bad, with and without the last newline.
+fn lists() -> Vec<Recorded> {
+    let longest = [vec![b'A'; 128], b"\n".to_vec()].concat().repeat(32);
+    let texts = [
+        b"".to_vec(),
+        b"\n".to_vec(),
+        b"*RST".to_vec(),
+        b"*RST\n".to_vec(),
+        b"*RST\n\n".to_vec(),
+        b"*RST\r\n".to_vec(),
+        b"*IDN?\nSYSTem:ERRor[:NEXT]?".to_vec(),
+        b"*IDN?\nSYSTem:ERRor[:NEXT?".to_vec(),
+        b"A\n".repeat(32),
+        b"A\n".repeat(33),
+        b"a\n".repeat(33),
+        longest[..longest.len() - 1].to_vec(),
+        [&longest[..], b"A"].concat(),
+        longest,
+        vec![b'A'; 129],
+        vec![b'A'; 4_990],
+    ];
+    texts.map(|text| Recorded::Patterns { text }).into()
 }
 
 /// Questions and answers, with the clock, up to so many bytes.
@@ -158,6 +224,13 @@ fn compare(program: &Path) {
     beside.judge(Fresh::BENCH, b"", "no bytes");
     beside.damaged(&kept(Fresh::BENCH, &morning()[..12]));
     beside.moved(&bodies(&good));
+    for events in [watched(), listed()] {
+        let good = kept(Fresh::BENCH, &events);
+        beside.judge(Fresh::BENCH, &good, "watches and lists");
+        beside.damaged(&good);
+        beside.moved(&bodies(&good));
+        beside.replaced(&bodies(&good), &events);
+    }
     let file = beside.file.to_string_lossy().into_owned();
     let folder_name = folder.to_string_lossy().into_owned();
     for arguments in [

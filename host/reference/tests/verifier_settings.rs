@@ -2,32 +2,18 @@
 
 mod books;
 
-use books::{accepted, bodies, closed, kept, session, wrong};
-use reference::compose::{answer, block, deliver, message, patterns, watch};
+use books::{accepted, bodies, closed, kept, listed, watched, wrong};
+use reference::compose::patterns;
 use reference::journal::layout::body;
 use reference::journal::Recorded;
 use reference::verifier::{judge, Fault, Verdict};
-use reference::{Event, Fresh, Watch};
+use reference::{Event, Fresh};
 
 fn verdict(bodies: &[Vec<u8>]) -> Verdict {
     let plain = books::plain_verdict(bodies);
     let judged = judge(Fresh::BENCH, &closed(bodies));
     assert_eq!(judged, plain);
     judged
-}
-
-/// A session, a question, and watches around the answers; the last but one trips.
-fn watched() -> Vec<Event> {
-    let mut events = session(1, 0);
-    events.extend([
-        deliver(0, message(7, 0, 0xffff_ff00, b"READ?")),
-        watch(1, Watch::above(1.0)),
-        answer(1, &block(&[1.0]), 0),
-        watch(1, Watch::outside(-0.0, f32::INFINITY)),
-        answer(1, &block(&[-1.0]), 0),
-        watch(1, Watch::Off),
-    ]);
-    events
 }
 
 fn above(session: u32, limit: f32) -> Vec<u8> {
@@ -65,20 +51,6 @@ fn a_watch_set_too_late() {
     let tripping = bodies.len() - 2;
     bodies.swap(tripping - 1, tripping);
     assert_eq!(verdict(&bodies), wrong(tripping - 1, Fault::Parcels));
-}
-
-/// A command before a list is set, one that the list allows and one that it does not.
-fn listed() -> Vec<Event> {
-    let mut events = session(1, 0);
-    events.extend([
-        deliver(0, message(7, 0, 0xffff_ff00, b"SYST:ERR?")),
-        patterns(&["*RST", "SYSTem:ERRor[:NEXT]?"]),
-        deliver(0, message(7, 0, 0xffff_ff02, b"syst:err:next?")),
-        deliver(0, message(7, 0, 0xffff_ff04, b"*IDN?")),
-        patterns::<&str>(&[]),
-        deliver(0, message(7, 0, 0xffff_ff06, b"*RST")),
-    ]);
-    events
 }
 
 fn list(text: &[u8]) -> Vec<u8> {
