@@ -179,7 +179,7 @@ or-power (suc k) m =
     let z : 2 ^ suc k % 2 ≡ 0 = omega arith in
     let b : bit (m / 2) k ≡ bit m (suc k) = ap (λ (x : ℕ). x % 2) (div-div-eq-div-mul m 2 (2 ^ k) ∙ ap (λ (y : ℕ). m / y) (sym q)) in
     let o : bitOr m (2 ^ suc k) ≡ bitOr (m / 2) (2 ^ k) * 2 + m % 2 =
-        or-step m (2 ^ suc k) ∙ ap₂ (λ (x y : ℕ). bitOr (m / 2) x * 2 + max (m % 2) y) h z ∙ ap (λ (x : ℕ). bitOr (m / 2) (2 ^ k) * 2 + x) (max-zero (m % 2)) in (
+    or-step m (2 ^ suc k) ∙ ap₂ (λ (x y : ℕ). bitOr (m / 2) x * 2 + max (m % 2) y) h z ∙ ap (λ (x : ℕ). bitOr (m / 2) (2 ^ k) * 2 + x) (max-zero (m % 2)) in (
       λ e. o ∙ ap (λ (x : ℕ). x * 2 + m % 2) (or-power k (m / 2) .0 (b ∙ e)) ∙ omega arith,
       λ e. o ∙ ap (λ (x : ℕ). x * 2 + m % 2) (or-power k (m / 2) .1 (b ∙ e)) ∙ omega arith,
     )

@@ -1,4 +1,5 @@
 // Lock requests: a row and a place for a string for each slot, and the queue of those that wait, oldest first.
+ghost use lib.Dec.{eqb};
 ghost use Prim.Native.Nat.{ℕ, _*_, _+_, _<_, _≤_, min};
 ghost use Rattle.model.specs.Lists.{same};
 ghost use Rattle.state.specs.Queue.{noRequest, onWaiting};
@@ -44,6 +45,13 @@ pub fn waiting_count(w: &Words) -> usize
     ensures { λ r. ⌜ (r ≡ countOf (now (w .entry))) × (r ≤ sessionLimit) ⌝ }
 {
     least(w[COUNT], SESSION_LIMIT)
+}
+
+// Does no request wait?
+pub fn nobody_waits(w: &Words) -> bool
+    ensures { λ r. ⌜ eqb (countOf (now (w .entry))) 0 ≡ r ⌝ }
+{
+    w[COUNT] == 0
 }
 
 // The slot of the j-th request that waits.
