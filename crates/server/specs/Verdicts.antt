@@ -88,3 +88,11 @@ of-kind d c i h p ro r m m′ out out′ k e q =
 pub of-role : (d : Server) (c i : ℕ) (h : Header) (p : List ℕ) (ro qo : Role) (r : Delivery) (m m′ : Memory) (out out′ : List ℕ) → ro ≡ qo
     → Done d c i (whole h p) qo r m m′ out out′ (judged qo d i h p) → Done d c i (whole h p) ro r m m′ out out′ (judged ro d i h p)
 of-role d c i h p ro qo r m m′ out out′ e q = subst (λ (x : Role). Done d c i (whole h p) x r m m′ out out′ (judged x d i h p)) (sym e) q
+
+-- and one whose payload is told in another way
+module _ (d : Server) (c i : ℕ) (h : Header) (ro : Role) (r : Delivery) (m m′ : Memory) (out out′ p q : List ℕ) (e : p ≡ q) where
+  pub of-payload : Done d c i (whole h p) ro r m m′ out out′ (judged ro d i h p) → Done d c i (whole h q) ro r m m′ out out′ (judged ro d i h q)
+  of-payload y = subst (λ (x : List ℕ). Done d c i (whole h x) ro r m m′ out out′ (judged ro d i h x)) e y
+
+  pub acts-of-payload : Did (finish d (acts ro d i c h p)) r m m′ out out′ → Did (finish d (acts ro d i c h q)) r m m′ out out′
+  acts-of-payload y = subst (λ (x : List ℕ). Did (finish d (acts ro d i c h x)) r m m′ out out′) e y

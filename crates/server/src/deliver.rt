@@ -17,7 +17,7 @@ ghost use Rattle.model.specs.Step.{effect, finish, numberTaken, received};
 ghost use Rattle.state.specs.Channels.{Unshown};
 ghost use Rattle.state.specs.Search.{roleNumber};
 ghost use Rattle.state.specs.View.{locksOf, memory, restOf, view};
-ghost use lib.ListN.{length};
+ghost use lib.ListN.{drop, length, take};
 ghost use mathlib.Core.Bool.{false, true};
 ghost use mathlib.Core.List.{List};
 ghost use mathlib.Core.Path.{_≡_};
@@ -50,6 +50,7 @@ use state::sizes::Strings;
 use state::sizes::Words;
 use state::tables;
 use wire::Header;
+use wire::number;
 use wire::reading;
 use wire::types::ASYNC_LOCK;
 use wire::types::ASYNC_STATUS_QUERY;
@@ -186,10 +187,10 @@ fn deliver_plain(
     code: u8,
     param: u32,
     len: u64,
-    payload: &[u8],
+    bytes: &[u8],
 ) -> Delivery
-    requires { ⌜ (c < connectionLimit) × (len ≤ payloadLimit) × (length (now payload) ≡ len) × (outputMinimum ≤ length (now out)) × ((s : List ℕ) → slotIn (locksOf (now w) s .entries) c ≡ i) × (i < sessionLimit) × (isCommand kind ≡ true) × ((s : List ℕ) → stands ((at (locksOf (now w) s .entries) i) .standing) ≡ false) ⌝ }
-    ensures { λ r. ⌜ Did (finish (view (memory (now (w .entry)) (now (strings .entry)))) (effect (judged r-synchronous (view (memory (now (w .entry)) (now (strings .entry)))) i (message kind code param len) (now (payload .entry))) (whole (message kind code param len) (now (payload .entry))) r-synchronous (view (memory (now (w .entry)) (now (strings .entry)))) i c)) r (memory (now (w .entry)) (now (strings .entry))) (memory (now (w .exit)) (now (strings .exit))) (now (out .entry)) (now (out .exit)) ⌝ }
+    requires { ⌜ (c < connectionLimit) × (len ≤ payloadLimit) × (16 + len ≤ length (now bytes)) × (outputMinimum ≤ length (now out)) × ((s : List ℕ) → slotIn (locksOf (now w) s .entries) c ≡ i) × (i < sessionLimit) × (isCommand kind ≡ true) × ((s : List ℕ) → stands ((at (locksOf (now w) s .entries) i) .standing) ≡ false) ⌝ }
+    ensures { λ r. ⌜ Did (finish (view (memory (now (w .entry)) (now (strings .entry)))) (effect (judged r-synchronous (view (memory (now (w .entry)) (now (strings .entry)))) i (message kind code param len) (take len (drop 16 (now (bytes .entry))))) (whole (message kind code param len) (take len (drop 16 (now (bytes .entry))))) r-synchronous (view (memory (now (w .entry)) (now (strings .entry)))) i c)) r (memory (now (w .entry)) (now (strings .entry))) (memory (now (w .exit)) (now (strings .exit))) (now (out .entry)) (now (out .exit)) ⌝ }
 {
     let v = on_synchronous::synchronous_verdict(w, i, kind, code, param, len);
     if v == ACTS {
@@ -213,17 +214,18 @@ fn act_lock(
     code: u8,
     param: u32,
     len: u64,
-    payload: &[u8],
+    bytes: &[u8],
 ) -> Delivery
-    requires { ⌜ (c < connectionLimit) × (i < sessionLimit) × (len ≤ payloadLimit) × (outputMinimum ≤ length (now out)) × ((s : List ℕ) → (at (locksOf (now w) s .entries) i) .asynchronous ≡ c) ⌝ }
-    ensures { λ r. ⌜ Did (finish (view (memory (now (w .entry)) (now (strings .entry)))) (acts r-asynchronous (view (memory (now (w .entry)) (now (strings .entry)))) i c (message 4 code param len) (now (payload .entry)))) r (memory (now (w .entry)) (now (strings .entry))) (memory (now (w .exit)) (now (strings .exit))) (now (out .entry)) (now (out .exit)) ⌝ }
+    requires { ⌜ (c < connectionLimit) × (i < sessionLimit) × (len ≤ payloadLimit) × (16 + len ≤ length (now bytes)) × (outputMinimum ≤ length (now out)) × ((s : List ℕ) → (at (locksOf (now w) s .entries) i) .asynchronous ≡ c) ⌝ }
+    ensures { λ r. ⌜ Did (finish (view (memory (now (w .entry)) (now (strings .entry)))) (acts r-asynchronous (view (memory (now (w .entry)) (now (strings .entry)))) i c (message 4 code param len) (take len (drop 16 (now (bytes .entry)))))) r (memory (now (w .entry)) (now (strings .entry))) (memory (now (w .exit)) (now (strings .exit))) (now (out .entry)) (now (out .exit)) ⌝ }
 {
     let n = tables::entry(w, i, tables::NUMBER);
     if code == 0 {
         let end = quick::release_quickly(w, strings, out, 0, c as u8, i, param);
         return answer::acted(n, len, end as u64);
     }
-    let end = quick::request_quickly(w, strings, out, 0, c as u8, i, param, payload);
+    let behind = 16 + len as usize;
+    let end = quick::request_quickly(w, strings, out, 0, c as u8, i, param, &bytes[16..behind]);
     answer::acted(n, len, end as u64)
 }
 
@@ -237,14 +239,14 @@ fn deliver_lock(
     code: u8,
     param: u32,
     len: u64,
-    payload: &[u8],
+    bytes: &[u8],
 ) -> Delivery
-    requires { ⌜ (c < connectionLimit) × (len ≤ payloadLimit) × (length (now payload) ≡ len) × (outputMinimum ≤ length (now out)) × ((s : List ℕ) → slotIn (locksOf (now w) s .entries) c ≡ i) × (i < sessionLimit) × ((s : List ℕ) → (at (locksOf (now w) s .entries) i) .asynchronous ≡ c) ⌝ }
-    ensures { λ r. ⌜ Did (finish (view (memory (now (w .entry)) (now (strings .entry)))) (effect (judged r-asynchronous (view (memory (now (w .entry)) (now (strings .entry)))) i (message 4 code param len) (now (payload .entry))) (whole (message 4 code param len) (now (payload .entry))) r-asynchronous (view (memory (now (w .entry)) (now (strings .entry)))) i c)) r (memory (now (w .entry)) (now (strings .entry))) (memory (now (w .exit)) (now (strings .exit))) (now (out .entry)) (now (out .exit)) ⌝ }
+    requires { ⌜ (c < connectionLimit) × (len ≤ payloadLimit) × (16 + len ≤ length (now bytes)) × (outputMinimum ≤ length (now out)) × ((s : List ℕ) → slotIn (locksOf (now w) s .entries) c ≡ i) × (i < sessionLimit) × ((s : List ℕ) → (at (locksOf (now w) s .entries) i) .asynchronous ≡ c) ⌝ }
+    ensures { λ r. ⌜ Did (finish (view (memory (now (w .entry)) (now (strings .entry)))) (effect (judged r-asynchronous (view (memory (now (w .entry)) (now (strings .entry)))) i (message 4 code param len) (take len (drop 16 (now (bytes .entry))))) (whole (message 4 code param len) (take len (drop 16 (now (bytes .entry))))) r-asynchronous (view (memory (now (w .entry)) (now (strings .entry)))) i c)) r (memory (now (w .entry)) (now (strings .entry))) (memory (now (w .exit)) (now (strings .exit))) (now (out .entry)) (now (out .exit)) ⌝ }
 {
     let v = on_asynchronous::asynchronous_verdict(ASYNC_LOCK, code, len);
     if v == ACTS {
-        return act_lock(w, strings, out, c, i, code, param, len, payload);
+        return act_lock(w, strings, out, c, i, code, param, len, bytes);
     }
     if v == HELD {
         return answer::quiet(outcome::HELD, 0);
@@ -263,10 +265,10 @@ fn deliver_status(
     code: u8,
     param: u32,
     len: u64,
-    payload: &[u8],
+    bytes: &[u8],
 ) -> Delivery
-    requires { ⌜ (c < connectionLimit) × (len ≤ payloadLimit) × (length (now payload) ≡ len) × (outputMinimum ≤ length (now out)) × ((s : List ℕ) → slotIn (locksOf (now w) s .entries) c ≡ i) × (i < sessionLimit) ⌝ }
-    ensures { λ r. ⌜ Did (finish (view (memory (now (w .entry)) (now (strings .entry)))) (effect (judged r-asynchronous (view (memory (now (w .entry)) (now (strings .entry)))) i (message 21 code param len) (now (payload .entry))) (whole (message 21 code param len) (now (payload .entry))) r-asynchronous (view (memory (now (w .entry)) (now (strings .entry)))) i c)) r (memory (now (w .entry)) (now (strings .entry))) (memory (now (w .exit)) (now (strings .exit))) (now (out .entry)) (now (out .exit)) ⌝ }
+    requires { ⌜ (c < connectionLimit) × (len ≤ payloadLimit) × (16 + len ≤ length (now bytes)) × (outputMinimum ≤ length (now out)) × ((s : List ℕ) → slotIn (locksOf (now w) s .entries) c ≡ i) × (i < sessionLimit) ⌝ }
+    ensures { λ r. ⌜ Did (finish (view (memory (now (w .entry)) (now (strings .entry)))) (effect (judged r-asynchronous (view (memory (now (w .entry)) (now (strings .entry)))) i (message 21 code param len) (take len (drop 16 (now (bytes .entry))))) (whole (message 21 code param len) (take len (drop 16 (now (bytes .entry))))) r-asynchronous (view (memory (now (w .entry)) (now (strings .entry)))) i c)) r (memory (now (w .entry)) (now (strings .entry))) (memory (now (w .exit)) (now (strings .exit))) (now (out .entry)) (now (out .exit)) ⌝ }
 {
     let v = on_asynchronous::asynchronous_verdict(ASYNC_STATUS_QUERY, code, len);
     if v == ACTS {
@@ -304,12 +306,13 @@ fn deliver_synchronous(
     code: u8,
     param: u32,
     len: u64,
-    payload: &[u8],
+    bytes: &[u8],
 ) -> Delivery
-    requires { ⌜ (c < connectionLimit) × (len ≤ payloadLimit) × (length (now payload) ≡ len) × (outputMinimum ≤ length (now out)) × ((s : List ℕ) → slotIn (locksOf (now w) s .entries) c ≡ i) × (i < sessionLimit) ⌝ }
-    ensures { λ r. ⌜ Did (finish (view (memory (now (w .entry)) (now (strings .entry)))) (effect (judged r-synchronous (view (memory (now (w .entry)) (now (strings .entry)))) i (message kind code param len) (now (payload .entry))) (whole (message kind code param len) (now (payload .entry))) r-synchronous (view (memory (now (w .entry)) (now (strings .entry)))) i c)) r (memory (now (w .entry)) (now (strings .entry))) (memory (now (w .exit)) (now (strings .exit))) (now (out .entry)) (now (out .exit)) ⌝ }
+    requires { ⌜ (c < connectionLimit) × (len ≤ payloadLimit) × (16 + len ≤ length (now bytes)) × (outputMinimum ≤ length (now out)) × ((s : List ℕ) → slotIn (locksOf (now w) s .entries) c ≡ i) × (i < sessionLimit) ⌝ }
+    ensures { λ r. ⌜ Did (finish (view (memory (now (w .entry)) (now (strings .entry)))) (effect (judged r-synchronous (view (memory (now (w .entry)) (now (strings .entry)))) i (message kind code param len) (take len (drop 16 (now (bytes .entry))))) (whole (message kind code param len) (take len (drop 16 (now (bytes .entry))))) r-synchronous (view (memory (now (w .entry)) (now (strings .entry)))) i c)) r (memory (now (w .entry)) (now (strings .entry))) (memory (now (w .exit)) (now (strings .exit))) (now (out .entry)) (now (out .exit)) ⌝ }
 {
     if standing::stands(w, i) {
+        let end = 16 + len as usize;
         let told = deliver_kind(
             w,
             strings,
@@ -321,13 +324,14 @@ fn deliver_synchronous(
             code,
             param,
             len,
-            payload,
+            &bytes[16..end],
         );
         return told;
     }
     if is_data(kind) {
-        return deliver_plain(w, strings, out, c, i, kind, code, param, len, payload);
+        return deliver_plain(w, strings, out, c, i, kind, code, param, len, bytes);
     }
+    let end = 16 + len as usize;
     let told = deliver_kind(
         w,
         strings,
@@ -339,7 +343,7 @@ fn deliver_synchronous(
         code,
         param,
         len,
-        payload,
+        &bytes[16..end],
     );
     told
 }
@@ -355,17 +359,18 @@ fn deliver_asynchronous(
     code: u8,
     param: u32,
     len: u64,
-    payload: &[u8],
+    bytes: &[u8],
 ) -> Delivery
-    requires { ⌜ (c < connectionLimit) × (len ≤ payloadLimit) × (length (now payload) ≡ len) × (outputMinimum ≤ length (now out)) × ((s : List ℕ) → slotIn (locksOf (now w) s .entries) c ≡ i) × (i < sessionLimit) × ((s : List ℕ) → (at (locksOf (now w) s .entries) i) .asynchronous ≡ c) ⌝ }
-    ensures { λ r. ⌜ Did (finish (view (memory (now (w .entry)) (now (strings .entry)))) (effect (judged r-asynchronous (view (memory (now (w .entry)) (now (strings .entry)))) i (message kind code param len) (now (payload .entry))) (whole (message kind code param len) (now (payload .entry))) r-asynchronous (view (memory (now (w .entry)) (now (strings .entry)))) i c)) r (memory (now (w .entry)) (now (strings .entry))) (memory (now (w .exit)) (now (strings .exit))) (now (out .entry)) (now (out .exit)) ⌝ }
+    requires { ⌜ (c < connectionLimit) × (len ≤ payloadLimit) × (16 + len ≤ length (now bytes)) × (outputMinimum ≤ length (now out)) × ((s : List ℕ) → slotIn (locksOf (now w) s .entries) c ≡ i) × (i < sessionLimit) × ((s : List ℕ) → (at (locksOf (now w) s .entries) i) .asynchronous ≡ c) ⌝ }
+    ensures { λ r. ⌜ Did (finish (view (memory (now (w .entry)) (now (strings .entry)))) (effect (judged r-asynchronous (view (memory (now (w .entry)) (now (strings .entry)))) i (message kind code param len) (take len (drop 16 (now (bytes .entry))))) (whole (message kind code param len) (take len (drop 16 (now (bytes .entry))))) r-asynchronous (view (memory (now (w .entry)) (now (strings .entry)))) i c)) r (memory (now (w .entry)) (now (strings .entry))) (memory (now (w .exit)) (now (strings .exit))) (now (out .entry)) (now (out .exit)) ⌝ }
 {
     if kind == ASYNC_STATUS_QUERY {
-        return deliver_status(w, strings, out, c, i, code, param, len, payload);
+        return deliver_status(w, strings, out, c, i, code, param, len, bytes);
     }
     if kind == ASYNC_LOCK {
-        return deliver_lock(w, strings, out, c, i, code, param, len, payload);
+        return deliver_lock(w, strings, out, c, i, code, param, len, bytes);
     }
+    let end = 16 + len as usize;
     let told = deliver_kind(
         w,
         strings,
@@ -377,7 +382,7 @@ fn deliver_asynchronous(
         code,
         param,
         len,
-        payload,
+        &bytes[16..end],
     );
     told
 }
@@ -391,22 +396,23 @@ fn deliver_whole(
     i: usize,
     role: u8,
     h: Header,
-    payload: &[u8],
+    bytes: &[u8],
 ) -> Delivery
-    requires { ⌜ (c < connectionLimit) × (h .len ≤ payloadLimit) × (length (now payload) ≡ h .len) × (outputMinimum ≤ length (now out)) × ((s : List ℕ) → slotIn (locksOf (now w) s .entries) c ≡ i) × ((role ≡ 0 → ⊥) → i < sessionLimit) × (role ≡ 0 → Unshown (now w) c) × (role ≡ 3 → (s : List ℕ) → (at (locksOf (now w) s .entries) i) .asynchronous ≡ c) ⌝ }
-    ensures { λ r. ⌜ ((ro : Role) → roleNumber ro ≡ role → Did (finish (view (memory (now (w .entry)) (now (strings .entry)))) (effect (judged ro (view (memory (now (w .entry)) (now (strings .entry)))) i h (now (payload .entry))) (whole h (now (payload .entry))) ro (view (memory (now (w .entry)) (now (strings .entry)))) i c)) r (memory (now (w .entry)) (now (strings .entry))) (memory (now (w .exit)) (now (strings .exit))) (now (out .entry)) (now (out .exit))) ⌝ }
+    requires { ⌜ (c < connectionLimit) × (h .len ≤ payloadLimit) × (16 + h .len ≤ length (now bytes)) × (outputMinimum ≤ length (now out)) × ((s : List ℕ) → slotIn (locksOf (now w) s .entries) c ≡ i) × ((role ≡ 0 → ⊥) → i < sessionLimit) × (role ≡ 0 → Unshown (now w) c) × (role ≡ 3 → (s : List ℕ) → (at (locksOf (now w) s .entries) i) .asynchronous ≡ c) ⌝ }
+    ensures { λ r. ⌜ ((ro : Role) → roleNumber ro ≡ role → Did (finish (view (memory (now (w .entry)) (now (strings .entry)))) (effect (judged ro (view (memory (now (w .entry)) (now (strings .entry)))) i h (take (h .len) (drop 16 (now (bytes .entry))))) (whole h (take (h .len) (drop 16 (now (bytes .entry))))) ro (view (memory (now (w .entry)) (now (strings .entry)))) i c)) r (memory (now (w .entry)) (now (strings .entry))) (memory (now (w .exit)) (now (strings .exit))) (now (out .entry)) (now (out .exit))) ⌝ }
 {
     let kind = h.kind;
     let code = h.code;
     let param = h.param;
     let len = h.len;
     if role == ON_SYNCHRONOUS {
-        return deliver_synchronous(w, strings, out, c, i, kind, code, param, len, payload);
+        return deliver_synchronous(w, strings, out, c, i, kind, code, param, len, bytes);
     }
     if role == ON_ASYNCHRONOUS {
-        return deliver_asynchronous(w, strings, out, c, i, kind, code, param, len, payload);
+        return deliver_asynchronous(w, strings, out, c, i, kind, code, param, len, bytes);
     }
-    let told = deliver_kind(w, strings, out, c, i, role, kind, code, param, len, payload);
+    let end = 16 + len as usize;
+    let told = deliver_kind(w, strings, out, c, i, role, kind, code, param, len, &bytes[16..end]);
     told
 }
 
@@ -426,28 +432,29 @@ fn deliver_message(
         let place = search::place_of(w, c);
         return replies::send_fatal(w, strings, out, c, place.slot, 1);
     }
-    let h = reading::header_at(bytes);
-    let len = h.len;
+    let len = number::number8(bytes, 8);
     if len > PAYLOAD {
+        let h = reading::header_at(bytes);
         let place = search::place_of(w, c);
         let v = whole::long_verdict(place.role);
         let moves = carries(w, place.role, place.slot, h.kind, h.param);
-        let told = apply(w, strings, out, c, place.slot, v, 16, len, moves);
+        let told = apply(w, strings, out, c, place.slot, v, 16, h.len, moves);
         return told;
     }
     let end = 16 + len as usize;
     if bytes.len() < end {
         let place = search::place_of(w, c);
-        let v = whole::partial_verdict(place.role, h.kind);
+        let v = whole::partial_verdict(place.role, bytes[2]);
         if v == MORE {
             return answer::more_needed((end - bytes.len()) as u64);
         }
         let told = apply(w, strings, out, c, place.slot, v, 0, 0, false);
         return told;
     }
+    let h = reading::header_at(bytes);
     let place = search::place_of(w, c);
     let i = place.slot;
-    deliver_whole(w, strings, out, c, i, place.role, h, &bytes[16..end])
+    deliver_whole(w, strings, out, c, i, place.role, h, bytes)
 }
 
 fn least(a: u64, b: usize) -> u64

@@ -1,30 +1,39 @@
 -- `deliver::act_lock` meets its contract: a release with what follows it, or a request.
-use mathlib.Core.Path.{refl}
+use mathlib.Core.Path.{_≡_, refl, ap}
+use Prim.Native.Nat.{ℕ, _+_, _-_}
+use native.Mathlib.Omega.{arith}
+use lib.ListN.{drop, take}
+use Rattle.checks.specs.Numbers.{message}
 use Rattle.effects.specs.Asynchronous.{did-message}
 use Rattle.effects.specs.LockMessages.{release-told, request-told}
 use Rattle.model.specs.Acts.{AsynchronousKind.k-lock}
-use Rattle.state.specs.View.{memory}
+use Rattle.model.specs.Place.{Role.r-asynchronous}
+use Rattle.state.specs.View.{memory, view}
+use Rattle.server.specs.Verdicts.{acts-of-payload}
 use borrow.Author.Needs.{needs}
 use Rattle.server.proofs.deliver.act_lock.Statement.{statement}
 use Rattle.server.proofs.deliver.act_lock.Tie as tie
 
 release-quickly-requires : tie.Need-release-quickly-requires
-release-quickly-requires c κs = let p = c .before .before .before .before .before .before .before .before in (search needs, search needs, p .pre .4)
+release-quickly-requires c κs = let p = c .before .before .before .before .before .before .before .before in (search needs, search needs, p .pre .5)
 
 returns : tie.Need-returns
 returns c = let a = c .before .before .before .before .before .before .before .before .before .before .before .before .args in
-    did-message k-lock (a .i) (a .c) 4 (a .code) (a .param) (a .len) (a .payload .now) (c .acted .result) (memory (a .w .now) (a .strings .now)) _ (a .out .now) _ refl
-    (release-told (a .w .now) (a .strings .now) _ _ (a .out .now) _ (a .i) (a .c) (c .before .before .before .before .before .before .before .before .entry .result) (a .code) (a .param) (a .len) (c .before .before .before .release-quickly .result) (a .payload .now) _ (c .acted .ensures)
+    did-message k-lock (a .i) (a .c) 4 (a .code) (a .param) (a .len) (take (a .len) (drop 16 (a .bytes .now))) (c .acted .result) (memory (a .w .now) (a .strings .now)) _ (a .out .now) _ refl
+    (release-told (a .w .now) (a .strings .now) _ _ (a .out .now) _ (a .i) (a .c) (c .before .before .before .before .before .before .before .before .entry .result) (a .code) (a .param) (a .len) (c .before .before .before .release-quickly .result) (take (a .len) (drop 16 (a .bytes .now))) _ (c .acted .ensures)
     (c .before .before .before .before .before .before .before .before .entry .ensures .0 (a .strings .now)) (c .before .before .before .before .before .before .before .if1 .taken) (c .before .before .before .release-quickly .ensures))
 
 request-quickly-requires : tie.Need-request-quickly-requires
-request-quickly-requires c κs = let p = c .before .before .before .before .before .before .before .before in (search needs, search needs, p .pre .4)
+request-quickly-requires c κs = let p = c .before .before .before .before .before .before .before .before .before in (search needs, search needs, p .pre .5)
 
 returns-2 : tie.Need-returns-2
-returns-2 c = let a = c .before .before .before .before .before .before .before .before .before .before .before .before .args in
-    did-message k-lock (a .i) (a .c) 4 (a .code) (a .param) (a .len) (a .payload .now) (c .acted2 .result) (memory (a .w .now) (a .strings .now)) _ (a .out .now) _ refl
-    (request-told (a .w .now) (a .strings .now) _ _ (a .out .now) _ (a .i) (a .c) (c .before .before .before .before .before .before .before .before .entry .result) (a .code) (a .param) (a .len) (c .before .before .before .request-quickly .result) (a .payload .now) _ (c .acted2 .ensures)
-    (c .before .before .before .before .before .before .before .before .entry .ensures .0 (a .strings .now)) (c .before .before .before .before .before .before .before .if1 .left) (c .before .before .before .request-quickly .ensures))
+returns-2 c = let a = c .before .before .before .before .before .before .before .before .before .before .before .before .before .args in
+    let p = take (16 + a .len - 16) (drop 16 (a .bytes .now)) in
+    let z : 16 + a .len - 16 ≡ a .len = omega arith in
+    acts-of-payload (view (memory (a .w .now) (a .strings .now))) (a .c) (a .i) (message 4 (a .code) (a .param) (a .len)) r-asynchronous (c .acted2 .result) _ _ _ _ p (take (a .len) (drop 16 (a .bytes .now))) (ap (λ (n : ℕ). take n (drop 16 (a .bytes .now))) z)
+    (did-message k-lock (a .i) (a .c) 4 (a .code) (a .param) (a .len) p (c .acted2 .result) (memory (a .w .now) (a .strings .now)) _ (a .out .now) _ refl
+    (request-told (a .w .now) (a .strings .now) _ _ (a .out .now) _ (a .i) (a .c) (c .before .before .before .before .before .before .before .before .before .entry .result) (a .code) (a .param) (a .len) (c .before .before .before .request-quickly .result) p _ (c .acted2 .ensures)
+    (c .before .before .before .before .before .before .before .before .before .entry .ensures .0 (a .strings .now)) (c .before .before .before .before .before .before .before .before .if1 .left) (c .before .before .before .request-quickly .ensures)))
 
 pub act-lock-spec : {M : Type 1} → statement M
 act-lock-spec =
@@ -36,6 +45,10 @@ act-lock-spec =
     (λ c κs. search needs)
     (λ c. search needs)
     returns
+    (λ c. search needs)
+    (λ c. search needs)
+    (λ c. search needs)
+    (λ c. search needs)
     (λ c. search needs)
     request-quickly-requires
     (λ c κs. search needs)

@@ -1,10 +1,12 @@
 -- `deliver::deliver_asynchronous` meets its contract: kinds told as constants are those of the message.
-use mathlib.Core.Path.{_≡_, refl, _∙_}
+use mathlib.Core.Path.{_≡_, refl, ap}
+use Prim.Native.Nat.{ℕ, _+_, _-_}
 use native.Mathlib.Omega.{arith}
+use lib.ListN.{drop, length-drop, length-take, take}
 use Rattle.checks.specs.Numbers.{message}
 use Rattle.model.specs.Place.{Role.r-asynchronous}
 use Rattle.state.specs.View.{memory, view}
-use Rattle.server.specs.Verdicts.{of-kind}
+use Rattle.server.specs.Verdicts.{of-kind, of-payload}
 use borrow.Author.Needs.{needs}
 use Rattle.server.proofs.deliver.deliver_asynchronous.Statement.{statement}
 use Rattle.server.proofs.deliver.deliver_asynchronous.Tie as tie
@@ -17,7 +19,7 @@ deliver-status-requires c κs =
 returns : tie.Need-returns
 returns c =
     let a = c .before .before .before .before .before .before .before .before .before .args in
-    of-kind (view (memory (a .w .now) (a .strings .now))) (a .c) (a .i) (message (a .kind) (a .code) (a .param) (a .len)) (a .payload .now) r-asynchronous _ _ _ _ _ 21 (c .before .before .before .before .before .before .if1 .taken) (c .before .before .deliver-status .ensures)
+    of-kind (view (memory (a .w .now) (a .strings .now))) (a .c) (a .i) (message (a .kind) (a .code) (a .param) (a .len)) (take (a .len) (drop 16 (a .bytes .now))) r-asynchronous _ _ _ _ _ 21 (c .before .before .before .before .before .before .if1 .taken) (c .before .before .deliver-status .ensures)
 
 deliver-lock-requires : tie.Need-deliver-lock-requires
 deliver-lock-requires c κs =
@@ -27,15 +29,18 @@ deliver-lock-requires c κs =
 returns-2 : tie.Need-returns-2
 returns-2 c =
     let a = c .before .before .before .before .before .before .before .before .before .before .args in
-    of-kind (view (memory (a .w .now) (a .strings .now))) (a .c) (a .i) (message (a .kind) (a .code) (a .param) (a .len)) (a .payload .now) r-asynchronous _ _ _ _ _ 4 (c .before .before .before .before .before .before .if2 .taken) (c .before .before .deliver-lock .ensures)
+    of-kind (view (memory (a .w .now) (a .strings .now))) (a .c) (a .i) (message (a .kind) (a .code) (a .param) (a .len)) (take (a .len) (drop 16 (a .bytes .now))) r-asynchronous _ _ _ _ _ 4 (c .before .before .before .before .before .before .if2 .taken) (c .before .before .deliver-lock .ensures)
 
 deliver-kind-requires : tie.Need-deliver-kind-requires
 deliver-kind-requires c κs =
-    let q = c .before .before .before .before .before .before .before .pre in
-    (search needs, search needs, q .2, search needs, q .4, λ o. q .5, λ z. absurd (let y : ⊥ = omega arith in y))
+    let q = c .before .before .before .before .before .before .before .before .pre in
+    (search needs, search needs, simp (length-take, length-drop) (omega (arith, q .2)), search needs, q .4, λ o. q .5, λ z. absurd (let y : ⊥ = omega arith in y))
 
 returns-3 : tie.Need-returns-3
-returns-3 c = c .before .before .deliver-kind .ensures r-asynchronous refl
+returns-3 c =
+    let a = c .before .before .before .before .before .before .before .before .before .before .before .args in
+    let z : 16 + a .len - 16 ≡ a .len = omega arith in
+    of-payload (view (memory (a .w .now) (a .strings .now))) (a .c) (a .i) (message (a .kind) (a .code) (a .param) (a .len)) r-asynchronous _ _ _ _ _ _ _ (ap (λ (n : ℕ). take n (drop 16 (a .bytes .now))) z) (c .before .before .deliver-kind .ensures r-asynchronous refl)
 
 pub deliver-asynchronous-spec : {M : Type 1} → statement M
 deliver-asynchronous-spec =
@@ -47,6 +52,10 @@ deliver-asynchronous-spec =
     deliver-lock-requires
     (λ c. search needs)
     returns-2
+    (λ c. search needs)
+    (λ c. search needs)
+    (λ c. search needs)
+    (λ c. search needs)
     deliver-kind-requires
     (λ c. search needs)
     returns-3)

@@ -10,12 +10,13 @@ use Rattle.state.specs.View.{memory, view}
 use Rattle.effects.specs.Did.{did-nothing, numbersOf}
 use Rattle.model.specs.Interface.{Reply.took, Outcome.held}
 use Rattle.server.specs.Verdicts.{acts-done, by-verdict, held-done}
+use lib.ListN.{drop, take}
 use borrow.Author.Needs.{needs}
 use Rattle.server.proofs.deliver.deliver_lock.Statement.{statement}
 use Rattle.server.proofs.deliver.deliver_lock.Tie as tie
 
 act-lock-requires : tie.Need-act-lock-requires
-act-lock-requires c κs = (search needs, search needs, search needs, search needs, c .before .before .before .before .before .before .before .pre .6)
+act-lock-requires c κs = let q = c .before .before .before .before .before .before .before .pre in (search needs, search needs, search needs, q .2, search needs, q .6)
 
 returns : tie.Need-returns
 returns c =
@@ -23,8 +24,8 @@ returns c =
     let v = c .before .before .before .before .before .before .before .asynchronous-verdict in
     let d = view (memory (a .w .now) (a .strings .now)) in
     let h = message 4 (a .code) (a .param) (a .len) in
-    let e : judged r-asynchronous d (a .i) h (a .payload .now) ≡ verdictOf (v .result) = judged-asynchronous d (a .i) h (a .payload .now) r-asynchronous (λ q. let z : ⊥ = omega arith in z) (λ q. let z : ⊥ = omega arith in z) (λ q. let z : ⊥ = omega arith in z) ∙ v .ensures (a .payload .now) (a .param) .case in
-    acts-done d (a .c) (a .i) h (a .payload .now) r-asynchronous _ _ _ _ _ (judged r-asynchronous d (a .i) h (a .payload .now))
+    let e : judged r-asynchronous d (a .i) h (take (a .len) (drop 16 (a .bytes .now))) ≡ verdictOf (v .result) = judged-asynchronous d (a .i) h (take (a .len) (drop 16 (a .bytes .now))) r-asynchronous (λ q. let z : ⊥ = omega arith in z) (λ q. let z : ⊥ = omega arith in z) (λ q. let z : ⊥ = omega arith in z) ∙ v .ensures (take (a .len) (drop 16 (a .bytes .now))) (a .param) .case in
+    acts-done d (a .c) (a .i) h (take (a .len) (drop 16 (a .bytes .now))) r-asynchronous _ _ _ _ _ (judged r-asynchronous d (a .i) h (take (a .len) (drop 16 (a .bytes .now))))
     (e ∙ ap verdictOf (c .before .before .before .before .before .before .if1 .taken)) (c .before .before .act-lock .ensures)
 
 returns-2 : tie.Need-returns-2
@@ -33,9 +34,9 @@ returns-2 c =
     let v = c .before .before .before .asynchronous-verdict in
     let d = view (memory (a .w .now) (a .strings .now)) in
     let h = message 4 (a .code) (a .param) (a .len) in
-    let e : judged r-asynchronous d (a .i) h (a .payload .now) ≡ verdictOf (v .result) = judged-asynchronous d (a .i) h (a .payload .now) r-asynchronous (λ q. let z : ⊥ = omega arith in z) (λ q. let z : ⊥ = omega arith in z) (λ q. let z : ⊥ = omega arith in z) ∙ v .ensures (a .payload .now) (a .param) .case in
-    let x = whole h (a .payload .now) in
-    by-verdict d (a .c) (a .i) x r-asynchronous _ _ _ _ _ (judged r-asynchronous d (a .i) h (a .payload .now)) (verdictOf (v .result)) e
+    let e : judged r-asynchronous d (a .i) h (take (a .len) (drop 16 (a .bytes .now))) ≡ verdictOf (v .result) = judged-asynchronous d (a .i) h (take (a .len) (drop 16 (a .bytes .now))) r-asynchronous (λ q. let z : ⊥ = omega arith in z) (λ q. let z : ⊥ = omega arith in z) (λ q. let z : ⊥ = omega arith in z) ∙ v .ensures (take (a .len) (drop 16 (a .bytes .now))) (a .param) .case in
+    let x = whole h (take (a .len) (drop 16 (a .bytes .now))) in
+    by-verdict d (a .c) (a .i) x r-asynchronous _ _ _ _ _ (judged r-asynchronous d (a .i) h (take (a .len) (drop 16 (a .bytes .now)))) (verdictOf (v .result)) e
     (held-done d (a .c) (a .i) x r-asynchronous _ _ _ _ _ (v .result) (c .before .if2 .taken) (did-nothing 0 (took held 0 0) _ _ _ (ap numbersOf (c .quiet .ensures))))
 
 returns-3 : tie.Need-returns-3
@@ -44,9 +45,9 @@ returns-3 c =
     let v = c .before .before .before .before .before .before .before .before .asynchronous-verdict in
     let d = view (memory (a .w .now) (a .strings .now)) in
     let h = message 4 (a .code) (a .param) (a .len) in
-    let e : judged r-asynchronous d (a .i) h (a .payload .now) ≡ verdictOf (v .result) = judged-asynchronous d (a .i) h (a .payload .now) r-asynchronous (λ q. let z : ⊥ = omega arith in z) (λ q. let z : ⊥ = omega arith in z) (λ q. let z : ⊥ = omega arith in z) ∙ v .ensures (a .payload .now) (a .param) .case in
-    by-verdict d (a .c) (a .i) (whole h (a .payload .now)) r-asynchronous _ _ _ _ _ (judged r-asynchronous d (a .i) h (a .payload .now)) (verdictOf (v .result)) e
-    (c .before .before .apply .ensures r-asynchronous (whole h (a .payload .now)) refl refl refl)
+    let e : judged r-asynchronous d (a .i) h (take (a .len) (drop 16 (a .bytes .now))) ≡ verdictOf (v .result) = judged-asynchronous d (a .i) h (take (a .len) (drop 16 (a .bytes .now))) r-asynchronous (λ q. let z : ⊥ = omega arith in z) (λ q. let z : ⊥ = omega arith in z) (λ q. let z : ⊥ = omega arith in z) ∙ v .ensures (take (a .len) (drop 16 (a .bytes .now))) (a .param) .case in
+    by-verdict d (a .c) (a .i) (whole h (take (a .len) (drop 16 (a .bytes .now)))) r-asynchronous _ _ _ _ _ (judged r-asynchronous d (a .i) h (take (a .len) (drop 16 (a .bytes .now)))) (verdictOf (v .result)) e
+    (c .before .before .apply .ensures r-asynchronous (whole h (take (a .len) (drop 16 (a .bytes .now)))) refl refl refl)
 
 pub deliver-lock-spec : {M : Type 1} → statement M
 deliver-lock-spec =

@@ -12,6 +12,7 @@ use Rattle.effects.specs.Did.{did-nothing, numbersOf}
 use Rattle.model.specs.Interface.{Reply.took, Outcome.held}
 use Rattle.server.specs.Numbering.{moved-whole}
 use Rattle.server.specs.Verdicts.{acts-done, by-verdict, held-done}
+use lib.ListN.{drop, take}
 use borrow.Author.Needs.{needs}
 use Rattle.server.proofs.deliver.deliver_plain.Statement.{statement}
 use Rattle.server.proofs.deliver.deliver_plain.Tie as tie
@@ -22,9 +23,9 @@ returns c =
     let v = c .before .before .before .before .before .before .synchronous-verdict in
     let d = view (memory (a .w .now) (a .strings .now)) in
     let h = message (a .kind) (a .code) (a .param) (a .len) in
-    let e : judged r-synchronous d (a .i) h (a .payload .now) ≡ verdictOf (v .result) = judged-synchronous d (a .i) h (a .payload .now) r-synchronous refl ∙ v .ensures (a .strings .now) (a .payload .now) .case in
-    acts-done d (a .c) (a .i) h (a .payload .now) r-synchronous _ _ _ _ _ (judged r-synchronous d (a .i) h (a .payload .now))
-    (e ∙ ap verdictOf (c .before .before .before .before .before .if1 .taken)) (c .before .before .act-plainly .ensures (a .strings .now) (a .payload .now) (a .c))
+    let e : judged r-synchronous d (a .i) h (take (a .len) (drop 16 (a .bytes .now))) ≡ verdictOf (v .result) = judged-synchronous d (a .i) h (take (a .len) (drop 16 (a .bytes .now))) r-synchronous refl ∙ v .ensures (a .strings .now) (take (a .len) (drop 16 (a .bytes .now))) .case in
+    acts-done d (a .c) (a .i) h (take (a .len) (drop 16 (a .bytes .now))) r-synchronous _ _ _ _ _ (judged r-synchronous d (a .i) h (take (a .len) (drop 16 (a .bytes .now))))
+    (e ∙ ap verdictOf (c .before .before .before .before .before .if1 .taken)) (c .before .before .act-plainly .ensures (a .strings .now) (take (a .len) (drop 16 (a .bytes .now))) (a .c))
 
 returns-2 : tie.Need-returns-2
 returns-2 c =
@@ -32,9 +33,9 @@ returns-2 c =
     let v = c .before .before .before .synchronous-verdict in
     let d = view (memory (a .w .now) (a .strings .now)) in
     let h = message (a .kind) (a .code) (a .param) (a .len) in
-    let e : judged r-synchronous d (a .i) h (a .payload .now) ≡ verdictOf (v .result) = judged-synchronous d (a .i) h (a .payload .now) r-synchronous refl ∙ v .ensures (a .strings .now) (a .payload .now) .case in
-    let x = whole h (a .payload .now) in
-    by-verdict d (a .c) (a .i) x r-synchronous _ _ _ _ _ (judged r-synchronous d (a .i) h (a .payload .now)) (verdictOf (v .result)) e
+    let e : judged r-synchronous d (a .i) h (take (a .len) (drop 16 (a .bytes .now))) ≡ verdictOf (v .result) = judged-synchronous d (a .i) h (take (a .len) (drop 16 (a .bytes .now))) r-synchronous refl ∙ v .ensures (a .strings .now) (take (a .len) (drop 16 (a .bytes .now))) .case in
+    let x = whole h (take (a .len) (drop 16 (a .bytes .now))) in
+    by-verdict d (a .c) (a .i) x r-synchronous _ _ _ _ _ (judged r-synchronous d (a .i) h (take (a .len) (drop 16 (a .bytes .now)))) (verdictOf (v .result)) e
     (held-done d (a .c) (a .i) x r-synchronous _ _ _ _ _ (v .result) (c .before .if2 .taken) (did-nothing 0 (took held 0 0) _ _ _ (ap numbersOf (c .quiet .ensures))))
 
 carries-requires : tie.Need-carries-requires
@@ -46,9 +47,9 @@ returns-3 c =
     let v = c .before .before .before .before .before .before .before .before .before .before .synchronous-verdict in
     let d = view (memory (a .w .now) (a .strings .now)) in
     let h = message (a .kind) (a .code) (a .param) (a .len) in
-    let e : judged r-synchronous d (a .i) h (a .payload .now) ≡ verdictOf (v .result) = judged-synchronous d (a .i) h (a .payload .now) r-synchronous refl ∙ v .ensures (a .strings .now) (a .payload .now) .case in
-    by-verdict d (a .c) (a .i) (whole h (a .payload .now)) r-synchronous _ _ _ _ _ (judged r-synchronous d (a .i) h (a .payload .now)) (verdictOf (v .result)) e
-    (c .before .before .apply .ensures r-synchronous (whole h (a .payload .now)) refl refl (moved-whole h (exchangeAt (restOf (a .w .now)) (a .i)) r-synchronous (a .payload .now) _ (c .before .before .before .before .before .before .carries .ensures .1 r-synchronous (a .code) (a .len) refl)))
+    let e : judged r-synchronous d (a .i) h (take (a .len) (drop 16 (a .bytes .now))) ≡ verdictOf (v .result) = judged-synchronous d (a .i) h (take (a .len) (drop 16 (a .bytes .now))) r-synchronous refl ∙ v .ensures (a .strings .now) (take (a .len) (drop 16 (a .bytes .now))) .case in
+    by-verdict d (a .c) (a .i) (whole h (take (a .len) (drop 16 (a .bytes .now)))) r-synchronous _ _ _ _ _ (judged r-synchronous d (a .i) h (take (a .len) (drop 16 (a .bytes .now)))) (verdictOf (v .result)) e
+    (c .before .before .apply .ensures r-synchronous (whole h (take (a .len) (drop 16 (a .bytes .now)))) refl refl (moved-whole h (exchangeAt (restOf (a .w .now)) (a .i)) r-synchronous (take (a .len) (drop 16 (a .bytes .now))) _ (c .before .before .before .before .before .before .carries .ensures .1 r-synchronous (a .code) (a .len) refl)))
 
 pub deliver-plain-spec : {M : Type 1} → statement M
 deliver-plain-spec =

@@ -12,6 +12,7 @@ use Rattle.effects.specs.Did.{did-nothing, numbersOf}
 use Rattle.model.specs.Acts.{AsynchronousKind.k-statusQuery}
 use Rattle.model.specs.Interface.{Reply.took, Outcome.held}
 use Rattle.server.specs.Verdicts.{acts-done, by-verdict, held-done}
+use lib.ListN.{drop, take}
 use borrow.Author.Needs.{needs}
 use Rattle.server.proofs.deliver.deliver_status.Statement.{statement}
 use Rattle.server.proofs.deliver.deliver_status.Tie as tie
@@ -22,9 +23,9 @@ returns c =
     let v = c .before .before .before .before .before .before .asynchronous-verdict in
     let d = view (memory (a .w .now) (a .strings .now)) in
     let h = message 21 (a .code) (a .param) (a .len) in
-    let e : judged r-asynchronous d (a .i) h (a .payload .now) ≡ verdictOf (v .result) = judged-asynchronous d (a .i) h (a .payload .now) r-asynchronous (λ q. let z : ⊥ = omega arith in z) (λ q. let z : ⊥ = omega arith in z) (λ q. let z : ⊥ = omega arith in z) ∙ v .ensures (a .payload .now) (a .param) .case in
-    acts-done d (a .c) (a .i) h (a .payload .now) r-asynchronous _ _ _ _ _ (judged r-asynchronous d (a .i) h (a .payload .now))
-    (e ∙ ap verdictOf (c .before .before .before .before .before .if1 .taken)) (did-message k-statusQuery (a .i) (a .c) 21 (a .code) (a .param) (a .len) (a .payload .now) (c .before .before .query-status .result) (memory (a .w .now) (a .strings .now)) _ (a .out .now) _ refl (c .before .before .query-status .ensures (a .strings .now) (a .payload .now)))
+    let e : judged r-asynchronous d (a .i) h (take (a .len) (drop 16 (a .bytes .now))) ≡ verdictOf (v .result) = judged-asynchronous d (a .i) h (take (a .len) (drop 16 (a .bytes .now))) r-asynchronous (λ q. let z : ⊥ = omega arith in z) (λ q. let z : ⊥ = omega arith in z) (λ q. let z : ⊥ = omega arith in z) ∙ v .ensures (take (a .len) (drop 16 (a .bytes .now))) (a .param) .case in
+    acts-done d (a .c) (a .i) h (take (a .len) (drop 16 (a .bytes .now))) r-asynchronous _ _ _ _ _ (judged r-asynchronous d (a .i) h (take (a .len) (drop 16 (a .bytes .now))))
+    (e ∙ ap verdictOf (c .before .before .before .before .before .if1 .taken)) (did-message k-statusQuery (a .i) (a .c) 21 (a .code) (a .param) (a .len) (take (a .len) (drop 16 (a .bytes .now))) (c .before .before .query-status .result) (memory (a .w .now) (a .strings .now)) _ (a .out .now) _ refl (c .before .before .query-status .ensures (a .strings .now) (take (a .len) (drop 16 (a .bytes .now)))))
 
 returns-2 : tie.Need-returns-2
 returns-2 c =
@@ -32,9 +33,9 @@ returns-2 c =
     let v = c .before .before .before .asynchronous-verdict in
     let d = view (memory (a .w .now) (a .strings .now)) in
     let h = message 21 (a .code) (a .param) (a .len) in
-    let e : judged r-asynchronous d (a .i) h (a .payload .now) ≡ verdictOf (v .result) = judged-asynchronous d (a .i) h (a .payload .now) r-asynchronous (λ q. let z : ⊥ = omega arith in z) (λ q. let z : ⊥ = omega arith in z) (λ q. let z : ⊥ = omega arith in z) ∙ v .ensures (a .payload .now) (a .param) .case in
-    let x = whole h (a .payload .now) in
-    by-verdict d (a .c) (a .i) x r-asynchronous _ _ _ _ _ (judged r-asynchronous d (a .i) h (a .payload .now)) (verdictOf (v .result)) e
+    let e : judged r-asynchronous d (a .i) h (take (a .len) (drop 16 (a .bytes .now))) ≡ verdictOf (v .result) = judged-asynchronous d (a .i) h (take (a .len) (drop 16 (a .bytes .now))) r-asynchronous (λ q. let z : ⊥ = omega arith in z) (λ q. let z : ⊥ = omega arith in z) (λ q. let z : ⊥ = omega arith in z) ∙ v .ensures (take (a .len) (drop 16 (a .bytes .now))) (a .param) .case in
+    let x = whole h (take (a .len) (drop 16 (a .bytes .now))) in
+    by-verdict d (a .c) (a .i) x r-asynchronous _ _ _ _ _ (judged r-asynchronous d (a .i) h (take (a .len) (drop 16 (a .bytes .now)))) (verdictOf (v .result)) e
     (held-done d (a .c) (a .i) x r-asynchronous _ _ _ _ _ (v .result) (c .before .if2 .taken) (did-nothing 0 (took held 0 0) _ _ _ (ap numbersOf (c .quiet .ensures))))
 
 returns-3 : tie.Need-returns-3
@@ -43,9 +44,9 @@ returns-3 c =
     let v = c .before .before .before .before .before .before .before .before .asynchronous-verdict in
     let d = view (memory (a .w .now) (a .strings .now)) in
     let h = message 21 (a .code) (a .param) (a .len) in
-    let e : judged r-asynchronous d (a .i) h (a .payload .now) ≡ verdictOf (v .result) = judged-asynchronous d (a .i) h (a .payload .now) r-asynchronous (λ q. let z : ⊥ = omega arith in z) (λ q. let z : ⊥ = omega arith in z) (λ q. let z : ⊥ = omega arith in z) ∙ v .ensures (a .payload .now) (a .param) .case in
-    by-verdict d (a .c) (a .i) (whole h (a .payload .now)) r-asynchronous _ _ _ _ _ (judged r-asynchronous d (a .i) h (a .payload .now)) (verdictOf (v .result)) e
-    (c .before .before .apply .ensures r-asynchronous (whole h (a .payload .now)) refl refl refl)
+    let e : judged r-asynchronous d (a .i) h (take (a .len) (drop 16 (a .bytes .now))) ≡ verdictOf (v .result) = judged-asynchronous d (a .i) h (take (a .len) (drop 16 (a .bytes .now))) r-asynchronous (λ q. let z : ⊥ = omega arith in z) (λ q. let z : ⊥ = omega arith in z) (λ q. let z : ⊥ = omega arith in z) ∙ v .ensures (take (a .len) (drop 16 (a .bytes .now))) (a .param) .case in
+    by-verdict d (a .c) (a .i) (whole h (take (a .len) (drop 16 (a .bytes .now)))) r-asynchronous _ _ _ _ _ (judged r-asynchronous d (a .i) h (take (a .len) (drop 16 (a .bytes .now)))) (verdictOf (v .result)) e
+    (c .before .before .apply .ensures r-asynchronous (whole h (take (a .len) (drop 16 (a .bytes .now)))) refl refl refl)
 
 pub deliver-status-spec : {M : Type 1} → statement M
 deliver-status-spec =
