@@ -5,12 +5,12 @@ use mathlib.Core.Bool.{Bool, true, false, not, _&&_, _||_, cond, true≢false}
 use mathlib.Core.Logic.{_⊎_, inl, inr, ⊎-elim}
 use Rattle.wire.specs.Frame.{Frame}
 use mathlib.Core.List.{List, [], _∷_}
-use Prim.Native.Nat.{ℕ, _+_, _*_, _-_, _%_, _^_, _<_, _≤_}
+use Prim.Native.Nat.{ℕ, zero, suc, _+_, _*_, _-_, _%_, _^_, _<_, _≤_}
 use native.Mathlib.Nat.{mod-eq-of-lt}
 use native.Mathlib.Omega.{arith}
 use lib.Dec.{eqb}
 use lib.ListN.{length}
-use borrow.Author.Tests.{eq-eqb, ne-eqb}
+use borrow.Author.Tests.{eq-eqb, eqb-true, ne-eqb}
 use Rattle.wire.specs.declared.Header.{Header}
 use Rattle.model.specs.MessageTypes.{Data, DataEND, Trigger, DeviceClearAcknowledge}
 use Rattle.model.specs.State.{Server, Rest, Exchange, Asked, Asked.none, Asked.some, at, freshExchange, exchangeAt, withExchange}
@@ -109,6 +109,50 @@ module _ (d : Server) (i t code n : ℕ) where
 
   pub notes-ask : (t ≡ Data → ⊥) → onRest d (withSlot i (ask code n)) ≡ onRest d (withSlot i (commandNotes t code n))
   notes-ask o = ap (λ (b : Bool). onRest d (withSlot i (λ (x : Exchange). cond b (noteRmt code x) (ask code n x)))) (sym (ne-eqb t Data o))
+
+-- a command that is no Trigger
+pub command-short : (t : ℕ) → isCommand t ≡ true → (t ≡ Trigger → ⊥) → (t ≡ Data) ⊎ (t ≡ DataEND)
+command-short t h o = go (eqb t Data) (eqb t DataEND) (eqb t Trigger) refl refl refl h
+  where
+    go : (x y z : Bool) → eqb t Data ≡ x → eqb t DataEND ≡ y → eqb t Trigger ≡ z → (x || (y || z)) ≡ true → (t ≡ Data) ⊎ (t ≡ DataEND)
+    go true y z e f g h = inl (eqb-true t Data e)
+    go false true z e f g h = inr (eqb-true t DataEND f)
+    go false false true e f g h = absurd (o (eqb-true t Trigger g))
+    go false false false e f g h = absurd (true≢false (sym h))
+
+-- a factor of 0 or 1, and the sum of two of which one is
+module _ (x y b : ℕ) where
+  pub factor-small : (e : ℕ) → e ≤ 1 → x < b → x * e < b
+  factor-small zero h l = omega arith
+  factor-small (suc zero) h l = omega arith
+  factor-small (suc (suc e)) h l = absurd (omega arith)
+
+  pub sum-small : (e : ℕ) → e ≤ 1 → x < b → y < b → x * (1 - e) + y * e < b
+  sum-small zero h l k = omega arith
+  sum-small (suc zero) h l k = omega arith
+  sum-small (suc (suc e)) h l k = absurd (omega arith)
+
+  pub sum-first : (e : ℕ) → e ≡ 0 → x * (1 - e) + y * e ≡ x
+  sum-first zero h = omega arith
+  sum-first (suc e) h = absurd (omega arith)
+
+  pub sum-second : (e : ℕ) → e ≡ 1 → x * (1 - e) + y * e ≡ y
+  sum-second zero h = absurd (omega arith)
+  sum-second (suc zero) h = omega arith
+  sum-second (suc (suc e)) h = absurd (omega arith)
+
+-- what is asked behind a Data or DataEND, stored, then RMT-delivered
+module _ (d d₁ d₂ : Server) (i t code p a v : ℕ) (e₁ : d₁ ≡ onExchange d i (exchangeWith 1 v)) (e₂ : d₂ ≡ onRest d₁ (withSlot i (noteRmt code))) where
+  pub data-noted : exchangeWith 1 a (exchangeAt (d .rest) i) ≡ exchangeAt (d .rest) i → t ≡ Data → v ≡ a → d₂ ≡ onRest d (withSlot i (commandNotes t code p))
+  data-noted x e f =
+      slot-twice d d₁ d₂ i (exchangeWith 1 a) (noteRmt code) (e₁ ∙ ap (λ (z : ℕ). onExchange d i (exchangeWith 1 z)) f) e₂
+      ∙ ap (λ (z : Exchange). onRest d (λ (r : Rest). withExchange r i (noteRmt code z))) x
+      ∙ notes-data d i t code p e
+
+  pub end-noted : p < 2 ^ 32 → t ≡ DataEND → v ≡ p + 1 → d₂ ≡ onRest d (withSlot i (commandNotes t code p))
+  end-noted h e f =
+      asked-told d d₁ d₂ i code p h (e₁ ∙ ap (λ (z : ℕ). onExchange d i (exchangeWith 1 z)) f) e₂
+      ∙ notes-ask d i t code p (λ q. omega (arith, e, q))
 
 -- the plan of a message that acts: a command's, and that of DeviceClearComplete
 module _ (d : Server) (i c : ℕ) (h : Header) (p : List ℕ) where

@@ -16,6 +16,7 @@ ghost use lib.Dec.{eqb};
 ghost use lib.ListN.{length};
 ghost use mathlib.Core.Bool.{_&&_, cond, false, not, true};
 ghost use mathlib.Core.List.{List};
+ghost use mathlib.Core.Logic.{_⊎_};
 ghost use mathlib.Core.Path.{_≡_};
 ghost use Rattle.model.specs.Sizes.{connectionLimit, outputMinimum, payloadLimit, sessionLimit};
 use crate::Delivery;
@@ -96,21 +97,41 @@ pub fn is_command(kind: u8) -> bool
     kind == types::TRIGGER
 }
 
-// What a Data notes, and what a DataEND or Trigger does.
-fn note_command(w: &mut Words, i: usize, kind: u8, code: u8, param: u32)
-    requires { ⌜ i < sessionLimit ⌝ }
+// The word of what is asked behind a Data, which leaves it, or a DataEND, which asks for its own number: a sum of products, for no processor
+// foresees which of the two comes.
+fn asked_behind(word: u64, kind: u8, param: u32) -> u64
+    ensures { λ r. ⌜ (kind ≡ 6 → r ≡ word) × (kind ≡ 7 → r ≡ param + 1) ⌝ }
+{
+    let ends = wide(kind) % 2;
+    word * (1 - ends) + (param as u64 + 1) * ends
+}
+
+// What a Data or DataEND notes.
+fn note_data(w: &mut Words, i: usize, kind: u8, code: u8, param: u32)
+    requires { ⌜ (i < sessionLimit) × ((kind ≡ 6) ⊎ (kind ≡ 7)) ⌝ }
     ensures { λ _. ⌜ ((s : List ℕ) → view (memory (now (w .exit)) s) ≡ onRest (view (memory (now (w .entry)) s)) (withSlot i (commandNotes kind code param))) × ((s : List ℕ) → Tidy (memory (now (w .entry)) s) → Tidy (memory (now (w .exit)) s)) ⌝ }
 {
-    if kind == types::DATA {
-        note_rmt(w, i, code);
+    let word = tables::exchange(w, i, tables::ASKED);
+    let asked = asked_behind(word, kind, param);
+    tables::set_exchange(w, i, tables::ASKED, asked);
+    note_rmt(w, i, code);
+}
+
+// What a Data, DataEND or Trigger notes.
+fn note_command(w: &mut Words, i: usize, kind: u8, code: u8, param: u32)
+    requires { ⌜ (i < sessionLimit) × (isCommand kind ≡ true) ⌝ }
+    ensures { λ _. ⌜ ((s : List ℕ) → view (memory (now (w .exit)) s) ≡ onRest (view (memory (now (w .entry)) s)) (withSlot i (commandNotes kind code param))) × ((s : List ℕ) → Tidy (memory (now (w .entry)) s) → Tidy (memory (now (w .exit)) s)) ⌝ }
+{
+    if kind == types::TRIGGER {
+        note_asked(w, i, code, MessageId::new(param));
         return;
     }
-    note_asked(w, i, code, MessageId::new(param));
+    note_data(w, i, kind, code, param);
 }
 
 // A command in turn, just before it acts: the expectation is cleared, what it says is noted, and the number expected moves.
 fn note_in_turn(w: &mut Words, i: usize, kind: u8, code: u8, param: u32)
-    requires { ⌜ (i < sessionLimit) × (differs (eqb code 1) ((exchangeAt (restOf (now w)) i) .rmtExpected) ≡ false) ⌝ }
+    requires { ⌜ (i < sessionLimit) × (isCommand kind ≡ true) × (differs (eqb code 1) ((exchangeAt (restOf (now w)) i) .rmtExpected) ≡ false) ⌝ }
     ensures { λ _. ⌜ ((s out : List ℕ) → Turned (view (memory (now (w .entry)) s)) i kind code param (view (memory (now (w .exit)) s)) out out 0) × ((s : List ℕ) → Tidy (memory (now (w .entry)) s) → Tidy (memory (now (w .exit)) s)) ⌝ }
 {
     tables::set_exchange(w, i, tables::RMT_EXPECTED, 0);
@@ -128,7 +149,7 @@ fn note_out_of_turn(
     code: u8,
     param: u32,
 ) -> usize
-    requires { ⌜ (i < sessionLimit) × (outputMinimum ≤ length (now out)) × (differs (eqb code 1) ((exchangeAt (restOf (now w)) i) .rmtExpected) ≡ true) ⌝ }
+    requires { ⌜ (i < sessionLimit) × (outputMinimum ≤ length (now out)) × (isCommand kind ≡ true) × (differs (eqb code 1) ((exchangeAt (restOf (now w)) i) .rmtExpected) ≡ true) ⌝ }
     ensures { λ r. ⌜ (r ≤ 34) × ((s : List ℕ) → Turned (view (memory (now (w .entry)) s)) i kind code param (view (memory (now (w .exit)) s)) (now (out .entry)) (now (out .exit)) r) × ((s : List ℕ) → Tidy (memory (now (w .entry)) s) → Tidy (memory (now (w .exit)) s)) ⌝ }
 {
     let end = out_of_turn(w, out, i, param);
@@ -140,7 +161,7 @@ fn note_out_of_turn(
 // A Data, DataEND or Trigger just before it acts: RMT-delivered is tested against the expectation, which is cleared; how many bytes of
 // the output say that it interrupts.
 fn take_turn(w: &mut Words, out: &mut [u8], i: usize, kind: u8, code: u8, param: u32) -> usize
-    requires { ⌜ (i < sessionLimit) × (outputMinimum ≤ length (now out)) ⌝ }
+    requires { ⌜ (i < sessionLimit) × (outputMinimum ≤ length (now out)) × (isCommand kind ≡ true) ⌝ }
     ensures { λ r. ⌜ (r ≤ 34) × ((s : List ℕ) → Turned (view (memory (now (w .entry)) s)) i kind code param (view (memory (now (w .exit)) s)) (now (out .entry)) (now (out .exit)) r) × ((s : List ℕ) → Tidy (memory (now (w .entry)) s) → Tidy (memory (now (w .exit)) s)) ⌝ }
 {
     if in_turn(w, i, code) {

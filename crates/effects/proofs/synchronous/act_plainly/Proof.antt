@@ -21,7 +21,7 @@ note-message-requires : tie.Need-note-message-requires
 note-message-requires c κs = (search needs, c .before .before .before .before .pre .4)
 
 note-in-turn-requires : tie.Need-note-in-turn-requires
-note-in-turn-requires c κs = (search needs, c .before .before .in-turn .ensures ∙ ap not (c .before .if1 .taken))
+note-in-turn-requires c κs = (search needs, c .before .before .before .before .before .before .before .before .before .pre .3, c .before .before .in-turn .ensures ∙ ap not (c .before .if1 .taken))
 
 returns : tie.Need-returns
 returns c = let p = c .before .before .before .before .before .before .before .before .before .before .before in
@@ -34,7 +34,7 @@ returns c = let p = c .before .before .before .before .before .before .before .b
     (c .acted .ensures) (c .before .before .before .before .before .before .before .before .entry .ensures .0 s) (search needs) (n .ensures .1 s) (n .ensures .0 s _ 0) (c .before .note-in-turn .ensures .0 s (a .out .now)) (c .before .note-in-turn .ensures .1 s))
 
 note-out-of-turn-requires : tie.Need-note-out-of-turn-requires
-note-out-of-turn-requires c κs = (search needs, search needs, c .before .before .before .in-turn .ensures ∙ ap not (c .before .before .if1 .left))
+note-out-of-turn-requires c κs = (search needs, search needs, c .before .before .before .before .before .before .before .before .before .before .pre .3, c .before .before .before .in-turn .ensures ∙ ap not (c .before .before .if1 .left))
 
 returns-2 : tie.Need-returns-2
 returns-2 c = let p = c .before .before .before .before .before .before .before .before .before .before .before .before .before .before in

@@ -21,6 +21,9 @@ use borrow.Author.Needs.{needs}
 use Rattle.effects.proofs.synchronous.act_synchronous.Statement.{statement}
 use Rattle.effects.proofs.synchronous.act_synchronous.Tie as tie
 
+take-turn-requires : tie.Need-take-turn-requires
+take-turn-requires c κs = (search needs, search needs, c .before .before .before .is-command .ensures ∙ c .before .before .if1 .taken)
+
 returns : tie.Need-returns
 returns c = let a = c .before .before .before .before .before .before .before .before .before .before .before .before .before .before .before .before .before .args in
     let h : Header = record { kind = a .kind; code = a .code; param = a .param; len = a .len } in
@@ -49,7 +52,7 @@ act-synchronous-spec =
     (tie.spec
     (λ c κs. search needs)
     (λ c κs. search needs)
-    (λ c κs. search needs)
+    take-turn-requires
     (λ c κs. search needs)
     (λ c κs. search needs)
     (λ c. search needs)

@@ -8,16 +8,19 @@ use borrow.Author.Needs.{needs}
 use Rattle.effects.proofs.synchronous.note_in_turn.Statement.{statement}
 use Rattle.effects.proofs.synchronous.note_in_turn.Tie as tie
 
+note-command-requires : tie.Need-note-command-requires
+note-command-requires c κs = (search needs, c .before .before .before .pre .1)
+
 returns : tie.Need-returns
 returns c = let p = c .before .before .before .before .before .before in
     let a = p .args in (
       λ s out. let d = view (memory (a .w .now) s) in
           noted-then d _ _ (a .i) (λ x. commandNotes (a .kind) (a .code) (a .param) (tested (a .code) x)) stepped _ out out 0
           (noted-then d _ _ (a .i) (tested (a .code)) (commandNotes (a .kind) (a .code) (a .param)) _ out out 0
-          (tested-in-turn d (a .i) (a .param) (a .code) _ out (p .pre .1) (c .before .before .before .before .set-exchange .ensures .0 s)) (c .before .before .note-command .ensures .0 s))
+          (tested-in-turn d (a .i) (a .param) (a .code) _ out (p .pre .2) (c .before .before .before .before .set-exchange .ensures .0 s)) (c .before .before .note-command .ensures .0 s))
           (c .step-number .ensures .0 s),
       λ s t. c .step-number .ensures .1 s (c .before .before .note-command .ensures .1 s (c .before .before .before .before .set-exchange .ensures .1 s (omega arith) t)),
     )
 
 pub note-in-turn-spec : {M : Type 1} → statement M
-note-in-turn-spec = tie.close (tie.spec (λ c κs. search needs) (λ c κs. search needs) (λ c κs. search needs) returns)
+note-in-turn-spec = tie.close (tie.spec (λ c κs. search needs) note-command-requires (λ c κs. search needs) returns)

@@ -7,6 +7,9 @@ use borrow.Author.Needs.{needs}
 use Rattle.effects.proofs.synchronous.note_out_of_turn.Statement.{statement}
 use Rattle.effects.proofs.synchronous.note_out_of_turn.Tie as tie
 
+note-command-requires : tie.Need-note-command-requires
+note-command-requires c κs = (search needs, c .before .before .before .before .before .before .before .pre .2)
+
 returns : tie.Need-returns
 returns c = let p = c .before .before .before .before .before .before .before .before .before .before in
     let a = p .args in
@@ -15,10 +18,10 @@ returns c = let p = c .before .before .before .before .before .before .before .b
       λ s. let d = view (memory (a .w .now) s) in
           noted-then d _ _ (a .i) (λ x. commandNotes (a .kind) (a .code) (a .param) (tested (a .code) x)) stepped _ _ _ _
           (noted-then d _ _ (a .i) (tested (a .code)) (commandNotes (a .kind) (a .code) (a .param)) _ _ _ _
-          (tested-out-of-turn d (a .i) (a .param) (a .code) _ _ _ _ (p .pre .2) (x .ensures .1 s)) (c .before .before .note-command .ensures .0 s))
+          (tested-out-of-turn d (a .i) (a .param) (a .code) _ _ _ _ (p .pre .3) (x .ensures .1 s)) (c .before .before .note-command .ensures .0 s))
           (c .step-number .ensures .0 s),
       λ s t. c .step-number .ensures .1 s (c .before .before .note-command .ensures .1 s (x .ensures .2 s t)),
     )
 
 pub note-out-of-turn-spec : {M : Type 1} → statement M
-note-out-of-turn-spec = tie.close (tie.spec (λ c κs. search needs) (λ c κs. search needs) (λ c κs. search needs) (λ c. search needs) returns)
+note-out-of-turn-spec = tie.close (tie.spec (λ c κs. search needs) note-command-requires (λ c κs. search needs) (λ c. search needs) returns)

@@ -6,13 +6,13 @@ use Rattle.effects.proofs.synchronous.take_turn.Statement.{statement}
 use Rattle.effects.proofs.synchronous.take_turn.Tie as tie
 
 note-in-turn-requires : tie.Need-note-in-turn-requires
-note-in-turn-requires c κs = (search needs, c .before .before .in-turn .ensures ∙ ap not (c .before .if1 .taken))
+note-in-turn-requires c κs = (search needs, c .before .before .before .before .before .pre .2, c .before .before .in-turn .ensures ∙ ap not (c .before .if1 .taken))
 
 returns : tie.Need-returns
 returns c = let a = c .before .before .before .before .before .before .args in (search needs, λ s. c .note-in-turn .ensures .0 s (a .out .now), c .note-in-turn .ensures .1)
 
 note-out-of-turn-requires : tie.Need-note-out-of-turn-requires
-note-out-of-turn-requires c κs = (search needs, search needs, c .before .before .before .in-turn .ensures ∙ ap not (c .before .before .if1 .left))
+note-out-of-turn-requires c κs = (search needs, search needs, c .before .before .before .before .before .before .pre .2, c .before .before .before .in-turn .ensures ∙ ap not (c .before .before .if1 .left))
 
 returns-2 : tie.Need-returns-2
 returns-2 c = c .before .before .note-out-of-turn .ensures
