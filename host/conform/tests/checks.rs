@@ -33,7 +33,7 @@ fn wrong(name: &str) -> Pair {
 #[test]
 fn random_lists_reach_every_answer() {
     let mut reach = Reach::default();
-    for seed in 1..=150 {
+    for seed in 1..=300 {
         hostile::check(TWICE, seed, &mut reach).expect("one server agrees with itself");
     }
     for refusal in [1, 2, 3, 4, 5, 6, 7, 8, 10, 11] {
@@ -59,8 +59,8 @@ fn random_lists_reach_every_answer() {
     );
     assert!(reach.standing.iter().all(|count| *count > 50), "{reach:?}");
     assert!(reach.watching.iter().all(|count| *count > 50), "{reach:?}");
-    assert!(reach.refusals[12] > 3, "{reach:?}");
-    assert!(reach.commands.iter().all(|count| *count > 50), "{reach:?}");
+    assert!(reach.refusals[12] > 5, "{reach:?}");
+    assert!(reach.commands.iter().all(|count| *count > 100), "{reach:?}");
     assert!(reach.holding > 5000, "{reach:?}");
     assert!(reach.most_holders >= 5, "{reach:?}");
     assert!(reach.sought > 30, "{reach:?}");
