@@ -1,16 +1,21 @@
 # `make` alone lists the targets. `rt` is the prover; RT=.. names another command for it.
 RT      ?= rt
 ARCHIVE ?= target/libhislip.a
-# where the prover leaves the code of `server`, which has every function of the interface
-PROVED  ?= target/staticlib/libserver.a
+# the crates whose exported functions are the interface
+EXPORTS  = server keep
 
-.PHONY: help test library
+# the program that judges a journal, and where the prover leaves it
+VERIFY  ?= target/verify
+JUDGE   ?= target/bin/verify
+
+.PHONY: help test library verify
 
 help:
 	@echo 'make gateway        build the proved library and serve it on 127.0.0.1:4880 (PORT=5000 for another port)'
 	@echo "make query          a small HiSLIP client to try it with: make query ARGS='\"*IDN?\"'"
 	@echo 'make test           the gate: prove every crate from nothing, try every must-fail edit, run every test'
 	@echo 'make library        the archive that a host links: $(ARCHIVE), with the headers of include/'
+	@echo "make verify         the program that judges a journal: $(VERIFY) FILE VENDOR MODE"
 	@echo 'make install        headers, archive and pkg-config file to PREFIX (/usr/local)'
 	@echo 'make host-test      the tests of the host kit against the archive'
 	@echo 'make conform        the library beside the reference on eight million events; make soak MINUTES=60 for longer'
@@ -27,7 +32,11 @@ test:
 
 # What is proved already is not proved again: nothing at all if no source has changed, else rt says which crates.
 library:
-	@bash host/build_archive.sh $(ARCHIVE) $(PROVED) $(RT) staticlib server
+	@bash host/build_archive.sh $(ARCHIVE) $(RT) $(EXPORTS)
+
+verify:
+	$(RT) check verify
+	install -m 755 $(JUDGE) $(VERIFY)
 
 include include/install.mk
 include host/Makefile.inc

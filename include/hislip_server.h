@@ -77,6 +77,14 @@
  * colon are bytes like others, so a row of commands in one message matches nothing. While no list was ever
  * set, all is allowed; an empty list allows nothing. There is no way back but hislip_new.
  *
+ * JOURNAL. The hislip_keep_ calls do what the calls without that word do, and write an entry of the event
+ * and its frames into `book`, a lent slice of bytes; docs/JOURNAL.md has its layout. `journal` points to
+ * HISLIP_JOURNAL_WORDS uint64_t of the writer's own, aligned as uint64_t, which hislip_journal_new writes;
+ * `book` to `book_len` bytes. Neither overlaps any other lent memory, and nobody else writes them while the
+ * journal is kept. The first word counts the bytes written: a host that keeps the journal in a file writes
+ * the bytes from its old value to its new one, in order, after each call. An event done by a call without
+ * "keep" is not in the journal, and a journal with an event left out is not accepted by a verifier.
+ *
  * REFUSALS. A refused call has a number and one cause. It changes nothing: neither the server nor
  * any lent byte, and every other field of the answer is 0 (with refusal 11 alone two say where). If several causes hold, the first in the
  * order given at each function is told.
@@ -148,6 +156,9 @@ extern "C" {
 #define HISLIP_PATTERNS 32        /* patterns of a list of allowed commands                         */
 #define HISLIP_PATTERN 128        /* bytes of a pattern                                             */
 #define HISLIP_NOT_ALLOWED 128    /* code of the Error that answers a command which is not allowed  */
+#define HISLIP_JOURNAL_WORDS 4    /* uint64_t to lend as `journal`                                  */
+#define HISLIP_KEPT_DELIVERY 1040 /* with a journal kept, a delivery looks at no more bytes         */
+#define HISLIP_KEPT_SHOWN 16      /* so many of the bytes shown with an answer count                */
 
 /* Types of messages, byte 2 of a message (IVI-6.1, Table 4). */
 #define HISLIP_TYPE_INITIALIZE 0
@@ -193,6 +204,13 @@ extern "C" {
 #define HISLIP_REFUSED_BAD_LIMITS 10     /* a watch's limit is not a number, or low is above high       */
 #define HISLIP_REFUSED_BAD_PATTERN 11    /* a text of the list is no pattern; the answer says where     */
 #define HISLIP_REFUSED_TOO_MANY_PATTERNS 12 /* more than 32 patterns                                    */
+
+/* What became of an entry, `kept`. */
+#define HISLIP_KEPT 0        /* written; or the event was refused, and nothing is to be written             */
+#define HISLIP_KEPT_NO_ROOM 1 /* the entry and the 12 bytes of a closing do not fit in what is left. What the
+                                event did stands, and no byte of the book is written: close this journal and
+                                begin another, or go on, a smaller entry may fit                            */
+#define HISLIP_KEPT_CLOSED 2 /* the journal is closed. What the event did stands, and nothing is written    */
 
 /* Modes, for hislip_new. */
 #define HISLIP_SYNCHRONIZED 0
@@ -389,6 +407,103 @@ hislip_counted hislip_holders(const uint64_t *words, const uint8_t *strings, his
  * (no live session of that number). */
 HISLIP_NOT_NULL HISLIP_USE_RESULT
 hislip_record hislip_readings(const uint64_t *words, const uint8_t *strings, uint32_t session);
+
+/* The answers of the calls that keep a journal: those of the plain calls, and what became of the entry. */
+typedef struct {
+    uint64_t kept;
+} hislip_kept;
+
+typedef struct {
+    uint64_t refusal, output, kept;
+} hislip_kept_done;
+
+typedef struct {
+    uint64_t refusal, outcome, session, taken, output, missing, kept;
+} hislip_kept_delivery;
+
+typedef struct {
+    uint64_t refusal, withheld, output, kept;
+} hislip_kept_answered;
+
+typedef struct {
+    uint64_t refusal, pattern, place, kept;
+} hislip_kept_listed;
+
+/* An entry in a book. `found`: 0 if there is none, and then the rest is 0. `body`, `length`: where its body is.
+ * `next`: the next place. */
+typedef struct {
+    uint64_t found, body, length, next;
+} hislip_entry;
+
+/* Begins a journal in `book`, whatever the words were: `kept` is 0 or 1 (under 12 bytes; then no word is
+ * written). Writes no byte of the book. Bytes of a book past 2^31 are never used. */
+HISLIP_NOT_NULL HISLIP_USE_RESULT
+hislip_kept hislip_journal_new(uint64_t *journal, uint8_t *book, size_t book_len);
+
+/* Writes the closing trailer behind the last entry. From `hislip_journal_new` on there is always room for it. */
+HISLIP_NOT_NULL HISLIP_USE_RESULT
+hislip_kept hislip_journal_close(uint64_t *journal, uint8_t *book, size_t book_len);
+
+/* The entry that begins at `at`: the first is at 0, each next at `next`. It looks at no more of the book than
+ * the entry, so a book that is still written, or was cut short, may be read. */
+HISLIP_NOT_NULL HISLIP_USE_RESULT
+hislip_entry hislip_journal_forward(const uint8_t *book, size_t book_len, uint64_t at);
+
+/* The entry that ends at `at`, in a closed book whose last byte is the trailer's last: the last entry ends at
+ * book_len - 12, each next at `next`. */
+HISLIP_NOT_NULL HISLIP_USE_RESULT
+hislip_entry hislip_journal_backward(const uint8_t *book, size_t book_len, uint64_t at);
+
+/* Each does the plain call's event and writes its entry. Refusals are the plain call's; of a refused event
+ * nothing is written, and `kept` is 0. */
+HISLIP_NOT_NULL HISLIP_USE_RESULT
+hislip_kept_done hislip_keep_open(uint64_t *words, uint8_t *strings, uint32_t connection,
+                                  uint64_t *journal, uint8_t *book, size_t book_len);
+
+/* Only the first HISLIP_KEPT_DELIVERY bytes are looked at: no message that is taken whole is longer. */
+HISLIP_NOT_NULL HISLIP_USE_RESULT
+hislip_kept_delivery hislip_keep_deliver(uint64_t *words, uint8_t *strings, uint32_t connection,
+                                         const uint8_t *bytes, size_t len, uint8_t *out, size_t out_len,
+                                         uint64_t *journal, uint8_t *book, size_t book_len);
+
+HISLIP_NOT_NULL HISLIP_USE_RESULT
+hislip_kept_done hislip_keep_cut(uint64_t *words, uint8_t *strings, uint32_t connection,
+                                 uint8_t *out, size_t out_len,
+                                 uint64_t *journal, uint8_t *book, size_t book_len);
+
+HISLIP_NOT_NULL HISLIP_USE_RESULT
+hislip_kept_done hislip_keep_clock(uint64_t *words, uint8_t *strings, uint64_t milliseconds,
+                                   uint8_t *out, size_t out_len,
+                                   uint64_t *journal, uint8_t *book, size_t book_len);
+
+/* Of the bytes shown the first HISLIP_KEPT_SHOWN count, as they do for hislip_answer. */
+HISLIP_NOT_NULL HISLIP_USE_RESULT
+hislip_kept_answered hislip_keep_answer(uint64_t *words, uint8_t *strings, uint32_t session,
+                                        const uint8_t *payload, size_t len, uint8_t end,
+                                        const uint8_t *shown, size_t shown_len, uint8_t *out, size_t out_len,
+                                        uint64_t *journal, uint8_t *book, size_t book_len);
+
+HISLIP_NOT_NULL HISLIP_USE_RESULT
+hislip_kept hislip_keep_status(uint64_t *words, uint8_t *strings, uint8_t status,
+                               uint64_t *journal, uint8_t *book, size_t book_len);
+
+/* Setting a watch, kept: the limits by their bits. */
+HISLIP_NOT_NULL HISLIP_USE_RESULT
+hislip_kept_done hislip_keep_watch_off(uint64_t *words, uint8_t *strings, uint32_t session,
+                                       uint64_t *journal, uint8_t *book, size_t book_len);
+
+HISLIP_NOT_NULL HISLIP_USE_RESULT
+hislip_kept_done hislip_keep_watch_above(uint64_t *words, uint8_t *strings, uint32_t session, float limit,
+                                         uint64_t *journal, uint8_t *book, size_t book_len);
+
+HISLIP_NOT_NULL HISLIP_USE_RESULT
+hislip_kept_done hislip_keep_watch_outside(uint64_t *words, uint8_t *strings, uint32_t session, float low, float high,
+                                           uint64_t *journal, uint8_t *book, size_t book_len);
+
+/* Setting the list of allowed commands, kept: its patterns, without the newlines. */
+HISLIP_NOT_NULL HISLIP_USE_RESULT
+hislip_kept_listed hislip_keep_patterns(uint64_t *words, uint8_t *strings, const uint8_t *text, size_t len,
+                                        uint64_t *journal, uint8_t *book, size_t book_len);
 
 /* The payload length of a message, from its 16 header bytes: a help for going through frames. */
 static inline uint64_t hislip_payload_length(const uint8_t *message)

@@ -2,7 +2,7 @@
 use mathlib.Core.Path.{_≡_, refl, sym, ap, ap₂, subst, _∙_}
 use mathlib.Core.Bool.{Bool, true, false, _&&_}
 use mathlib.Core.List.{List, [], _∷_, _++_, append-assoc}
-use Prim.Native.Nat.{ℕ, zero, suc, _+_, _^_, _≤_, _<_}
+use Prim.Native.Nat.{ℕ, _+_, _^_, _≤_, _<_}
 use native.Mathlib.Omega.{arith}
 use lib.Dec.{eqb, leb}
 use lib.ListN.{length, take, drop, length-append, length-take, take-append-drop}
@@ -11,7 +11,7 @@ use borrow.Author.Tests.{le-leb, leb-true}
 use Rattle.wire.specs.Field.{field, number, Bytes, length-field, number-field, field-number, number-bound}
 use Rattle.journal.specs.Journal.{choose, bodyLimit}
 use Rattle.journal.specs.Bytes.{yes-is, no-is, and-is, and-left, and-right, take-bytes, drop-bytes}
-use Rattle.record.specs.Layout.{row, rows, Row, Rows, Read, found, none, andThen, getNumber, getRow, getRows}
+use Rattle.record.specs.Layout.{row, Row, Read, found, none, andThen, getNumber, getRow}
 
 pub then-is : {A B : Type 0} {r : Read A} {a : A} {s : List ℕ} (f : A → List ℕ → Read B) → r ≡ found a s → andThen r f ≡ f a s
 unfolding andThen
@@ -112,36 +112,3 @@ row-back most s b =
       bytes = drop-bytes n t (g .bytes);
     }))
     (λ e. none-back (Got most s)))
-
--- several
-pub rows-again : (most : ℕ) (rs : List (List ℕ)) → most < 256 ^ 4 → Rows most rs → (rest : List ℕ) → getRows most (length rs) (rows rs ++ rest) ≡ found rs rest
-unfolding getRows rows Rows
-rows-again most [] m h rest = refl
-rows-again most (r ∷ rs) m h rest =
-    ap (λ (s : List ℕ). andThen (getRow most s) λ r t. andThen (getRows most (length rs) t) λ rs u. found (r ∷ rs) u) (append-assoc (row r) (rows rs) rest)
-    ∙ then-is _ (row-again most r m (h .0) (rows rs ++ rest))
-    ∙ then-is _ (rows-again most rs m (h .1) rest)
-
-pub record Several (most k : ℕ) (s : List ℕ) (rs : List (List ℕ)) (rest : List ℕ) : Type 0 where
-  pub all : rows rs ++ rest ≡ s
-  pub count : length rs ≡ k
-  pub fits : Rows most rs
-  pub bytes : Bytes rest
-
-pub rows-back : (most k : ℕ) (s : List ℕ) → Bytes s → Back (getRows most k s) (Several most k s)
-unfolding getRows rows Rows
-rows-back most zero s b = found-back (Several most zero s) [] s (record { all = refl; count = refl; fits = tt; bytes = b })
-rows-back most (suc k) s b =
-    then-back (Several most (suc k) s) (getRow most s) _
-    (λ r t e.
-    let g = row-back most s b r t e in
-    then-back (Several most (suc k) s) (getRows most k t) _
-    (λ rs u f.
-    let h = rows-back most k t (g .bytes) rs u f in
-    found-back (Several most (suc k) s) (r ∷ rs) u
-    (record {
-      all = append-assoc (row r) (rows rs) u ∙ ap (λ (x : List ℕ). row r ++ x) (h .all) ∙ g .all;
-      count = ap suc (h .count);
-      fits = (g .fits, h .fits);
-      bytes = h .bytes;
-    })))

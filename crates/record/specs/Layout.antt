@@ -10,7 +10,7 @@
 --   6    watch off       session 4
 --   7    watch above     session 4, limit 4 (IEEE 754 single bits)
 --   8    watch outside   session 4, low 4, high 4
---   9    patterns        number of patterns 4, each a row of bytes
+--   9    patterns        the list's text as the host gave it
 --
 -- The tag is one byte. A number stands beside its name in so many bytes. A row of bytes is its length in 4 bytes, then the bytes.
 -- The layout says shape only: what the server would refuse (33 patterns, a payload above 1,024 bytes, connection 200) has a layout as
@@ -18,7 +18,7 @@
 -- Assumes nothing.
 use mathlib.Core.Bool.{Bool, true, false, _&&_}
 use mathlib.Core.List.{List, [], _∷_, _++_}
-use Prim.Native.Nat.{ℕ, zero, suc, _+_, _^_, _≤_, _<_}
+use Prim.Native.Nat.{ℕ, _+_, _^_, _≤_, _<_}
 use lib.Dec.{eqb, leb}
 use lib.ListN.{length, take, drop}
 use Rattle.wire.specs.Field.{field, number, Bytes}
@@ -34,15 +34,11 @@ pub data Event : Type 0 where
   watchOff : ℕ → Event
   watchAbove : ℕ → ℕ → Event
   watchOutside : ℕ → ℕ → ℕ → Event
-  patterns : List (List ℕ) → Event
+  patterns : List ℕ → Event
 
--- a row of bytes; several
+-- a row of bytes
 unfoldable pub row : List ℕ → List ℕ
 row bytes = field 4 (length bytes) ++ bytes
-
-unfoldable pub rows : List (List ℕ) → List ℕ
-rows [] = []
-rows (r ∷ rs) = row r ++ rows rs
 
 unfoldable pub encode : Event → List ℕ
 encode (opening connection) = 0 ∷ field 4 connection
@@ -54,7 +50,7 @@ encode (status byte) = 5 ∷ field 1 byte
 encode (watchOff session) = 6 ∷ field 4 session
 encode (watchAbove session limit) = 7 ∷ (field 4 session ++ field 4 limit)
 encode (watchOutside session low high) = 8 ∷ (field 4 session ++ (field 4 low ++ field 4 high))
-encode (patterns list) = 9 ∷ (field 4 (length list) ++ rows list)
+encode (patterns text) = 9 ∷ row text
 
 -- an entry's body
 abbrev pub bodyBytes : Event → List ℕ → List ℕ
@@ -72,10 +68,6 @@ pub record Row (most : ℕ) (r : List ℕ) : Type 0 where
   pub bytes : Bytes r
   pub within : length r ≤ most
 
-unfoldable pub Rows : ℕ → List (List ℕ) → Type 0
-Rows most [] = Unit {0}
-Rows most (r ∷ rs) = Row most r × Rows most rs
-
 -- an event whose numbers fit their fields, and whose rows their limits
 abbrev pub Fits : Event → Type 0
 Fits (opening connection) = connection < 256 ^ 4
@@ -87,7 +79,7 @@ Fits (status byte) = byte < 256 ^ 1
 Fits (watchOff session) = session < 256 ^ 4
 Fits (watchAbove session limit) = (session < 256 ^ 4) × (limit < 256 ^ 4)
 Fits (watchOutside session low high) = (session < 256 ^ 4) × (low < 256 ^ 4) × (high < 256 ^ 4)
-Fits (patterns list) = (length list ≤ bodyLimit) × Rows bodyLimit list
+Fits (patterns text) = Row bodyLimit text
 
 -- what is read from the front of bytes, and what stands behind it; or no layout
 pub data Read (A : Type 0) : Type 0 where
@@ -103,10 +95,6 @@ getNumber n s = choose (leb n (length s)) (found (number (take n s)) (drop n s))
 
 unfoldable pub getRow : ℕ → List ℕ → Read (List ℕ)
 getRow most s = andThen (getNumber 4 s) λ n t. choose (leb n most && leb n (length t)) (found (take n t) (drop n t)) none
-
-unfoldable pub getRows : ℕ → ℕ → List ℕ → Read (List (List ℕ))
-getRows most zero s = found [] s
-getRows most (suc k) s = andThen (getRow most s) λ r t. andThen (getRows most k t) λ rs u. found (r ∷ rs) u
 
 -- what stands behind each tag
 unfoldable pub getOpening : List ℕ → Read Event
@@ -140,8 +128,7 @@ unfoldable pub getOutside : List ℕ → Read Event
 getOutside s = andThen (getNumber 4 s) λ n t. andThen (getNumber 4 t) λ l u. andThen (getNumber 4 u) λ h v. found (watchOutside n l h) v
 
 unfoldable pub getPatterns : List ℕ → Read Event
-getPatterns s =
-    andThen (getNumber 4 s) λ n t. choose (leb n bodyLimit) (andThen (getRows bodyLimit n t) λ list u. found (patterns list) u) none
+getPatterns s = andThen (getRow bodyLimit s) λ text t. found (patterns text) t
 
 unfoldable pub byTag : ℕ → List ℕ → Read Event
 byTag tag s =

@@ -12,7 +12,7 @@ use borrow.Author.Tests.{le-leb, lt-leb, eq-eqb, ne-eqb}
 use Rattle.wire.specs.Field.{number, numberAt}
 use Rattle.journal.specs.Journal.{choose, bodyLimit}
 use Rattle.journal.specs.Bytes.{yes-is, no-is, and-is, and-not, not-and, below}
-use Rattle.record.specs.Layout.{Event, opening, delivery, cut, clock, answer, status, watchOff, watchAbove, watchOutside, patterns, mostDelivered, mostShown, Read, found, none, andThen, getNumber, getRow, getRows, getOpening, getDelivery, getCut, getClock, getAnswer, getStatus, getOff, getAbove, getOutside, getPatterns, byTag, decode}
+use Rattle.record.specs.Layout.{Event, opening, delivery, cut, clock, answer, status, watchOff, watchAbove, watchOutside, patterns, mostDelivered, mostShown, Read, found, none, andThen, getNumber, getRow, getOpening, getDelivery, getCut, getClock, getAnswer, getStatus, getOff, getAbove, getOutside, getPatterns, byTag, decode}
 use Rattle.record.specs.Fields.{then-is}
 use Rattle.record.specs.declared.parts.Parts.{Parts}
 use Rattle.record.specs.declared.rows.Span.{Span}
@@ -30,8 +30,7 @@ seen r s =
     (choose (eqb (r .kind) 6) (found (watchOff (r .a)) (drop (r .frames) s))
     (choose (eqb (r .kind) 7) (found (watchAbove (r .a) (r .b)) (drop (r .frames) s))
     (choose (eqb (r .kind) 8) (found (watchOutside (r .a) (r .b) (r .c)) (drop (r .frames) s))
-    (choose (eqb (r .kind) 9)
-    (andThen (getRows bodyLimit (r .a) (drop (r .first) s)) λ list t. found (patterns list) (drop (r .frames) s))
+    (choose (eqb (r .kind) 9) (found (patterns (take (r .size) (drop (r .first) s))) (drop (r .frames) s))
     none)))))))))
 
 -- the answer r for the body s: what it points at is x, and all of it lies in the body
@@ -50,19 +49,6 @@ spanned r s = choose (eqb (r .found) 1) (found (take (r .len) (drop (r .begin) s
 pub record Spans (r : Span) (s : List ℕ) (at : ℕ) (x : Read (List ℕ)) : Type 0 where
   pub says : spanned r s ≡ x
   pub inside : r .begin + r .len ≤ length s
-  pub behind : at ≤ r .next
-  pub end : r .next ≤ length s
-
--- several rows: only where they end
-unfoldable pub onlyRest : Read (List (List ℕ)) → Read (List (List ℕ))
-onlyRest (found rs t) = found [] t
-onlyRest none = none
-
-unfoldable pub ended : Span → List ℕ → Read (List (List ℕ))
-ended r s = choose (eqb (r .found) 1) (found [] (drop (r .next) s)) none
-
-pub record Ends (r : Span) (s : List ℕ) (at : ℕ) (x : Read (List (List ℕ))) : Type 0 where
-  pub says : ended r s ≡ onlyRest x
   pub behind : at ≤ r .next
   pub end : r .next ≤ length s
 
@@ -294,105 +280,21 @@ module _ (r : Parts) (s : List ℕ) (b : ℕ) (h : 6 ≤ length s) (g : b ≡ nu
           ∙ sym (to-row ∙ then-is _ (row-is t s 6 _ p f) ∙ then-is _ (row-is u s (t .next) _ q k)) in
           rw o (record { says = w; one = p .inside; two = q .inside; end = q .end; top = omega arith; layout = λ z. no-found (w ∙ z) })
 
--- several rows
-only-more : (x : Read (List (List ℕ))) (r : List ℕ) → onlyRest (andThen x λ rs u. found (r ∷ rs) u) ≡ onlyRest x
-unfolding onlyRest andThen
-only-more (found rs u) r = refl
-only-more none r = refl
-
-rows-on : (s : List ℕ) (e k : ℕ) (t : Span) → Spans t s e (getRow bodyLimit (drop e s)) → t .found ≡ 1
-    → onlyRest (getRows bodyLimit (suc k) (drop e s)) ≡ onlyRest (getRows bodyLimit k (drop (t .next) s))
-unfolding getRows
-rows-on s e k t p f = ap onlyRest (then-is _ (row-is t s e _ p f)) ∙ only-more (getRows bodyLimit k (drop (t .next) s)) _
-
-rows-off : (s : List ℕ) (e k : ℕ) (t : Span) → Spans t s e (getRow bodyLimit (drop e s)) → (t .found ≡ 1 → ⊥) → onlyRest (getRows bodyLimit (suc k) (drop e s)) ≡ none
-unfolding getRows onlyRest
-rows-off s e k t p f = ap onlyRest (then-none _ (row-not t s e _ p f))
-
--- the rows that are left after i of n
-abbrev pub Left : List ℕ → ℕ → ℕ → ℕ → ℕ → Type 0
-Left s at n i e = onlyRest (getRows bodyLimit n (drop at s)) ≡ onlyRest (getRows bodyLimit (n - i) (drop e s))
-
-pub left-first : (s : List ℕ) (at n : ℕ) → Left s at n 0 at
-left-first s at n = let z : n ≡ n - 0 = omega arith in ap (λ (k : ℕ). onlyRest (getRows bodyLimit k (drop at s))) z
-
-pub left-next : (s : List ℕ) (at n i e : ℕ) (t : Span) → i < n → Left s at n i e → Spans t s e (getRow bodyLimit (drop e s)) → t .found ≡ 1 → Left s at n (i + 1) (t .next)
-left-next s at n i e t h l p f =
-    let z : n - i ≡ suc (n - (i + 1)) = omega arith in
-    l ∙ ap (λ (k : ℕ). onlyRest (getRows bodyLimit k (drop e s))) z ∙ rows-on s e (n - (i + 1)) t p f
-
-pub left-broken : (s : List ℕ) (at n i e : ℕ) (t : Span) → at ≤ length s → i < n → Left s at n i e → Spans t s e (getRow bodyLimit (drop e s)) → (t .found ≡ 1 → ⊥)
-    → Ends (record { found = 0; begin = at; len = 0; next = at }) s at (getRows bodyLimit n (drop at s))
-unfolding ended
-left-broken s at n i e t b h l p f =
-    let z : n - i ≡ suc (n - (i + 1)) = omega arith in
-    record {
-      says = no-is _ none refl ∙ sym (l ∙ ap (λ (k : ℕ). onlyRest (getRows bodyLimit k (drop e s))) z ∙ rows-off s e (n - (i + 1)) t p f);
-      behind = omega arith;
-      end = b;
-    }
-
-pub left-none : (s : List ℕ) (at n i e : ℕ) → n ≤ i → at ≤ e → e ≤ length s → Left s at n i e → Ends (record { found = 1; begin = at; len = 0; next = e }) s at (getRows bodyLimit n (drop at s))
-unfolding ended getRows onlyRest
-left-none s at n i e h a b l =
-    let z : n - i ≡ 0 = omega arith in
-    record { says = yes-is _ none refl ∙ sym (l ∙ ap (λ (k : ℕ). onlyRest (getRows bodyLimit k (drop e s))) z); behind = a; end = b }
-
 pub patterns-none : (r : Parts) (s : List ℕ) → length s < 5 → Reads r s none → Reads r s (getPatterns (drop 1 s))
-unfolding getPatterns
-patterns-none r s h n = gone r s _ n (then-none _ (number-missing s 1 4 (omega arith) (omega arith)))
+unfolding getPatterns getRow
+patterns-none r s h n = gone r s _ n (then-none _ (then-none _ (number-missing s 1 4 (omega arith) (omega arith))))
 
--- where the rest is known, the list is found
-list-there : (x : Read (List (List ℕ))) (t : List ℕ) → onlyRest x ≡ found [] t → andThen x (λ list u. found (patterns list) t) ≡ andThen x λ list u. found (patterns list) u
-unfolding onlyRest andThen
-list-there (found rs u) t e = let z : t ≡ u = cc in ap (found (patterns rs)) z
-list-there none t e = refl
-
-list-gone : (x : Read (List (List ℕ))) → onlyRest x ≡ none → x ≡ none
-unfolding onlyRest
-list-gone (found rs u) e = let z : _≡_ {A = ℕ} 0 1 = cc in absurd (omega arith)
-list-gone none e = refl
-
-list-some : (x : Read (List (List ℕ))) (t : List ℕ) (k : ℕ) → onlyRest x ≡ found [] t → andThen x (λ list u. found (patterns list) u) ≡ none → k ≡ 10
-unfolding onlyRest andThen
-list-some (found rs u) t k e z = no-found z
-list-some none t k e z = let y : _≡_ {A = ℕ} 0 1 = cc in absurd (omega arith)
-
-module _ (r : Parts) (s : List ℕ) (a : ℕ) (h : 5 ≤ length s) (g : a ≡ numberAt s 1 4) where
-  to-count : getPatterns (drop 1 s) ≡ choose (leb a bodyLimit) (andThen (getRows bodyLimit a (drop 5 s)) λ list u. found (patterns list) u) none
+module _ (r : Parts) (s : List ℕ) (t : Span) (p : Spans t s 1 (getRow bodyLimit (drop 1 s))) where
+  pub patterns-no-row : (t .found ≡ 1 → ⊥) → Reads r s none → Reads r s (getPatterns (drop 1 s))
   unfolding getPatterns
-  to-count =
-      then-is _ (number-there s 1 4 (omega arith))
-      ∙ ap (λ (n : ℕ). choose (leb n bodyLimit) (andThen (getRows bodyLimit n (drop 5 s)) λ list u. found (patterns list) u) none) (sym g)
+  patterns-no-row f n = gone r s _ n (then-none _ (row-not t s 1 _ p f))
 
-  pub patterns-too-many : bodyLimit < a → Reads r s none → Reads r s (getPatterns (drop 1 s))
-  patterns-too-many f n = gone r s _ n (to-count ∙ no-is _ none (lt-leb a bodyLimit f))
-
-  module _ (l : a ≤ bodyLimit) (t : Span) (p : Ends t s 5 (getRows bodyLimit a (drop 5 s))) where
-    to-rows : getPatterns (drop 1 s) ≡ andThen (getRows bodyLimit a (drop 5 s)) λ list u. found (patterns list) u
-    to-rows = to-count ∙ yes-is _ none (le-leb a bodyLimit l)
-
-    pub patterns-no-rows : (t .found ≡ 1 → ⊥) → Reads r s none → Reads r s (getPatterns (drop 1 s))
-    unfolding ended
-    patterns-no-rows f n =
-        gone r s _ n (to-rows ∙ then-none _ (list-gone (getRows bodyLimit a (drop 5 s)) (sym (p .says) ∙ no-is _ none (ne-eqb (t .found) 1 f))))
-
-    pub patterns-there : t .found ≡ 1 → r ≡ record { kind = 9; a = a; b = 0; c = 0; first = 5; size = t .next - 5; second = 0; extent = 0; frames = t .next }
-        → Reads r s (getPatterns (drop 1 s))
-    unfolding seen choose ended
-    patterns-there f o =
-        let e : 5 ≤ t .next = p .behind in
-        let b : t .next ≤ length s = p .end in
-        let x : Read (List (List ℕ)) = getRows bodyLimit a (drop 5 s) in
-        let y : onlyRest x ≡ found [] (drop (t .next) s) = sym (p .says) ∙ yes-is _ none (eq-eqb (t .found) 1 f) in
-        rw o (record {
-          says = list-there x (drop (t .next) s) y ∙ sym to-rows;
-          one = omega arith;
-          two = omega arith;
-          end = b;
-          top = omega arith;
-          layout = λ z. list-some x (drop (t .next) s) 9 y (sym to-rows ∙ z);
-        })
+  pub patterns-there : t .found ≡ 1 → r ≡ record { kind = 9; a = 0; b = 0; c = 0; first = t .begin; size = t .len; second = 0; extent = 0; frames = t .next }
+      → Reads r s (getPatterns (drop 1 s))
+  unfolding getPatterns seen choose
+  patterns-there f q =
+      let w : found (patterns (take (t .len) (drop (t .begin) s))) (drop (t .next) s) ≡ getPatterns (drop 1 s) = sym (then-is _ (row-is t s 1 _ p f)) in
+      rw q (record { says = w; one = p .inside; two = omega arith; end = p .end; top = omega arith; layout = λ z. no-found (w ∙ z) })
 
 -- by tag
 pub no-bytes : (r : Parts) (s : List ℕ) → length s ≡ 0 → Reads r s none → Reads r s (decode s)

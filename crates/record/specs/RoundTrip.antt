@@ -10,8 +10,8 @@ use borrow.Author.Tests.{le-leb, leb-true, eqb-true}
 use Rattle.wire.specs.Field.{field, number, Bytes, length-field}
 use Rattle.journal.specs.Journal.{choose, bodyLimit}
 use Rattle.journal.specs.Bytes.{yes-is, no-is}
-use Rattle.record.specs.Layout.{Event, opening, delivery, cut, clock, answer, status, watchOff, watchAbove, watchOutside, patterns, row, rows, encode, bodyBytes, mostDelivered, mostShown, Row, Rows, Fits, Read, found, none, andThen, getNumber, getRow, getRows, getOpening, getDelivery, getCut, getClock, getAnswer, getStatus, getOff, getAbove, getOutside, getPatterns, byTag, decode}
-use Rattle.record.specs.Fields.{then-is, Back, none-back, found-back, choose-back, then-back, Number, number-again, number-back, Got, row-again, row-back, Several, rows-again, rows-back}
+use Rattle.record.specs.Layout.{Event, opening, delivery, cut, clock, answer, status, watchOff, watchAbove, watchOutside, patterns, row, encode, bodyBytes, mostDelivered, mostShown, Row, Fits, Read, found, none, andThen, getNumber, getRow, getOpening, getDelivery, getCut, getClock, getAnswer, getStatus, getOff, getAbove, getOutside, getPatterns, byTag, decode}
+use Rattle.record.specs.Fields.{then-is, Back, none-back, found-back, choose-back, then-back, Number, number-again, number-back, Got, row-again, row-back}
 
 opening-again : (c : ℕ) → Fits (opening c) → (rest : List ℕ) → getOpening (field 4 c ++ rest) ≡ found (opening c) rest
 unfolding getOpening
@@ -69,14 +69,9 @@ outside-again n l k h rest =
     ∙ then-is _ (number-again 4 (h .1) (field 4 k ++ rest))
     ∙ then-is _ (number-again 4 (h .2) rest)
 
-patterns-again : (rs : List (List ℕ)) → Fits (patterns rs) → (rest : List ℕ) → getPatterns ((field 4 (length rs) ++ rows rs) ++ rest) ≡ found (patterns rs) rest
+patterns-again : (text : List ℕ) → Fits (patterns text) → (rest : List ℕ) → getPatterns (row text ++ rest) ≡ found (patterns text) rest
 unfolding getPatterns
-patterns-again rs h rest =
-    let l : length rs ≤ bodyLimit = h .0 in
-    ap getPatterns (append-assoc (field 4 (length rs)) (rows rs) rest)
-    ∙ then-is _ (number-again 4 {x = length rs} (omega arith) (rows rs ++ rest))
-    ∙ yes-is _ none (le-leb (length rs) bodyLimit l)
-    ∙ then-is _ (rows-again bodyLimit rs (lit< tt) (h .1) rest)
+patterns-again text h rest = then-is _ (row-again bodyLimit text (lit< tt) h rest)
 
 -- what was written is read again, whatever follows
 pub read-again : (e : Event) → Fits e → (rest : List ℕ) → decode (encode e ++ rest) ≡ found e rest
@@ -90,7 +85,7 @@ read-again (status b) h rest = status-again b h rest
 read-again (watchOff n) h rest = off-again n h rest
 read-again (watchAbove n l) h rest = above-again n l h rest
 read-again (watchOutside n l k) h rest = outside-again n l k h rest
-read-again (patterns rs) h rest = patterns-again rs h rest
+read-again (patterns text) h rest = patterns-again text h rest
 
 -- what is read was written
 pub record Written (s : List ℕ) (e : Event) (rest : List ℕ) : Type 0 where
@@ -231,28 +226,10 @@ module _ (s : List ℕ) (b : Bytes s) where
   patterns-back : Back (getPatterns s) (Written (9 ∷ s))
   unfolding getPatterns encode
   patterns-back =
-      let P : Event → List ℕ → Type 0 = Written (9 ∷ s) in
-      then-back P (getNumber 4 s) _
-      (λ n t e.
-      let g = number-back 4 s b n t e in
-      choose-back P (leb n bodyLimit) _ none
-      (λ l.
-      let m : n ≤ bodyLimit = leb-true n bodyLimit l in
-      then-back P (getRows bodyLimit n t) _
-      (λ rs u f.
-      let h = rows-back bodyLimit n t (g .bytes) rs u f in
-      let k : length rs ≤ bodyLimit = omega (arith, h .count) in
-      found-back P (patterns rs) u
-      (record {
-        all =
-            ap (λ (x : List ℕ). 9 ∷ x)
-            (append-assoc (field 4 (length rs)) (rows rs) u
-            ∙ ap₂ (λ (k : ℕ) (x : List ℕ). field 4 k ++ x) (h .count) (h .all)
-            ∙ g .all);
-        fits = (k, h .fits);
-        bytes = h .bytes;
-      })))
-      (λ l. none-back P))
+      then-back (Written (9 ∷ s)) (getRow bodyLimit s) _
+      (λ r t e.
+      let g = row-back bodyLimit s b r t e in
+      found-back (Written (9 ∷ s)) (patterns r) t (record { all = ap (λ (x : List ℕ). 9 ∷ x) (g .all); fits = g .fits; bytes = g .bytes }))
 
 -- the same with a tag that was tested
 tagged : (tag k : ℕ) (s : List ℕ) (r : Read Event) → Back r (Written (k ∷ s)) → eqb tag k ≡ true → Back r (Written (tag ∷ s))
@@ -303,18 +280,15 @@ mostFrames (status b) = 2048
 mostFrames (watchOff n) = 2048
 mostFrames (watchAbove n l) = 2048
 mostFrames (watchOutside n l h) = 2048
-mostFrames (patterns rs) = 0
+mostFrames (patterns text) = 0
 
--- of an event that was not refused: an answer has at most 1,024 bytes (refusal 6), a list at most 32 patterns of at most 128 bytes
--- (refusals 12 and 11)
+-- of an event that was not refused: an answer has at most 1,024 bytes (refusal 6), a list's text at most 32 patterns of at most 128 bytes
+-- (refusals 12 and 11) with a newline behind each
 abbrev pub payloadLimit : ℕ
 payloadLimit = 1024
 
-abbrev pub patternsLimit : ℕ
-patternsLimit = 32
-
-abbrev pub patternLimit : ℕ
-patternLimit = 128
+abbrev pub listLimit : ℕ
+listLimit = 32 * 129
 
 abbrev pub Taken : Event → Type 0
 Taken (opening c) = Unit {0}
@@ -326,19 +300,11 @@ Taken (status b) = Unit {0}
 Taken (watchOff n) = Unit {0}
 Taken (watchAbove n l) = Unit {0}
 Taken (watchOutside n l h) = Unit {0}
-Taken (patterns rs) = (length rs ≤ patternsLimit) × Rows patternLimit rs
+Taken (patterns text) = length text ≤ listLimit
 
 row-length : (r : List ℕ) → length (row r) ≡ 4 + length r
 unfolding row
 row-length r = simp (length-append, length-field)
-
-rows-length : (most : ℕ) (rs : List (List ℕ)) → Rows most rs → length (rows rs) ≤ (4 + most) * length rs
-unfolding rows Rows
-rows-length most [] h = omega arith
-rows-length most (r ∷ rs) h =
-    let w : length r ≤ most = h .0 .within in
-    let i : length (rows rs) ≤ (4 + most) * length rs = rows-length most rs (h .1) in
-    simp length-append (omega (arith, row-length r))
 
 pub longest-body : (e : Event) (frames : List ℕ) → Fits e → Taken e → length frames ≤ mostFrames e → length (bodyBytes e frames) ≤ bodyLimit
 unfolding encode
@@ -351,7 +317,4 @@ longest-body (status b) x f t h = simp (length-append, length-field) (omega arit
 longest-body (watchOff n) x f t h = simp (length-append, length-field) (omega arith)
 longest-body (watchAbove n l) x f t h = simp (length-append, length-field) (omega arith)
 longest-body (watchOutside n l k) x f t h = simp (length-append, length-field) (omega arith)
-longest-body (patterns rs) x f t h =
-    let w : length (rows rs) ≤ 132 * length rs = rows-length patternLimit rs (t .1) in
-    let c : length rs ≤ patternsLimit = t .0 in
-    simp (length-append, length-field) (omega arith)
+longest-body (patterns text) x f t h = simp (length-append, row-length) (omega arith)

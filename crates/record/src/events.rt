@@ -13,9 +13,6 @@ pub const MOST_DELIVERED: usize = 1040;
 
 pub const MOST_SHOWN: usize = 16;
 
-// so many patterns never fit a body
-const MOST_PATTERNS: u64 = BODY_LIMIT as u64;
-
 pub fn opening(s: &[u8]) -> Parts
     ensures { λ r. ⌜ Reads r (now (s .entry)) (getOpening (drop 1 (now (s .entry)))) ⌝ }
 {
@@ -151,21 +148,17 @@ pub fn patterns(s: &[u8]) -> Parts
     if s.len() < 5 {
         return parts::nothing(s);
     }
-    let a = number::number4(s, 1);
-    if a > MOST_PATTERNS {
-        return parts::nothing(s);
-    }
-    let t = rows::rows_at(s, 5, a);
+    let t = rows::row_at(s, 1, BODY_LIMIT);
     if t.found != 1 {
         return parts::nothing(s);
     }
     Parts {
         kind: 9,
-        a,
+        a: 0,
         b: 0,
         c: 0,
-        first: 5,
-        size: t.next - 5,
+        first: t.begin,
+        size: t.len,
         second: 0,
         extent: 0,
         frames: t.next,

@@ -6,9 +6,8 @@ ghost use mathlib.Core.Path.{_≡_};
 // the kind of a body without a layout: one past the tags
 pub const NO_LAYOUT: u64 = 10;
 
-// What stands in a body. `kind` is the tag, or NO_LAYOUT. a, b, c: its numbers in their order (a pattern list: their number
-// in a). `first`, `second`: where its rows of bytes begin, and their lengths (a pattern list: `first` is where the first row's
-// length stands, `size` the bytes of all of them). The frames begin at `frames` and fill the rest.
+// What stands in a body. `kind` is the tag, or NO_LAYOUT. a, b, c: its numbers in their order. `first`, `second`: where its rows
+// of bytes begin, and their lengths `size`, `extent`. The frames begin at `frames` and fill the rest.
 #[repr(C)]
 pub struct Parts {
     pub kind: u64,

@@ -1,10 +1,8 @@
 // Rows of bytes in a body: a length in 4 bytes, then the bytes.
 ghost use Prim.Native.Nat.{_≤_};
-ghost use Rattle.record.specs.Layout.{getRow, getRows};
-ghost use Rattle.record.specs.Parts.{Ends, Spans};
-ghost use Rattle.journal.specs.Journal.{bodyLimit};
+ghost use Rattle.record.specs.Layout.{getRow};
+ghost use Rattle.record.specs.Parts.{Spans};
 ghost use lib.ListN.{drop, length};
-use journal::reader::BODY_LIMIT;
 use wire::number;
 
 // A row of bytes in a body: `found` 0: none. Else where it begins, its length, and the place behind it.
@@ -49,33 +47,5 @@ pub fn row_at(s: &[u8], at: usize, most: usize) -> Span
         begin: at + 4,
         len: n,
         next: at + 4 + n,
-    }
-}
-
-// Several rows one behind the other: only where they end.
-pub fn rows_at(s: &[u8], at: usize, n: u64) -> Span
-    requires { ⌜ at ≤ length (now s) ⌝ }
-    ensures { λ r. ⌜ Ends r (now (s .entry)) at (getRows bodyLimit n (drop at (now (s .entry)))) ⌝ }
-{
-    let mut i = 0;
-    let mut e = at;
-    while i < n {
-        let t = row_at(s, e, BODY_LIMIT);
-        if t.found != 1 {
-            return Span {
-                found: 0,
-                begin: at,
-                len: 0,
-                next: at,
-            };
-        }
-        e = t.next;
-        i += 1;
-    }
-    Span {
-        found: 1,
-        begin: at,
-        len: 0,
-        next: e,
     }
 }

@@ -18,8 +18,8 @@ ghost use Rattle.state.specs.Layout.{STRINGS, WORDS};
 
 mod asking;
 mod holders;
-mod listing;
-mod watches;
+pub mod listing;
+pub mod watches;
 
 use delivery::deliver;
 use effects::events;

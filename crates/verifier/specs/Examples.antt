@@ -20,7 +20,7 @@ keep d (status b) = gave [] b
 keep d (watchOff n) = refused
 keep d (watchAbove n l) = refused
 keep d (watchOutside n l h) = refused
-keep d (patterns rs) = refused
+keep d (patterns text) = refused
 
 -- an empty file; an empty book; "BAC"; a trailer that stops short; a byte behind it; a wrong count; a wrong offset
 no-bytes : judge keep 0 [] ≡ wrong 0 inLength

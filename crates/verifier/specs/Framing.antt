@@ -11,6 +11,7 @@ use lib.ListN.{length, getD, set, take, drop, drop-of-length-le, length-append}
 use lib.Seq.{take-suc-set, drop-cons}
 use borrow.Author.Tests.{le-leb, lt-leb, eq-eqb, ne-eqb}
 use Rattle.wire.specs.Field.{number, numberAt}
+use Rattle.wire.specs.Splice.{splice, length-splice, take-splice}
 use Rattle.crc.specs.Crc.{crcOf}
 use Rattle.journal.specs.Journal.{choose, bodyLimit, mark, lengthOf, bodyOf}
 use Rattle.journal.specs.Bytes.{yes-is, no-is, and-is, and-not, not-and}
@@ -244,14 +245,17 @@ module _ (s : List ℕ) (last count : ℕ) where
           ∙ yes-is _ _
           (and-is (and-is (eq-eqb (length s) 12 l) (eq-eqb (numberAt s 4 4) last (sym i ∙ p))) (eq-eqb (numberAt s 8 4) count (sym j ∙ q))))
 
--- a byte put behind those had
-pub record Fed (r have b : ℕ) (old new : List ℕ) : Type 0 where
-  pub kind : r ≡ framingOf (take have old ++ (b ∷ []))
-  pub had : take (have + 1) new ≡ take have old ++ (b ∷ [])
+-- bytes put behind those had
+pub record Fed (r have : ℕ) (bytes old new : List ℕ) : Type 0 where
+  pub kind : r ≡ framingOf (take have old ++ bytes)
+  pub had : take (have + length bytes) new ≡ take have old ++ bytes
   pub size : length new ≡ length old
 
-pub put-had : (old : List ℕ) (have b : ℕ) → have < length old → take (have + 1) (set old have b) ≡ take have old ++ (b ∷ [])
-put-had old have b h = rw add-one (take-suc-set old have b h)
+pub put-behind : (r have : ℕ) (bytes old new : List ℕ) → have + length bytes ≤ length old → new ≡ splice old have bytes → r ≡ framingOf (take (have + length bytes) new)
+    → Fed r have bytes old new
+put-behind r have bytes old new h e k =
+    let t : take (have + length bytes) new ≡ take have old ++ bytes = ap (take (have + length bytes)) e ∙ take-splice old have bytes h in
+    record { kind = k ∙ ap framingOf t; had = t; size = ap length e ∙ length-splice old have bytes h }
 
 -- two rows of bytes, from a place on
 pub same-start : (x y : List ℕ) → length x ≡ length y → same (drop 0 x) (drop 0 y) ≡ same x y
@@ -285,65 +289,3 @@ unfolding same
 same-end x y i h l p =
     let g : length y ≤ i = omega arith in
     sym (ap₂ (λ (a b : List ℕ). same a b) (drop-of-length-le x h) (drop-of-length-le y g)) ∙ p
-
--- The numbers, in four lent words: bytes had, entries passed, the offset of this place, the offset of the entry before it.
-abbrev pub have : List ℕ → ℕ
-have words = getD words 0 0
-
--- what the words are after a byte, and after an entry that was passed
-abbrev pub oneMore : List ℕ → List ℕ
-oneMore words = (have words + 1) ∷ getD words 1 0 ∷ getD words 2 0 ∷ getD words 3 0 ∷ []
-
-abbrev pub passedBy : List ℕ → List ℕ
-passedBy words = 0 ∷ ((getD words 1 0 + 1) % 2 ^ 64) ∷ ((getD words 2 0 + have words) % 2 ^ 64) ∷ getD words 2 0 ∷ []
-
-module _ {S : Type 0} where
-  -- the words and the buffer stand for a reading
-  pub record Stands (words buf : List ℕ) (p : Place S) (s : List ℕ) : Type 0 where
-    pub says : words ≡ length s ∷ p .count ∷ p .at ∷ p .last ∷ []
-    pub had : take (length s) buf ≡ s
-    pub room : bodyLimit + 12 ≤ length buf
-
-  pub stands-first : (buf : List ℕ) (d : S) → bodyLimit + 12 ≤ length buf → Stands (0 ∷ 0 ∷ 0 ∷ 0 ∷ []) buf (first d) []
-  stands-first buf d h = record { says = refl; had = refl; room = h }
-
-  pub stands-more : (words buf new : List ℕ) (p : Place S) (s : List ℕ) (r b : ℕ) → Stands words buf p s → Fed r (have words) b buf new
-      → Stands (oneMore words) new p (s ++ (b ∷ [])) × (r ≡ framingOf (s ++ (b ∷ [])))
-  stands-more words buf new p s r b o f =
-      let l : length (s ++ (b ∷ [])) ≡ length s + 1 = length-append s (b ∷ []) in
-      let h : have words ≡ length s = ap (λ (w : List ℕ). getD w 0 0) (o .says) in
-      let t : take (have words) buf ++ (b ∷ []) ≡ s ++ (b ∷ []) = ap (λ (x : List ℕ). x ++ (b ∷ [])) (ap (λ (n : ℕ). take n buf) h ∙ o .had) in (
-        record {
-          says = ap oneMore (o .says) ∙ ap (λ (n : ℕ). n ∷ p .count ∷ p .at ∷ p .last ∷ []) (sym l);
-          had = ap (λ (n : ℕ). take n new) (l ∙ ap (λ (n : ℕ). n + 1) (sym h)) ∙ f .had ∙ t;
-          room = subst (λ (n : ℕ). bodyLimit + 12 ≤ n) (sym (f .size)) (o .room);
-        },
-        f .kind ∙ ap framingOf t,
-      )
-
-  pub stands-passed : (words buf : List ℕ) (p : Place S) (s : List ℕ) (d : S) → Stands words buf p s → p .count + 1 < 2 ^ 64 → p .at + length s < 2 ^ 64
-      → Stands (passedBy words) buf (record { count = p .count + 1; at = p .at + length s; last = p .at; server = d }) []
-  stands-passed words buf p s d o h g = record {
-    says = ap passedBy (o .says) ∙ ap₂ (λ (x y : ℕ). 0 ∷ x ∷ y ∷ p .at ∷ []) (mod-eq-of-lt h) (mod-eq-of-lt g);
-    had = refl;
-    room = o .room;
-  }
-
--- what a byte does, for any bits in the words: 8 where no more bytes fit
-pub record Took (r : ℕ) (words new : List ℕ) (buf after : List ℕ) (b : ℕ) : Type 0 where
-  pub fits : have words < bodyLimit + 12 → Fed r (have words) b buf after × (new ≡ oneMore words)
-  pub full : bodyLimit + 12 ≤ have words → (r ≡ 8) × (new ≡ words) × (after ≡ buf)
-
-pub four-words : (l : List ℕ) (a b c d : ℕ) → length l ≡ 4 → set (set (set (set l 0 a) 1 b) 2 c) 3 d ≡ a ∷ b ∷ c ∷ d ∷ []
-four-words [] a b c d e = absurd (omega arith)
-four-words (_ ∷ []) a b c d e = absurd (omega arith)
-four-words (_ ∷ _ ∷ []) a b c d e = absurd (omega arith)
-four-words (_ ∷ _ ∷ _ ∷ []) a b c d e = absurd (omega arith)
-four-words (_ ∷ _ ∷ _ ∷ _ ∷ []) a b c d e = refl
-four-words (_ ∷ _ ∷ _ ∷ _ ∷ _ ∷ l) a b c d e = absurd (omega arith)
-
-pub took : (r : ℕ) (words new buf after : List ℕ) (b : ℕ) → have words < bodyLimit + 12 → Fed r (have words) b buf after → new ≡ oneMore words → Took r words new buf after b
-took r words new buf after b h f e = record { fits = λ _. (f, e); full = λ g. absurd (omega arith) }
-
-pub took-not : (words buf : List ℕ) (b : ℕ) → bodyLimit + 12 ≤ have words → Took 8 words words buf buf b
-took-not words buf b h = record { fits = λ g. absurd (omega arith); full = λ g. (refl, refl, refl) }

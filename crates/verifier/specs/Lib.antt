@@ -6,4 +6,5 @@ pub mod Places
 pub mod Verdict
 pub mod Framing
 pub mod Whole
+pub mod Standing
 pub mod Examples

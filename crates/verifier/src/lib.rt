@@ -1,12 +1,13 @@
 // The verifier (02: judge) without the server: what the bytes had from a place on come to. Whoever has the server goes on from
 // a whole entry: its layout (crate record), its frames beside the server's.
-ghost use Prim.Native.Nat.{_+_, _≤_, _<_};
-ghost use Rattle.verifier.specs.Framing.{Fed, Took, endOf, framingOf, have, oneMore, passedBy};
+ghost use Prim.Native.Nat.{_+_, _-_, _≤_, _<_, min};
+ghost use Rattle.verifier.specs.Framing.{Fed, endOf, framingOf};
+ghost use Rattle.verifier.specs.Standing.{endingOf, start, wantedOf};
 ghost use Rattle.verifier.specs.Judge.{same};
 ghost use lib.ListN.{length, take};
-ghost use mathlib.Core.List.{[], _∷_};
 ghost use mathlib.Core.Path.{_≡_};
 use journal::reader;
+use wire::frame;
 use wire::number;
 
 const BODY_LIMIT: u64 = reader::BODY_LIMIT as u64;
@@ -17,12 +18,10 @@ const AROUND: usize = 12;
 // a buffer of so many bytes holds every entry
 pub const ENTRY_LIMIT: usize = reader::BODY_LIMIT + AROUND;
 
-const BUFFER: u64 = ENTRY_LIMIT as u64;
-
 // "BACK" as a number
 const BACK: u64 = 1111573323;
 
-// What the bytes had come to: more are needed, a fault, a whole entry with right distance and sum; no more bytes fit.
+// What the bytes had come to: more are needed, a fault, a whole entry with right distance and sum.
 pub const MORE: u64 = 0;
 
 pub const LENGTH: u64 = 1;
@@ -38,8 +37,6 @@ pub const PARCELS: u64 = 5;
 pub const TRAILER: u64 = 6;
 
 pub const WHOLE: u64 = 7;
-
-pub const FULL: u64 = 8;
 
 pub const ACCEPTED: u64 = 0;
 
@@ -97,13 +94,13 @@ pub fn ending(s: &[u8], last: u64, count: u64) -> u64
     ACCEPTED
 }
 
-// A byte more: it is put behind those had, and `framing` tells what they come to.
-pub fn feed(buf: &mut [u8], have: usize, b: u8) -> u64
-    requires { ⌜ have < length (now buf) ⌝ }
-    ensures { λ r. ⌜ Fed r have b (now (buf .entry)) (now (buf .exit)) ⌝ }
+// Bytes more: they are put behind those had, and `framing` tells what they come to.
+pub fn feed(buf: &mut [u8], have: usize, bytes: &[u8]) -> u64
+    requires { ⌜ have + length (now bytes) ≤ length (now buf) ⌝ }
+    ensures { λ r. ⌜ Fed r have (now (bytes .entry)) (now (buf .entry)) (now (buf .exit)) ⌝ }
 {
-    buf[have] = b;
-    let e = have + 1;
+    frame::put_bytes(buf, have, bytes);
+    let e = have + bytes.len();
     framing(&buf[..e])
 }
 
@@ -124,52 +121,63 @@ pub fn equal(x: &[u8], y: &[u8]) -> bool
     true
 }
 
-// The reading's numbers, in four lent words: bytes had, entries passed, the offset of this place, that of the entry before it.
-fn set_all(w: &mut [u64], a: u64, b: u64, c: u64, d: u64)
-    requires { ⌜ length (now w) ≡ 4 ⌝ }
-    ensures { λ _. ⌜ now (w .exit) ≡ a ∷ b ∷ c ∷ d ∷ [] ⌝ }
-{
-    w[0] = a;
-    w[1] = b;
-    w[2] = c;
-    w[3] = d;
-}
-
-fn set_words(w: &mut [u64; 4], a: u64, b: u64, c: u64, d: u64)
-    ensures { λ _. ⌜ now (w .exit) ≡ a ∷ b ∷ c ∷ d ∷ [] ⌝ }
-{
-    set_all(w, a, b, c, d);
+// Where a reading stands: bytes had from this place on, entries passed, the offset of this place, that of the entry before it, and the
+// fault (0: none so far). The bytes had stand in a lent buffer.
+pub struct Standing {
+    pub have: usize,
+    pub count: u64,
+    pub at: u64,
+    pub last: u64,
+    pub fault: u64,
 }
 
 // A new reading.
-pub fn begin(words: &mut [u64; 4])
-    ensures { λ _. ⌜ now (words .exit) ≡ 0 ∷ 0 ∷ 0 ∷ 0 ∷ [] ⌝ }
+pub fn begin() -> Standing
+    ensures { λ r. ⌜ r ≡ start ⌝ }
 {
-    set_words(words, 0, 0, 0, 0);
-}
-
-// A byte of the book, for any bits in the words: FULL where no more bytes fit, and then nothing is changed.
-pub fn take_byte(words: &mut [u64; 4], buf: &mut [u8; ENTRY_LIMIT], b: u8) -> u64
-    ensures { λ r. ⌜ Took r (now (words .entry)) (now (words .exit)) (now (buf .entry)) (now (buf .exit)) b ⌝ }
-{
-    let h = words[0];
-    if h >= BUFFER {
-        return FULL;
+    Standing {
+        have: 0,
+        count: 0,
+        at: 0,
+        last: 0,
+        fault: 0,
     }
-    let count = words[1];
-    let at = words[2];
-    let last = words[3];
-    let k = feed(buf, h as usize, b);
-    set_words(words, h + 1, count, at, last);
-    k
 }
 
-// The entry had was passed: the next place.
-pub fn pass(words: &mut [u64; 4])
-    ensures { λ _. ⌜ now (words .exit) ≡ passedBy (now (words .entry)) ⌝ }
+// How many bytes from a place on decide what it comes to.
+fn wanted(s: &[u8]) -> u64
+    ensures { λ r. ⌜ r ≡ wantedOf (now (s .entry)) ⌝ }
 {
-    let at = words[2];
-    let count = std::num::wrapping_add_u64(words[1], 1);
-    let next = std::num::wrapping_add_u64(at, words[0]);
-    set_words(words, 0, count, next, at);
+    if s.len() <= 3 {
+        return 4;
+    }
+    let n = number::number4(s, 0);
+    if n == BACK {
+        return AROUND as u64 + 1;
+    }
+    n + AROUND as u64
+}
+
+// How many of the next bytes are put at once: as many as are wanted, or all.
+pub fn portion(buf: &[u8], have: usize, left: usize) -> usize
+    requires { ⌜ (have ≤ length (now buf)) × (have < wantedOf (take have (now buf))) ⌝ }
+    ensures { λ r. ⌜ r ≡ min (wantedOf (take have (now (buf .entry))) - have) left ⌝ }
+{
+    let w = wanted(&buf[..have]) as usize - have;
+    if left < w {
+        return left;
+    }
+    w
+}
+
+// The end of the book: ACCEPTED, or the fault.
+pub fn verdict(r: Standing, buf: &[u8]) -> u64
+    requires { ⌜ r .have ≤ length (now buf) ⌝ }
+    ensures { λ k. ⌜ k ≡ endingOf r (now (buf .entry)) ⌝ }
+{
+    if r.fault != 0 {
+        return r.fault;
+    }
+    let e = r.have;
+    ending(&buf[..e], r.last, r.count)
 }

@@ -3,10 +3,11 @@
 
 use std::collections::{BTreeMap, VecDeque};
 use std::net::{SocketAddr, TcpListener, ToSocketAddrs};
+use std::path::PathBuf;
 use std::sync::mpsc::{channel, Receiver, Sender};
 use std::time::{Duration, Instant, SystemTime};
 
-use hislip::{Frames, Mode, Server, Watch, CONNECTIONS};
+use hislip::{Frames, Mode, Watch, CONNECTIONS};
 use query::names;
 
 use crate::arrive::Newcomer;
@@ -17,6 +18,7 @@ use crate::instrument::{Bench, Instrument, Ticket};
 use crate::listen::Listening;
 use crate::locks::{Followed, Later};
 use crate::log::Log;
+use crate::recorder::Recorder;
 use crate::refuse::Refusals;
 use crate::session::{Session, SessionId};
 use crate::utc;
@@ -32,6 +34,8 @@ pub struct Settings {
     pub vendor: [u8; 2],
     /// The mode that sessions start in.
     pub prefers: Mode,
+    /// A file that events are kept in.
+    pub journal: Option<PathBuf>,
     /// Time for a connection's session to have both its channels.
     pub initialize_within: Duration,
     /// Time for the instrument to do one request.
@@ -48,6 +52,7 @@ impl Default for Settings {
             listen: "127.0.0.1:4880".into(),
             vendor: *b"EX",
             prefers: Mode::Synchronized,
+            journal: None,
             initialize_within: Duration::from_secs(10),
             instrument_within: Duration::from_secs(10),
             watch: Watch::Off,
@@ -65,7 +70,7 @@ pub struct Who {
 
 /// A gateway that listens; [`Gateway::run`] serves.
 pub struct Gateway {
-    pub(crate) server: Server,
+    pub(crate) server: Recorder,
     start: Instant,
     /// The same by the calendar, for the log.
     started: SystemTime,
@@ -106,9 +111,10 @@ fn bind(listen: &str) -> std::io::Result<TcpListener> {
     TcpListener::bind(&addresses[..])
 }
 
-/// A fresh server with the allowed commands of the settings.
-fn server(settings: &Settings) -> std::io::Result<Server> {
-    let mut server = Server::new(settings.vendor, settings.prefers);
+/// A fresh server with the allowed commands of the settings; with a journal, its first entry has them.
+fn server(settings: &Settings) -> std::io::Result<Recorder> {
+    let journal = settings.journal.as_deref();
+    let mut server = Recorder::new(settings.vendor, settings.prefers, journal)?;
     if let Some(patterns) = &settings.allow {
         let set = server.patterns(patterns);
         set.map_err(|bad| std::io::Error::new(std::io::ErrorKind::InvalidInput, bad))?;
@@ -125,11 +131,12 @@ impl Gateway {
     ) -> std::io::Result<Gateway> {
         let listener = bind(&settings.listen)?;
         let address = listener.local_addr()?;
+        let server = server(settings)?;
         let (events, queue) = channel();
         let (name, trigger_answers) = (instrument.name(), instrument.trigger_answers());
         log.say(|| format!("gateway listens on {address} for {name}"));
         Ok(Gateway {
-            server: server(settings)?,
+            server,
             start: Instant::now(),
             started: SystemTime::now(),
             queue,
@@ -176,6 +183,9 @@ impl Gateway {
             self.seat_newcomers();
             self.send_answers();
             self.deliver_all();
+            if let Some(trouble) = self.server.trouble() {
+                self.say(Who::default(), || trouble);
+            }
         };
         self.end(why);
     }

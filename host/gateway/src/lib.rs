@@ -19,6 +19,7 @@ mod log;
 pub mod options;
 mod os;
 mod reader;
+mod recorder;
 mod refuse;
 mod session;
 pub mod signals;

@@ -20,6 +20,7 @@ usage: gateway [OPTION..]
   --instrument-timeout-ms N how long the instrument may take for one message (10000)
   --watch LIMIT | LOW,HIGH  sessions are told of the first reading above, or outside, in a block of floats
   --allow FILE              commands that are allowed, a SCPI pattern a line; others are answered Error 128
+  --journal FILE            events are kept in FILE, from its start (docs/JOURNAL.md); when it is full, in FILE.1 and so on
   --log FILE                lines are also appended to FILE
   --quiet                   no lines on standard output
   --help
@@ -70,6 +71,7 @@ pub fn parse(arguments: impl IntoIterator<Item = String>) -> Result<Options, Str
             }
             "--watch" => options.settings.watch = watch::parse(&next()?)?,
             "--allow" => options.allow = Some(next()?),
+            "--journal" => options.settings.journal = Some(next()?.into()),
             "--log" => options.log = Some(next()?),
             _ => return Err(format!("unknown option {word}")),
         }

@@ -27,6 +27,7 @@
 mod event;
 mod frame;
 mod holder;
+mod journal;
 mod message_type;
 mod mode;
 mod numbers;
@@ -41,6 +42,7 @@ pub mod sys;
 pub use event::{Answer, Event};
 pub use frame::{Frame, Frames};
 pub use holder::Holder;
+pub use journal::{Journal, Kept};
 pub use message_type::{type_name, MessageType};
 pub use mode::Mode;
 pub use numbers::{Connection, SessionId};

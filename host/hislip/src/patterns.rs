@@ -3,6 +3,7 @@
 use std::error::Error;
 use std::fmt;
 
+use crate::journal::{Journal, Kept};
 use crate::refusal::Refusal;
 use crate::server::Server;
 use crate::sizes::{PATTERN, PATTERNS};
@@ -112,10 +113,42 @@ impl Server {
     ///
     /// As [`Server`] says: never, with the proved archive.
     pub fn patterns<T: AsRef<[u8]>>(&mut self, list: &[T]) -> Result<(), BadList> {
-        let text: Vec<u8> = list.iter().flat_map(|one| line(one.as_ref())).collect();
+        let text = text(list);
         let (words, strings) = self.memory();
         // SAFETY: as for `open`; the text is this function's own.
         let told = unsafe { sys::hislip_patterns(words, strings, text.as_ptr(), text.len()) };
+        BadList::check(told, list)
+    }
+
+    /// As [`Server::patterns`], with an entry in a journal.
+    ///
+    /// # Panics
+    ///
+    /// As [`Server`] says: never, with the proved archive.
+    pub fn keep_patterns<T: AsRef<[u8]>>(
+        &mut self,
+        list: &[T],
+        journal: &mut Journal,
+    ) -> (Result<(), BadList>, Kept) {
+        let text = text(list);
+        let (journal, book, length) = journal.lent();
+        let (words, strings) = self.memory();
+        let (at, size) = (text.as_ptr(), text.len());
+        // SAFETY: as for `patterns`; the journal is borrowed apart from `self`.
+        let told = unsafe {
+            sys::journal::hislip_keep_patterns(words, strings, at, size, journal, book, length)
+        };
+        let listed = sys::hislip_listed {
+            refusal: told.refusal,
+            pattern: told.pattern,
+            place: told.place,
+        };
+        (BadList::check(listed, list), Kept::of(told.kept))
+    }
+}
+
+impl BadList {
+    fn check<T: AsRef<[u8]>>(told: sys::hislip_listed, list: &[T]) -> Result<(), BadList> {
         match Refusal::check(told.refusal) {
             Ok(()) => Ok(()),
             Err(Refusal::BadPattern) => {
@@ -129,6 +162,11 @@ impl Server {
             Err(_) => Err(BadList::TooMany),
         }
     }
+}
+
+/// The patterns of a list as the interface takes them: one a line.
+fn text<T: AsRef<[u8]>>(list: &[T]) -> Vec<u8> {
+    list.iter().flat_map(|one| line(one.as_ref())).collect()
 }
 
 /// A pattern with the newline that ends it. A newline inside it is as bad in any place as the byte 0, which

@@ -257,12 +257,16 @@ impl Server {
         (self.words.as_ptr(), self.strings.as_ptr())
     }
 
+    pub(crate) fn output(&mut self) -> (*mut u8, usize) {
+        (self.out.as_mut_ptr(), self.out.len())
+    }
+
     fn sent(&self, done: sys::hislip_done) -> Result<Frames<'_>, Refusal> {
         Refusal::check(done.refusal)?;
         Ok(self.frames(done.output))
     }
 
-    fn frames(&self, output: u64) -> Frames<'_> {
+    pub(crate) fn frames(&self, output: u64) -> Frames<'_> {
         Frames::new(&self.out[..output as usize])
     }
 }

@@ -3,6 +3,8 @@
 
 #![allow(non_camel_case_types)]
 
+pub mod journal;
+
 /// The answer to a delivery.
 #[repr(C)]
 #[derive(Clone, Copy, Debug, PartialEq, Eq)]

@@ -1,6 +1,7 @@
 //! What an entry says by itself, where it cannot be replayed.
 
 use query::{names, words};
+use reference::commands::lines;
 use reference::event::frames;
 use reference::journal::{layout, Recorded};
 
@@ -39,8 +40,8 @@ fn event_text(event: &Recorded) -> String {
             let (low, high) = (float(*low), float(*high));
             format!("session {session} watch outside {low} to {high}")
         }
-        Recorded::Patterns { patterns } => {
-            let patterns: Vec<_> = patterns.iter().map(|one| words::text(one)).collect();
+        Recorded::Patterns { text } => {
+            let patterns: Vec<_> = lines(text).into_iter().map(words::text).collect();
             format!("{} patterns {}", patterns.len(), patterns.join(" "))
         }
     }

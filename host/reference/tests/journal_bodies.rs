@@ -26,9 +26,9 @@ fn samples() -> Vec<(Recorded, usize)> {
         (Recorded::WatchOff { session: 7 }, 5),
         (above(1.5), 9),
         (outside(f32::NAN, -0.0), 13),
-        (patterns(&[]), 5),
-        (patterns(&["*IDN?", "", "MEASure?"]), 5 + 4 * 3 + 13),
-        (patterns(&["A"; 33]), 5 + 33 * 5),
+        (patterns(b""), 5),
+        (patterns(b"*IDN?\n\nMEASure?"), 5 + 15),
+        (patterns(&[b'\n'; 33]), 5 + 33),
     ]
 }
 
@@ -58,11 +58,9 @@ fn outside(low: f32, high: f32) -> Recorded {
     }
 }
 
-fn patterns(list: &[&str]) -> Recorded {
-    let patterns = list.iter().map(|text| text.as_bytes().to_vec());
-    Recorded::Patterns {
-        patterns: patterns.collect(),
-    }
+fn patterns(text: &[u8]) -> Recorded {
+    let text = text.to_vec();
+    Recorded::Patterns { text }
 }
 
 #[test]
@@ -152,19 +150,18 @@ fn the_servers_events_are_recorded_as_far_as_they_count() {
     assert_eq!(shown, [7; 1040]);
     let beside = answer_beside(1, b"+1", 255, vec![9; 40]);
     let again = replayable(recorded(&beside));
-    assert_eq!(again, Some(answer_beside(1, b"+1", 1, vec![9; 16])));
+    assert_eq!(again, answer_beside(1, b"+1", 1, vec![9; 16]));
     for limits in [above(1.0), outside(f32::NAN, -0.0)] {
-        let event = replayable(limits.clone()).expect("an event");
+        let event = replayable(limits.clone());
         assert_eq!(recorded(&event), limits);
     }
-    for list in [&[][..], &["*IDN?", "MEASure?"], &[""], &["A", ""]] {
-        let event = replayable(patterns(list)).expect("an event");
-        assert_eq!(recorded(&event), patterns(list));
+    for text in [&b""[..], b"\n", b"*IDN?\nMEASure?", b"*IDN?\nMEASure?\n"] {
+        let event = Event::Patterns {
+            text: text.to_vec(),
+        };
+        assert_eq!(recorded(&event), patterns(text), "the last newline too");
+        assert_eq!(replayable(patterns(text)), event);
     }
-    assert_eq!(replayable(patterns(&["A\nB"])), None, "not two patterns");
-    let text = b"*IDN?\nMEASure?".to_vec();
-    let unended = recorded(&Event::Patterns { text });
-    assert_eq!(unended, patterns(&["*IDN?", "MEASure?"]));
 }
 
 #[test]

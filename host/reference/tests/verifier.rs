@@ -121,7 +121,6 @@ fn each_kind_of_fault_and_their_order() {
 
 #[test]
 fn the_layout_is_shape_and_a_refused_event_a_fault_of_parcels() {
-    let pattern = |bytes| vec![b'A'; bytes];
     let answer = Recorded::Answer {
         session: 1,
         end: true,
@@ -129,10 +128,10 @@ fn the_layout_is_shape_and_a_refused_event_a_fault_of_parcels() {
         shown: vec![],
     };
     let many = Recorded::Patterns {
-        patterns: vec![pattern(1); 33],
+        text: b"A\n".repeat(33),
     };
     let long = Recorded::Patterns {
-        patterns: vec![pattern(129)],
+        text: vec![b'A'; 129],
     };
     let off = Recorded::WatchOff { session: 9 };
     let late = Recorded::Clock {

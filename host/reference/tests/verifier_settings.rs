@@ -2,32 +2,18 @@
 
 mod books;
 
-use books::{accepted, bodies, closed, kept, session, wrong};
-use reference::compose::{answer, block, deliver, message, patterns, watch};
+use books::{accepted, bodies, closed, kept, listed, watched, wrong};
+use reference::compose::patterns;
 use reference::journal::layout::body;
 use reference::journal::Recorded;
 use reference::verifier::{judge, Fault, Verdict};
-use reference::{Event, Fresh, Watch};
+use reference::{Event, Fresh};
 
 fn verdict(bodies: &[Vec<u8>]) -> Verdict {
     let plain = books::plain_verdict(bodies);
     let judged = judge(Fresh::BENCH, &closed(bodies));
     assert_eq!(judged, plain);
     judged
-}
-
-/// A session, a question, and watches around the answers; the last but one trips.
-fn watched() -> Vec<Event> {
-    let mut events = session(1, 0);
-    events.extend([
-        deliver(0, message(7, 0, 0xffff_ff00, b"READ?")),
-        watch(1, Watch::above(1.0)),
-        answer(1, &block(&[1.0]), 0),
-        watch(1, Watch::outside(-0.0, f32::INFINITY)),
-        answer(1, &block(&[-1.0]), 0),
-        watch(1, Watch::Off),
-    ]);
-    events
 }
 
 fn above(session: u32, limit: f32) -> Vec<u8> {
@@ -67,23 +53,9 @@ fn a_watch_set_too_late() {
     assert_eq!(verdict(&bodies), wrong(tripping - 1, Fault::Parcels));
 }
 
-/// A command before a list is set, one that the list allows and one that it does not.
-fn listed() -> Vec<Event> {
-    let mut events = session(1, 0);
-    events.extend([
-        deliver(0, message(7, 0, 0xffff_ff00, b"SYST:ERR?")),
-        patterns(&["*RST", "SYSTem:ERRor[:NEXT]?"]),
-        deliver(0, message(7, 0, 0xffff_ff02, b"syst:err:next?")),
-        deliver(0, message(7, 0, 0xffff_ff04, b"*IDN?")),
-        patterns::<&str>(&[]),
-        deliver(0, message(7, 0, 0xffff_ff06, b"*RST")),
-    ]);
-    events
-}
-
-fn list(patterns: &[&[u8]]) -> Vec<u8> {
-    let patterns = patterns.iter().map(|pattern| pattern.to_vec()).collect();
-    body(&Recorded::Patterns { patterns }, b"")
+fn list(text: &[u8]) -> Vec<u8> {
+    let text = text.to_vec();
+    body(&Recorded::Patterns { text }, b"")
 }
 
 #[test]
@@ -99,25 +71,22 @@ fn a_book_with_patterns_is_replayed() {
     };
     let refused = wrong(set, Fault::Parcels);
     assert_eq!(
-        with(list(&[b"*RST", b"SYSTem:ERRor[:NEXT]"])),
+        with(list(b"*RST\nSYSTem:ERRor[:NEXT]")),
         wrong(set + 1, Fault::Parcels)
     );
     assert_eq!(
-        with(list(&[b"*IDN?", b"SYSTem:ERRor:NEXT?"])),
+        with(list(b"*IDN?\nSYSTem:ERRor:NEXT?")),
         wrong(set + 2, Fault::Parcels)
     );
-    assert_eq!(with(list(&[b"SYSTem:ERRor:NEXT?"])), accepted(bodies.len()));
-    assert_eq!(with(list(&[b"A", b"SYSTem:ERRor:NEXt]?"])), refused);
-    assert_eq!(with(list(&[b""])), refused);
-    assert_eq!(with(list(&[&b"A"[..]; 33])), refused);
-    assert_eq!(with(list(&[&[b'A'; 129]])), refused);
-    assert_eq!(
-        with(list(&[b"*RST\nSYSTem:ERRor[:NEXT]?"])),
-        refused,
-        "one, not two"
-    );
-    assert_eq!(with(list(&[b"*RST\n", b"SYSTem:ERRor[:NEXT]?"])), refused);
-    let framed = [list(&[b"A"]), vec![0]].concat();
+    for same in [&b"SYSTem:ERRor:NEXT?"[..], b"SYSTem:ERRor:NEXT?\n"] {
+        assert_eq!(with(list(same)), accepted(bodies.len()));
+    }
+    assert_eq!(with(list(b"A\nSYSTem:ERRor:NEXt]?")), refused);
+    assert_eq!(with(list(b"\n")), refused);
+    assert_eq!(with(list(b"SYSTem:ERRor:NEXT?\n\n")), refused);
+    assert_eq!(with(list(&b"A\n".repeat(33))), refused);
+    assert_eq!(with(list(&[b'A'; 129])), refused);
+    let framed = [list(b"A"), vec![0]].concat();
     assert_eq!(with(framed), refused);
 }
 
@@ -127,16 +96,19 @@ fn the_longest_list_has_an_entry() {
     let longest = vec![vec![b'A'; 128]; 32];
     let book = kept(Fresh::BENCH, &[patterns(&longest)]);
     let bodies = bodies(&book);
-    assert_eq!(bodies[0].len(), 4_229);
+    assert_eq!(bodies[0].len(), 4_133);
     assert_eq!(verdict(&bodies), accepted(1));
 }
 
-/// A text without its last newline is the same event to a journal.
+/// A text without its last newline is another event: a byte less, which the journal keeps.
 #[test]
-fn one_encoding_for_both_forms_of_a_text() {
+fn both_forms_of_a_text_are_kept_as_they_are() {
     let text = |text: &[u8]| Event::Patterns {
         text: text.to_vec(),
     };
-    let with = kept(Fresh::BENCH, &[text(b"*RST\n*IDN?\n")]);
-    assert_eq!(kept(Fresh::BENCH, &[text(b"*RST\n*IDN?")]), with);
+    for given in [&b"*RST\n*IDN?\n"[..], b"*RST\n*IDN?"] {
+        let kept = bodies(&kept(Fresh::BENCH, &[text(given)]));
+        assert_eq!(kept, [list(given)]);
+        assert_eq!(verdict(&kept), accepted(1));
+    }
 }

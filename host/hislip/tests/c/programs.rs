@@ -40,6 +40,12 @@ fn patterns_take_little_stack() {
     assert_eq!(checks(&text), 16, "{text}");
 }
 
+#[test]
+fn a_journal_is_kept_and_read_in_c() {
+    let text = printed("journal");
+    assert_eq!(checks(&text), 22, "{text}");
+}
+
 /// The lines of the header's example, without the comment's star and indent.
 fn example_in_header() -> String {
     let header = fs::read_to_string(root().join("include/hislip_server.h")).expect("the header");

@@ -1,7 +1,6 @@
 //! Between the server's events and those of the layout.
 
-use crate::commands::lines;
-use crate::compose::{patterns, ROOM};
+use crate::compose::{watch, ROOM};
 use crate::event::Event;
 use crate::journal::layout::{Recorded, MOST_DELIVERED, MOST_SHOWN};
 use crate::watch::{Single, Watch};
@@ -39,9 +38,7 @@ pub fn recorded(event: &Event) -> Recorded {
         },
         Event::Status { status } => Recorded::Status { status: *status },
         Event::Watch { session, watch } => recorded_watch(*session, *watch),
-        Event::Patterns { text } => Recorded::Patterns {
-            patterns: lines(text).into_iter().map(<[u8]>::to_vec).collect(),
-        },
+        Event::Patterns { text } => Recorded::Patterns { text: text.clone() },
     }
 }
 
@@ -64,11 +61,10 @@ fn first(bytes: &[u8], most: usize) -> Vec<u8> {
     bytes.iter().take(most).copied().collect()
 }
 
-/// The server's event for a recorded one, with room enough for any output; None if a host cannot say it, and to
-/// a verifier that is one that the server refuses.
-pub fn replayable(recorded: Recorded) -> Option<Event> {
+/// The server's event for a recorded one, with room enough for any output.
+pub fn replayable(recorded: Recorded) -> Event {
     let room = ROOM;
-    Some(match recorded {
+    match recorded {
         Recorded::Open { connection } => Event::Open { connection },
         Recorded::Deliver { connection, shown } => Event::Deliver {
             connection,
@@ -90,27 +86,19 @@ pub fn replayable(recorded: Recorded) -> Option<Event> {
             room,
         },
         Recorded::Status { status } => Event::Status { status },
-        setting => return replayable_setting(setting),
-    })
+        Recorded::WatchOff { session } => watch(session, Watch::Off),
+        Recorded::WatchAbove { session, limit } => watch(session, above(limit)),
+        Recorded::WatchOutside { session, low, high } => watch(session, outside(low, high)),
+        Recorded::Patterns { text } => Event::Patterns { text },
+    }
 }
 
-/// Watches and patterns. A pattern with a newline in it cannot be said, and it would be a bad one.
-fn replayable_setting(recorded: Recorded) -> Option<Event> {
-    Some(match recorded {
-        Recorded::WatchOff { session } => watching(session, Watch::Off),
-        Recorded::WatchAbove { session, limit } => {
-            let limit = Single::of_bits(limit);
-            watching(session, Watch::Above { limit })
-        }
-        Recorded::WatchOutside { session, low, high } => {
-            let (low, high) = (Single::of_bits(low), Single::of_bits(high));
-            watching(session, Watch::Outside { low, high })
-        }
-        Recorded::Patterns { patterns: list } if !list.concat().contains(&b'\n') => patterns(&list),
-        _ => return None,
-    })
+fn above(limit: u32) -> Watch {
+    let limit = Single::of_bits(limit);
+    Watch::Above { limit }
 }
 
-fn watching(session: u32, watch: Watch) -> Event {
-    Event::Watch { session, watch }
+fn outside(low: u32, high: u32) -> Watch {
+    let (low, high) = (Single::of_bits(low), Single::of_bits(high));
+    Watch::Outside { low, high }
 }

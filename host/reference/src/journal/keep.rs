@@ -24,7 +24,7 @@ pub fn keep(
     book: &mut Book,
 ) -> (Reply, Kept) {
     let recorded = recorded(event);
-    let shown = replayable(recorded.clone()).expect("made from an event");
+    let shown = replayable(recorded.clone());
     let reply = server.apply(&shown, out);
     if reply.refusal != 0 {
         return (reply, Kept::Written);

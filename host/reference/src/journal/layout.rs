@@ -46,8 +46,9 @@ pub enum Recorded {
         low: u32,
         high: u32,
     },
+    /// The list's text as the host gave it.
     Patterns {
-        patterns: Vec<Vec<u8>>,
+        text: Vec<u8>,
     },
 }
 
@@ -97,11 +98,7 @@ pub fn encode(event: &Recorded) -> Vec<u8> {
         Recorded::WatchOutside { session, low, high } => {
             (tag::WATCH_OUTSIDE, numbers(&[*session, *low, *high]))
         }
-        Recorded::Patterns { patterns } => {
-            let rows: Vec<Vec<u8>> = patterns.iter().map(|pattern| row(pattern)).collect();
-            let fields = [numbers(&[patterns.len() as u32]), rows.concat()];
-            (tag::PATTERNS, fields.concat())
-        }
+        Recorded::Patterns { text } => (tag::PATTERNS, row(text)),
     };
     [vec![tag], fields].concat()
 }
@@ -171,7 +168,7 @@ impl Fields<'_> {
                 high: self.number()?,
             },
             tag::PATTERNS => Recorded::Patterns {
-                patterns: self.rows()?,
+                text: self.row(BODY_LIMIT)?,
             },
             _ => return None,
         })
@@ -204,11 +201,5 @@ impl Fields<'_> {
         let (bytes, rest) = self.0.split_at_checked(length)?;
         self.0 = rest;
         Some(bytes.to_vec())
-    }
-
-    /// Rows with their number before them. Each has 4 bytes at least, so there are never more than bytes.
-    fn rows(&mut self) -> Option<Vec<Vec<u8>>> {
-        let count = self.number()?;
-        (0..count).map(|_| self.row(BODY_LIMIT)).collect()
     }
 }

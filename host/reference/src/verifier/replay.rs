@@ -33,7 +33,7 @@ impl Replay {
     /// The event of a body must give the very frames beside it; a refused one is a fault of parcels.
     pub fn body<'a>(&mut self, body: &'a [u8]) -> Result<Replayed<'a>, Fault> {
         let (recorded, frames) = decode(body).ok_or(Fault::Layout)?;
-        let event = replayable(recorded).ok_or(Fault::Parcels)?;
+        let event = replayable(recorded);
         let reply = self.server.apply(&event, &mut self.out);
         if reply.refusal != 0 || self.out[..reply.output as usize] != *frames {
             return Err(Fault::Parcels);

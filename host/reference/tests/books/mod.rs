@@ -1,7 +1,9 @@
 //! A morning at the bench, as a list of events and as a journal.
 #![allow(dead_code)]
 
-use reference::compose::{answer, answer_beside, clock, cut, deliver, header, message};
+use reference::compose::{
+    answer, answer_beside, block, clock, cut, deliver, header, message, patterns, watch,
+};
 use reference::journal::{layout, reader, Keeping, Kept, Recorded, Writer};
 use reference::verifier::{Fault, Verdict};
 use reference::{Event, Fresh, Reply, Server, Single, Subject, Watch};
@@ -50,6 +52,34 @@ pub fn morning() -> Vec<Event> {
         cut(3),
         deliver(1, message(4, 1, 0, b"cal")),
         deliver(1, message(2, 0, 0, b"")),
+    ]);
+    events
+}
+
+/// A session, a question, and watches around the answers; the last but one trips.
+pub fn watched() -> Vec<Event> {
+    let mut events = session(1, 0);
+    events.extend([
+        deliver(0, message(7, 0, 0xffff_ff00, b"READ?")),
+        watch(1, Watch::above(1.0)),
+        answer(1, &block(&[1.0]), 0),
+        watch(1, Watch::outside(-0.0, f32::INFINITY)),
+        answer(1, &block(&[-1.0]), 0),
+        watch(1, Watch::Off),
+    ]);
+    events
+}
+
+/// A command before a list is set, one that the list allows and one that it does not.
+pub fn listed() -> Vec<Event> {
+    let mut events = session(1, 0);
+    events.extend([
+        deliver(0, message(7, 0, 0xffff_ff00, b"SYST:ERR?")),
+        patterns(&["*RST", "SYSTem:ERRor[:NEXT]?"]),
+        deliver(0, message(7, 0, 0xffff_ff02, b"syst:err:next?")),
+        deliver(0, message(7, 0, 0xffff_ff04, b"*IDN?")),
+        patterns::<&str>(&[]),
+        deliver(0, message(7, 0, 0xffff_ff06, b"*RST")),
     ]);
     events
 }
@@ -132,15 +162,7 @@ fn replayed(server: &mut Server, recorded: Recorded, out: &mut [u8]) -> Reply {
             let (low, high) = (Single::of_bits(low), Single::of_bits(high));
             server.watch(session, Watch::Outside { low, high })
         }
-        Recorded::Patterns { patterns } => {
-            if patterns.iter().any(|pattern| pattern.contains(&b'\n')) {
-                return Reply::refused(11);
-            }
-            let ended = patterns
-                .iter()
-                .map(|pattern| [pattern, &b"\n"[..]].concat());
-            server.patterns(&ended.collect::<Vec<_>>().concat())
-        }
+        Recorded::Patterns { text } => server.patterns(&text),
     }
 }
 

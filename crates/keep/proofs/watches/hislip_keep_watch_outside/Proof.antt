@@ -1,0 +1,37 @@
+-- `hislip_keep_watch_outside` meets its contract: the plain call, then the entry of its event.
+use mathlib.Core.Path.{refl}
+use mathlib.Core.List.{[]}
+use Rattle.model.specs.Interface.{Event, Event.setting, Setting.watch}
+use Rattle.readings.specs.Bits.{bits}
+use Rattle.readings.specs.Watch.{Limits.outside}
+use Rattle.keep.specs.Calls.{told-done, none-handed, called-again, kept-again, outside-head, numbers-kept-if}
+use Rattle.state.specs.View.{memory}
+use borrow.Author.Needs.{needs}
+use Rattle.keep.proofs.watches.hislip_keep_watch_outside.Statement.{statement}
+use Rattle.keep.proofs.watches.hislip_keep_watch_outside.Tie as tie
+
+returns : tie.Need-returns
+returns c = let a = c .before .before .before .before .before .before .before .before .before .before .before .before .before .before .before .args in
+    let m = memory (a .words .now) (a .strings .now) in
+    let e : Event = setting (watch (a .session) (outside (bits (a .low)) (bits (a .high)))) in
+    let t = none-handed (told-done m _ e [] [] refl _ (c .before .before .before .before .before .before .before .before .before .before .before .hislip-watch-outside .ensures)) in (
+      called-again (c .done .ensures .0) (c .before .before .before .before .before .before .before .before .before .before .before .hislip-watch-outside .ensures),
+      kept-again (c .done .ensures .1)
+          (numbers-kept-if m e _ _ _ t _ _ _ _ _ _ (outside-head m (a .session) (bits (a .low)) (bits (a .high)) _ _ _ _ t (c .before .before .before .before .before .before .before .before .before .before .bits-of .ensures .0) (c .before .before .before .before .before .before .before .before .before .bits-of2 .ensures .0) (c .before .before .before .before .before .before .before .before .triple .ensures))
+          (c .before .before .before .keep-numbers .ensures)),
+    )
+
+pub hislip-keep-watch-outside-spec : {M : Type 1} → statement M
+hislip-keep-watch-outside-spec =
+    tie.close
+    (tie.spec
+    (λ c κs. search needs)
+    (λ c κs. search needs)
+    (λ c κs. search needs)
+    (λ c κs. search needs)
+    (λ c. search needs)
+    (λ c. search needs)
+    (λ c κs. search needs)
+    (λ c κs. search needs)
+    (λ c. search needs)
+    returns)
