@@ -39,7 +39,8 @@ use Rattle.record.specs.Layout as layout
 use Rattle.record.specs.Layout.{encode, row}
 use Rattle.record.specs.RoundTrip.{read-again}
 use Rattle.keep.specs.Lists.{cons-bytes, row-bytes, list-row}
-use Rattle.keep.specs.Keeping.{looked, recorded, refusedBy, entryUnless, keeping, Keeps}
+use Rattle.judging.specs.Kept.{recorded}
+use Rattle.keep.specs.Keeping.{looked, refusedBy, entryUnless, keeping, Keeps}
 use Rattle.keep.specs.Parts.{refused-by, body-within, payload-within}
 use Rattle.keep.specs.Program.{Told, seens, body, accepted, entryOf, bodies, acceptedOf, AllWritten, Typed, AllTyped, EachRead, PlainCall, Begun, Begun.begun, KeptRun, KeptRun.stop, KeptRun.call, ClosedAs, KeptProgram}
 

@@ -36,7 +36,8 @@ use Rattle.journal.specs.Journal.{bodyLimit}
 use Rattle.journal.specs.Writer as Book
 use Rattle.record.specs.Layout as layout
 use Rattle.record.specs.Layout.{encode, row}
-use Rattle.keep.specs.Keeping.{looked, recorded, refusedBy, entryUnless, keeping, Keeps}
+use Rattle.judging.specs.Kept.{recorded}
+use Rattle.keep.specs.Keeping.{looked, refusedBy, entryUnless, keeping, Keeps}
 use Rattle.keep.specs.Parts.{outputBy, refused-by, output-by, handed, kept-call, kept-if, or-first, or-second, body-within, first-of, short-parts, delivery-parts, answer-parts}
 
 -- the refusal that was told, and the bytes of the buffer that were

@@ -1,15 +1,13 @@
 -- 02, Q-7, the calls that keep a journal: what such a call looks at, what is kept of its event, and what it ensures beside the plain call's
 -- promise. Assumes nothing.
 use mathlib.Core.Path.{_≡_}
-use mathlib.Core.Bool.{cond}
 use mathlib.Core.List.{List}
 use Prim.Native.Nat.{ℕ}
 use lib.Dec.{eqb}
 use lib.ListN.{take}
 use Rattle.wire.specs.Frame.{bytesOf}
-use Rattle.readings.specs.Watch.{Limits, Limits.off, Limits.above, Limits.outside}
 use Rattle.model.specs.State.{Server}
-use Rattle.model.specs.Interface.{Event, Event.opening, Event.delivery, Event.cut, Event.clock, Event.answer, Event.status, Event.setting, Setting, Setting.watch, Setting.patterns, Reply, Reply.refused, Reply.done, Reply.withheld, Reply.took}
+use Rattle.model.specs.Interface.{Event, Event.opening, Event.delivery, Event.cut, Event.clock, Event.answer, Event.status, Event.setting, Reply, Reply.refused, Reply.done, Reply.withheld, Reply.took}
 use Rattle.model.specs.Refusals.{refusal}
 use Rattle.model.specs.Step.{step}
 use Rattle.sessions.specs.declared.Delivery.{Delivery}
@@ -20,6 +18,7 @@ use Rattle.journal.specs.Journal.{choose}
 use Rattle.journal.specs.Writer.{Done, appendOf, keptNumber}
 use Rattle.journal.specs.declared.Kept.the-variants.{Written}
 use Rattle.record.specs.Layout as layout
+use Rattle.judging.specs.Kept.{recorded}
 use Rattle.keep.specs.declared.KeptDelivery.{KeptDelivery}
 use Rattle.keep.specs.declared.KeptDone.{KeptDone}
 use Rattle.keep.specs.declared.KeptAnswered.{KeptAnswered}
@@ -35,27 +34,6 @@ looked (clock t room) = clock t room
 looked (answer n p end sh room) = answer n p end (take layout.mostShown sh) room
 looked (status b) = status b
 looked (setting x) = setting x
-
--- 02, Q-11: "Setting a watch is an event .. for the day book": its case, and its limits by their bits
-abbrev pub recordedWatch : ℕ → Limits → layout.Event
-recordedWatch n off = layout.watchOff n
-recordedWatch n (above b) = layout.watchAbove n b
-recordedWatch n (outside b c) = layout.watchOutside n b c
-
--- 02, Q-12: of a list its text
-abbrev pub recordedSetting : Setting → layout.Event
-recordedSetting (watch n l) = recordedWatch n l
-recordedSetting (patterns s) = layout.patterns s
-
--- the event as an entry's body has it: the room lent is not recorded
-abbrev pub recorded : Event → layout.Event
-recorded (opening c) = layout.opening c
-recorded (delivery c bs room) = layout.delivery c bs
-recorded (cut c room) = layout.cut c
-recorded (clock t room) = layout.clock t
-recorded (answer n p end sh room) = layout.answer n (cond end 1 0) p sh
-recorded (status b) = layout.status b
-recorded (setting x) = recordedSetting x
 
 -- the number of a refusal; 0: the call was not refused
 abbrev pub refusedBy : Reply → ℕ

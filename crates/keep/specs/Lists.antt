@@ -72,7 +72,7 @@ good-bytes p g = subst Bytes (g .pattern .same) (tree-bytes (g .pattern .tree) (
 
 -- ---- the text whose lines they are
 
-AllBytes : List (List ℕ) → Type 0
+abbrev AllBytes : List (List ℕ) → Type 0
 AllBytes [] = Unit {0}
 AllBytes (l ∷ ls) = Bytes l × AllBytes ls
 
@@ -82,16 +82,16 @@ good-lines (p ∷ ps) g = (good-bytes p (g .0), good-lines ps (g .1))
 
 more-bytes : (b : ℕ) (ls : List (List ℕ)) → AllBytes (more b ls) → (b < 256) × AllBytes ls
 more-bytes b [] h = (h .0 0, tt)
-more-bytes b (l ∷ ls) h = (h .0 0, (λ i. h .0 (suc i)), h .1)
+more-bytes b (l ∷ ls) h = (h .0 0, ((λ i. h .0 (suc i)), h .1))
 
 text-of-bytes : (s : List ℕ) → AllBytes (linesOf s) → Bytes s
 unfolding linesOf
 text-of-bytes [] h = no-bytes
-text-of-bytes (b ∷ s) h = go (eqb b 10) refl h
+text-of-bytes (b ∷ s) h = go (eqb b 10) refl h (text-of-bytes s)
   where
-    go : (t : Bool) → eqb b 10 ≡ t → AllBytes (cond t ([] ∷ linesOf s) (more b (linesOf s))) → Bytes (b ∷ s)
-    go true q g = cons-bytes b s (omega (arith, eqb-true b 10 q)) (text-of-bytes s (g .1))
-    go false q g = let m = more-bytes b (linesOf s) g in cons-bytes b s (m .0) (text-of-bytes s (m .1))
+    go : (t : Bool) → eqb b 10 ≡ t → AllBytes (cond t ([] ∷ linesOf s) (more b (linesOf s))) → (AllBytes (linesOf s) → Bytes s) → Bytes (b ∷ s)
+    go true q g f = cons-bytes b s (omega (arith, eqb-true b 10 q)) (f (g .1))
+    go false q g f = let m = more-bytes b (linesOf s) g in cons-bytes b s (m .0) (f (m .1))
 
 pub row-bytes : (r : List ℕ) → Bytes r → Bytes (layout.row r)
 unfolding row

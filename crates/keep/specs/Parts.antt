@@ -33,7 +33,8 @@ use Rattle.journal.specs.declared.Kept.the-variants.{Written}
 use Rattle.record.specs.Layout as layout
 use Rattle.record.specs.Layout.{encode, row}
 use Rattle.keep.specs.Lists.{row-length, list-row}
-use Rattle.keep.specs.Keeping.{looked, recorded, refusedBy, entryUnless, keeping, Keeps}
+use Rattle.judging.specs.Kept.{recorded}
+use Rattle.keep.specs.Keeping.{looked, refusedBy, entryUnless, keeping, Keeps}
 
 -- whatever bits the memory holds, no more requests wait in it than there are sessions
 few-wait : (m : Memory) → length (view m .locks .waiting) ≤ sessionLimit

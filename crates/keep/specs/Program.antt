@@ -18,7 +18,8 @@ use Rattle.journal.specs.Journal.{closedJournal, forward, backward}
 use Rattle.journal.specs.Prefix.{within}
 use Rattle.journal.specs.Writer.{place, newOf, closeOf}
 use Rattle.record.specs.Layout.{bodyBytes, decode, found}
-use Rattle.keep.specs.Keeping.{Keeps, keeping, looked, recorded, refusedBy}
+use Rattle.judging.specs.Kept.{recorded}
+use Rattle.keep.specs.Keeping.{Keeps, keeping, looked, refusedBy}
 
 -- what the host saw of a call that keeps a journal: what it would have seen of the plain one, and what became of the entry
 pub record Told : Type 0 where
