@@ -159,4 +159,5 @@ kept-code =
       until-no-room = kept-program .until-no-room;
       read = λ m m′ w b w′ b′ ts g. kept-program .read m m′ w b w′ b′ ts (runs g);
       closed = λ v m m′ w b w′ b′ w″ b″ ts k l n s g p h. kept-program .closed v m m′ w b w′ b′ w″ b″ ts k l (new n) (begins s) (runs g) p (ends h);
+      judged = λ v m m′ w b w′ b′ w″ b″ ts k l n s g p a h. kept-program .judged v m m′ w b w′ b′ w″ b″ ts k l (new n) (begins s) (runs g) p a (ends h);
     }

@@ -1,26 +1,27 @@
 -- The journal about the program, proved: a run of kept calls leaves an open journal that holds what the host was told is written.
 use mathlib.Core.Path.{_≡_, refl, sym, ap, ap₂, subst, _∙_}
-use mathlib.Core.Bool.{Bool, true, false, _&&_, cond}
+use mathlib.Core.Bool.{Bool, true, false, true≢false, _&&_, not, cond}
 use mathlib.Core.List.{List, [], _∷_, _++_, map, append-assoc, append-nil}
 use Prim.Native.Nat.{ℕ, zero, suc, _+_, _^_, _≤_, _<_}
 use native.Mathlib.Omega.{arith}
 use lib.Dec.{eqb, leb}
 use lib.ListN.{length, take, length-take}
 use lib.Seq.{take-take}
-use borrow.Author.Tests.{leb-true, leb-false, ltb-false, eqb-true}
+use borrow.Author.Tests.{leb-true, leb-false, ltb-false, eqb-true, ne-eqb}
 use Rattle.wire.specs.Field.{Bytes, field}
 use Rattle.wire.specs.Frame.{bytesOf}
 use Rattle.wire.proofs.ReadFrames.{bytes-row}
 use Rattle.readings.specs.Watch.{Limits.off, Limits.above, Limits.outside}
 use Rattle.model.specs.State.{Making, Server, fresh}
-use Rattle.model.specs.Interface.{Event, Event.opening, Event.delivery, Event.cut, Event.clock, Event.answer, Event.status, Event.setting, Setting.watch, Setting.patterns, Reply}
+use Rattle.model.specs.Interface.{Event, Event.opening, Event.delivery, Event.cut, Event.clock, Event.answer, Event.status, Event.setting, Setting.watch, Setting.patterns, Reply, Reply.refused, Reply.done, Reply.withheld, Reply.took}
 use Rattle.model.specs.Refusals.{causes, refusal}
 use Rattle.model.specs.Sizes.{clockLimit, connectionLimit, payloadLimit}
-use Rattle.model.specs.Step.{Line, log, step}
+use Rattle.model.specs.Step.{Line, Result, log, step, final}
 use Rattle.model.specs.Demand3.{Seen, seen, seenEvents}
 use Rattle.model.specs.Possible.{Possible, AllPossible}
 use Rattle.model.specs.SentFits.{LinesFit}
 use Rattle.model.proofs.Fits.{uncaused}
+use Rattle.model.proofs.Refused.{never-planned}
 use Rattle.model.proofs.SentFits.{sent-fits}
 use Rattle.state.specs.View.{Memory, view}
 use Rattle.server.specs.Events.{Fresh}
@@ -39,7 +40,12 @@ use Rattle.record.specs.Layout as layout
 use Rattle.record.specs.Layout.{encode, row}
 use Rattle.record.specs.RoundTrip.{read-again}
 use Rattle.keep.specs.Lists.{cons-bytes, row-bytes, list-row}
-use Rattle.judging.specs.Kept.{recorded}
+use Rattle.verifier.specs.Judge.{accepted as passed, judge}
+use Rattle.verifier.specs.Verdict.{writer-accepted}
+use Rattle.judging.specs.Kept.{recorded, AllKeepable, isRefused, bodiesOf}
+use Rattle.judging.specs.Replay.{deed, verdict}
+use Rattle.judging.proofs.Calls.{step-taken, no-cause, rights}
+use Rattle.judging.proofs.Fine.{all-possible, kept-fine}
 use Rattle.keep.specs.Keeping.{looked, refusedBy, entryUnless, keeping, Keeps}
 use Rattle.keep.specs.Parts.{refused-by, body-within, payload-within}
 use Rattle.keep.specs.Program.{Told, seens, body, accepted, entryOf, bodies, acceptedOf, AllWritten, Typed, AllTyped, EachRead, PlainCall, Begun, Begun.begun, KeptRun, KeptRun.stop, KeptRun.call, ClosedAs, KeptProgram}
@@ -255,6 +261,55 @@ until (t ∷ ts) a = ap₂ (λ (x y : List (List ℕ)). x ++ y) (go (accepted (t
     go true y e = rw e
     go false y e = refl
 
+-- a call that has no cause to be refused is not
+taken-not : (d : Server) (e : Event) → refusal d e ≡ 0 → isRefused ((step d e) .reply) ≡ false
+taken-not d e z = by ((step d e) .reply) refl
+  where
+    by : (y : Reply) → (step d e) .reply ≡ y → isRefused y ≡ false
+    by (refused n) p = absurd (never-planned d e n (ap (λ (x : Result). x .reply) (sym (step-taken d e z)) ∙ p))
+    by done p = refl
+    by withheld p = refl
+    by (took o k n) p = refl
+
+-- the bodies of the accepted events are those that a verifier expects
+accepted-lines : (es : List Event) (d : Server) → acceptedOf (map seen (log d es)) ≡ bodiesOf (log d es)
+unfolding log bodiesOf
+accepted-lines [] d = refl
+accepted-lines (e ∷ es) d = by (isRefused ((step d e) .reply)) refl (accepted-lines es ((step d e) .server))
+  where
+    rest : List Line
+    rest = log ((step d e) .server) es
+
+    this : List ℕ
+    this = layout.bodyBytes (recorded e) (bytesOf ((step d e) .frames))
+
+    is : (b : Bool) → isRefused ((step d e) .reply) ≡ b → eqb (refusedBy ((step d e) .reply)) 0 ≡ not b
+    is true q = ne-eqb _ _ (λ z. true≢false (sym q ∙ taken-not d e (sym (refused-by d e) ∙ z)))
+    is false q = ap (λ (n : ℕ). eqb n 0) (refused-by d e ∙ no-cause d e q)
+
+    by : (b : Bool) → isRefused ((step d e) .reply) ≡ b → acceptedOf (map seen rest) ≡ bodiesOf rest
+        → cond (eqb (refusedBy ((step d e) .reply)) 0) (this ∷ []) [] ++ acceptedOf (map seen rest) ≡ cond (isRefused ((step d e) .reply)) (bodiesOf rest) (this ∷ bodiesOf rest)
+    by true q ih = rw (is true q, q) ih
+    by false q ih = rw (is false q, q) (ap (λ (x : List (List ℕ)). this ∷ x) ih)
+
+module _ (v : Making) (m m′ : Memory) (w b w′ b′ : List ℕ) (ts : List Told) (l : v .vendor < 2 ^ 16) (n : Fresh v m) (s : Begun w b) (g : KeptRun m w b ts m′ w′ b′)
+    (p : AllKeepable (seenEvents (seens ts))) (a : AllWritten ts) where
+  kept-are : bodies ts ≡ bodiesOf (log (fresh v) (seenEvents (seens ts)))
+  kept-are =
+      let e : seens ts ≡ map seen (log (fresh v) (seenEvents (seens ts))) =
+      (program .by-definition m m′ (seens ts) (plainly g)) .seen-is ∙ ap (λ (y : Server). map seen (log y (seenEvents (seens ts)))) (n .shows) in
+      until ts a ∙ ap acceptedOf e ∙ accepted-lines (seenEvents (seens ts)) (fresh v)
+
+  passes : (k : ℕ) (w″ b″ : List ℕ) → Keeps (closeOf w′ b′) k w″ b″ → verdict v (take (place w″) b″) ≡ passed (length (acceptedOf (seens ts)))
+  unfolding verdict
+  passes k w″ b″ h =
+      let es : List Event = seenEvents (seens ts) in
+      let bs : List (List ℕ) = bodiesOf (log (fresh v) es) in
+      let o : Holds bs w′ b′ = subst (λ (x : List (List ℕ)). Holds x w′ b′) kept-are (all-hold v m m′ w b w′ b′ ts l n s g (all-possible es p)) in
+      ap (judge deed (fresh v)) (λ i. take (place (h .words-are i)) (h .book-is i))
+      ∙ writer-accepted deed (fresh v) bs (final (fresh v) es) w′ b′ o (rights es (fresh v) p (kept-fine v es l p))
+      ∙ ap (λ (x : List (List ℕ)). passed (length x)) (sym kept-are ∙ until ts a)
+
 pub kept-program : KeptProgram Fresh Begun KeptRun (λ w b k w′ b′. Keeps (closeOf w b) k w′ b′)
 kept-program =
     record {
@@ -263,4 +318,5 @@ kept-program =
       until-no-room = until;
       read = λ m m′ w b w′ b′ ts g p y. reads g p y;
       closed = λ v m m′ w b w′ b′ w″ b″ ts k l n s g p h. shut v m m′ w b w′ b′ ts l n s g p k w″ b″ h;
+      judged = λ v m m′ w b w′ b′ w″ b″ ts k l n s g p a h. passes v m m′ w b w′ b′ ts l n s g p a k w″ b″ h;
     }

@@ -18,7 +18,9 @@ use Rattle.journal.specs.Journal.{closedJournal, forward, backward}
 use Rattle.journal.specs.Prefix.{within}
 use Rattle.journal.specs.Writer.{place, newOf, closeOf}
 use Rattle.record.specs.Layout.{bodyBytes, decode, found}
-use Rattle.judging.specs.Kept.{recorded}
+use Rattle.verifier.specs.Judge.{accepted as passed}
+use Rattle.judging.specs.Kept.{recorded, AllKeepable}
+use Rattle.judging.specs.Replay.{verdict}
 use Rattle.keep.specs.Keeping.{Keeps, keeping, looked, refusedBy}
 
 -- what the host saw of a call that keeps a journal: what it would have seen of the plain one, and what became of the entry
@@ -113,3 +115,7 @@ pub record KeptProgram (New : Making → Memory → Type 0) (Begins : List ℕ �
   -- then the journal can be closed, and both readers find them, the second last first
   pub closed : (v : Making) (m m′ : Memory) (words book words′ book′ words″ book″ : List ℕ) (ts : List Told) (k : ℕ) → v .vendor < 2 ^ 16 → New v m → Begins words book
       → Ran m words book ts m′ words′ book′ → AllPossible (seenEvents (seens ts)) → Closes words′ book′ k words″ book″ → (k ≡ 0) × ClosedAs (bodies ts) words″ book″
+  -- 02, Q-8: "Every book our writer closes, kept from a fresh desk with no event left out, passes": with as many entries as calls were accepted
+  pub judged : (v : Making) (m m′ : Memory) (words book words′ book′ words″ book″ : List ℕ) (ts : List Told) (k : ℕ) → v .vendor < 2 ^ 16 → New v m → Begins words book
+      → Ran m words book ts m′ words′ book′ → AllKeepable (seenEvents (seens ts)) → AllWritten ts → Closes words′ book′ k words″ book″
+      → verdict v (take (place words″) book″) ≡ passed (length (acceptedOf (seens ts)))

@@ -88,16 +88,16 @@ numberIn withheld = 0
 numberIn (took o k n) = 0
 
 module _ (d : Server) (e : Event) where
-  not-refused : (n : ℕ) → (finish d (plan d e)) .reply ≡ refused n → ⊥
+  pub never-planned : (n : ℕ) → (finish d (plan d e)) .reply ≡ refused n → ⊥
   unfolding finish
-  not-refused n q = subst NotRefused q (plan-not d e)
+  never-planned n q = subst NotRefused q (plan-not d e)
 
   pub for-its-cause : (n : ℕ) → ((step d e) .reply ≡ refused (suc n)) ↔ (refusal d e ≡ suc n)
   unfolding step answered
   for-its-cause n = (go (refusal d e), λ q. ap (λ (k : ℕ). (answered k d e) .reply) q)
     where
       go : (k : ℕ) → (answered k d e) .reply ≡ refused (suc n) → k ≡ suc n
-      go zero q = absurd (not-refused (suc n) q)
+      go zero q = absurd (never-planned (suc n) q)
       go (suc k) q = ap numberIn q
 
   pub changes-nothing : (n : ℕ) → (step d e) .reply ≡ refused n → step d e ≡ record { server = d; reply = refused n; frames = [] }
@@ -105,5 +105,5 @@ module _ (d : Server) (e : Event) where
   changes-nothing n = go (refusal d e)
     where
       go : (k : ℕ) → (answered k d e) .reply ≡ refused n → answered k d e ≡ record { server = d; reply = refused n; frames = [] }
-      go zero q = absurd (not-refused n q)
+      go zero q = absurd (never-planned n q)
       go (suc k) q = ap (λ (y : Reply). record { server = d; reply = y; frames = [] }) q
