@@ -220,23 +220,26 @@ mod tests {
                 name.contains("held"),
                 "{name}"
             );
-            let locks = sent.iter().filter(|told| told.0 == kind::LOCK_RESPONSE);
-            let answers = [kind::DATA, kind::DATA_END, kind::STATUS_RESPONSE];
-            let ours = |told: &(u8, u8)| answers.contains(&told.0);
-            assert!(locks.clone().all(|told| matches!(told.1, 1 | 2)), "{name}");
-            assert!(
-                sent.iter()
-                    .all(|told| told.0 == kind::LOCK_RESPONSE || ours(told)),
-                "{name}"
-            );
-            let asked = workload
-                .steps
-                .iter()
-                .filter(|step| is_lock(&workload, step));
-            let (asked, answered) = (asked.count(), locks.count());
-            // In a storm a release is answered with the grant of another's request.
-            assert!(asked.abs_diff(answered) <= 1, "{name}: {asked} {answered}");
+            locks_are_answered_once(&workload, &sent);
         }
+    }
+
+    /// Nothing else is sent but answers of the instrument and of the status byte.
+    fn locks_are_answered_once(workload: &Workload, sent: &[(u8, u8)]) {
+        let name = &workload.name;
+        let locks = sent.iter().filter(|told| told.0 == kind::LOCK_RESPONSE);
+        let answers = [kind::DATA, kind::DATA_END, kind::STATUS_RESPONSE];
+        let ours = |told: &(u8, u8)| answers.contains(&told.0);
+        assert!(locks.clone().all(|told| matches!(told.1, 1 | 2)), "{name}");
+        assert!(
+            sent.iter()
+                .all(|told| told.0 == kind::LOCK_RESPONSE || ours(told)),
+            "{name}"
+        );
+        let asked = workload.steps.iter().filter(|step| is_lock(workload, step));
+        let (asked, answered) = (asked.count(), locks.count());
+        // In a storm a release is answered with the grant of another's request.
+        assert!(asked.abs_diff(answered) <= 1, "{name}: {asked} {answered}");
     }
 
     /// On both sides; the books fill up and are begun anew.
