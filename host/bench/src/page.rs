@@ -84,8 +84,8 @@ fn text(measured: &Measured, repetitions: usize, origin: &str) -> String {
          by at most {apart:.0} %.\n\n\
          Buffers: the output buffer is neither cleared nor filled between events, except in the rows that \
          say so, where both sides have {OUTPUT} bytes cleared before each event, within the time taken.\n\n\
-         Before the time is taken every answer and every byte of the buffer is compared on the same \
-         events; all were equal. What the events came to:\n\n{checks}"
+         Before the time is taken every answer, every byte of the buffer and, with a journal kept, of the \
+         book is compared on the same events; all were equal. What the events came to:\n\n{checks}"
     )
 }
 

@@ -67,6 +67,24 @@ impl Beside {
         self.equal += 1;
     }
 
+    fn bad_calls(&mut self, folder: &str) {
+        let file = self.file.to_string_lossy().into_owned();
+        for arguments in [
+            vec![],
+            vec![file.as_str()],
+            vec![&file, "4141"],
+            vec![&file, "4141", "synchronized", "more"],
+            vec![&file, "414", "synchronized"],
+            vec![&file, "41g1", "synchronized"],
+            vec![&file, "4141", "Overlap"],
+            vec![folder, "4141", "synchronized"],
+            vec!["/no/such/file", "4141", "overlap"],
+            vec!["", "4141", "overlap"],
+        ] {
+            self.refused(&arguments);
+        }
+    }
+
     fn damaged(&mut self, book: &[u8]) {
         for place in 0..book.len() {
             for bit in [0x01, 0x80] {
@@ -231,22 +249,7 @@ fn compare(program: &Path) {
         beside.moved(&bodies(&good));
         beside.replaced(&bodies(&good), &events);
     }
-    let file = beside.file.to_string_lossy().into_owned();
-    let folder_name = folder.to_string_lossy().into_owned();
-    for arguments in [
-        vec![],
-        vec![file.as_str()],
-        vec![&file, "4141"],
-        vec![&file, "4141", "synchronized", "more"],
-        vec![&file, "414", "synchronized"],
-        vec![&file, "41g1", "synchronized"],
-        vec![&file, "4141", "Overlap"],
-        vec![folder_name.as_str(), "4141", "synchronized"],
-        vec!["/no/such/file", "4141", "overlap"],
-        vec!["", "4141", "overlap"],
-    ] {
-        beside.refused(&arguments);
-    }
+    beside.bad_calls(&folder.to_string_lossy());
     println!("{} verdicts equal", beside.equal);
     fs::remove_dir_all(&folder).expect("the folder goes");
 }
