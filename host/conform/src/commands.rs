@@ -201,15 +201,31 @@ fn set_again() -> Vec<Vec<Event>> {
 /// Before and behind Error 128: other checks, the number expected, RMT-delivered, releases, other messages.
 fn beside() -> Vec<Vec<Event>> {
     let set = patterns(&["A", "A?"]);
-    let send = |kind, code, number, payload: &[u8]| {
-        deliver(0, message(kind, code, message_id(number), payload))
-    };
-    let good = |number| send(7, 0, number, b"A?");
-    let bad = |code, number| send(7, code, number, b"B");
+    let rows = [beside_checks(), beside_answers()].concat();
+    let after = |first: &Event, row: &Vec<Event>| [&[first.clone()], &row[..]].concat();
+    let none = patterns::<&str>(&[]);
+    let listed = rows.iter().map(|row| after(&set, row));
+    let emptied = rows.iter().map(|row| after(&none, row));
+    listed.chain(emptied).chain(rows.iter().cloned()).collect()
+}
+
+fn send(kind: u8, code: u8, number: u32, payload: &[u8]) -> Event {
+    deliver(0, message(kind, code, message_id(number), payload))
+}
+
+fn good(number: u32) -> Event {
+    send(7, 0, number, b"A?")
+}
+
+fn bad(code: u8, number: u32) -> Event {
+    send(7, code, number, b"B")
+}
+
+/// Commands beside what the checks before the list's ask.
+fn beside_checks() -> Vec<Vec<Event>> {
     let clear = [deliver(1, header(19, 0, 0, 0)), bad(0, 0)];
     let cleared = [deliver(0, header(8, 0, 0, 0)), bad(0, 0), good(1)];
-    let query = deliver(1, header(21, 0, 0, 0));
-    let rows = [
+    vec![
         vec![bad(0, 0), bad(0, 0), bad(1, 1), good(2)],
         vec![bad(2, 0), bad(255, 1), bad(0, 2)],
         vec![bad(0, 1), bad(2, 1), good(0)],
@@ -217,45 +233,45 @@ fn beside() -> Vec<Vec<Event>> {
         vec![lock(3, b"", 0), bad(0, 0), release(3), bad(0, 0)],
         [&clear[..], &cleared].concat(),
         vec![
+            deliver(0, &message(7, 0, message_id(0), b"BB")[..17]),
+            bad(0, 0),
+        ],
+        vec![deliver(2, message(7, 0, message_id(0), b"B")), good(0)],
+    ]
+}
+
+/// Commands beside other messages, answers and a release that stands.
+fn beside_answers() -> Vec<Vec<Event>> {
+    let query = deliver(1, header(21, 0, 0, 0));
+    let answered = answer(1, b"1", 1);
+    let asked = |code| {
+        vec![
+            good(0),
+            answered.clone(),
+            bad(code, 1),
+            query.clone(),
+            send(7, code, 2, b"A"),
+        ]
+    };
+    vec![
+        vec![
             send(6, 0, 0, b"B"),
             send(12, 0, 1, b""),
             send(12, 0, 2, b"B"),
             bad(0, 3),
         ],
-        vec![send(6, 0, 0, b"B"), good(1), answer(1, b"1", 1), good(2)],
-        vec![
-            good(0),
-            answer(1, b"1", 1),
-            bad(1, 1),
-            query.clone(),
-            send(7, 1, 2, b"A"),
-        ],
-        vec![
-            good(0),
-            answer(1, b"1", 1),
-            bad(0, 1),
-            query,
-            send(7, 0, 2, b"A"),
-        ],
-        vec![good(0), bad(0, 1), answer(1, b"1", 1)],
-        vec![bad(0, 0), answer(1, b"1", 1)],
+        vec![send(6, 0, 0, b"B"), good(1), answered.clone(), good(2)],
+        asked(1),
+        asked(0),
+        vec![good(0), bad(0, 1), answered.clone()],
+        vec![bad(0, 0), answered.clone()],
         vec![
             lock(1, b"", 0),
             release_after(1, message_id(0)),
             bad(0, 0),
             lock(3, b"", 9),
         ],
-        vec![
-            deliver(0, &message(7, 0, message_id(0), b"BB")[..17]),
-            bad(0, 0),
-        ],
-        vec![deliver(2, message(7, 0, message_id(0), b"B")), good(0)],
-    ];
-    let listed = rows.clone().map(|row| [&[set.clone()], &row[..]].concat());
-    let emptied = rows
-        .clone()
-        .map(|row| [&[patterns::<&str>(&[])], &row[..]].concat());
-    [listed.to_vec(), emptied.to_vec(), rows.to_vec()].concat()
+    ]
 }
 
 /// The list outlives sessions and clears, and is there for sessions to come.

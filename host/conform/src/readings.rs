@@ -117,71 +117,59 @@ fn set_again() -> Vec<Vec<Event>> {
 /// What else happens between a trip and the next: status bytes, clears, answers that are not sent, sessions
 /// that end and begin.
 fn between() -> Vec<Vec<Event>> {
-    let trips = sends(&block(&[TWO]));
     let set = watch(1, above(ONE));
-    let asks = |count| deliver(0, message(7, 0, message_id(count), b"READ?"));
-    let clear = deliver(1, header(19, 0, 0, 0));
-    let cleared = |code| deliver(0, header(8, code, 0, 0));
-    let shown = message(7, 0, message_id(1), b"?");
-    let size = |bytes: u64| deliver(1, message(15, 0, 0, &bytes.to_be_bytes()));
     let numbers = [0, 1, 2, 3, 65_537, u32::MAX];
-    let mut lists = vec![
-        vec![
-            set.clone(),
-            clear.clone(),
-            trips.clone(),
-            cleared(0),
-            asks(0),
-            trips.clone(),
-        ],
-        vec![
-            set.clone(),
-            trips.clone(),
-            clear.clone(),
-            cleared(1),
-            asks(0),
-            trips.clone(),
-        ],
-        vec![trips.clone(), cut(0), set.clone(), trips.clone()],
-        vec![
-            set.clone(),
-            answer_beside(1, &block(&[TWO]), 1, shown.clone()),
-            asks(1),
-            trips.clone(),
-        ],
-        vec![
-            set.clone(),
-            answer_beside(1, &block(&[TWO]), 0, shown),
-            trips.clone(),
-        ],
-        vec![
-            set.clone(),
-            size(6),
-            trips.clone(),
-            size(7),
-            trips.clone(),
-            size(1024),
-            trips.clone(),
-        ],
-        vec![
-            set.clone(),
-            answer(1, &block(&[TWO]), 1),
-            trips.clone(),
-            asks(1),
-            trips.clone(),
-        ],
-        vec![
-            set.clone(),
-            answer(2, &block(&[TWO]), 0),
-            watch(2, above(ONE)),
-            trips.clone(),
-        ],
-    ];
-    lists
-        .extend((0..=255).map(|status| vec![set.clone(), Event::Status { status }, trips.clone()]));
+    let status = |status| vec![set.clone(), Event::Status { status }, trips()];
+    let mut lists = [over_clears(), over_answers()].concat();
+    lists.extend((0..=255).map(status));
     lists.extend(numbers.map(|number| vec![watch(number, above(ONE)), watch(number, Watch::Off)]));
     lists.extend(numbers.map(|number| vec![watch(number, above(NOT_A_NUMBER))]));
     lists
+}
+
+/// An answer of session 1 that trips a watch above 1.
+fn trips() -> Event {
+    sends(&block(&[TWO]))
+}
+
+fn asks(count: u32) -> Event {
+    deliver(0, message(7, 0, message_id(count), b"READ?"))
+}
+
+/// Clears and a cut between the watch and the reading.
+fn over_clears() -> Vec<Vec<Event>> {
+    let set = watch(1, above(ONE));
+    let clear = deliver(1, header(19, 0, 0, 0));
+    let cleared = |code| deliver(0, header(8, code, 0, 0));
+    vec![
+        vec![
+            set.clone(),
+            clear.clone(),
+            trips(),
+            cleared(0),
+            asks(0),
+            trips(),
+        ],
+        vec![set.clone(), trips(), clear, cleared(1), asks(0), trips()],
+        vec![trips(), cut(0), set, trips()],
+    ]
+}
+
+/// Answers withheld, not ended, too long for the client, and another session's.
+fn over_answers() -> Vec<Vec<Event>> {
+    let set = watch(1, above(ONE));
+    let two = block(&[TWO]);
+    let shown = message(7, 0, message_id(1), b"?");
+    let beside = |end| answer_beside(1, &two, end, shown.clone());
+    let size = |bytes: u64| deliver(1, message(15, 0, 0, &bytes.to_be_bytes()));
+    let sizes = [6, 7, 1024].map(|bytes| [size(bytes), trips()]);
+    vec![
+        vec![set.clone(), beside(1), asks(1), trips()],
+        vec![set.clone(), beside(0), trips()],
+        [&[set.clone()], &sizes.concat()[..]].concat(),
+        vec![set.clone(), answer(1, &two, 1), trips(), asks(1), trips()],
+        vec![set, answer(2, &two, 0), watch(2, above(ONE)), trips()],
+    ]
 }
 
 /// A half-open session's watch, which waits for its other half; sessions that take one another's place.
