@@ -8,7 +8,7 @@
 #include "hislip_server.h"
 
 #define BOOK 4096
-#define ENTRIES 12
+#define ENTRIES 14
 
 static uint64_t words[HISLIP_WORDS], plain_words[HISLIP_WORDS], journal[HISLIP_JOURNAL_WORDS];
 static uint8_t strings[HISLIP_STRING_BYTES], plain_strings[HISLIP_STRING_BYTES];
@@ -16,6 +16,8 @@ static uint8_t out[HISLIP_OUTPUT], plain_out[HISLIP_OUTPUT], book[BOOK], before[
 
 static const uint8_t initialize[16] = "HS\0\0\1\0AA";
 static const uint8_t async_initialize[16] = {'H', 'S', HISLIP_TYPE_ASYNC_INITIALIZE, 0, 0, 0, 0, 1};
+
+static const uint8_t data_end[21] = {'H', 'S', HISLIP_TYPE_DATA_END, 0, 0xff, 0xff, 0xff, 0, 0, 0, 0, 0, 0, 0, 0, 5, 'R', 'E', 'A', 'D', '?'};
 
 static int same_servers(void)
 {
@@ -125,6 +127,15 @@ static void lists(void)
     expect("nothing of them is written", untouched() && journal[0] == at && journal[2] == count);
 }
 
+static void answer(void)
+{
+    static const uint8_t reading[] = "+1.0E+1";
+    hislip_answered plain = hislip_answer(plain_words, plain_strings, 1, reading, 7, 1, data_end, 3, plain_out, sizeof plain_out);
+    hislip_kept_answered told = hislip_keep_answer(words, strings, 1, reading, 7, 1, data_end, 3, out, sizeof out,
+                                                   journal, book, sizeof book);
+    expect("an answer is kept", memcmp(&plain, &told, sizeof plain) == 0 && told.output == 24 && told.kept == HISLIP_KEPT && same_servers());
+}
+
 static void other_events(void)
 {
     hislip_done plain = hislip_clock(plain_words, plain_strings, 1000, plain_out, sizeof plain_out);
@@ -176,7 +187,7 @@ static void no_room(void)
 
 int main(void)
 {
-    static const uint8_t tags[ENTRIES] = {0, 0, 1, 1, 1, 7, 8, 6, 9, 3, 5, 2};
+    static const uint8_t tags[ENTRIES] = {0, 0, 1, 1, 1, 7, 8, 6, 9, 1, 4, 3, 5, 2};
     hislip_new(words, strings, 0x4141, HISLIP_SYNCHRONIZED);
     hislip_new(plain_words, plain_strings, 0x4141, HISLIP_SYNCHRONIZED);
     begin(sizeof book);
@@ -187,6 +198,8 @@ int main(void)
     watches();
     refused_watches();
     lists();
+    deliver("a command that the list allows is kept", 0, data_end, sizeof data_end);
+    answer();
     other_events();
     expect("so many entries are written", journal[2] == ENTRIES);
     expect("the journal is closed", hislip_journal_close(journal, book, sizeof book).kept == HISLIP_KEPT && journal[3] == 1);
