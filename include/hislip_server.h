@@ -500,7 +500,7 @@ HISLIP_NOT_NULL HISLIP_USE_RESULT
 hislip_kept_done hislip_keep_watch_outside(uint64_t *words, uint8_t *strings, uint32_t session, float low, float high,
                                            uint64_t *journal, uint8_t *book, size_t book_len);
 
-/* Setting the list of allowed commands, kept: its patterns, without the newlines. */
+/* Setting the list of allowed commands, kept: its text, as it is given. */
 HISLIP_NOT_NULL HISLIP_USE_RESULT
 hislip_kept_listed hislip_keep_patterns(uint64_t *words, uint8_t *strings, const uint8_t *text, size_t len,
                                         uint64_t *journal, uint8_t *book, size_t book_len);

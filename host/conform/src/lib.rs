@@ -13,6 +13,7 @@ pub mod floats;
 pub mod hostile;
 pub mod interrupts;
 pub mod json;
+pub mod kept;
 pub mod library;
 pub mod listing;
 pub mod messages;

@@ -3,157 +3,37 @@
 //! open, full, closed and begun again, and with any bits in the writer's words.
 
 use conform::hostile::Author;
+use conform::kept::{closed, Closed, Keeper};
 use conform::numbers::Numbers;
-use hislip::sys;
+use conform::watch::LONGEST;
 use hislip::sys::journal::*;
 use reference::journal::keep::{keep, Book};
 use reference::journal::{Kept, Writer};
 use reference::verifier::{judge, Verdict};
-use reference::{Event, Fresh, Reply, Server, Subject, Watch};
+use reference::{Event, Fresh, Reply, Server, Subject};
 
-const LONGEST: usize = 4096;
 const GUARD: u8 = 0xa5;
 /// So many bytes of the book's memory before and after the book itself.
 const BESIDE: usize = 64;
 
 /// The library, with a journal.
 struct Library {
-    words: Vec<u64>,
-    strings: Vec<u8>,
-    journal: [u64; 4],
+    keeper: Keeper,
     /// The book, between bytes that are nobody's.
     memory: Vec<u8>,
 }
 
-fn done(done: hislip_kept_done) -> (Reply, u64) {
-    let reply = Reply {
-        refusal: done.refusal,
-        output: done.output,
-        ..Reply::default()
-    };
-    (reply, done.kept)
-}
-
-// SAFETY of all calls: the lent memory has the lengths that the library asks for; all slices are apart.
 impl Library {
     fn new(fresh: Fresh, length: usize) -> Library {
-        let mut library = Library {
-            words: vec![0; unsafe { sys::hislip_words() } as usize],
-            strings: vec![0; unsafe { sys::hislip_string_bytes() } as usize],
-            journal: [7; 4],
+        Library {
+            keeper: Keeper::new(fresh),
             memory: vec![GUARD; length + 2 * BESIDE],
-        };
-        let (words, strings) = (library.words.as_mut_ptr(), library.strings.as_mut_ptr());
-        unsafe { sys::hislip_new(words, strings, fresh.vendor, fresh.prefers as u8) };
-        library
-    }
-
-    fn book(&mut self) -> (*mut u8, usize) {
-        let length = self.memory.len() - 2 * BESIDE;
-        (self.memory[BESIDE..].as_mut_ptr(), length)
-    }
-
-    fn begin(&mut self) -> u64 {
-        let (book, length) = self.book();
-        unsafe { hislip_journal_new(self.journal.as_mut_ptr(), book, length) }.kept
-    }
-
-    fn close(&mut self) -> u64 {
-        let (book, length) = self.book();
-        unsafe { hislip_journal_close(self.journal.as_mut_ptr(), book, length) }.kept
-    }
-
-    fn keep(&mut self, event: &Event, out: &mut [u8]) -> (Reply, u64) {
-        let (book, length) = self.book();
-        let (w, s) = (self.words.as_mut_ptr(), self.strings.as_mut_ptr());
-        let j = self.journal.as_mut_ptr();
-        let (o, n) = (out.as_mut_ptr(), out.len());
-        match event {
-            Event::Open { connection } => {
-                done(unsafe { hislip_keep_open(w, s, *connection, j, book, length) })
-            }
-            Event::Cut { connection, .. } => {
-                done(unsafe { hislip_keep_cut(w, s, *connection, o, n, j, book, length) })
-            }
-            Event::Clock { milliseconds, .. } => {
-                done(unsafe { hislip_keep_clock(w, s, *milliseconds, o, n, j, book, length) })
-            }
-            Event::Status { status } => {
-                let told = unsafe { hislip_keep_status(w, s, *status, j, book, length) };
-                (Reply::default(), told.kept)
-            }
-            Event::Deliver {
-                connection, bytes, ..
-            } => {
-                let (b, l) = (bytes.as_ptr(), bytes.len());
-                let told =
-                    unsafe { hislip_keep_deliver(w, s, *connection, b, l, o, n, j, book, length) };
-                let reply = Reply {
-                    refusal: told.refusal,
-                    outcome: told.outcome,
-                    session: told.session,
-                    taken: told.taken,
-                    output: told.output,
-                    missing: told.missing,
-                    ..Reply::default()
-                };
-                (reply, told.kept)
-            }
-            Event::Answer {
-                session,
-                payload,
-                end,
-                shown,
-                ..
-            } => {
-                let (p, l) = (payload.as_ptr(), payload.len());
-                let (b, m) = (shown.as_ptr(), shown.len());
-                let told = unsafe {
-                    hislip_keep_answer(w, s, *session, p, l, *end, b, m, o, n, j, book, length)
-                };
-                let reply = Reply {
-                    refusal: told.refusal,
-                    withheld: told.withheld,
-                    output: told.output,
-                    ..Reply::default()
-                };
-                (reply, told.kept)
-            }
-            Event::Watch { session, watch } => self.watch(*session, *watch),
-            Event::Patterns { text } => self.patterns(text),
         }
     }
 
-    fn watch(&mut self, n: u32, watch: Watch) -> (Reply, u64) {
-        let (book, length) = self.book();
-        let (w, s) = (self.words.as_mut_ptr(), self.strings.as_mut_ptr());
-        let j = self.journal.as_mut_ptr();
-        done(unsafe {
-            match watch {
-                Watch::Off => hislip_keep_watch_off(w, s, n, j, book, length),
-                Watch::Above { limit } => {
-                    hislip_keep_watch_above(w, s, n, limit.0, j, book, length)
-                }
-                Watch::Outside { low, high } => {
-                    hislip_keep_watch_outside(w, s, n, low.0, high.0, j, book, length)
-                }
-            }
-        })
-    }
-
-    fn patterns(&mut self, text: &[u8]) -> (Reply, u64) {
-        let (book, length) = self.book();
-        let (w, s) = (self.words.as_mut_ptr(), self.strings.as_mut_ptr());
-        let j = self.journal.as_mut_ptr();
-        let (t, l) = (text.as_ptr(), text.len());
-        let told = unsafe { hislip_keep_patterns(w, s, t, l, j, book, length) };
-        let reply = Reply {
-            refusal: told.refusal,
-            pattern: told.pattern,
-            place: told.place,
-            ..Reply::default()
-        };
-        (reply, told.kept)
+    fn book(&mut self) -> (&mut Keeper, &mut [u8]) {
+        let end = self.memory.len() - BESIDE;
+        (&mut self.keeper, &mut self.memory[BESIDE..end])
     }
 }
 
@@ -181,9 +61,32 @@ impl Kin {
     }
 }
 
-/// How often each word for an entry was told.
+/// How often each word for an entry was told; how many watches and lists were taken, and refused.
 #[derive(Debug, Default)]
-struct Told([usize; 3]);
+struct Told {
+    kept: [usize; 3],
+    watches: [usize; 2],
+    lists: [usize; 2],
+}
+
+impl Told {
+    fn event(&mut self, event: &Event, refusal: u64) {
+        let refused = usize::from(refusal != 0);
+        match event {
+            Event::Watch { .. } => self.watches[refused] += 1,
+            Event::Patterns { .. } => self.lists[refused] += 1,
+            _ => {}
+        }
+    }
+
+    fn add(&mut self, other: &Told) {
+        let counts = other.kept.iter().chain(&other.watches).chain(&other.lists);
+        let sums = self.kept.iter_mut().chain(&mut self.watches);
+        for (sum, count) in sums.chain(&mut self.lists).zip(counts) {
+            *sum += count;
+        }
+    }
+}
 
 struct Both {
     library: Library,
@@ -213,22 +116,24 @@ impl Both {
 
     fn same(&mut self, what: &str, kept: u64, kept_too: Kept) {
         assert_eq!(kept, kept_too as u64, "{what}");
-        assert_eq!(self.library.journal, self.kin.words(), "{what}");
+        assert_eq!(self.library.keeper.journal, self.kin.words(), "{what}");
         assert!(self.library.memory == self.kin.memory, "{what}: the books");
-        self.told.0[kept as usize] += 1;
+        self.told.kept[kept as usize] += 1;
     }
 
     fn begin(&mut self) {
         let (writer, book) = self.kin.book();
         let kept = writer.begin(book);
-        let told = self.library.begin();
+        let (keeper, book) = self.library.book();
+        let told = keeper.begin(book);
         self.same("a journal is begun", told, kept);
     }
 
     fn close(&mut self) {
         let (writer, book) = self.kin.book();
         let kept = writer.close(book);
-        let told = self.library.close();
+        let (keeper, book) = self.library.book();
+        let told = keeper.close(book);
         self.same("a journal is closed", told, kept);
     }
 
@@ -241,7 +146,7 @@ impl Both {
             _ => numbers.any(),
         };
         let words = [word(), word(), word(), word()];
-        self.library.journal = words;
+        self.library.keeper.journal = words;
         let [written, last, count, closed] = words;
         self.kin.writer = Writer {
             written,
@@ -254,8 +159,9 @@ impl Both {
     fn event(&mut self, event: &Event) -> Reply {
         let mut out = vec![GUARD; LONGEST];
         let mut out_too = out.clone();
-        let (reply, kept) = self.library.keep(event, &mut out[..event.room()]);
         let room = event.room();
+        let (keeper, book) = self.library.book();
+        let (reply, kept) = keeper.keep(event, &mut out[..room], book);
         let end = self.kin.memory.len() - BESIDE;
         let mut book = Book {
             writer: &mut self.kin.writer,
@@ -266,6 +172,7 @@ impl Both {
         assert_eq!(reply, reply_too, "{event:?}");
         assert!(out == out_too, "{event:?}: the output");
         self.same(&format!("{event:?}"), kept, kept_too);
+        self.told.event(event, reply.refusal);
         reply
     }
 }
@@ -289,9 +196,7 @@ fn play(seed: u64, told: &mut Told) {
         author.learn(&event, &reply);
     }
     both.close();
-    for (sum, count) in told.0.iter_mut().zip(both.told.0) {
-        *sum += count;
-    }
+    told.add(&both.told);
 }
 
 #[test]
@@ -300,7 +205,32 @@ fn kept_calls_are_the_references() {
     for seed in 1..=400 {
         play(seed, &mut told);
     }
-    assert!(told.0.iter().all(|count| *count > 1000), "{told:?}");
+    assert!(told.kept.iter().all(|count| *count > 1000), "{told:?}");
+    let settings = [told.watches, told.lists].concat();
+    assert!(settings.iter().all(|count| *count > 100), "{told:?}");
+}
+
+/// The journal of a list, closed at its end and at any place before, is accepted by the reference's verifier;
+/// among the entries are many of each of the ten events.
+#[test]
+fn what_is_kept_and_closed_is_accepted() {
+    let mut numbers = Numbers::new(0x6163_6365);
+    let mut tags = [0; 10];
+    for seed in 1..=200 {
+        let length = Author::new(seed).length;
+        for ended in [length, numbers.below(length)] {
+            let Closed {
+                fresh,
+                book,
+                entries,
+            } = closed(seed, 0, ended);
+            assert_eq!(judge(fresh, &book), Verdict::Accepted { entries });
+            forward(&book)
+                .iter()
+                .for_each(|(body, _)| tags[usize::from(book[*body])] += 1);
+        }
+    }
+    assert!(tags.iter().all(|count| *count > 200), "{tags:?}");
 }
 
 /// Both readers of the library, from place to place, on a book that it closed, and on every first part of it.
@@ -316,11 +246,11 @@ fn the_readers_are_the_references() {
         author.learn(&event, &reply);
     }
     both.close();
-    let written = both.library.journal[0] as usize;
+    let written = both.library.keeper.journal[0] as usize;
     let book = &both.library.memory[BESIDE..BESIDE + written];
     let entries = forward(book);
-    assert_eq!(entries.len() as u64, both.library.journal[2]);
-    let count = both.library.journal[2];
+    assert_eq!(entries.len() as u64, both.library.keeper.journal[2]);
+    let count = both.library.keeper.journal[2];
     assert_eq!(judge(fresh, book), Verdict::Accepted { entries: count });
     let mut backwards = backward(book);
     backwards.reverse();

@@ -139,7 +139,7 @@ fn a_run_that_ends_in_order_leaves_a_closed_journal() {
     fs::remove_file(path).expect("it was there");
 }
 
-/// The list is the first entry, without its newlines; the watch is set when the session opens.
+/// The list is the first entry, its text; the watch is set when the session opens.
 #[test]
 fn the_list_and_the_watches_are_entries() {
     let (path, list) = (file("settings"), file("allowed"));
@@ -151,7 +151,7 @@ fn the_list_and_the_watches_are_entries() {
     assert!(program.ended().is_some_and(|status| status.success()));
     let book = fs::read(&path).expect("the journal");
     let (bodies, _) = entries(&book);
-    assert_eq!(bodies[0], b"\x09\0\0\0\x02\0\0\0\x05*IDN?\0\0\0\x05READ?");
+    assert_eq!(bodies[0], b"\x09\0\0\0\x0c*IDN?\nREAD?\n");
     let watches = bodies.iter().filter(|body| body[0] == WATCH_ABOVE);
     let limits: Vec<u32> = watches.map(|body| four(body, 5)).collect();
     assert_eq!(limits, [2.5_f32.to_bits()]);

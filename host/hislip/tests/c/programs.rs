@@ -43,7 +43,7 @@ fn patterns_take_little_stack() {
 #[test]
 fn a_journal_is_kept_and_read_in_c() {
     let text = printed("journal");
-    assert_eq!(checks(&text), 22, "{text}");
+    assert_eq!(checks(&text), 36, "{text}");
 }
 
 /// The lines of the header's example, without the comment's star and indent.
