@@ -80,3 +80,11 @@ pub mod Asking
 pub mod Holders
 pub mod GrantsSeen
 pub mod Watching
+pub mod Table
+pub mod Bench
+pub mod Figures
+pub mod Corners
+pub mod WatchCorners
+pub mod Instance
+pub mod Cases
+pub mod FormCorners

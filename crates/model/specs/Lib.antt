@@ -13,11 +13,6 @@ pub mod Acts
 pub mod Sensing
 pub mod Refusals
 pub mod Step
-pub mod Table
-pub mod Bench
-pub mod Figures
-pub mod Corners
-pub mod WatchCorners
 pub mod Canonical
 pub mod Post
 pub mod LockModel
@@ -37,8 +32,6 @@ pub mod Standing
 pub mod FixedPoint
 pub mod AlwaysRoom
 pub mod Demand3
-pub mod Instance
-pub mod Cases
 pub mod Reader
 pub mod Possible
 pub mod SentFits
@@ -48,7 +41,6 @@ pub mod Deciding
 pub mod Permitted
 pub mod Opening
 pub mod Malformed
-pub mod FormCorners
 pub mod Happening
 pub mod LocalityRows
 pub mod LocalityReplies

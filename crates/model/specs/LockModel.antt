@@ -1,6 +1,6 @@
 -- The lock model (01: ledger), written from 01's "Locks" and "Demand 3" alone: sessions by number, in no slots, with its own granting
--- rule, request, release, deadlines and look. It shares with the server's definitions list operations, the header's reader, the
--- sizes and the names of outcomes, and nothing else. Assumes nothing.
+-- rule, request, release, deadlines and look. It shares with the server's definitions list operations (and `one-of`, a look in a list), the
+-- header's reader, the types of messages by number, the sizes with `noConnection`, and the names of outcomes; and nothing else. Assumes nothing.
 use mathlib.Core.Bool.{Bool, true, false, not, _&&_, _||_, cond}
 use mathlib.Core.List.{List, [], _∷_, _++_, map}
 use Prim.Native.Nat.{ℕ, _+_}

@@ -21,7 +21,7 @@ use Rattle.model.specs.Acts.{acts, synchronousExchange, synchronousSaid,
 use Rattle.model.specs.Sensing.{sensed, requested, settingSensings}
 use Rattle.model.specs.Refusals.{refusal, causes}
 use Rattle.model.specs.Step.{log, step, answered, plan, finish, received, effect}
-use Rattle.model.specs.Table.{Call, call, played, expected, message, send, cal, eightZeros, opened}
+use Rattle.model.proofs.Table.{Call, call, played, expected, message, send, cal, eightZeros, opened}
 
 -- the queries of the figures, numbered as 003 has it; RMT-delivered or not
 abbrev query : ℕ → ℕ → List ℕ

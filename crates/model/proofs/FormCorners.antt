@@ -19,7 +19,7 @@ use Rattle.model.specs.Acts.{acts, synchronousExchange, synchronousSaid,
 use Rattle.model.specs.Sensing.{sensed, requested, settingSensings}
 use Rattle.model.specs.Refusals.{refusal, causes}
 use Rattle.model.specs.Step.{final, log, step, answered, plan, finish, received, effect}
-use Rattle.model.specs.Table.{Corner, corner, found, sought, message, send, cal, eightZeros, initialize, three}
+use Rattle.model.proofs.Table.{Corner, corner, found, sought, message, send, cal, eightZeros, initialize, three}
 
 -- a message without payload and with parameter 0, to a connection
 abbrev plain : ℕ → ℕ → ℕ → List ℕ

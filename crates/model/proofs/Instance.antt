@@ -32,7 +32,7 @@ use Rattle.model.specs.Agreement.{feed, feeds, asSessions, asRequest, to
 use Rattle.model.specs.Count.{count, isGrant, isRelease, dropped, locksHeld}
 use Rattle.model.specs.Granting.{hasAccess}
 use Rattle.model.specs.Tie.{Track, trackOfLog, nothingYet}
-use Rattle.model.specs.Table.{benchMaking, message, send, request, release, releaseOf, cal, Cal, initialize, asyncInitialize, three}
+use Rattle.model.proofs.Table.{benchMaking, message, send, request, release, releaseOf, cal, Cal, initialize, asyncInitialize, three}
 
 -- openings, refusals of every number, messages in pieces, bytes behind a message, a message too large, both locks, waiting, a deadline,
 -- releases, device clears, answers, a cut, FatalErrors from both sides, connections used again

@@ -25,7 +25,7 @@ use Rattle.model.specs.Acts.{acts, synchronousExchange, synchronousSaid,
 use Rattle.model.specs.Sensing.{sensed, requested, settingSensings}
 use Rattle.model.specs.Refusals.{refusal, causes}
 use Rattle.model.specs.Step.{final, log, step, answered, plan, finish, received, effect}
-use Rattle.model.specs.Table.{Corner, corner, found, sought, message, send, eightZeros, initialize, asyncInitialize, three}
+use Rattle.model.proofs.Table.{Corner, corner, found, sought, message, send, eightZeros, initialize, asyncInitialize, three}
 
 -- #14 and the four bytes of 1, of the next number above 1, of what is not a number
 abbrev block : List ℕ → List ℕ

@@ -29,7 +29,7 @@ use Rattle.model.specs.Canonical.{canonical}
 use Rattle.model.specs.Agreement.{isLock}
 use Rattle.model.specs.Fewer.{answers1}
 use Rattle.model.specs.Bound.{outputBound}
-use Rattle.model.specs.Table.{benchMaking, message, send, request, release, cal, Cal, initialize, three}
+use Rattle.model.proofs.Table.{benchMaking, message, send, request, release, cal, Cal, initialize, three}
 
 -- a call on a server, and a test of its result
 pub record Case : Type 0 where

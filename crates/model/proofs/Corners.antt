@@ -26,7 +26,7 @@ use Rattle.model.specs.Step.{final, log, step, answered, plan, finish, r
 use Rattle.model.specs.InStep.{countUp, numbering, numberingOf}
 use Rattle.model.specs.Locality.{atCall}
 use Rattle.model.specs.AnsweredOnce.{Release, Release.none-stands, releaseAfter, happening, answeredTo}
-use Rattle.model.specs.Table.{benchMaking, Corner, corner, found, foundOn, sought, message, send, request, release, releaseOf, cal, Cal, eightZeros, initialize, asyncInitialize, three}
+use Rattle.model.proofs.Table.{benchMaking, Corner, corner, found, foundOn, sought, message, send, request, release, releaseOf, cal, Cal, eightZeros, initialize, asyncInitialize, three}
 
 -- a message without payload and with parameter 0, to a connection
 abbrev plain : ℕ → ℕ → ℕ → List ℕ
