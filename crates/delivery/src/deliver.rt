@@ -3,6 +3,7 @@ ghost use Prim.Native.Nat.{ℕ, _+_, _<_, _≤_, min};
 ghost use Rattle.checks.specs.Numbers.{message, verdictOf};
 ghost use Rattle.sessions.specs.Did.{Did, DidWith};
 ghost use Rattle.model.specs.Acts.{acts};
+ghost use Rattle.model.specs.Allowing.{admits};
 ghost use Rattle.model.specs.Checks.{Verdict.v-acts, judged};
 ghost use Rattle.effects.specs.Numbering.{movedBy};
 ghost use Rattle.sessions.specs.Synchronous.{isCommand};
@@ -22,6 +23,7 @@ ghost use mathlib.Core.Bool.{false, true};
 ghost use mathlib.Core.List.{List};
 ghost use mathlib.Core.Path.{_≡_};
 ghost use Rattle.model.specs.Sizes.{connectionLimit, outputMinimum, payloadLimit, sessionLimit};
+use allowed::listing;
 use checks::asynchronous as on_asynchronous;
 use checks::synchronous as on_synchronous;
 use checks::verdict::ACTS;
@@ -175,7 +177,7 @@ fn deliver_kind(
     told
 }
 
-// A whole Data or DataEND of a session of which no release stands.
+// A whole Data or DataEND, which the list allows, of a session of which no release stands.
 fn deliver_plain(
     w: &mut Words,
     strings: &mut Strings,
@@ -188,10 +190,10 @@ fn deliver_plain(
     len: u64,
     payload: &[u8],
 ) -> Delivery
-    requires { ⌜ (c < connectionLimit) × (len ≤ payloadLimit) × (length (now payload) ≡ len) × (outputMinimum ≤ length (now out)) × ((s : List ℕ) → slotIn (locksOf (now w) s .entries) c ≡ i) × (i < sessionLimit) × (isCommand kind ≡ true) × ((s : List ℕ) → stands ((at (locksOf (now w) s .entries) i) .standing) ≡ false) ⌝ }
+    requires { ⌜ (c < connectionLimit) × (len ≤ payloadLimit) × (length (now payload) ≡ len) × (outputMinimum ≤ length (now out)) × ((s : List ℕ) → slotIn (locksOf (now w) s .entries) c ≡ i) × (i < sessionLimit) × (isCommand kind ≡ true) × (kind ≡ 7 → admits (allowedOf (now w) (now strings)) (now payload) ≡ true) × ((s : List ℕ) → stands ((at (locksOf (now w) s .entries) i) .standing) ≡ false) ⌝ }
     ensures { λ r. ⌜ Did (finish (view (memory (now (w .entry)) (now (strings .entry)))) (effect (judged r-synchronous (view (memory (now (w .entry)) (now (strings .entry)))) i (message kind code param len) (now (payload .entry))) (whole (message kind code param len) (now (payload .entry))) r-synchronous (view (memory (now (w .entry)) (now (strings .entry)))) i c)) r (memory (now (w .entry)) (now (strings .entry))) (memory (now (w .exit)) (now (strings .exit))) (now (out .entry)) (now (out .exit)) ⌝ }
 {
-    let v = on_synchronous::synchronous_verdict(w, strings, i, kind, code, param, len, payload);
+    let v = on_synchronous::synchronous_verdict(w, i, kind, code, param, len);
     if v == ACTS {
         return synchronous::act_plainly(w, out, i, kind, code, param, len);
     }
@@ -279,21 +281,21 @@ fn deliver_status(
     told
 }
 
-// Is this a Data or DataEND?
-fn is_data(kind: u8) -> bool
-    ensures { λ r. ⌜ (r ≡ true → isCommand kind ≡ true) ⌝ }
+// Is this a Data, or a DataEND while no list of commands is set?
+fn is_plain(w: &Words, kind: u8) -> bool
+    ensures { λ r. ⌜ (r ≡ true → (isCommand kind ≡ true) × ((s p : List ℕ) → kind ≡ 7 → admits (allowedOf (now (w .entry)) s) p ≡ true)) ⌝ }
 {
     if kind == DATA {
         return true;
     }
     if kind == DATA_END {
-        return true;
+        return !listing::is_set(w);
     }
     false
 }
 
-// A whole message on a session's synchronous channel. Data and DataEND, unless they may complete a release, have their way: it has one caller,
-// so that checks and effect are compiled for these two kinds. All else is a call, whose answer goes through a local as that of `apply` does.
+// A whole message on a session's synchronous channel. Data and DataEND, unless they may complete a release or a list is to be asked, have their
+// way: it has one caller, so that checks and effect are compiled for these two kinds. All else is a call, whose answer goes through a local as that of `apply` does.
 fn deliver_synchronous(
     w: &mut Words,
     strings: &mut Strings,
@@ -325,7 +327,7 @@ fn deliver_synchronous(
         );
         return told;
     }
-    if is_data(kind) {
+    if is_plain(w, kind) {
         return deliver_plain(w, strings, out, c, i, kind, code, param, len, payload);
     }
     let told = deliver_kind(
