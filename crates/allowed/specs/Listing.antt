@@ -1,7 +1,7 @@
 -- The text of the allowed commands in the lent bytes: what it allows, and a list laid in the place of another. Assumes nothing.
-use mathlib.Core.Path.{_≡_, sym, ap, ap₂, subst, _∙_}
+use mathlib.Core.Path.{_≡_, refl, sym, ap, ap₂, subst, _∙_}
 use mathlib.Core.Logic.{_⊎_, inl, inr, ⊎-elim, _↔_}
-use mathlib.Core.Bool.{Bool, true, false, cond}
+use mathlib.Core.Bool.{Bool, true, false, not, cond, true≢false}
 use mathlib.Core.List.{List, _∷_}
 use Prim.Native.Nat.{ℕ, _+_, _*_, _-_, _%_, _^_, _≤_, _<_, min}
 use native.Mathlib.Omega.{arith}
@@ -12,7 +12,7 @@ use Rattle.wire.specs.Splice.{splice, length-splice}
 use Rattle.commands.specs.Lists.{linesOf, commandOf, Allows}
 use Rattle.commands.specs.Deciding.{allows, allows-is, same-answer}
 use Rattle.model.specs.Sizes.{sessionLimit, connectionLimit, stringLimit, listLimit}
-use Rattle.model.specs.State.{Allowed.any-command, Allowed.only, Rest, withAllowed}
+use Rattle.model.specs.State.{Allowed, Allowed.any-command, Allowed.only, Rest, withAllowed}
 use Rattle.model.specs.Allowing.{admits}
 use Rattle.state.specs.Table.{below}
 use Rattle.state.specs.Grid.{part}
@@ -29,6 +29,20 @@ use Rattle.state.specs.Keeping.{kept-values, kept-range, kept-singles, kept-row
 -- the answer that the code gives is what the definition says
 pub part-admits : (text p : List ℕ) (r : Bool) → (r ≡ true) ↔ Allows (linesOf text) (commandOf p) → admits (only text) p ≡ r
 part-admits text p r h = same-answer (allows (linesOf text) (commandOf p)) r (allows-is (linesOf text) (commandOf p)) h
+
+-- is a list set? While none is, any payload is allowed
+abbrev pub isSet : Allowed → Bool
+isSet any-command = false
+isSet (only text) = true
+
+pub unset-admits : (a : Allowed) (p : List ℕ) → isSet a ≡ false → admits a p ≡ true
+unset-admits any-command p e = refl
+unset-admits (only text) p e = absurd (true≢false e)
+
+pub set-read : (w s : List ℕ) (b : Bool) → eqb (word w LISTED) 0 ≡ b → isSet (allowedOf w s) ≡ not b
+unfolding allowedOf
+set-read w s true e = ap (λ (x : Bool). isSet (cond x any-command (only (take (word w LISTED - 1) (part s LIST listLimit))))) e
+set-read w s false e = ap (λ (x : Bool). isSet (cond x any-command (only (take (word w LISTED - 1) (part s LIST listLimit))))) e
 
 -- no list, and a list of which so many bytes are there
 pub none-admits : (w s p : List ℕ) → word w LISTED ≡ 0 → admits (allowedOf w s) p ≡ true

@@ -1,5 +1,6 @@
 // The allowed commands. A list is a text, kept as the host gave it behind the lock strings; its length, plus 1, is a word, and 0 is no list.
-ghost use Prim.Native.Nat.{_+_, _≤_};
+ghost use Prim.Native.Nat.{ℕ, _+_, _≤_};
+ghost use Rattle.allowed.specs.Listing.{isSet};
 ghost use Rattle.model.specs.Allowing.{admits};
 ghost use Rattle.model.specs.Sizes.{listLimit};
 ghost use Rattle.model.specs.State.{Allowed.only, withAllowed};
@@ -8,6 +9,7 @@ ghost use Rattle.state.specs.Layout.{STRINGS, WORDS};
 ghost use Rattle.state.specs.Tidy.{Tidy};
 ghost use Rattle.state.specs.View.{allowedOf, memory, view};
 ghost use lib.ListN.{drop, length, take};
+ghost use mathlib.Core.List.{List};
 ghost use mathlib.Core.Path.{_≡_};
 use commands::allowing;
 use queue::requests::least;
@@ -17,6 +19,16 @@ use state::layout::LISTED;
 use state::sizes::LIST_LIMIT;
 use state::sizes::Strings;
 use state::sizes::Words;
+
+// Is a list set?
+pub fn is_set(w: &Words) -> bool
+    ensures { λ r. ⌜ ((s : List ℕ) → isSet (allowedOf (now (w .entry)) s) ≡ r) ⌝ }
+{
+    if w[LISTED] == 0 {
+        return false;
+    }
+    true
+}
 
 // Does the list that is the n bytes from a place on allow the payload?
 fn part_allows(strings: &[u8], a: usize, n: usize, payload: &[u8]) -> bool

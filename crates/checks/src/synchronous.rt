@@ -1,8 +1,7 @@
 // The checks of a whole message on a session's synchronous channel.
 ghost use Prim.Native.Nat.{ℕ, _<_};
 ghost use Rattle.checks.specs.Numbers.{Numbered, message};
-ghost use Rattle.checks.specs.Synchronous.{commanded, completed};
-ghost use Rattle.model.specs.Allowing.{admits};
+ghost use Rattle.checks.specs.Synchronous.{anyCommand, commanded, completed};
 ghost use Rattle.model.specs.Checks.{first, synchronousRules};
 ghost use Rattle.model.specs.Locks.{access};
 ghost use Rattle.model.specs.State.{exchangeAt};
@@ -59,19 +58,10 @@ fn complete_verdict(clearing: bool, len: u64) -> u8
     ERROR_0
 }
 
-// Checks 9 and 10 of Data, DataEND and Trigger, that of the number between them, and that of the list behind them.
-fn command_verdict(
-    w: &Words,
-    strings: &Strings,
-    i: usize,
-    kind: u8,
-    code: u8,
-    param: u32,
-    len: u64,
-    payload: &[u8],
-) -> u8
+// Checks 9 and 10 of Data, DataEND and Trigger, and that of the number between them.
+fn command_verdict(w: &Words, i: usize, kind: u8, code: u8, param: u32, len: u64) -> u8
     requires { ⌜ i < sessionLimit ⌝ }
-    ensures { λ r. ⌜ ((s : List ℕ) → Numbered (commanded (access (locksOf (now (w .entry)) s .entries) i) (eqb param ((exchangeAt (restOf (now (w .entry))) i) .numberExpected)) (admits (allowedOf (now (w .entry)) (now (strings .entry))) (now (payload .entry))) kind code len) r) ⌝ }
+    ensures { λ r. ⌜ ((s : List ℕ) → Numbered (commanded (access (locksOf (now (w .entry)) s .entries) i) (eqb param ((exchangeAt (restOf (now (w .entry))) i) .numberExpected)) kind code len) r) ⌝ }
 {
     if !access::has_access(w, i) {
         return HELD;
@@ -82,12 +72,6 @@ fn command_verdict(
     if code > 1 {
         return ERROR_2;
     }
-    if kind == types::DATA_END {
-        if listing::is_allowed(w, strings, payload) {
-            return ACTS;
-        }
-        return ERROR_128;
-    }
     if kind != types::TRIGGER {
         return ACTS;
     }
@@ -97,19 +81,10 @@ fn command_verdict(
     ACTS
 }
 
-// Checks 6 to 10 of a message for the session in slot `i`, and that of the list.
-pub fn synchronous_verdict(
-    w: &Words,
-    strings: &Strings,
-    i: usize,
-    kind: u8,
-    code: u8,
-    param: u32,
-    len: u64,
-    payload: &[u8],
-) -> u8
+// Checks 6 to 10 of a message for the session in slot `i`, as if any command were allowed. What that leaves is a DataEND that would act.
+pub fn synchronous_verdict(w: &Words, i: usize, kind: u8, code: u8, param: u32, len: u64) -> u8
     requires { ⌜ i < sessionLimit ⌝ }
-    ensures { λ r. ⌜ ((s : List ℕ) → allowedOf (now (w .entry)) s ≡ allowedOf (now (w .entry)) (now (strings .entry)) → Numbered (first (synchronousRules (view (memory (now (w .entry)) s)) i (message kind code param len) (now (payload .entry)))) r) ⌝ }
+    ensures { λ r. ⌜ ((s p : List ℕ) → Numbered (first (synchronousRules (anyCommand (view (memory (now (w .entry)) s))) i (message kind code param len) p)) r) ⌝ }
 {
     // check 6
     if kind == types::FATAL_ERROR {
@@ -138,5 +113,32 @@ pub fn synchronous_verdict(
         return FATAL_3;
     }
     // checks 9 and 10: 6, 7 and 12 are left
-    command_verdict(w, strings, i, kind, code, param, len, payload)
+    command_verdict(w, i, kind, code, param, len)
+}
+
+// The same with the list behind it, which a DataEND that would act is asked for.
+pub fn listed_verdict(
+    w: &Words,
+    strings: &Strings,
+    i: usize,
+    kind: u8,
+    code: u8,
+    param: u32,
+    len: u64,
+    payload: &[u8],
+) -> u8
+    requires { ⌜ i < sessionLimit ⌝ }
+    ensures { λ r. ⌜ ((s : List ℕ) → allowedOf (now (w .entry)) s ≡ allowedOf (now (w .entry)) (now (strings .entry)) → Numbered (first (synchronousRules (view (memory (now (w .entry)) s)) i (message kind code param len) (now (payload .entry)))) r) ⌝ }
+{
+    let v = synchronous_verdict(w, i, kind, code, param, len);
+    if v != ACTS {
+        return v;
+    }
+    if kind != types::DATA_END {
+        return v;
+    }
+    if listing::is_allowed(w, strings, payload) {
+        return ACTS;
+    }
+    ERROR_128
 }

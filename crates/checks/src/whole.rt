@@ -69,7 +69,7 @@ pub fn whole_verdict(
         NO_ROLE => opening::opening_verdict(w, kind, param, len, payload),
         HALF_OPEN => FATAL_2,
         ON_SYNCHRONOUS => {
-            synchronous::synchronous_verdict(w, strings, i, kind, code, param, len, payload)
+            synchronous::listed_verdict(w, strings, i, kind, code, param, len, payload)
         }
         _ => asynchronous::asynchronous_verdict(kind, code, len),
     }

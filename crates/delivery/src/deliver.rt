@@ -3,6 +3,7 @@ ghost use Prim.Native.Nat.{ℕ, _+_, _<_, _≤_, min};
 ghost use Rattle.checks.specs.Numbers.{message, verdictOf};
 ghost use Rattle.sessions.specs.Did.{Did, DidWith};
 ghost use Rattle.model.specs.Acts.{acts};
+ghost use Rattle.model.specs.Allowing.{admits};
 ghost use Rattle.model.specs.Checks.{Verdict.v-acts, judged};
 ghost use Rattle.effects.specs.Numbering.{movedBy};
 ghost use Rattle.sessions.specs.Synchronous.{isCommand};
@@ -22,6 +23,7 @@ ghost use mathlib.Core.Bool.{false, true};
 ghost use mathlib.Core.List.{List};
 ghost use mathlib.Core.Path.{_≡_};
 ghost use Rattle.model.specs.Sizes.{connectionLimit, outputMinimum, payloadLimit, sessionLimit};
+use allowed::listing;
 use checks::asynchronous as on_asynchronous;
 use checks::synchronous as on_synchronous;
 use checks::verdict::ACTS;
@@ -106,7 +108,7 @@ fn apply(
     answer::more_needed(0)
 }
 
-// A message that passed all checks acts, by the role of its connection.
+// A message that passed all checks, on any but a synchronous channel, acts by the role of its connection.
 fn act(
     w: &mut Words,
     strings: &mut Strings,
@@ -120,12 +122,9 @@ fn act(
     len: u64,
     payload: &[u8],
 ) -> Delivery
-    requires { ⌜ (c < connectionLimit) × (len ≤ payloadLimit) × (length (now payload) ≡ len) × (outputMinimum ≤ length (now out)) × ((role ≡ 0 → ⊥) → i < sessionLimit) × ((s : List ℕ) (ro : Role) → roleNumber ro ≡ role → (role ≡ 2 → allowedOf (now w) s ≡ allowedOf (now w) (now strings)) → judged ro (view (memory (now w) s)) i (message kind code param len) (now payload) ≡ v-acts) × (role ≡ 0 → Unshown (now w) c) ⌝ }
+    requires { ⌜ (c < connectionLimit) × (len ≤ payloadLimit) × (length (now payload) ≡ len) × (outputMinimum ≤ length (now out)) × ((role ≡ 0 → ⊥) → i < sessionLimit) × (role ≡ 2 → ⊥) × ((s : List ℕ) (ro : Role) → roleNumber ro ≡ role → judged ro (view (memory (now w) s)) i (message kind code param len) (now payload) ≡ v-acts) × (role ≡ 0 → Unshown (now w) c) ⌝ }
     ensures { λ r. ⌜ ((ro : Role) → roleNumber ro ≡ role → Did (finish (view (memory (now (w .entry)) (now (strings .entry)))) (acts ro (view (memory (now (w .entry)) (now (strings .entry)))) i c (message kind code param len) (now (payload .entry)))) r (memory (now (w .entry)) (now (strings .entry))) (memory (now (w .exit)) (now (strings .exit))) (now (out .entry)) (now (out .exit))) ⌝ }
 {
-    if role == ON_SYNCHRONOUS {
-        return synchronous::act_synchronous(w, strings, out, c, i, kind, code, param, len);
-    }
     if role == ON_ASYNCHRONOUS {
         return asynchronous::act_asynchronous(
             w,
@@ -146,7 +145,46 @@ fn act(
     answer::quiet(outcome::ACTED, 16 + len)
 }
 
-// A whole message of a kind: the verdict, and what it does. Its header comes number by number, so that a call of it has them in registers.
+// A whole message on a session's synchronous channel, where a list may have to be asked and a release may be completed. It has two callers, and
+// so have its checks: each is then a call of its own, and the walk over the list's lines has the registers to itself.
+fn deliver_fully(
+    w: &mut Words,
+    strings: &mut Strings,
+    out: &mut [u8],
+    c: u64,
+    i: usize,
+    kind: u8,
+    code: u8,
+    param: u32,
+    len: u64,
+    payload: &[u8],
+) -> Delivery
+    requires { ⌜ (c < connectionLimit) × (len ≤ payloadLimit) × (length (now payload) ≡ len) × (outputMinimum ≤ length (now out)) × ((s : List ℕ) → slotIn (locksOf (now w) s .entries) c ≡ i) × (i < sessionLimit) ⌝ }
+    ensures { λ r. ⌜ Did (finish (view (memory (now (w .entry)) (now (strings .entry)))) (effect (judged r-synchronous (view (memory (now (w .entry)) (now (strings .entry)))) i (message kind code param len) (now (payload .entry))) (whole (message kind code param len) (now (payload .entry))) r-synchronous (view (memory (now (w .entry)) (now (strings .entry)))) i c)) r (memory (now (w .entry)) (now (strings .entry))) (memory (now (w .exit)) (now (strings .exit))) (now (out .entry)) (now (out .exit)) ⌝ }
+{
+    let v = whole::whole_verdict(
+        w,
+        strings,
+        ON_SYNCHRONOUS,
+        i,
+        kind,
+        code,
+        param,
+        len,
+        payload,
+    );
+    if v == ACTS {
+        return synchronous::act_synchronous(w, strings, out, c, i, kind, code, param, len);
+    }
+    if v == HELD {
+        return answer::quiet(outcome::HELD, 0);
+    }
+    let moves = carries(w, ON_SYNCHRONOUS, i, kind, param);
+    let told = apply(w, strings, out, c, i, v, 16 + len, 0, moves);
+    told
+}
+
+// A whole message, by its role: the verdict, and what it does. Its header comes number by number, so that a call of it has them in registers.
 fn deliver_kind(
     w: &mut Words,
     strings: &mut Strings,
@@ -163,6 +201,10 @@ fn deliver_kind(
     requires { ⌜ (c < connectionLimit) × (len ≤ payloadLimit) × (length (now payload) ≡ len) × (outputMinimum ≤ length (now out)) × ((s : List ℕ) → slotIn (locksOf (now w) s .entries) c ≡ i) × ((role ≡ 0 → ⊥) → i < sessionLimit) × (role ≡ 0 → Unshown (now w) c) ⌝ }
     ensures { λ r. ⌜ ((ro : Role) → roleNumber ro ≡ role → Did (finish (view (memory (now (w .entry)) (now (strings .entry)))) (effect (judged ro (view (memory (now (w .entry)) (now (strings .entry)))) i (message kind code param len) (now (payload .entry))) (whole (message kind code param len) (now (payload .entry))) ro (view (memory (now (w .entry)) (now (strings .entry)))) i c)) r (memory (now (w .entry)) (now (strings .entry))) (memory (now (w .exit)) (now (strings .exit))) (now (out .entry)) (now (out .exit))) ⌝ }
 {
+    if role == ON_SYNCHRONOUS {
+        let told = deliver_fully(w, strings, out, c, i, kind, code, param, len, payload);
+        return told;
+    }
     let v = whole::whole_verdict(w, strings, role, i, kind, code, param, len, payload);
     if v == ACTS {
         return act(w, strings, out, c, i, role, kind, code, param, len, payload);
@@ -175,7 +217,7 @@ fn deliver_kind(
     told
 }
 
-// A whole Data or DataEND of a session of which no release stands.
+// A whole Data or DataEND, which the list allows, of a session of which no release stands.
 fn deliver_plain(
     w: &mut Words,
     strings: &mut Strings,
@@ -188,10 +230,10 @@ fn deliver_plain(
     len: u64,
     payload: &[u8],
 ) -> Delivery
-    requires { ⌜ (c < connectionLimit) × (len ≤ payloadLimit) × (length (now payload) ≡ len) × (outputMinimum ≤ length (now out)) × ((s : List ℕ) → slotIn (locksOf (now w) s .entries) c ≡ i) × (i < sessionLimit) × (isCommand kind ≡ true) × ((s : List ℕ) → stands ((at (locksOf (now w) s .entries) i) .standing) ≡ false) ⌝ }
+    requires { ⌜ (c < connectionLimit) × (len ≤ payloadLimit) × (length (now payload) ≡ len) × (outputMinimum ≤ length (now out)) × ((s : List ℕ) → slotIn (locksOf (now w) s .entries) c ≡ i) × (i < sessionLimit) × (isCommand kind ≡ true) × (kind ≡ 7 → admits (allowedOf (now w) (now strings)) (now payload) ≡ true) × ((s : List ℕ) → stands ((at (locksOf (now w) s .entries) i) .standing) ≡ false) ⌝ }
     ensures { λ r. ⌜ Did (finish (view (memory (now (w .entry)) (now (strings .entry)))) (effect (judged r-synchronous (view (memory (now (w .entry)) (now (strings .entry)))) i (message kind code param len) (now (payload .entry))) (whole (message kind code param len) (now (payload .entry))) r-synchronous (view (memory (now (w .entry)) (now (strings .entry)))) i c)) r (memory (now (w .entry)) (now (strings .entry))) (memory (now (w .exit)) (now (strings .exit))) (now (out .entry)) (now (out .exit)) ⌝ }
 {
-    let v = on_synchronous::synchronous_verdict(w, strings, i, kind, code, param, len, payload);
+    let v = on_synchronous::synchronous_verdict(w, i, kind, code, param, len);
     if v == ACTS {
         return synchronous::act_plainly(w, out, i, kind, code, param, len);
     }
@@ -279,21 +321,21 @@ fn deliver_status(
     told
 }
 
-// Is this a Data or DataEND?
-fn is_data(kind: u8) -> bool
-    ensures { λ r. ⌜ (r ≡ true → isCommand kind ≡ true) ⌝ }
+// Is this a Data, or a DataEND while no list of commands is set?
+fn is_plain(w: &Words, kind: u8) -> bool
+    ensures { λ r. ⌜ (r ≡ true → (isCommand kind ≡ true) × ((s p : List ℕ) → kind ≡ 7 → admits (allowedOf (now (w .entry)) s) p ≡ true)) ⌝ }
 {
     if kind == DATA {
         return true;
     }
     if kind == DATA_END {
-        return true;
+        return !listing::is_set(w);
     }
     false
 }
 
-// A whole message on a session's synchronous channel. Data and DataEND, unless they may complete a release, have their way: it has one caller,
-// so that checks and effect are compiled for these two kinds. All else is a call, whose answer goes through a local as that of `apply` does.
+// A whole message on a session's synchronous channel. Data and DataEND, unless they may complete a release or a list is to be asked, have their
+// way: it has one caller, so that checks and effect are compiled for these two kinds. All else is a call, whose answer goes through a local as that of `apply` does.
 fn deliver_synchronous(
     w: &mut Words,
     strings: &mut Strings,
@@ -325,22 +367,10 @@ fn deliver_synchronous(
         );
         return told;
     }
-    if is_data(kind) {
+    if is_plain(w, kind) {
         return deliver_plain(w, strings, out, c, i, kind, code, param, len, payload);
     }
-    let told = deliver_kind(
-        w,
-        strings,
-        out,
-        c,
-        i,
-        ON_SYNCHRONOUS,
-        kind,
-        code,
-        param,
-        len,
-        payload,
-    );
+    let told = deliver_fully(w, strings, out, c, i, kind, code, param, len, payload);
     told
 }
 

@@ -1,47 +1,45 @@
 -- `synchronous::synchronous_verdict` meets its contract: check after check, in the order of the row of rules.
-use mathlib.Core.Path.{refl, ap, _∙_}
+use mathlib.Core.Path.{refl, _∙_}
 use Rattle.wire.specs.Class.{classOf, synchronous}
-use Rattle.model.specs.Allowing.{admits}
-use Rattle.model.specs.State.{Allowed}
 use Rattle.state.specs.View.{memory, view}
 use Rattle.checks.specs.Classes.{is-vendor, not-vendor, is-unrecognised, not-unrecognised}
-use Rattle.checks.specs.Synchronous.{sync-closed, sync-error, sync-complete, sync-ignored, sync-vendor, sync-unrecognised, sync-again, sync-command}
+use Rattle.checks.specs.Synchronous.{anyCommand, sync-closed, sync-error, sync-complete, sync-ignored, sync-vendor, sync-unrecognised, sync-again, sync-command}
 use Rattle.checks.specs.Numbers.{numbered, same-number}
 use borrow.Author.Needs.{needs}
 use Rattle.checks.proofs.synchronous.synchronous_verdict.Statement.{statement}
 use Rattle.checks.proofs.synchronous.synchronous_verdict.Tie as tie
 
 returns : tie.Need-returns
-returns c = let a = c .before .before .args in
-    λ s z. numbered _ _ (sync-closed (view (memory (a .w .now) s)) (a .i) (a .kind) (a .code) (a .param) (a .len) (a .payload .now) (c .if1 .taken)) refl
+returns c = let a = c .before .args in
+    λ s p. numbered _ _ (sync-closed (anyCommand (view (memory (a .w .now) s))) (a .i) (a .kind) (a .code) (a .param) (a .len) p (c .if1 .taken)) refl
 
 returns-2 : tie.Need-returns-2
-returns-2 c = let a = c .before .before .before .args in
-    λ s z. numbered _ _ (sync-error (view (memory (a .w .now) s)) (a .i) (a .kind) (a .code) (a .param) (a .len) (a .payload .now) (c .if2 .taken)) refl
+returns-2 c = let a = c .before .before .args in
+    λ s p. numbered _ _ (sync-error (anyCommand (view (memory (a .w .now) s))) (a .i) (a .kind) (a .code) (a .param) (a .len) p (c .if2 .taken)) refl
 
 returns-3 : tie.Need-returns-3
-returns-3 c = let a = c .before .before .before .before .before .before .args in
-    λ s z. same-number _ _ _ (sync-complete (view (memory (a .w .now) s)) (a .i) (a .kind) (a .code) (a .param) (a .len) (a .payload .now) (c .before .before .before .before .if1 .left) (c .before .before .before .if2 .left) _ (c .before .before .in-clear .ensures) (c .before .if3 .taken)) (c .complete-verdict .ensures)
+returns-3 c = let a = c .before .before .before .before .before .args in
+    λ s p. same-number _ _ _ (sync-complete (anyCommand (view (memory (a .w .now) s))) (a .i) (a .kind) (a .code) (a .param) (a .len) p (c .before .before .before .before .if1 .left) (c .before .before .before .if2 .left) _ (c .before .before .in-clear .ensures) (c .before .if3 .taken)) (c .complete-verdict .ensures)
 
 returns-4 : tie.Need-returns-4
-returns-4 c = let a = c .before .before .before .before .before .before .args in
-    λ s z. numbered _ _ (sync-ignored (view (memory (a .w .now) s)) (a .i) (a .kind) (a .code) (a .param) (a .len) (a .payload .now) (c .before .before .before .before .if1 .left) (c .before .before .before .if2 .left) (c .before .if3 .left) (c .before .before .in-clear .ensures ∙ c .if4 .taken)) refl
+returns-4 c = let a = c .before .before .before .before .before .args in
+    λ s p. numbered _ _ (sync-ignored (anyCommand (view (memory (a .w .now) s))) (a .i) (a .kind) (a .code) (a .param) (a .len) p (c .before .before .before .before .if1 .left) (c .before .before .before .if2 .left) (c .before .if3 .left) (c .before .before .in-clear .ensures ∙ c .if4 .taken)) refl
 
 returns-5 : tie.Need-returns-5
-returns-5 c = let a = c .before .before .before .before .before .before .before .before .args in
-    λ s z. numbered _ _ (sync-vendor (view (memory (a .w .now) s)) (a .i) (a .kind) (a .code) (a .param) (a .len) (a .payload .now) (c .before .before .before .before .before .before .if1 .left) (c .before .before .before .before .before .if2 .left) (c .before .before .before .if3 .left) (c .before .before .before .before .in-clear .ensures ∙ c .before .before .if4 .left) (is-vendor (classOf synchronous (a .kind)) (c .before .class-of .result) (c .before .class-of .ensures) (c .if5 .taken))) refl
+returns-5 c = let a = c .before .before .before .before .before .before .before .args in
+    λ s p. numbered _ _ (sync-vendor (anyCommand (view (memory (a .w .now) s))) (a .i) (a .kind) (a .code) (a .param) (a .len) p (c .before .before .before .before .before .before .if1 .left) (c .before .before .before .before .before .if2 .left) (c .before .before .before .if3 .left) (c .before .before .before .before .in-clear .ensures ∙ c .before .before .if4 .left) (is-vendor (classOf synchronous (a .kind)) (c .before .class-of .result) (c .before .class-of .ensures) (c .if5 .taken))) refl
 
 returns-6 : tie.Need-returns-6
-returns-6 c = let a = c .before .before .before .before .before .before .before .before .before .args in
-    λ s z. numbered _ _ (sync-unrecognised (view (memory (a .w .now) s)) (a .i) (a .kind) (a .code) (a .param) (a .len) (a .payload .now) (c .before .before .before .before .before .before .before .if1 .left) (c .before .before .before .before .before .before .if2 .left) (c .before .before .before .before .if3 .left) (c .before .before .before .before .before .in-clear .ensures ∙ c .before .before .before .if4 .left) (not-vendor (classOf synchronous (a .kind)) (c .before .before .class-of .result) (c .before .before .class-of .ensures) (c .before .if5 .left)) (is-unrecognised (classOf synchronous (a .kind)) (c .before .before .class-of .result) (c .before .before .class-of .ensures) (c .if6 .taken))) refl
+returns-6 c = let a = c .before .before .before .before .before .before .before .before .args in
+    λ s p. numbered _ _ (sync-unrecognised (anyCommand (view (memory (a .w .now) s))) (a .i) (a .kind) (a .code) (a .param) (a .len) p (c .before .before .before .before .before .before .before .if1 .left) (c .before .before .before .before .before .before .if2 .left) (c .before .before .before .before .if3 .left) (c .before .before .before .before .before .in-clear .ensures ∙ c .before .before .before .if4 .left) (not-vendor (classOf synchronous (a .kind)) (c .before .before .class-of .result) (c .before .before .class-of .ensures) (c .before .if5 .left)) (is-unrecognised (classOf synchronous (a .kind)) (c .before .before .class-of .result) (c .before .before .class-of .ensures) (c .if6 .taken))) refl
 
 returns-7 : tie.Need-returns-7
-returns-7 c = let a = c .before .before .before .before .before .before .before .before .before .before .args in
-    λ s z. numbered _ _ (sync-again (view (memory (a .w .now) s)) (a .i) (a .kind) (a .code) (a .param) (a .len) (a .payload .now) (c .before .before .before .before .before .before .before .before .if1 .left) (c .before .before .before .before .before .before .before .if2 .left) (c .before .before .before .before .before .if3 .left) (c .before .before .before .before .before .before .in-clear .ensures ∙ c .before .before .before .before .if4 .left) (not-vendor (classOf synchronous (a .kind)) (c .before .before .before .class-of .result) (c .before .before .before .class-of .ensures) (c .before .before .if5 .left)) (not-unrecognised (classOf synchronous (a .kind)) (c .before .before .before .class-of .result) (c .before .before .before .class-of .ensures) (c .before .if6 .left)) (c .if7 .taken)) refl
+returns-7 c = let a = c .before .before .before .before .before .before .before .before .before .args in
+    λ s p. numbered _ _ (sync-again (anyCommand (view (memory (a .w .now) s))) (a .i) (a .kind) (a .code) (a .param) (a .len) p (c .before .before .before .before .before .before .before .before .if1 .left) (c .before .before .before .before .before .before .before .if2 .left) (c .before .before .before .before .before .if3 .left) (c .before .before .before .before .before .before .in-clear .ensures ∙ c .before .before .before .before .if4 .left) (not-vendor (classOf synchronous (a .kind)) (c .before .before .before .class-of .result) (c .before .before .before .class-of .ensures) (c .before .before .if5 .left)) (not-unrecognised (classOf synchronous (a .kind)) (c .before .before .before .class-of .result) (c .before .before .before .class-of .ensures) (c .before .if6 .left)) (c .if7 .taken)) refl
 
 returns-8 : tie.Need-returns-8
-returns-8 c = let a = c .before .before .before .before .before .before .before .before .before .before .before .args in
-    λ s z. same-number _ _ _ (sync-command (view (memory (a .w .now) s)) (a .i) (a .kind) (a .code) (a .param) (a .len) (a .payload .now) (c .before .before .before .before .before .before .before .before .before .if1 .left) (c .before .before .before .before .before .before .before .before .if2 .left) (c .before .before .before .before .before .before .if3 .left) (c .before .before .before .before .before .before .before .in-clear .ensures ∙ c .before .before .before .before .before .if4 .left) (not-vendor (classOf synchronous (a .kind)) (c .before .before .before .before .class-of .result) (c .before .before .before .before .class-of .ensures) (c .before .before .before .if5 .left)) (not-unrecognised (classOf synchronous (a .kind)) (c .before .before .before .before .class-of .result) (c .before .before .before .before .class-of .ensures) (c .before .before .if6 .left)) (c .before .if7 .left) _ _ _ refl refl (ap (λ (x : Allowed). admits x (a .payload .now)) z)) (c .command-verdict .ensures s)
+returns-8 c = let a = c .before .before .before .before .before .before .before .before .before .before .args in
+    λ s p. same-number _ _ _ (sync-command (anyCommand (view (memory (a .w .now) s))) (a .i) (a .kind) (a .code) (a .param) (a .len) p (c .before .before .before .before .before .before .before .before .before .if1 .left) (c .before .before .before .before .before .before .before .before .if2 .left) (c .before .before .before .before .before .before .if3 .left) (c .before .before .before .before .before .before .before .in-clear .ensures ∙ c .before .before .before .before .before .if4 .left) (not-vendor (classOf synchronous (a .kind)) (c .before .before .before .before .class-of .result) (c .before .before .before .before .class-of .ensures) (c .before .before .before .if5 .left)) (not-unrecognised (classOf synchronous (a .kind)) (c .before .before .before .before .class-of .result) (c .before .before .before .before .class-of .ensures) (c .before .before .if6 .left)) (c .before .if7 .left) _ _ refl refl refl) (c .command-verdict .ensures s)
 
 pub synchronous-verdict-spec : {M : Type 1} → statement M
 synchronous-verdict-spec =

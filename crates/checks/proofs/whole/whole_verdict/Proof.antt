@@ -7,8 +7,8 @@ use borrow.Author.Needs.{needs}
 use Rattle.checks.proofs.whole.whole_verdict.Statement.{statement}
 use Rattle.checks.proofs.whole.whole_verdict.Tie as tie
 
-synchronous-verdict-requires : tie.Need-synchronous-verdict-requires
-synchronous-verdict-requires c κs = c .before .before .pre (c .match .keys3)
+listed-verdict-requires : tie.Need-listed-verdict-requires
+listed-verdict-requires c κs = c .before .before .pre (c .match .keys3)
 
 returns : tie.Need-returns
 returns c = let a = c .before .before .before .args in
@@ -20,7 +20,7 @@ returns-2 c = let a = c .before .before .args in
 
 returns-3 : tie.Need-returns-3
 returns-3 c = let a = c .before .before .before .args in
-    λ s r e z. same-number _ _ _ (judged-synchronous (view (memory (a .w .now) s)) (a .i) (message (a .kind) (a .code) (a .param) (a .len)) (a .payload .now) r (e ∙ c .before .match .keys3)) (c .synchronous-verdict .ensures s (z (c .before .match .keys3)))
+    λ s r e z. same-number _ _ _ (judged-synchronous (view (memory (a .w .now) s)) (a .i) (message (a .kind) (a .code) (a .param) (a .len)) (a .payload .now) r (e ∙ c .before .match .keys3)) (c .listed-verdict .ensures s (z (c .before .match .keys3)))
 
 returns-4 : tie.Need-returns-4
 returns-4 c = let a = c .before .before .before .args in
@@ -31,7 +31,7 @@ whole-verdict-spec =
     tie.close
     (tie.spec
     (λ c κs. search needs)
-    synchronous-verdict-requires
+    listed-verdict-requires
     (λ c κs. search needs)
     returns
     returns-2
