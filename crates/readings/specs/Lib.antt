@@ -5,5 +5,6 @@ pub mod Record
 pub mod Block
 pub mod Payload
 pub mod Some
+pub mod Whole
 pub mod Request
 pub mod Examples
