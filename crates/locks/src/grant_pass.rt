@@ -11,8 +11,9 @@ use queue::requests;
 use state::sizes::Strings;
 use state::sizes::Words;
 
-// Oldest first, each that may be granted is, and is told; the others go on waiting.
-fn pass_waiting(w: &mut Words, strings: &mut Strings, out: &mut [u8], start: usize) -> usize
+// Oldest first, each that may be granted is, and is told; the others go on waiting. It has two callers, so that it stays a call of its own
+// and `grant_waiting` is copied to where it is called.
+pub fn pass_waiting(w: &mut Words, strings: &mut Strings, out: &mut [u8], start: usize) -> usize
     requires { ⌜ start + answersRoom ≤ length (now out) ⌝ }
     ensures { λ r. ⌜ Met (grantPass (locksOf (now (w .entry)) (now (strings .entry)))) (memory (now (w .entry)) (now (strings .entry))) (memory (now (w .exit)) (now (strings .exit))) (now (out .entry)) (now (out .exit)) start r ⌝ }
 {

@@ -41,6 +41,9 @@ fn holds_kind(w: &Words, i: usize, n: usize) -> bool
 fn is_idle(w: &Words, i: usize) -> bool
     ensures { λ r. ⌜ ((s : List ℕ) → all (elsewhere i) (locksOf (now (w .entry)) s .waiting) ≡ r) ⌝ }
 {
+    if requests::nobody_waits(w) {
+        return true;
+    }
     let n = requests::waiting_count(w);
     let mut j = 0;
     while j < n {

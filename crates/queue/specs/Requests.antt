@@ -26,6 +26,10 @@ use Rattle.state.specs.Change.{off, here, key-off, past-homes, entries-off, res
 abbrev pub countOf : List ℕ → ℕ
 countOf w = min (word w COUNT) sessionLimit
 
+pub none-counted : (c : ℕ) → eqb (min c sessionLimit) 0 ≡ eqb c 0
+none-counted zero = refl
+none-counted (suc c) = ne-eqb (min (suc c) sessionLimit) 0 (λ e. omega arith) ∙ sym (ne-eqb (suc c) 0 (λ e. omega arith))
+
 -- slot i does not wait
 abbrev pub Idle : List ℕ → ℕ → Type 0
 Idle w i = (j : ℕ) → j < countOf w → slotAt w j ≡ i → ⊥

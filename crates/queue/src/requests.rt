@@ -6,6 +6,7 @@ ghost use Rattle.queue.specs.Requests.{Idle, countOf, stringAt};
 ghost use Rattle.state.specs.Tidy.{Tidy};
 ghost use Rattle.state.specs.View.{keyOf, locksOf, memory, requestAt, view};
 ghost use Rattle.wire.specs.Splice.{splice};
+ghost use lib.Dec.{eqb};
 ghost use lib.ListN.{drop, getD, length, set, take};
 ghost use mathlib.Core.List.{List, [], _++_, _∷_};
 ghost use mathlib.Core.Path.{_≡_};
@@ -44,6 +45,13 @@ pub fn waiting_count(w: &Words) -> usize
     ensures { λ r. ⌜ (r ≡ countOf (now (w .entry))) × (r ≤ sessionLimit) ⌝ }
 {
     least(w[COUNT], SESSION_LIMIT)
+}
+
+// Does no request wait?
+pub fn nobody_waits(w: &Words) -> bool
+    ensures { λ r. ⌜ eqb (countOf (now (w .entry))) 0 ≡ r ⌝ }
+{
+    w[COUNT] == 0
 }
 
 // The slot of the j-th request that waits.

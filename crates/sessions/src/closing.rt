@@ -96,5 +96,5 @@ pub fn close_place(
     ensures { λ r. ⌜ Closes (view (memory (now (w .entry)) (now (strings .entry)))) c i (memory (now (w .exit)) (now (strings .exit))) (now (out .entry)) (now (out .exit)) at r × (Tidy (memory (now (w .entry)) (now (strings .entry))) → Tidy (memory (now (w .exit)) (now (strings .exit)))) ⌝ }
 {
     close_parts(w, strings, c, i);
-    grant_pass::grant_waiting(w, strings, out, at)
+    grant_pass::pass_waiting(w, strings, out, at)
 }

@@ -1,10 +1,11 @@
 -- A set of small numbers kept as the bits of one word: taking one out, putting one in, and whether it is empty. Assumes nothing.
-use mathlib.Core.Path.{_≡_, refl, sym, ap, _∙_}
+use mathlib.Core.Path.{_≡_, refl, sym, ap, ap₂, _∙_, subst}
 use mathlib.Core.Logic.{_⊎_, inl, inr, ⊎-elim}
-use Prim.Native.Nat.{ℕ, zero, suc, _+_, _*_, _-_, _/_, _%_, _^_, _≤_, _<_}
-use native.Mathlib.Nat.{mod-eq-of-lt, mod-lt, pow-suc, pow-succ', one-le-pow, add-mul-div-left, div-div-eq-div-mul, div-add-mod, mul-div-cancel-left, mul-le-mul-left, mul-one}
+use Prim.Native.Nat.{ℕ, zero, suc, _+_, _*_, _-_, _/_, _%_, _^_, _≤_, _<_, max}
+use native.Mathlib.Nat.{mod-eq-of-lt, mod-lt, pow-suc, pow-succ', one-le-pow, add-mul-div-left, div-div-eq-div-mul, div-add-mod, mul-div-cancel-left, mul-le-mul-left, mul-one, max-zero, add-mul-mod-self-left}
 use native.Mathlib.Omega.{arith}
 use lib.Arith.{mod-mul}
+use lib.Bits.{bitOr, or-step, or-zero-r}
 use lib.Dec.{lit<}
 use lib.Pow.{pow-add}
 use Rattle.state.specs.Table.{apart, below}
@@ -160,6 +161,48 @@ empty-bits m n j e h =
     let d : 2 ^ n * c + m % 2 ^ n ≡ m = div-add-mod m (2 ^ n) in
     let f : m ≡ 2 ^ j * (2 * t * c) = sym d ∙ rw (e, power j n h) (omega arith) in
     ap (λ (x : ℕ). x / 2 ^ j % 2) f ∙ ap (λ (x : ℕ). x % 2) (mul-div-cancel-left (2 * t * c) (positive j)) ∙ omega arith
+
+-- the machine's `or` with 2^i: where bit i is 0 it is added, else nothing changes
+largest : (x : ℕ) → x < 2 → max x 1 ≡ 1
+largest zero h = refl
+largest (suc zero) h = refl
+largest (suc (suc x)) h = absurd (omega arith)
+
+or-power : (i m : ℕ) → (bit m i ≡ 0 → bitOr m (2 ^ i) ≡ m + 2 ^ i) × (bit m i ≡ 1 → bitOr m (2 ^ i) ≡ m)
+or-power zero m =
+    let l : m / 1 ≡ m = omega arith in
+    let o : bitOr m 1 ≡ m / 2 * 2 + 1 = or-step m 1 ∙ ap₂ (λ (x y : ℕ). x * 2 + y) (or-zero-r (m / 2)) (largest (m % 2) (omega arith)) in
+    (λ e. let r : m % 2 ≡ 0 = ap (λ (x : ℕ). x % 2) (sym l) ∙ e in o ∙ omega arith, λ e. let r : m % 2 ≡ 1 = ap (λ (x : ℕ). x % 2) (sym l) ∙ e in o ∙ omega arith)
+or-power (suc k) m =
+    let q : 2 ^ suc k ≡ 2 * 2 ^ k = pow-succ' 2 k in
+    let h : 2 ^ suc k / 2 ≡ 2 ^ k = omega arith in
+    let z : 2 ^ suc k % 2 ≡ 0 = omega arith in
+    let b : bit (m / 2) k ≡ bit m (suc k) = ap (λ (x : ℕ). x % 2) (div-div-eq-div-mul m 2 (2 ^ k) ∙ ap (λ (y : ℕ). m / y) (sym q)) in
+    let o : bitOr m (2 ^ suc k) ≡ bitOr (m / 2) (2 ^ k) * 2 + m % 2 =
+    or-step m (2 ^ suc k) ∙ ap₂ (λ (x y : ℕ). bitOr (m / 2) x * 2 + max (m % 2) y) h z ∙ ap (λ (x : ℕ). bitOr (m / 2) (2 ^ k) * 2 + x) (max-zero (m % 2)) in (
+      λ e. o ∙ ap (λ (x : ℕ). x * 2 + m % 2) (or-power k (m / 2) .0 (b ∙ e)) ∙ omega arith,
+      λ e. o ∙ ap (λ (x : ℕ). x * 2 + m % 2) (or-power k (m / 2) .1 (b ∙ e)) ∙ omega arith,
+    )
+
+pub or-joins : (m i : ℕ) → bitOr m (2 ^ i) ≡ without m i + 2 ^ i
+or-joins m i =
+    ⊎-elim
+    (λ (e : bit m i ≡ 0). or-power i m .0 e ∙ ap (λ (x : ℕ). x + 2 ^ i) (sym (stays m i e)))
+    (λ (e : bit m i ≡ 1). or-power i m .1 e ∙ sym (joined m i e))
+    (zero-or-one m i)
+
+-- the same in code: the bit is set, and what lies past n falls away
+pub or-with : (n m i : ℕ) → i < n → bitOr m (2 ^ i) % 2 ^ n ≡ with-bit n m i
+unfolding with-bit
+or-with n m i h =
+    let u : ℕ = without m i in
+    let r : ℕ = u % 2 ^ n in
+    let few : r < 2 ^ n = mod-lt u (positive n) in
+    let f : with-bit n r i ≡ r + 2 ^ i = ap (λ (x : ℕ). x % 2 ^ n + 2 ^ i) (stays r i (gone n m i h)) ∙ ap (λ (x : ℕ). x + 2 ^ i) (mod-eq-of-lt few) in
+    let l : r + 2 ^ i < 2 ^ n = subst (λ (x : ℕ). x < 2 ^ n) f (with-small n r i h few) in
+    let d : 2 ^ n * (u / 2 ^ n) + r ≡ u = div-add-mod u (2 ^ n) in
+    let e : u + 2 ^ i ≡ (r + 2 ^ i) + 2 ^ n * (u / 2 ^ n) = omega arith in
+    ap (λ (x : ℕ). x % 2 ^ n) (or-joins m i ∙ e) ∙ add-mul-mod-self-left (r + 2 ^ i) (2 ^ n) (u / 2 ^ n) ∙ mod-eq-of-lt l
 
 -- with a first member
 pub with-first : (n m i : ℕ) → i < n → m % 2 ^ n ≡ 0 → with-bit n m i ≡ 2 ^ i

@@ -74,23 +74,21 @@ fn power_of(i: usize) -> u64
     1 << i
 }
 
-// Without slot i.
+// Without slot i: it is put in and taken off, which the machine does as one.
 pub fn taken_out(m: u64, i: usize) -> u64
     requires { ⌜ i < sessionLimit ⌝ }
     ensures { λ r. ⌜ r ≡ without m i ⌝ }
 {
-    if bit_of(m, i) == 1 {
-        return m - power_of(i);
-    }
-    m
+    let p = power_of(i);
+    (m | p) - p
 }
 
-// With slot i.
+// With slot i: one instruction.
 pub fn put_in(m: u64, i: usize) -> u64
     requires { ⌜ i < sessionLimit ⌝ }
     ensures { λ r. ⌜ r ≡ with-bit sessionLimit m i ⌝ }
 {
-    taken_out(m, i) % SETS + power_of(i)
+    (m | power_of(i)) % SETS
 }
 
 // Does slot i hold the shared lock?

@@ -8,7 +8,7 @@ use Rattle.sessions.proofs.closing.close_place.Tie as tie
 returns : tie.Need-returns
 returns c = let a = c .before .before .before .before .before .before .before .before .before .before .args in
     let x = c .before .before .before .before .before .before .close-parts .ensures in
-    let y = c .before .before .grant-waiting .ensures in
+    let y = c .before .before .pass-waiting .ensures in
     (closes _ (a .c) (a .i) _ _ _ _ _ _ (x .0) y, λ t. y .tidy (x .1 t))
 
 pub close-place-spec : {M : Type 1} → statement M
