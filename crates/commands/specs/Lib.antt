@@ -1,12 +1,15 @@
 pub mod Spelling
+pub mod Bits
 pub mod Cuts
 pub mod Sets
+pub mod Places
 pub mod Landing
 pub mod Walks
 pub mod Whole
 pub mod Lists
 pub mod Rulings
 pub mod Lines
+pub mod Refusing
 pub mod OneReading
 pub mod Deciding
 pub mod Examples

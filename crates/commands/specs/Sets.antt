@@ -1,24 +1,26 @@
--- Sets of places of a command, as 130 flags, and what a row makes of one: the places where a spelling that began in it can end. Assumes nothing.
+-- Sets of places of a command, as the bits of three words, and what a row makes of one: the places where a spelling that began in it can end. Assumes nothing.
 use mathlib.Core.Path.{_≡_, refl, sym, ap, subst, _∙_}
 use mathlib.Core.Logic.{_⊎_, inl, inr, ⊎-elim, _↔_}
 use mathlib.Core.Bool.{Bool, true, false, cond, _&&_}
 use mathlib.Core.List.{List, [], _∷_, _++_}
-use Prim.Native.Nat.{ℕ, zero, suc, _+_, _-_, _≤_, _<_}
-use native.Mathlib.Nat.{not-suc-le-zero, eq-or-lt-of-le}
+use Prim.Native.Nat.{ℕ, _+_, _-_, _≤_, _<_}
 use native.Mathlib.Omega.{arith}
 use lib.Dec.{leb}
-use lib.ListN.{length, getD, set, replicate, length-replicate, length-set}
-use lib.Seq.{getD-set-same, getD-set-other}
+use lib.ListN.{length, getD}
 use borrow.Author.Tests.{leb-true}
 use Rattle.scpi.specs.Bytes.{colonSign, upper, caseless}
 use Rattle.scpi.specs.Grammar.{Word, short, long, Row, Row.r-none, Row.r-word, Row.r-bracket}
 use Rattle.commands.specs.Spelling.{SpellsWord, SpellsWord.in-short, SpellsWord.in-long, SpellsRow, SpellsRow.s-none, SpellsRow.s-word, SpellsRow.s-kept, SpellsRow.s-dropped}
-use Rattle.scpi.specs.Answers.{lt-or-ge}
+use Rattle.commands.specs.Bits.{bit}
 use Rattle.commands.specs.Cuts.{Cut, cut-nil, cut-append, cut-first, cut-last}
+
+-- place j is in the word of the places from b on
+abbrev pub In : ℕ → ℕ → ℕ → Type 0
+In m b j = (b ≤ j) × (j < b + 64) × (bit m (j - b) ≡ 1)
 
 -- place j is in the set
 abbrev pub On : List ℕ → ℕ → Type 0
-On s j = (j < 130) × (getD s j 0 ≡ 1)
+On s j = In (getD s 0 0) 0 j ⊎ (In (getD s 1 0) 64 j ⊎ In (getD s 2 0) 128 j)
 
 -- the bytes x, whatever their case, from a place of the set to place j
 pub record Lands (x c s : List ℕ) (j : ℕ) : Type 0 where
@@ -110,45 +112,3 @@ module _ (q r : Row) (c s t : List ℕ) (j : ℕ) (step : (k : ℕ) → On t k �
         (step (h .from) .0 (h .begins)),
     λ h. bracket-in (h .from) (h .spelling) (h .begins) (h .spelled) (h .cut),
   )
-
--- a set that is filled place by place: done below j, nothing there yet from j on
-pub record Filling (t : List ℕ) (j : ℕ) (F : ℕ → Type 0) : Type 0 where
-  pub size : length t ≡ 130
-  pub done : (k : ℕ) → k < j → (getD t k 0 ≡ 1) ↔ F k
-  pub left : (k : ℕ) → j ≤ k → getD t k 0 ≡ 0
-
-getD-zeros : (n k : ℕ) → _≡_ {A = ℕ} (getD (replicate n 0) k 0) 0
-getD-zeros zero k = refl
-getD-zeros (suc n) zero = refl
-getD-zeros (suc n) (suc k) = getD-zeros n k
-
-module _ (F : ℕ → Type 0) where
-  pub fill-none : Filling (replicate 130 0) 0 F
-  fill-none = record { size = length-replicate {A = ℕ} 130 0; done = λ k l. absurd (not-suc-le-zero l); left = λ k l. getD-zeros 130 k }
-
-  pub fill-more : (t : List ℕ) (j v : ℕ) → j < 130 → Filling t j F → (v ≡ 1) ↔ F j → Filling (set t j v) (j + 1) F
-  fill-more t j v l f g = record {
-    size = length-set t j v ∙ f .size;
-    done = λ k h. ⊎-elim
-        (λ (e : k ≡ j).
-        let a : getD (set t j v) k 0 ≡ v = ap (λ (m : ℕ). getD (set t j v) m 0) e ∙ getD-set-same t j v 0 (rw (f .size) l) in
-        (λ x. subst F (sym e) (g .0 (sym a ∙ x)), λ x. a ∙ g .1 (subst F e x)))
-        (λ (e : k < j).
-        let a : getD (set t j v) k 0 ≡ getD t k 0 = getD-set-other t j k v 0 (λ q. omega arith) in
-        (λ x. f .done k e .0 (sym a ∙ x), λ x. a ∙ f .done k e .1 x))
-        (eq-or-lt-of-le (let h′ : k ≤ j = omega arith in h′));
-    left = λ k h. getD-set-other t j k v 0 (λ q. omega arith) ∙ f .left k (omega arith);
-  }
-
-  pub fill-all : (t : List ℕ) (n : ℕ) → n ≤ 130 → Filling t n F → ((k : ℕ) → F k → k < n) → (k : ℕ) → On t k ↔ F k
-  fill-all t n l f g k = (
-    λ h. ⊎-elim
-        (λ (x : k < n). f .done k x .0 (h .1))
-        (λ (x : n ≤ k). absurd (let e : getD t k 0 ≡ 0 = f .left k x in let e′ : getD t k 0 ≡ 1 = h .1 in omega arith))
-        (lt-or-ge k n),
-    λ x. (let y : k < n = g k x in omega arith, f .done k (g k x) .1 x),
-  )
-
-pub origin-on : (j : ℕ) → On (set (replicate 130 0) 0 1) j ↔ (j ≡ 0)
-origin-on zero = (λ h. refl, λ e. (omega arith, refl))
-origin-on (suc k) = (λ h. absurd (let z : getD (replicate 129 0) k 0 ≡ 0 = getD-zeros 129 k in let y : getD (replicate 129 0) k 0 ≡ 1 = h .1 in omega arith), λ e. absurd (omega arith))

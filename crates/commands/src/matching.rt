@@ -6,90 +6,175 @@ use scpi::checking::check;
 ghost use mathlib.Core.Path.{_≡_};
 ghost use mathlib.Core.Logic.{_⊎_, _↔_};
 ghost use mathlib.Core.Bool.{true};
-ghost use Prim.Native.Nat.{ℕ, _+_, _-_, _≤_, _<_};
+ghost use Prim.Native.Nat.{ℕ, _+_, _-_, _^_, _≤_, _<_};
 ghost use lib.ListN.{length, getD};
 ghost use Rattle.scpi.specs.Bytes.{caseless};
 ghost use Rattle.scpi.specs.Grammar.{GoodPattern};
 ghost use Rattle.commands.specs.Spelling.{Spells, Matches};
 ghost use Rattle.commands.specs.Whole.{PathSays};
 ghost use Rattle.scpi.specs.Words.{part};
+ghost use Rattle.commands.specs.Bits.{bit};
+ghost use Rattle.commands.specs.Landing.{Spread};
+ghost use Rattle.commands.specs.Places.{Member, weight};
 ghost use Rattle.commands.specs.Sets.{On, Lands};
 ghost use Rattle.scpi.specs.Answers.{Says};
 ghost use Rattle.commands.specs.Walks.{Bracketed, ItemAt, Walked, Worded};
 
-// Where a walk came to: a place of the pattern and a set of places of the command, a flag for each.
+// Where a walk came to: a place of the pattern and a set of places of the command, a bit for each.
 struct Walk {
     at: usize,
-    on: [u8; 130],
+    on: [u64; 3],
 }
 
-// Can a spelling of the pattern's bytes from a up to e that begins in the set end at j?
-fn lands(s: &[u8; 130], p: &[u8], a: usize, e: usize, c: &[u8], j: usize) -> bool
-    requires { ⌜ (a ≤ e) × (e ≤ length (now p)) × (j ≤ length (now c)) × (length (now c) ≤ 128) ⌝ }
-    ensures { λ r. ⌜ Says r (Lands (part a e (now (p .entry))) (now (c .entry)) (now (s .entry)) j) ⌝ }
+// Is the bit set?
+fn has(m: u64, i: usize) -> bool
+    requires { ⌜ i < 64 ⌝ }
+    ensures { λ r. ⌜ Says r (bit m i ≡ 1) ⌝ }
 {
-    let n = e - a;
-    if j < n {
-        return false;
+    if (m >> i) % 2 == 1 {
+        return true;
     }
-    let i = j - n;
-    if s[i] != 1 {
-        return false;
-    }
-    goes_on(p, a, e, c, i)
+    false
 }
 
-fn landing(s: &[u8; 130], p: &[u8], a: usize, m: usize, e: usize, c: &[u8], j: usize) -> u8
-    requires { ⌜ (a ≤ m) × (m ≤ e) × (e ≤ length (now p)) × (j ≤ length (now c)) × (length (now c) ≤ 128) ⌝ }
-    ensures { λ r. ⌜ (r ≡ 1) ↔ (Lands (part a m (now (p .entry))) (now (c .entry)) (now (s .entry)) j ⊎ Lands (part a e (now (p .entry))) (now (c .entry)) (now (s .entry)) j) ⌝ }
+fn power_of(i: usize) -> u64
+    requires { ⌜ i < 64 ⌝ }
+    ensures { λ r. ⌜ r ≡ 2 ^ i ⌝ }
 {
-    if lands(s, p, a, m, c, j) {
-        return 1;
-    }
-    if lands(s, p, a, e, c, j) {
-        return 1;
-    }
-    0
+    1 << i
 }
 
-// The set behind the bytes from a up to m, the short form, or up to e, the long one.
-fn step(s: &[u8; 130], p: &[u8], a: usize, m: usize, e: usize, c: &[u8]) -> [u8; 130]
+fn holds(s: &[u64; 3], j: usize) -> bool
+    requires { ⌜ j < 192 ⌝ }
+    ensures { λ r. ⌜ Says r (On (now (s .entry)) j) ⌝ }
+{
+    if j < 64 {
+        return has(s[0], j);
+    }
+    if j < 128 {
+        return has(s[1], j - 64);
+    }
+    has(s[2], j - 128)
+}
+
+// The set with place j.
+fn with(s: [u64; 3], j: usize) -> [u64; 3]
+    requires { ⌜ j < 192 ⌝ }
+    ensures { λ r. ⌜ ((k : ℕ) → On r k ↔ (On s k ⊎ (k ≡ j))) ⌝ }
+{
+    if j < 64 {
+        return [s[0] | power_of(j), s[1], s[2]];
+    }
+    if j < 128 {
+        return [s[0], s[1] | power_of(j - 64), s[2]];
+    }
+    [s[0], s[1], s[2] | power_of(j - 128)]
+}
+
+// The set without place j, one of its own.
+fn without(s: [u64; 3], j: usize) -> [u64; 3]
+    requires { ⌜ On s j ⌝ }
+    ensures { λ r. ⌜ ((k : ℕ) → On s k ↔ (On r k ⊎ (k ≡ j))) × (weight r < weight s) ⌝ }
+{
+    if j < 64 {
+        return [s[0] - power_of(j), s[1], s[2]];
+    }
+    if j < 128 {
+        return [s[0], s[1] - power_of(j - 64), s[2]];
+    }
+    [s[0], s[1], s[2] - power_of(j - 128)]
+}
+
+// A place of the set, or 192 where it has none.
+fn member(s: &[u64; 3]) -> usize
+    ensures { λ r. ⌜ Member (now (s .entry)) r ⌝ }
+{
+    let a = u64::trailing_zeros(s[0]);
+    if a < 64 {
+        return a as usize;
+    }
+    let b = u64::trailing_zeros(s[1]);
+    if b < 64 {
+        return b as usize + 64;
+    }
+    u64::trailing_zeros(s[2]) as usize + 128
+}
+
+fn union(a: &[u64; 3], b: &[u64; 3]) -> [u64; 3]
+    ensures { λ r. ⌜ ((j : ℕ) → On r j ↔ (On (now (a .entry)) j ⊎ On (now (b .entry)) j)) ⌝ }
+{
+    [a[0] | b[0], a[1] | b[1], a[2] | b[2]]
+}
+
+// The set t, and where spellings that begin at i end: behind the bytes from a up to m, the short form, or up to e, the long one.
+fn spread(t: [u64; 3], p: &[u8], a: usize, m: usize, e: usize, c: &[u8], i: usize) -> [u64; 3]
+    requires { ⌜ (a < m) × (m ≤ e) × (e ≤ length (now p)) × (length (now c) ≤ 128) ⌝ }
+    ensures { λ r. ⌜ Spread (part a m (now (p .entry))) (part a e (now (p .entry))) (now (c .entry)) i t r ⌝ }
+{
+    if i > c.len() {
+        return t;
+    }
+    if !goes_on(p, a, m, c, i) {
+        return t;
+    }
+    let u = with(t, i + (m - a));
+    if !goes_on(p, m, e, c, i + (m - a)) {
+        return u;
+    }
+    with(u, i + (e - a))
+}
+
+// Where a step came to: the places that are left, where spellings from the others end, and the next place.
+struct Stride {
+    left: [u64; 3],
+    on: [u64; 3],
+    next: usize,
+}
+
+fn from_place(
+    left: [u64; 3],
+    t: [u64; 3],
+    p: &[u8],
+    a: usize,
+    m: usize,
+    e: usize,
+    c: &[u8],
+    i: usize,
+) -> Stride
+    requires { ⌜ (a < m) × (m ≤ e) × (e ≤ length (now p)) × (length (now c) ≤ 128) × On left i ⌝ }
+    ensures { λ r. ⌜ ((k : ℕ) → On left k ↔ (On (r .left) k ⊎ (k ≡ i))) × (weight (r .left) < weight left) × Spread (part a m (now (p .entry))) (part a e (now (p .entry))) (now (c .entry)) i t (r .on) × Member (r .left) (r .next) ⌝ }
+{
+    let rest = without(left, i);
+    let on = spread(t, p, a, m, e, c, i);
+    let next = member(&rest);
+    Stride {
+        left: rest,
+        on,
+        next,
+    }
+}
+
+// The set behind these bytes, from all places of a set.
+fn step(s: &[u64; 3], p: &[u8], a: usize, m: usize, e: usize, c: &[u8]) -> [u64; 3]
     requires { ⌜ (a < m) × (m ≤ e) × (e ≤ length (now p)) × (length (now c) ≤ 128) ⌝ }
     ensures { λ r. ⌜ ((j : ℕ) → On r j ↔ (Lands (part a m (now (p .entry))) (now (c .entry)) (now (s .entry)) j ⊎ Lands (part a e (now (p .entry))) (now (c .entry)) (now (s .entry)) j)) ⌝ }
 {
-    let mut t = [0u8; 130];
-    let n = c.len() + 1;
-    let mut j = 0;
-    while j < n {
-        t[j] = landing(s, p, a, m, e, c, j);
-        j += 1;
+    let mut w = Stride {
+        left: [s[0], s[1], s[2]],
+        on: [0u64; 3],
+        next: member(s),
+    };
+    while w.next < 192 {
+        let left = w.left;
+        let t = w.on;
+        let i = w.next;
+        w = from_place(left, t, p, a, m, e, c, i);
     }
-    t
-}
-
-fn either(a: u8, b: u8) -> u8
-    ensures { λ r. ⌜ (r ≡ 1) ↔ ((a ≡ 1) ⊎ (b ≡ 1)) ⌝ }
-{
-    if a == 1 {
-        return 1;
-    }
-    b
-}
-
-fn union(a: &[u8; 130], b: &[u8; 130]) -> [u8; 130]
-    ensures { λ r. ⌜ ((j : ℕ) → On r j ↔ (On (now (a .entry)) j ⊎ On (now (b .entry)) j)) ⌝ }
-{
-    let mut t = [0u8; 130];
-    let mut j = 0;
-    while j < 130 {
-        t[j] = either(a[j], b[j]);
-        j += 1;
-    }
-    t
+    w.on
 }
 
 // A colon and a word.
-fn match_word(p: &[u8], at: usize, c: &[u8], s: [u8; 130]) -> Walk
+fn match_word(p: &[u8], at: usize, c: &[u8], s: [u64; 3]) -> Walk
     requires { ⌜ (at < length (now p)) × (length (now c) ≤ 128) ⌝ }
     ensures { λ r. ⌜ Worded (now (p .entry)) at (now (c .entry)) s (r .at) (r .on) ⌝ }
 {
@@ -119,7 +204,7 @@ fn begins_item(p: &[u8], at: usize, left: usize) -> bool
 }
 
 // A row of colon-and-word and brackets, from `at` on, item by item: so only brackets deepen the stack.
-fn match_path(p: &[u8], at: usize, left: usize, c: &[u8], s: [u8; 130]) -> Walk
+fn match_path(p: &[u8], at: usize, left: usize, c: &[u8], s: [u64; 3]) -> Walk
     requires { ⌜ (left ≤ 8) × (at ≤ length (now p)) × (length (now c) ≤ 128) ⌝ }
     ensures { λ r. ⌜ Walked (8 - left) (now (p .entry)) at (now (c .entry)) s (r .at) (r .on) ⌝ }
 {
@@ -137,7 +222,7 @@ fn match_path(p: &[u8], at: usize, left: usize, c: &[u8], s: [u8; 130]) -> Walk
 }
 
 // Behind "[": the row that it holds, kept or dropped, and "]".
-fn match_bracket(p: &[u8], at: usize, left: usize, c: &[u8], s: [u8; 130]) -> Walk
+fn match_bracket(p: &[u8], at: usize, left: usize, c: &[u8], s: [u64; 3]) -> Walk
     requires { ⌜ (left < 8) × (at ≤ length (now p)) × (length (now c) ≤ 128) ⌝ }
     ensures { λ r. ⌜ Bracketed (8 - left) (now (p .entry)) at (now (c .entry)) s (r .at) (r .on) ⌝ }
 {
@@ -151,25 +236,6 @@ fn match_bracket(p: &[u8], at: usize, left: usize, c: &[u8], s: [u8; 130]) -> Wa
     Walk { at: i + 1, on: u }
 }
 
-// The set that has place 0 alone.
-fn origin() -> [u8; 130]
-    ensures { λ r. ⌜ ((j : ℕ) → On r j ↔ (j ≡ 0)) ⌝ }
-{
-    let mut s = [0u8; 130];
-    s[0] = 1;
-    s
-}
-
-fn holds(u: &[u8; 130], n: usize) -> bool
-    requires { ⌜ n < 130 ⌝ }
-    ensures { λ r. ⌜ Says r (On (now (u .entry)) n) ⌝ }
-{
-    if u[n] == 1 {
-        return true;
-    }
-    false
-}
-
 fn match_star(p: &[u8], c: &[u8]) -> bool
     ensures { λ r. ⌜ Says r (caseless (now (c .entry)) ≡ caseless (now (p .entry))) ⌝ }
 {
@@ -181,7 +247,7 @@ fn match_star(p: &[u8], c: &[u8]) -> bool
 }
 
 // Is the command's last byte "?", and the place before it in the set?
-fn asked(u: &[u8; 130], c: &[u8]) -> bool
+fn asked(u: &[u64; 3], c: &[u8]) -> bool
     requires { ⌜ length (now c) ≤ 128 ⌝ }
     ensures { λ r. ⌜ Says r ((0 < length (now (c .entry))) × (getD (now (c .entry)) (length (now (c .entry)) - 1) 0 ≡ 63) × On (now (u .entry)) (length (now (c .entry)) - 1)) ⌝ }
 {
@@ -193,10 +259,7 @@ fn asked(u: &[u8; 130], c: &[u8]) -> bool
     if c[k] != 63 {
         return false;
     }
-    if u[k] == 1 {
-        return true;
-    }
-    false
+    holds(u, k)
 }
 
 // A word, a row, and perhaps "?".
@@ -212,8 +275,7 @@ fn match_whole(p: &[u8], c: &[u8]) -> bool
         return false;
     }
     let e = run_end(p, m, 97, 122);
-    let s = origin();
-    let t = step(&s, p, 0, m, e, c);
+    let t = spread([0u64; 3], p, 0, m, e, c, 0);
     let w = match_path(p, e, 8, c, t);
     let i = w.at;
     let u = w.on;

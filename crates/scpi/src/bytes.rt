@@ -1,6 +1,7 @@
 // Bytes of a pattern, and bytes of a command beside them.
 ghost use mathlib.Core.Path.{_≡_};
 ghost use Prim.Native.Nat.{_+_, _≤_, _<_};
+ghost use lib.Dec.{eqb};
 ghost use lib.ListN.{length, drop};
 ghost use Rattle.scpi.specs.Bytes.{between, upper};
 ghost use Rattle.scpi.specs.Words.{leading, starts, part};
@@ -13,13 +14,23 @@ pub fn is_between(low: u8, high: u8, b: u8) -> bool
 }
 
 // A small letter as its capital.
-fn raised(b: u8) -> u8
+pub fn raised(b: u8) -> u8
     ensures { λ r. ⌜ r ≡ upper b ⌝ }
 {
     if is_between(97, 122, b) {
         return b - 32;
     }
     b
+}
+
+// Are they one byte, whatever their case? Most that are, are the same.
+fn alike(x: u8, y: u8) -> bool
+    ensures { λ r. ⌜ r ≡ eqb (upper x) (upper y) ⌝ }
+{
+    if x == y {
+        return true;
+    }
+    raised(x) == raised(y)
 }
 
 // The first place from `at` on whose byte is not between low and high.
@@ -48,7 +59,7 @@ pub fn goes_on(p: &[u8], a: usize, e: usize, c: &[u8], i: usize) -> bool
         if j >= c.len() {
             return false;
         }
-        if raised(p[k]) != raised(c[j]) {
+        if !alike(p[k], c[j]) {
             return false;
         }
         k += 1;

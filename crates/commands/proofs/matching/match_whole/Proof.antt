@@ -2,6 +2,8 @@
 use mathlib.Core.Path.{sym, _∙_}
 use borrow.Author.Needs.{needs}
 use borrow.Author.Tests.{not-true}
+use Rattle.commands.specs.Landing.{landing-origin}
+use Rattle.commands.specs.Places.{origin, origin-on}
 use Rattle.commands.specs.Whole.{says-plain, says-asked, says-other, says-none}
 use Rattle.commands.proofs.matching.match_whole.Statement.{statement}
 use Rattle.commands.proofs.matching.match_whole.Tie as tie
@@ -21,39 +23,23 @@ returns-3 : tie.Need-returns-3
 returns-3 c =
     let w = c .before .before .before .before in
     let t = w .before in
-    let o = t .before .before in
-    let e = o .before in
+    let e = t .before in
     let m = e .before .before .before .before in
     let a = m .before .before .before .args in
-    says-plain (a .p .now) (a .c .now) (m .run-end .result) (e .run-end2 .result) (o .origin .result) (t .step .result) (w .match-path .result .at) (w .match-path .result .on)
-    (m .run-end .ensures .0) (e .run-end2 .ensures .0) (o .origin .ensures) (t .step .ensures) (w .match-path .ensures)
+    says-plain (a .p .now) (a .c .now) (m .run-end .result) (e .run-end2 .result) origin (t .spread .result) (w .match-path .result .at) (w .match-path .result .on)
+    (m .run-end .ensures .0) (e .run-end2 .ensures .0) origin-on (landing-origin _ _ (a .c .now) (t .spread .result) (t .spread .ensures)) (w .match-path .ensures)
     (c .before .before .if3 .taken) (c .holds .result) (c .holds .ensures)
 
 returns-4 : tie.Need-returns-4
 returns-4 c =
     let w = c .before .before .before .before in
     let t = w .before in
-    let o = t .before .before in
-    let e = o .before in
+    let e = t .before in
     let m = e .before .before .before .before in
     let a = m .before .before .before .args in
-    says-asked (a .p .now) (a .c .now) (m .run-end .result) (e .run-end2 .result) (o .origin .result) (t .step .result) (w .match-path .result .at) (w .match-path .result .on)
-    (m .run-end .ensures .0) (e .run-end2 .ensures .0) (o .origin .ensures) (t .step .ensures) (w .match-path .ensures)
+    says-asked (a .p .now) (a .c .now) (m .run-end .result) (e .run-end2 .result) origin (t .spread .result) (w .match-path .result .at) (w .match-path .result .on)
+    (m .run-end .ensures .0) (e .run-end2 .ensures .0) origin-on (landing-origin _ _ (a .c .now) (t .spread .result) (t .spread .ensures)) (w .match-path .ensures)
     (c .before .before .if3 .left) (c .asked .result) (c .asked .ensures)
 
 pub match-whole-spec : {M : Type 1} → statement M
-match-whole-spec =
-    tie.close
-    (tie.spec
-    (λ c κs. search needs)
-    returns
-    (λ c κs. search needs)
-    returns-2
-    (λ c κs. search needs)
-    (λ c κs. search needs)
-    (λ c κs. search needs)
-    (λ c κs. search needs)
-    (λ c κs. search needs)
-    returns-3
-    (λ c κs. search needs)
-    returns-4)
+match-whole-spec = tie.close (tie.spec (λ c κs. search needs) returns (λ c κs. search needs) returns-2 (λ c κs. search needs) (λ c κs. search needs) (λ c κs. search needs) (λ c κs. search needs) returns-3 (λ c κs. search needs) returns-4)

@@ -1,13 +1,10 @@
 -- `bytes::goes_on` meets its contract. The invariant: comparing what is left, from k and j on, says what the whole comparison says.
 use mathlib.Core.Path.{_≡_, refl, sym, _∙_}
-use mathlib.Core.Bool.{false}
 use Prim.Native.Nat.{_-_, _≤_}
-use lib.ListN.{length, getD, drop}
+use lib.ListN.{length, drop}
 use borrow.Author.Needs.{needs}
-use borrow.Author.Tests.{ne-eqb}
-use Rattle.scpi.specs.Bytes.{upper}
+use borrow.Author.Tests.{eqb-true, not-true, not-false}
 use Rattle.scpi.specs.Words.{starts, part, starts-more, starts-stop, starts-out, starts-end}
-use lib.Dec.{eqb}
 use Rattle.scpi.proofs.bytes.goes_on.Statement.{statement}
 use Rattle.scpi.proofs.bytes.goes_on.Tie as tie
 
@@ -28,19 +25,17 @@ returns c =
 
 returns-2 : tie.Need-returns-2 Inv-loop μ-loop
 returns-2 c =
-    let r = c .before .before .before in
-    let l = r .before .before .before .before .loop in
-    let a = r .before .before .before .before .before .before .before .args in
-    let n : eqb (upper (getD (a .p .now) (l .k) 0)) (upper (getD (a .c .now) (l .j) 0)) ≡ false = rw (← r .raised .ensures, ← c .before .raised2 .ensures) (ne-eqb _ _ (c .if2 .taken)) in
-    sym (starts-stop (a .p .now) (a .c .now) (l .k) (a .e) (l .j) (search needs) (search needs) (search needs) n) ∙ l .inv .2
+    let r = c .before in
+    let l = r .before .before .before .before .before .loop in
+    let a = r .before .before .before .before .before .before .before .before .args in
+    sym (starts-stop (a .p .now) (a .c .now) (l .k) (a .e) (l .j) (search needs) (search needs) (search needs) (sym (r .alike .ensures) ∙ not-true _ (c .if2 .taken))) ∙ l .inv .2
 
 loop-again : tie.Need-loop-again Inv-loop μ-loop
 loop-again c =
-    let r = c .before .before .before in
-    let l = r .before .before .before .before .loop in
-    let a = r .before .before .before .before .before .before .before .args in
-    let n : upper (getD (a .p .now) (l .k) 0) ≡ upper (getD (a .c .now) (l .j) 0) = sym (r .raised .ensures) ∙ c .if2 .left ∙ c .before .raised2 .ensures in
-    (search needs, search needs, sym (starts-more (a .p .now) (a .c .now) (l .k) (a .e) (l .j) (search needs) (search needs) (search needs) n) ∙ l .inv .2)
+    let r = c .before in
+    let l = r .before .before .before .before .before .loop in
+    let a = r .before .before .before .before .before .before .before .before .args in
+    (search needs, search needs, sym (starts-more (a .p .now) (a .c .now) (l .k) (a .e) (l .j) (search needs) (search needs) (search needs) (eqb-true _ _ (sym (r .alike .ensures) ∙ not-false _ (c .if2 .left)))) ∙ l .inv .2)
 
 returns-3 : tie.Need-returns-3 Inv-loop μ-loop
 returns-3 c =
@@ -57,7 +52,6 @@ goes-on-spec =
     loop-holds
     returns
     (λ c. search needs)
-    (λ c κs. search needs)
     (λ c. search needs)
     (λ c κs. search needs)
     returns-2
