@@ -10,10 +10,10 @@ use conform::kept::{closed, Closed};
 use conform::numbers::Numbers;
 use reference::journal::framing::{entry, trailer};
 use reference::journal::reader::{entries, Found};
-use reference::verifier::{judge, Fault, Verdict};
+use reference::verifier::{judge, program, Fault, Verdict};
 use reference::{Fresh, Mode};
 use std::path::{Path, PathBuf};
-use std::process::{Command, ExitCode};
+use std::process::ExitCode;
 use std::{env, fs, process};
 
 const LISTS: u64 = 250;
@@ -76,17 +76,7 @@ impl Beside {
     /// One journal, judged by both; the first difference ends it.
     fn judge(&mut self, fresh: Fresh, book: &[u8], what: &str) -> Result<Verdict, String> {
         fs::write(&self.file, book).expect("a file for the book");
-        let mode = match fresh.prefers {
-            Mode::Synchronized => "synchronized",
-            Mode::Overlap => "overlap",
-        };
-        let run = Command::new(&self.program)
-            .arg(&self.file)
-            .arg(format!("{:04x}", fresh.vendor))
-            .arg(mode)
-            .output()
-            .expect("the program runs");
-        let line = String::from_utf8_lossy(&run.stdout).into_owned();
+        let line = program::line(&self.program, &self.file, fresh);
         let verdict = judge(fresh, book);
         if line != format!("{verdict}\n") {
             let file = self.file.display();

@@ -13,7 +13,7 @@ use books::{bodies, book, closed, kept, listed, morning, watched};
 use reference::compose::{answer, clock, deliver, message};
 use reference::journal::layout::body;
 use reference::journal::Recorded;
-use reference::verifier::judge;
+use reference::verifier::{judge, program};
 use reference::{Event, Fresh, Mode};
 use std::path::{Path, PathBuf};
 use std::process::Command;
@@ -35,17 +35,7 @@ impl Beside {
     fn judge(&mut self, fresh: Fresh, book: &[u8], what: &str) {
         fs::write(&self.file, book).expect("a file for the book");
         let expected = judge(fresh, book).to_string();
-        let mode = match fresh.prefers {
-            Mode::Synchronized => "synchronized",
-            Mode::Overlap => "overlap",
-        };
-        let run = Command::new(&self.program)
-            .arg(&self.file)
-            .arg(format!("{:04x}", fresh.vendor))
-            .arg(mode)
-            .output()
-            .expect("the program runs");
-        let line = String::from_utf8_lossy(&run.stdout).into_owned();
+        let line = program::line(&self.program, &self.file, fresh);
         if line != expected.clone() + "\n" {
             eprintln!("{what}: verify says {line:?}, the reference {expected:?}");
             process::exit(1);

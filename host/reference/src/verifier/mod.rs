@@ -3,6 +3,7 @@
 //! from place to place; `Verifier` takes the book in pieces.
 
 mod pieces;
+pub mod program;
 mod replay;
 
 use std::fmt;
