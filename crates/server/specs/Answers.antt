@@ -27,45 +27,51 @@ use Rattle.server.specs.declared.Answered.{Answered}
 use Rattle.server.specs.Causes.{short-room, enough-room}
 use Rattle.server.specs.Events.{Replied, answeredNumbers, taken-answer}
 
-module _ (d : Server) (n i : ℕ) (p : List ℕ) (end : Bool) (sh : List ℕ) (room : ℕ) (found : slotOfNumber (d .locks .entries) n ≡ i) where
-  -- the causes at the slot that was found, behind the buffer's
-  row : List Cause
-  row =
-      record { test = not (live (at (d .locks .entries) i)); number = 8 }
-      ∷ record { test = not (mayAnswer (at (d .locks .entries) i) (exchangeAt (d .rest) i)); number = 5 }
-      ∷ record { test = ltb payloadLimit (length p) || ltb ((exchangeAt (d .rest) i) .clientSize) (length p); number = 6 }
-      ∷ []
+-- the causes at slot i of an answer of n bytes, behind the buffer's
+unfoldable pub answerRow : Server → ℕ → ℕ → List Cause
+answerRow d i n =
+    record { test = not (live (at (d .locks .entries) i)); number = 8 }
+    ∷ record { test = not (mayAnswer (at (d .locks .entries) i) (exchangeAt (d .rest) i)); number = 5 }
+    ∷ record { test = ltb payloadLimit n || ltb ((exchangeAt (d .rest) i) .clientSize) n; number = 6 }
+    ∷ []
 
-  at-row : causes d (answer n p end sh room) ≡ smallRoom room ∷ row
-  unfolding causes row
-  at-row =
-      ap (λ (j : ℕ). smallRoom room ∷ record { test = not (live (at (d .locks .entries) j)); number = 8 } ∷ record { test = not (mayAnswer (at (d .locks .entries) j) (exchangeAt (d .rest) j)); number = 5 } ∷ record { test = ltb payloadLimit (length p) || ltb ((exchangeAt (d .rest) j) .clientSize) (length p); number = 6 } ∷ []) found
+-- the first of them; 0: the answer is taken
+unfoldable pub refusedAt : Server → ℕ → ℕ → ℕ
+refusedAt d i n = firstCause (answerRow d i n)
+
+module _ (d : Server) (i n : ℕ) where
+  pub refused-nobody : live (at (d .locks .entries) i) ≡ false → refusedAt d i n ≡ 8
+  unfolding refusedAt answerRow
+  refused-nobody l = rw l
+
+  pub refused-unasked : live (at (d .locks .entries) i) ≡ true → mayAnswer (at (d .locks .entries) i) (exchangeAt (d .rest) i) ≡ false → refusedAt d i n ≡ 5
+  unfolding refusedAt answerRow
+  refused-unasked l a = rw (l, a)
+
+  pub refused-long : live (at (d .locks .entries) i) ≡ true → mayAnswer (at (d .locks .entries) i) (exchangeAt (d .rest) i) ≡ true → payloadLimit < n → refusedAt d i n ≡ 6
+  unfolding refusedAt answerRow
+  refused-long l a q = rw (l, a, lt-ltb payloadLimit n q)
+
+  pub refused-over : live (at (d .locks .entries) i) ≡ true → mayAnswer (at (d .locks .entries) i) (exchangeAt (d .rest) i) ≡ true → n ≤ payloadLimit → (exchangeAt (d .rest) i) .clientSize < n → refusedAt d i n ≡ 6
+  unfolding refusedAt answerRow
+  refused-over l a q r = rw (l, a, le-ltb payloadLimit n q, lt-ltb ((exchangeAt (d .rest) i) .clientSize) n r)
+
+  pub not-refused : live (at (d .locks .entries) i) ≡ true → mayAnswer (at (d .locks .entries) i) (exchangeAt (d .rest) i) ≡ true → n ≤ payloadLimit → n ≤ (exchangeAt (d .rest) i) .clientSize → refusedAt d i n ≡ 0
+  unfolding refusedAt answerRow
+  not-refused l a q r = rw (l, a, le-ltb payloadLimit n q, le-ltb ((exchangeAt (d .rest) i) .clientSize) n r)
+
+module _ (d : Server) (n i : ℕ) (p : List ℕ) (end : Bool) (sh : List ℕ) (room : ℕ) (found : slotOfNumber (d .locks .entries) n ≡ i) where
+  at-row : causes d (answer n p end sh room) ≡ smallRoom room ∷ answerRow d i (length p)
+  unfolding causes answerRow
+  at-row = ap (λ (j : ℕ). smallRoom room ∷ answerRow d j (length p)) found
 
   pub answer-short-room : room < outputMinimum → refusal d (answer n p end sh room) ≡ 7
-  answer-short-room = short-room d (answer n p end sh room) room row at-row
+  answer-short-room = short-room d (answer n p end sh room) room (answerRow d i (length p)) at-row
 
-  then-row : outputMinimum ≤ room → refusal d (answer n p end sh room) ≡ firstCause row
-  then-row = enough-room d (answer n p end sh room) room row at-row
-
-  pub answer-nobody : outputMinimum ≤ room → live (at (d .locks .entries) i) ≡ false → refusal d (answer n p end sh room) ≡ 8
-  unfolding row
-  answer-nobody h l = then-row h ∙ rw l
-
-  pub answer-unasked : outputMinimum ≤ room → live (at (d .locks .entries) i) ≡ true → mayAnswer (at (d .locks .entries) i) (exchangeAt (d .rest) i) ≡ false → refusal d (answer n p end sh room) ≡ 5
-  unfolding row
-  answer-unasked h l a = then-row h ∙ rw (l, a)
-
-  pub answer-long : outputMinimum ≤ room → live (at (d .locks .entries) i) ≡ true → mayAnswer (at (d .locks .entries) i) (exchangeAt (d .rest) i) ≡ true → payloadLimit < length p → refusal d (answer n p end sh room) ≡ 6
-  unfolding row
-  answer-long h l a q = then-row h ∙ rw (l, a, lt-ltb payloadLimit (length p) q)
-
-  pub answer-over : outputMinimum ≤ room → live (at (d .locks .entries) i) ≡ true → mayAnswer (at (d .locks .entries) i) (exchangeAt (d .rest) i) ≡ true → length p ≤ payloadLimit → (exchangeAt (d .rest) i) .clientSize < length p → refusal d (answer n p end sh room) ≡ 6
-  unfolding row
-  answer-over h l a q r = then-row h ∙ rw (l, a, le-ltb payloadLimit (length p) q, lt-ltb ((exchangeAt (d .rest) i) .clientSize) (length p) r)
-
-  pub answer-taken : outputMinimum ≤ room → live (at (d .locks .entries) i) ≡ true → mayAnswer (at (d .locks .entries) i) (exchangeAt (d .rest) i) ≡ true → length p ≤ payloadLimit → length p ≤ (exchangeAt (d .rest) i) .clientSize → refusal d (answer n p end sh room) ≡ 0
-  unfolding row
-  answer-taken h l a q r = then-row h ∙ rw (l, a, le-ltb payloadLimit (length p) q, le-ltb ((exchangeAt (d .rest) i) .clientSize) (length p) r)
+  -- with room enough the slot's row decides
+  pub answer-refused : outputMinimum ≤ room → refusal d (answer n p end sh room) ≡ refusedAt d i (length p)
+  unfolding refusedAt
+  answer-refused = enough-room d (answer n p end sh room) room (answerRow d i (length p)) at-row
 
 -- what the words say
 pub not-there : (w s : List ℕ) (i : ℕ) → sessionLimit ≤ i → live (at (locksOf w s .entries) i) ≡ false

@@ -2,7 +2,7 @@
 use mathlib.Core.Path.{_≡_, refl, sym, ap, _∙_}
 use mathlib.Core.Bool.{true, false, true≢false}
 use mathlib.Core.List.{List, [], map, append-nil}
-use Prim.Native.Nat.{ℕ, suc, _+_, _≤_, _<_}
+use Prim.Native.Nat.{ℕ, zero, suc, _+_, _≤_, _<_}
 use native.Mathlib.Nat.{zero-add}
 use lib.ListN.{length}
 use borrow.Author.Tests.{lt-ltb, le-ltb, le-leb, lt-leb}
@@ -105,6 +105,11 @@ unfolding bytesOf step answered
 refused-answer e n r m out q f =
     let x : step (view m) e ≡ record { server = view m; reply = refused (suc n); frames = [] } = ap (λ (k : ℕ). answered k (view m) e) q in
     record { numbers = ap answeredNumbers f ∙ ap (λ (y : Result). answeredAnswer (y .reply) (length (bytesOf (y .frames)))) (sym x); post = refused-post e n m out x; tidy = λ t. t }
+
+-- the same, by a number that is not 0
+pub refused-by : (e : Event) (k : ℕ) (r : Answered) (m : Memory) (out : List ℕ) → (k ≡ 0 → ⊥) → refusal (view m) e ≡ k → r ≡ record { refusal = k; withheld = 0; output = 0 } → Replied e r m m out out
+refused-by e zero r m out h q f = absurd (h refl)
+refused-by e (suc n) r m out h q f = refused-answer e n r m out q f
 
 pub taken-answer : (e : Event) (x : Result) (r : Answered) (m m′ : Memory) (out out′ : List ℕ) → refusal (view m) e ≡ 0 → finish (view m) (plan (view m) e) ≡ x → omits (x .reply) ≡ false
     → view m′ ≡ x .server → out′ ≡ written out (x .frames) → answeredNumbers r ≡ answeredAnswer (x .reply) (length (bytesOf (x .frames))) → (Tidy m → Tidy m′) → Replied e r m m′ out out′

@@ -3,7 +3,7 @@ ghost use Rattle.model.specs.Interface.{Event, Event.answer, Event.clock, Event
 ghost use Rattle.model.specs.Interface.Reply.{done};
 ghost use Rattle.model.specs.Post.{Post};
 ghost use Rattle.server.specs.Calls.{Delivered};
-ghost use Rattle.server.specs.Answers.{Gives};
+ghost use Rattle.server.specs.Answers.{Gives, refusedAt};
 ghost use Rattle.server.specs.Events.{Called, Fresh, Replied};
 ghost use Rattle.state.specs.Tidy.{Tidy};
 ghost use Rattle.state.specs.View.{memory, view};
@@ -223,6 +223,29 @@ fn give_answer(
     replied(0, 0, n as u64)
 }
 
+// The refusal of an answer of n bytes to slot i (0: none), as one number: behind five early returns the compiler takes `give_answer` for rare and
+// leaves it a call.
+fn answer_refusal(words: &Words, i: usize, n: usize) -> u64
+    ensures { λ r. ⌜ ((s : List ℕ) → refusedAt (view (memory (now (words .entry)) s)) i n ≡ r) × (r ≡ 0 → (i < sessionLimit) × (n ≤ payloadLimit)) ⌝ }
+{
+    if i >= SESSION_LIMIT {
+        return 8;
+    }
+    if tables::entry(words, i, tables::NUMBER) == 0 {
+        return 8;
+    }
+    if !mode::may_answer(words, i) {
+        return 5;
+    }
+    if n > PAYLOAD_LIMIT {
+        return 6;
+    }
+    if tables::exchange(words, i, tables::CLIENT_SIZE) < n as u64 {
+        return 6;
+    }
+    0
+}
+
 // The instrument answers a session, with END unless `end` is 0; `shown` is what is unread of the session's synchronous connection.
 #[no_mangle]
 pub extern "C" fn hislip_answer(
@@ -240,20 +263,9 @@ pub extern "C" fn hislip_answer(
         return replied(7, 0, 0);
     }
     let i = search::slot_of_number(words, session as u64);
-    if i >= SESSION_LIMIT {
-        return replied(8, 0, 0);
-    }
-    if tables::entry(words, i, tables::NUMBER) == 0 {
-        return replied(8, 0, 0);
-    }
-    if !mode::may_answer(words, i) {
-        return replied(5, 0, 0);
-    }
-    if payload.len() > PAYLOAD_LIMIT {
-        return replied(6, 0, 0);
-    }
-    if tables::exchange(words, i, tables::CLIENT_SIZE) < payload.len() as u64 {
-        return replied(6, 0, 0);
+    let refusal = answer_refusal(words, i, payload.len());
+    if refusal != 0 {
+        return replied(refusal, 0, 0);
     }
     let with_end = is_set(end);
     give_answer(words, out, i, with_end, payload, shown)
