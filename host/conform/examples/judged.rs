@@ -11,7 +11,7 @@ use conform::numbers::Numbers;
 use reference::journal::framing::{entry, trailer};
 use reference::journal::reader::{entries, Found};
 use reference::verifier::{judge, program, Fault, Verdict};
-use reference::{Fresh, Mode};
+use reference::Fresh;
 use std::path::{Path, PathBuf};
 use std::process::ExitCode;
 use std::{env, fs, process};
