@@ -1,7 +1,18 @@
 //! The two sides. Each pays one call that is not inlined, with the same numbers in and out.
 
 use hislip::sys;
+use hislip::sys::journal::hislip_journal_forward;
+use ordinary::journal;
 use reference::{Mode, Reply, Watch};
+
+/// Which sum the ordinary server reads an entry with; the library has one.
+#[derive(Clone, Copy, PartialEq, Eq)]
+pub enum Sum {
+    /// A look in one table for each byte.
+    ByBytes,
+    /// What its journal has, eight bytes a step.
+    ByEights,
+}
 
 pub trait Contender {
     fn new() -> Self;
@@ -12,17 +23,38 @@ pub trait Contender {
     fn watch(&mut self, session: u32) -> Reply;
     /// The list of allowed commands.
     fn allow(&mut self, text: &[u8]) -> Reply;
+    /// Reads the entry that bytes begin with; its sum is taken.
+    fn read(bytes: &[u8], sum: Sum) -> Reply;
+    /// The book, whole, and how much of it is written; none if no journal is kept.
+    fn book(&self) -> (&[u8], usize) {
+        (&[], 0)
+    }
 }
 
 /// "AA".
 const VENDOR: u16 = 0x4141;
 /// No reading is beyond these.
-const LOW: f32 = -10.0;
-const HIGH: f32 = 10.0;
+pub const LOW: f32 = -10.0;
+pub const HIGH: f32 = 10.0;
 
 pub struct Library {
     words: Vec<u64>,
     strings: Vec<u8>,
+}
+
+impl Library {
+    pub fn memory(&mut self) -> (*mut u64, *mut u8) {
+        (self.words.as_mut_ptr(), self.strings.as_mut_ptr())
+    }
+}
+
+/// What is told of an entry that was found: where the next one begins, and how long its body is.
+fn found(length: u64, next: u64) -> Reply {
+    Reply {
+        taken: next,
+        missing: length,
+        ..Reply::default()
+    }
 }
 
 // SAFETY of the calls: the memory has the lengths the library asks for; slices do not overlap.
@@ -97,10 +129,19 @@ impl Contender for Library {
             ..Reply::refused(told.refusal)
         }
     }
+
+    #[inline(always)]
+    fn read(bytes: &[u8], _: Sum) -> Reply {
+        let entry = unsafe { hislip_journal_forward(bytes.as_ptr(), bytes.len(), 0) };
+        match entry.found {
+            0 => Reply::refused(1),
+            _ => found(entry.length, entry.next),
+        }
+    }
 }
 
 /// Its calls are never inlined either.
-pub struct Ordinary(Box<ordinary::Server>);
+pub struct Ordinary(pub Box<ordinary::Server>);
 
 impl Contender for Ordinary {
     fn new() -> Ordinary {
@@ -127,5 +168,17 @@ impl Contender for Ordinary {
 
     fn allow(&mut self, text: &[u8]) -> Reply {
         self.0.patterns(text)
+    }
+
+    #[inline(always)]
+    fn read(bytes: &[u8], sum: Sum) -> Reply {
+        let entry = match sum {
+            Sum::ByBytes => journal::forward_by_bytes(bytes, 0),
+            Sum::ByEights => journal::forward(bytes, 0),
+        };
+        match entry {
+            None => Reply::refused(1),
+            Some(entry) => found(entry.length as u64, entry.next as u64),
+        }
     }
 }

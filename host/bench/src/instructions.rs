@@ -13,18 +13,31 @@ pub const HEAD: &str =
 /// A side with the calls that are counted, each from its first instruction to its return.
 struct Counted {
     side: &'static str,
-    calls: [&'static str; 2],
+    calls: [&'static str; 3],
+    /// With a journal kept: these call the others.
+    kept: [&'static str; 2],
 }
 
 const LIBRARY: Counted = Counted {
     side: "library",
-    calls: ["hislip_deliver", "hislip_answer"],
+    calls: ["hislip_deliver", "hislip_answer", "hislip_journal_forward"],
+    kept: ["hislip_keep_deliver", "hislip_keep_answer"],
 };
 
 const ORDINARY: Counted = Counted {
     side: "ordinary",
-    calls: ["*Server>::deliver", "*Server::answer"],
+    calls: ["*Server>::deliver", "*Server::answer", "*journal::forward*"],
+    kept: ["*Server>::keep_deliver", "*Server>::keep_answer"],
 };
+
+impl Counted {
+    fn calls(&self, kept: bool) -> &[&'static str] {
+        match kept {
+            true => &self.kept,
+            false => &self.calls,
+        }
+    }
+}
 
 /// Counting begins with this function, when the sessions are open.
 const FROM: &str = "*timing::timed_events*";
@@ -64,7 +77,8 @@ fn count(counted: &Counted, plan: &Plan, events: usize) -> Result<Counts, String
     let mut command = Command::new("valgrind");
     command.args(["--tool=callgrind", "--branch-sim=yes", "-q"]);
     command.arg(format!("--zero-before={FROM}"));
-    command.args(counted.calls.map(|call| format!("--toggle-collect={call}")));
+    let calls = counted.calls(plan.kept).iter();
+    command.args(calls.map(|call| format!("--toggle-collect={call}")));
     command.arg(format!("--callgrind-out-file={}", found.display()));
     command.arg(program).args(["--side", counted.side]);
     command.args(["--only", &plan.name, "--events", &events.to_string()]);

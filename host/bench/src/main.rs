@@ -5,6 +5,7 @@ mod contender;
 mod draw;
 mod figures;
 mod instructions;
+mod kept;
 mod options;
 mod page;
 mod plot;

@@ -1,7 +1,6 @@
 //! The command line.
 
-use crate::contender::{Library, Ordinary};
-use crate::timing::time;
+use crate::timing::{library, ordinary};
 use crate::workload::{Plan, Workload};
 
 pub const USAGE: &str = "\
@@ -91,8 +90,8 @@ fn events(value: &str) -> Result<usize, String> {
 
 fn side(name: &str) -> Result<Side, String> {
     match name {
-        "library" => Ok(time::<Library>),
-        "ordinary" => Ok(time::<Ordinary>),
+        "library" => Ok(library),
+        "ordinary" => Ok(ordinary),
         _ => Err(format!("no side `{name}`")),
     }
 }

@@ -4,9 +4,11 @@
 use std::collections::BTreeMap;
 
 use reference::compose::{block, message};
+use reference::journal::framing::entry;
 use reference::limits::{LOCK_STRING, PAYLOAD, SESSIONS};
 use reference::wire::kind;
 
+use crate::contender::Sum;
 use crate::draw::Draw;
 
 /// A message or a payload in `Script::bytes`.
@@ -28,6 +30,8 @@ pub enum Step {
     Watch(u32),
     /// The list of allowed commands.
     Allow,
+    /// An entry of a journal, and the sum that the ordinary server takes of it.
+    Read(Part, Sum),
 }
 
 /// MessageID of a program's first message.
@@ -38,6 +42,8 @@ const BEFORE_FIRST: u32 = FIRST - 2;
 const READINGS: usize = 250;
 /// So many different payloads of a kind are answered in turn.
 const KEPT: u32 = 16;
+/// Bytes that the sum of an entry is over.
+const SUMMED: usize = 1_024;
 const COMMAND: &[u8] = b"CONFigure:VOLTage:DC 10,0.001;:INITiate";
 /// 32 patterns, a line each, beside comments.
 const VOLTMETER: &str = include_str!("../../gateway/lists/voltmeter.txt");
@@ -98,6 +104,8 @@ pub struct Script {
     /// Readings as text, and in blocks of as many as a block may have.
     pub texts: Vec<Part>,
     pub blocks: Vec<Part>,
+    /// Entries with a sum over 1,024 bytes, length and body.
+    pub entries: Vec<Part>,
 }
 
 impl Script {
@@ -123,6 +131,9 @@ impl Script {
             reading: keep(&[b'7'; PAYLOAD]),
             texts: (0..KEPT).map(|one| keep(text(one).as_bytes())).collect(),
             blocks: (0..KEPT).map(|_| keep(&block(&volts(&mut draw)))).collect(),
+            entries: (0..KEPT as u8)
+                .map(|one| keep(&entry(&[one; SUMMED - 4])))
+                .collect(),
             bytes,
             steps: Vec::new(),
             programs: [Program::default(); SESSIONS],
@@ -179,6 +190,10 @@ impl Script {
     /// A part of the instrument's answer.
     pub fn part_of_answer(&mut self, session: u32, payload: Part) {
         self.steps.push(Step::PartOfAnswer(1 + session, payload));
+    }
+
+    pub fn read(&mut self, entry: Part, sum: Sum) {
+        self.steps.push(Step::Read(entry, sum));
     }
 
     pub fn allow(&mut self) {

@@ -10,6 +10,7 @@ use reference::Reply;
 
 use crate::contender::{Contender, Library, Ordinary};
 use crate::figures::Figures;
+use crate::kept::{KeptLibrary, KeptOrdinary};
 use crate::script::{voltmeter, Part, Step};
 use crate::workload::Workload;
 
@@ -46,6 +47,7 @@ fn one<C: Contender>(server: &mut C, workload: &Workload, step: Step, out: &mut 
         Step::PartOfAnswer(session, part) => server.answer(session, bytes(part), false, out),
         Step::Watch(session) => server.watch(session),
         Step::Allow => server.allow(&voltmeter()),
+        Step::Read(part, sum) => C::read(bytes(part), sum),
     }
 }
 
@@ -58,20 +60,31 @@ fn outcome(step: Step, told: Reply) -> &'static str {
         Step::Answer(..) | Step::PartOfAnswer(..) => "answers sent",
         Step::Watch(..) => "watches set",
         Step::Allow => "lists set",
+        Step::Read(..) => "entries read",
         Step::Deliver(..) => Reply::OUTCOMES[told.outcome as usize],
     }
 }
 
-/// Every answer and every byte of the buffer, side by side. Returns what the events came to, so
-/// that a workload which does something else than its name says is noticed.
+/// Every answer, every byte of the buffer and of the book, side by side. Returns what the events came
+/// to, so that a workload which does something else than its name says is noticed.
 pub fn compare(workload: &Workload) -> Result<Outcomes, String> {
+    match workload.kept {
+        true => compare_sides::<KeptLibrary, KeptOrdinary>(workload),
+        false => compare_sides::<Library, Ordinary>(workload),
+    }
+}
+
+fn compare_sides<L: Contender, R: Contender>(workload: &Workload) -> Result<Outcomes, String> {
     let (mut left_out, mut right_out) = (vec![0x5a; OUTPUT], vec![0x5a; OUTPUT]);
-    let mut left: Library = ready(workload, &mut left_out);
-    let mut right: Ordinary = ready(workload, &mut right_out);
+    let mut left: L = ready(workload, &mut left_out);
+    let mut right: R = ready(workload, &mut right_out);
     let mut outcomes = Outcomes::new();
+    let mut written = 0;
     for (place, step) in workload.steps.iter().enumerate() {
         let told = one(&mut left, workload, *step, &mut left_out);
-        if told != one(&mut right, workload, *step, &mut right_out) || left_out != right_out {
+        let equal = told == one(&mut right, workload, *step, &mut right_out);
+        let kept = is_kept_alike(left.book(), right.book(), &mut written);
+        if !equal || left_out != right_out || !kept {
             return Err(format!("{}: event {place} differs", workload.name));
         }
         *outcomes.entry(outcome(*step, told)).or_default() += 1;
@@ -79,8 +92,34 @@ pub fn compare(workload: &Workload) -> Result<Outcomes, String> {
     Ok(outcomes)
 }
 
-/// The nanoseconds of each slice.
-pub fn time<C: Contender>(workload: &Workload) -> Vec<f64> {
+/// What was written since is the same in both books; all of them, if they were begun anew.
+fn is_kept_alike(left: (&[u8], usize), right: (&[u8], usize), since: &mut usize) -> bool {
+    let ((left, written), (right, beside)) = (left, right);
+    let new = match written < *since {
+        true => 0..left.len(),
+        false => *since..written,
+    };
+    *since = written;
+    written == beside && left[new.clone()] == right[new]
+}
+
+/// The library's side of a workload, with a journal kept or not; the nanoseconds of each slice.
+pub fn library(workload: &Workload) -> Vec<f64> {
+    match workload.kept {
+        true => time::<KeptLibrary>(workload),
+        false => time::<Library>(workload),
+    }
+}
+
+/// The ordinary server's.
+pub fn ordinary(workload: &Workload) -> Vec<f64> {
+    match workload.kept {
+        true => time::<KeptOrdinary>(workload),
+        false => time::<Ordinary>(workload),
+    }
+}
+
+fn time<C: Contender>(workload: &Workload) -> Vec<f64> {
     // Neither side is compiled for this length.
     let mut out = vec![0; black_box(OUTPUT)];
     let mut server: C = ready(workload, &mut out);
@@ -111,24 +150,27 @@ fn timed_events<C: Contender>(server: &mut C, workload: &Workload, out: &mut [u8
 /// Each repetition runs both sides; who goes first changes every time.
 pub fn measure(workload: &Workload, repetitions: usize) -> Times {
     let events = workload.steps.len();
-    let (mut library, mut ordinary) = (Figures::new(events), Figures::new(events));
-    time::<Library>(workload);
-    time::<Ordinary>(workload);
+    let mut times = Times {
+        library: Figures::new(events),
+        ordinary: Figures::new(events),
+    };
+    library(workload);
+    ordinary(workload);
     for repetition in 0..repetitions {
         if repetition % 2 == 0 {
-            library.repetitions.push(time::<Library>(workload));
-            ordinary.repetitions.push(time::<Ordinary>(workload));
+            times.library.repetitions.push(library(workload));
+            times.ordinary.repetitions.push(ordinary(workload));
         } else {
-            ordinary.repetitions.push(time::<Ordinary>(workload));
-            library.repetitions.push(time::<Library>(workload));
+            times.ordinary.repetitions.push(ordinary(workload));
+            times.library.repetitions.push(library(workload));
         }
     }
-    Times { library, ordinary }
+    times
 }
 
 #[cfg(test)]
 mod tests {
-    use super::{one, outcome, ready, Ordinary, Outcomes, Step};
+    use super::{compare, one, outcome, ready, Ordinary, Outcomes, Step};
     use crate::workload::{all, Workload};
     use reference::event::frames;
     use reference::limits::OUTPUT;
@@ -162,7 +204,13 @@ mod tests {
                 assert!(sent.iter().all(|told| *told == (kind::ERROR, 128)));
                 continue;
             }
-            let wanted = ["acted on", "more needed", "held", "answers sent"];
+            let wanted = [
+                "acted on",
+                "more needed",
+                "held",
+                "answers sent",
+                "entries read",
+            ];
             assert!(
                 outcomes.keys().all(|told| wanted.contains(told)),
                 "{name}: {outcomes:?}"
@@ -188,6 +236,15 @@ mod tests {
             let (asked, answered) = (asked.count(), locks.count());
             // In a storm a release is answered with the grant of another's request.
             assert!(asked.abs_diff(answered) <= 1, "{name}: {asked} {answered}");
+        }
+    }
+
+    /// On both sides; the books fill up and are begun anew.
+    #[test]
+    fn journals_are_kept_alike() {
+        for plan in all().iter().filter(|plan| plan.kept) {
+            let workload = plan.make(120_000);
+            assert!(compare(&workload).is_ok(), "{}", workload.name);
         }
     }
 

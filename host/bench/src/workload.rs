@@ -3,6 +3,7 @@
 use reference::limits::{LOCK_STRING, SESSIONS};
 use reference::wire::kind;
 
+use crate::contender::Sum;
 use crate::draw::Draw;
 use crate::script::{Part, Script, Step, ALLOWED, NOT_ALLOWED};
 
@@ -16,6 +17,8 @@ pub struct Workload {
     pub bytes: Vec<u8>,
     /// The output buffer is cleared before each event.
     pub clear: bool,
+    /// Every event has its entry in a journal.
+    pub kept: bool,
 }
 
 /// A workload that is made when it is run.
@@ -23,12 +26,23 @@ pub struct Plan {
     pub name: String,
     /// The output buffer is cleared before each event.
     pub clear: bool,
+    /// Every event has its entry in a journal.
+    pub kept: bool,
     make: Make,
 }
 
 type Make = fn(&mut Author);
 
 impl Plan {
+    fn new(name: &str, make: Make) -> Plan {
+        Plan {
+            name: name.into(),
+            clear: false,
+            kept: false,
+            make,
+        }
+    }
+
     /// With the first so many of its events.
     pub fn make(&self, events: usize) -> Workload {
         let mut author = Author {
@@ -48,6 +62,7 @@ impl Plan {
             steps,
             bytes,
             clear: self.clear,
+            kept: self.kept,
         }
     }
 }
@@ -109,6 +124,29 @@ impl Author {
         for _ in 0..ROUNDS.min(self.events) {
             let round = self.draw_round(&mut draw, sessions, between);
             self.round(&round, wanted);
+        }
+    }
+
+    /// The mix with a list of 32 patterns set, which allows its commands.
+    fn listed_mix(&mut self) {
+        self.script.allow();
+        self.begin();
+        self.mix(ALL, false, &KINDS);
+    }
+
+    /// The mix with a watch over the readings of every session.
+    fn watched_mix(&mut self) {
+        (0..ALL).for_each(|session| self.script.watch(session));
+        self.begin();
+        self.mix(ALL, false, &KINDS);
+    }
+
+    /// Entries read, one of them after another.
+    fn reads(&mut self, sum: Sum) {
+        let mut draw = Draw::new();
+        for _ in 0..self.count() {
+            let entry = draw.pick(&self.script.entries);
+            self.script.read(entry, sum);
         }
     }
 
@@ -336,35 +374,56 @@ const COMMANDS: [(&str, Make); 3] = [
     }),
 ];
 
+/// The mix beside what 02's requests may set, and what a journal costs.
+const SET: [(&str, Make); 2] = [
+    ("02's mix, 32 patterns set", Author::listed_mix),
+    ("02's mix, watched", Author::watched_mix),
+];
+const KEPT: [(&str, Make); 2] = [
+    ("02's mix, journal kept", |a| a.mix(ALL, false, &KINDS)),
+    (
+        "DataEND and 1,024-byte answers, journal kept",
+        Author::answers,
+    ),
+];
+const SUMS: [(&str, Make); 2] = [
+    ("CRC-32 of 1,024 bytes, beside a byte a step", |a| {
+        a.reads(Sum::ByBytes);
+    }),
+    ("CRC-32 of 1,024 bytes, beside eight bytes a step", |a| {
+        a.reads(Sum::ByEights);
+    }),
+];
+
 /// All workloads, in the page's order.
 pub fn all() -> Vec<Plan> {
     let mut all = Vec::new();
-    let mut plan = |name: &str, make: Make, clear: bool| {
-        let name = name.to_owned();
-        all.push(Plan { name, clear, make });
-    };
     for (name, make) in OF_THE_MIX {
-        plan(name, make, false);
-        plan(&format!("{name}, buffer cleared"), make, true);
+        all.push(Plan::new(name, make));
+        all.push(Plan {
+            clear: true,
+            ..Plan::new(&format!("{name}, buffer cleared"), make)
+        });
     }
     for (sessions, make) in FEWER.into_iter().filter(|fewer| fewer.0 < ALL) {
-        plan(
-            &format!("02's mix, sessions drawn from {sessions}"),
-            make,
-            false,
-        );
+        let name = format!("02's mix, sessions drawn from {sessions}");
+        all.push(Plan::new(&name, make));
     }
-    plan("02's mix, in a fixed order", Author::in_turn, false);
     let third_held: Make = |a| a.mix(ALL, true, &KINDS);
-    plan("02's mix, a third of Data held", third_held, false);
-    plan("Data and DataEND, held", Author::held, false);
-    for (name, make) in waiting(ALL - 1) {
-        plan(&name, make, false);
-    }
-    plan("DataEND and 1,024-byte answers", Author::answers, false);
-    for (name, make) in READINGS.into_iter().chain(COMMANDS) {
-        plan(name, make, false);
-    }
+    all.extend([
+        Plan::new("02's mix, in a fixed order", Author::in_turn),
+        Plan::new("02's mix, a third of Data held", third_held),
+        Plan::new("Data and DataEND, held", Author::held),
+    ]);
+    all.extend(waiting(ALL - 1).map(|(name, make)| Plan::new(&name, make)));
+    all.push(Plan::new("DataEND and 1,024-byte answers", Author::answers));
+    let settings = READINGS.into_iter().chain(COMMANDS).chain(SET);
+    all.extend(settings.map(|(name, make)| Plan::new(name, make)));
+    all.extend(KEPT.map(|(name, make)| Plan {
+        kept: true,
+        ..Plan::new(name, make)
+    }));
+    all.extend(SUMS.map(|(name, make)| Plan::new(name, make)));
     all
 }
 

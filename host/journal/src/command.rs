@@ -10,9 +10,10 @@ usage: journal print FILE [VENDOR MODE]
        journal repair FILE [TO]
   print     each entry as a line: number, clock, session, message, MessageID, command or reading, locks;
             the verdict stands last
-  readings  the verdict first; if the journal is accepted, each answer with its command, the commands
-            that acted on the instrument since the session's first, who else acted in between, and whether the
-            session held the exclusive lock all the while
+  readings  the verdict first, in the words of `verify`; if the journal is accepted, each answer with its command,
+            the commands that acted on the instrument since the session's first, who else acted in between, and
+            whether the session held the exclusive lock all the while. A journal that is not accepted is
+            `not accepted: entry N, kind` and nothing else
   repair    the whole entries of a journal cut short, closed, in a new file (TO; FILE.repaired)
 VENDOR, four hex digits, and MODE, synchronized or overlap, are the server's that kept the journal; without them
 they are what the journal itself says. A file has at most 2,147,483,648 bytes, and is held in memory.

@@ -7,6 +7,8 @@ use std::fs::{self, File};
 use common::{journal, journal_into, three_programs, Folder};
 use reference::journal::framing::{entry, trailer};
 use reference::journal::{layout, reader, Recorded};
+use reference::verifier::judge;
+use reference::Fresh;
 
 #[test]
 fn help_and_wrong_command_lines() {
@@ -112,23 +114,64 @@ fn damaged() -> Vec<(Vec<u8>, &'static str)> {
     ]
 }
 
+/// The book of an accepted journal cut short, and with bytes behind it.
+fn ended_elsewhere() -> Vec<(Vec<u8>, &'static str)> {
+    let good = three_programs();
+    let places: Vec<usize> = reader::entries(&good).map(|found| found.at).collect();
+    let first = |end: usize| good[..end].to_vec();
+    let end = good.len();
+    vec![
+        (first(places[5]), "not accepted: entry 5, length\n"),
+        (first(places[5] + 2), "not accepted: entry 5, length\n"),
+        (first(places[6] - 1), "not accepted: entry 5, length\n"),
+        (first(end - 10), "not accepted: entry 48, length\n"),
+        (first(end - 8), "not accepted: entry 48, closing trailer\n"),
+        (first(end - 1), "not accepted: entry 48, closing trailer\n"),
+        (
+            [&good[..], b"\0"].concat(),
+            "not accepted: entry 48, closing trailer\n",
+        ),
+        (good.repeat(2), "not accepted: entry 48, closing trailer\n"),
+    ]
+}
+
 #[test]
 fn a_book_that_is_not_accepted_is_printed_as_nothing_else() {
     let folder = Folder::new();
-    for (book, verdict) in damaged() {
+    for (book, verdict) in damaged().into_iter().chain(ended_elsewhere()) {
         let file = folder.file("book", &book);
-        let told = journal(&["readings", &file]);
-        assert_eq!(told, (1, verdict.into(), String::new()));
+        for server in [&[][..], &["4141", "synchronized"]] {
+            let told = journal(&[&["readings", &file], server].concat());
+            assert_eq!(told, (1, verdict.into(), String::new()));
+        }
         let (status, out, _) = journal(&["print", &file]);
         assert!(status == 1 && out.ends_with(verdict), "{out}");
     }
+}
+
+/// The entries that tell mode and vendor number are not what another server would have sent.
+#[test]
+fn another_server_s_book_is_not_accepted() {
+    let folder = Folder::new();
     let file = folder.file("book", &three_programs());
-    for server in [["4142", "synchronized"], ["4141", "overlap"]] {
-        let (status, out, _) = journal(&[&["readings", &file], &server[..]].concat());
-        assert_eq!(status, 1);
-        assert!(out.starts_with("not accepted: entry ") && out.ends_with(", parcels\n"));
-        assert_eq!(out.lines().count(), 1);
+    for (server, verdict) in [
+        (["4142", "synchronized"], "not accepted: entry 3, parcels\n"),
+        (["4141", "overlap"], "not accepted: entry 1, parcels\n"),
+    ] {
+        let told = journal(&[&["readings", &file], &server[..]].concat());
+        assert_eq!(told, (1, verdict.into(), String::new()));
     }
+}
+
+#[test]
+fn the_verdict_stands_first_in_verify_s_words() {
+    let folder = Folder::new();
+    let book = three_programs();
+    let file = folder.file("book", &book);
+    let (_, out, _) = journal(&["readings", &file, "4141", "synchronized"]);
+    let verdict = judge(Fresh::BENCH, &book).to_string();
+    assert_eq!(out.lines().next(), Some(verdict.as_str()));
+    assert_eq!(verdict, "accepted: 48 entries");
 }
 
 #[test]

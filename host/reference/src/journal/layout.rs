@@ -52,7 +52,8 @@ pub enum Recorded {
     },
 }
 
-mod tag {
+/// An event's first byte.
+pub mod tag {
     pub const OPEN: u8 = 0;
     pub const DELIVER: u8 = 1;
     pub const CUT: u8 = 2;

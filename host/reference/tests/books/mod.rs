@@ -1,6 +1,8 @@
 //! A morning at the bench, as a list of events and as a journal.
 #![allow(dead_code)]
 
+pub mod stored;
+
 use reference::compose::{
     answer, answer_beside, block, clock, cut, deliver, header, message, patterns, watch,
 };
