@@ -154,9 +154,11 @@ four-bytes c b0 b1 b2 b3 h0 h1 h2 =
     ∙ later 24 (bitXor (bitXor (bitXor c b0) (b1 * 2 ^ 8)) (b2 * 2 ^ 16)) b3
     ∙ ap (steps 32) (together c b0 b1 b2 b3 h0 h1 h2)
 
--- one byte by the table: the low byte of the register is looked up, the rest moves down
-pub byte-step : (c b : ℕ) → byteStep c b ≡ bitXor (steps 8 (bitXor c b % 256)) (bitXor c b / 256)
+-- four bits by a table: they are looked up, the rest moves down
+pub half-step : (x : ℕ) → bitXor (steps 4 (x % 16)) (x / 16) ≡ steps 4 x
+half-step x = sym (ap (steps 4) (sym (split x 4)) ∙ steps-split 4 (x / 16) (x % 16) (omega arith) ∙ xor-comm (x / 16) (steps 4 (x % 16)))
+
+-- two halves are a byte
+pub two-halves : (c b : ℕ) → steps 4 (steps 4 (bitXor c b)) ≡ byteStep c b
 unfolding byteStep
-byte-step c b =
-    let x : ℕ = bitXor c b in
-    ap (steps 8) (sym (split x 8)) ∙ steps-split 8 (x / 256) (x % 256) (omega arith) ∙ xor-comm (x / 256) (steps 8 (x % 256))
+two-halves c b = sym (steps-add 4 4 (bitXor c b))

@@ -10,10 +10,10 @@ use Rattle.crc.proofs.feed_by.Statement.{statement}
 use Rattle.crc.proofs.feed_by.Tie as tie
 
 abbrev Inv-loop : tie.InvT-loop
-Inv-loop t c bytes x₀ i₀ x i = (i ≤ length bytes) × (feedOf x (drop i bytes) ≡ feedOf c bytes)
+Inv-loop c bytes x₀ i₀ x i = (i ≤ length bytes) × (feedOf x (drop i bytes) ≡ feedOf c bytes)
 
 abbrev μ-loop : tie.MeasureT-loop
-μ-loop t c bytes x₀ i₀ x i = length bytes - i
+μ-loop c bytes x₀ i₀ x i = length bytes - i
 
 loop-again : tie.Need-loop-again Inv-loop μ-loop
 loop-again c = let l = c .before .before .before .before .before .before in
