@@ -48,6 +48,18 @@ fn fits(len: usize, at: u64, n: usize) -> bool
     n as u64 + 12 <= m - at
 }
 
+// A part of a body: a short one in one move.
+fn put_part(book: &mut [u8], at: usize, src: &[u8])
+    requires { ⌜ at + length (now src) ≤ length (now book) ⌝ }
+    ensures { λ _. ⌜ now (book .exit) ≡ splice (now (book .entry)) at (now (src .entry)) ⌝ }
+{
+    if src.len() <= 1024 {
+        frame::put_payload(book, at, src);
+        return;
+    }
+    frame::put_bytes(book, at, src);
+}
+
 // Length and body, the body in four parts.
 fn put_headed(book: &mut [u8], at: usize, a: &[u8], b: &[u8], c: &[u8], d: &[u8])
     requires { ⌜ (length (now a) + length (now b) + length (now c) + length (now d) ≤ bodyLimit) × (at + 4 + length (now a) + length (now b) + length (now c) + length (now d) ≤ length (now book)) ⌝ }
@@ -55,10 +67,10 @@ fn put_headed(book: &mut [u8], at: usize, a: &[u8], b: &[u8], c: &[u8], d: &[u8]
 {
     let n = a.len() + b.len() + c.len() + d.len();
     number::put4(book, at, n as u64);
-    frame::put_bytes(book, at + 4, a);
-    frame::put_bytes(book, at + 4 + a.len(), b);
-    frame::put_bytes(book, at + 4 + a.len() + b.len(), c);
-    frame::put_bytes(book, at + 4 + a.len() + b.len() + c.len(), d);
+    put_part(book, at + 4, a);
+    put_part(book, at + 4 + a.len(), b);
+    put_part(book, at + 4 + a.len() + b.len(), c);
+    put_part(book, at + 4 + a.len() + b.len() + c.len(), d);
 }
 
 // The sum over a part of the book.
