@@ -27,8 +27,8 @@ pub feed-last : (x : ℕ) (bs : List ℕ) (i : ℕ) → length bs ≤ i → feed
 unfolding feedOf
 feed-last x bs i h = rw (drop-of-length-le bs h)
 
--- a turn of the loop
-pub feed-four : (x : ℕ) (bs : List ℕ) (i : ℕ) → i + 4 ≤ length bs
+-- a turn of the loop of eight bytes
+feed-four : (x : ℕ) (bs : List ℕ) (i : ℕ) → i + 4 ≤ length bs
     → feedOf x (drop i bs) ≡ feedOf (byteStep (byteStep (byteStep (byteStep x (getD bs i 0)) (getD bs (i + 1) 0)) (getD bs (i + 2) 0)) (getD bs (i + 3) 0)) (drop (i + 4) bs)
 feed-four x bs i h =
     let e : i + 1 + 1 ≡ i + 2 = omega arith in
@@ -41,6 +41,21 @@ feed-four x bs i h =
     ∙ ap (λ (k : ℕ). feedOf (byteStep (byteStep (byteStep x (getD bs i 0)) (getD bs (i + 1) 0)) (getD bs (i + 2) 0)) (drop k bs)) f
     ∙ feed-next (byteStep (byteStep (byteStep x (getD bs i 0)) (getD bs (i + 1) 0)) (getD bs (i + 2) 0)) bs (i + 3) (omega arith)
     ∙ ap (λ (k : ℕ). feedOf (byteStep (byteStep (byteStep (byteStep x (getD bs i 0)) (getD bs (i + 1) 0)) (getD bs (i + 2) 0)) (getD bs (i + 3) 0)) (drop k bs)) g
+
+pub feed-eight : (x : ℕ) (bs : List ℕ) (i : ℕ) → i + 8 ≤ length bs
+    → feedOf x (drop i bs)
+    ≡ feedOf
+    (byteStep (byteStep (byteStep (byteStep (byteStep (byteStep (byteStep (byteStep x (getD bs i 0)) (getD bs (i + 1) 0)) (getD bs (i + 2) 0)) (getD bs (i + 3) 0)) (getD bs (i + 4) 0)) (getD bs (i + 5) 0)) (getD bs (i + 6) 0)) (getD bs (i + 7) 0))
+    (drop (i + 8) bs)
+feed-eight x bs i h =
+    let y : ℕ = byteStep (byteStep (byteStep (byteStep x (getD bs i 0)) (getD bs (i + 1) 0)) (getD bs (i + 2) 0)) (getD bs (i + 3) 0) in
+    let e5 : i + 4 + 1 ≡ i + 5 = omega arith in
+    let e6 : i + 4 + 2 ≡ i + 6 = omega arith in
+    let e7 : i + 4 + 3 ≡ i + 7 = omega arith in
+    let e8 : i + 4 + 4 ≡ i + 8 = omega arith in
+    feed-four x bs i (omega arith)
+    ∙ feed-four y bs (i + 4) (omega arith)
+    ∙ (λ k. feedOf (byteStep (byteStep (byteStep (byteStep y (getD bs (i + 4) 0)) (getD bs (e5 k) 0)) (getD bs (e6 k) 0)) (getD bs (e7 k) 0)) (drop (e8 k) bs))
 
 -- a part up to the end
 pub up-to-end : (bs : List ℕ) (i : ℕ) → take (length bs - i) (drop i bs) ≡ drop i bs

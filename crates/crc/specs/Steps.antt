@@ -1,5 +1,5 @@
 -- The laws of the steps: what stands above the bits that go out is only moved, the steps are linear, and so four bytes in a row
--- are 32 steps of the register with all four in it. Assumes nothing.
+-- are 32 steps of the register with all four in it, and eight are twice that. Assumes nothing.
 use mathlib.Core.Path.{_≡_, refl, sym, ap, ap₂, _∙_}
 use mathlib.Core.Logic.{_⊎_, inl, inr, ⊎-elim}
 use Prim.Native.Nat.{ℕ, zero, suc, _+_, _*_, _/_, _%_, _^_, _<_}
@@ -145,7 +145,7 @@ together c b0 b1 b2 b3 h0 h1 h2 =
     ∙ ap (bitXor c) e3
 
 -- so four bytes are 32 steps
-pub four-bytes : (c b0 b1 b2 b3 : ℕ) → b0 < 256 → b1 < 256 → b2 < 256
+four-bytes : (c b0 b1 b2 b3 : ℕ) → b0 < 256 → b1 < 256 → b2 < 256
     → byteStep (byteStep (byteStep (byteStep c b0) b1) b2) b3 ≡ steps 32 (bitXor c (b3 * 16777216 + (b2 * 65536 + (b1 * 256 + b0))))
 unfolding byteStep
 four-bytes c b0 b1 b2 b3 h0 h1 h2 =
@@ -154,11 +154,22 @@ four-bytes c b0 b1 b2 b3 h0 h1 h2 =
     ∙ later 24 (bitXor (bitXor (bitXor c b0) (b1 * 2 ^ 8)) (b2 * 2 ^ 16)) b3
     ∙ ap (steps 32) (together c b0 b1 b2 b3 h0 h1 h2)
 
--- four bits by a table: they are looked up, the rest moves down
-pub half-step : (x : ℕ) → bitXor (steps 4 (x % 16)) (x / 16) ≡ steps 4 x
-half-step x = sym (ap (steps 4) (sym (split x 4)) ∙ steps-split 4 (x / 16) (x % 16) (omega arith) ∙ xor-comm (x / 16) (steps 4 (x % 16)))
+-- and eight are 64 steps of the first four with the register, and 32 of the others
+module _ (c b0 b1 b2 b3 b4 b5 b6 b7 : ℕ) (h0 : b0 < 256) (h1 : b1 < 256) (h2 : b2 < 256) (h4 : b4 < 256) (h5 : b5 < 256) (h6 : b6 < 256) where
+  pub eight-bytes :
+      byteStep (byteStep (byteStep (byteStep (byteStep (byteStep (byteStep (byteStep c b0) b1) b2) b3) b4) b5) b6) b7
+      ≡ bitXor (steps 64 (bitXor c (b3 * 16777216 + (b2 * 65536 + (b1 * 256 + b0))))) (steps 32 (b7 * 16777216 + (b6 * 65536 + (b5 * 256 + b4))))
+  eight-bytes =
+      let x : ℕ = bitXor c (b3 * 16777216 + (b2 * 65536 + (b1 * 256 + b0))) in
+      let w : ℕ = b7 * 16777216 + (b6 * 65536 + (b5 * 256 + b4)) in
+      ap (λ (z : ℕ). byteStep (byteStep (byteStep (byteStep z b4) b5) b6) b7) (four-bytes c b0 b1 b2 b3 h0 h1 h2)
+      ∙ four-bytes (steps 32 x) b4 b5 b6 b7 h4 h5 h6
+      ∙ steps-xor 32 (steps 32 x) w
+      ∙ ap (λ (z : ℕ). bitXor z (steps 32 w)) (sym (steps-add 32 32 x))
 
--- two halves are a byte
-pub two-halves : (c b : ℕ) → steps 4 (steps 4 (bitXor c b)) ≡ byteStep c b
+-- one byte by the table: the low byte of the register is looked up, the rest moves down
+pub byte-step : (c b : ℕ) → byteStep c b ≡ bitXor (steps 8 (bitXor c b % 256)) (bitXor c b / 256)
 unfolding byteStep
-two-halves c b = sym (steps-add 4 4 (bitXor c b))
+byte-step c b =
+    let x : ℕ = bitXor c b in
+    ap (steps 8) (sym (split x 8)) ∙ steps-split 8 (x / 256) (x % 256) (omega arith) ∙ xor-comm (x / 256) (steps 8 (x % 256))

@@ -4,10 +4,10 @@ use mathlib.Core.List.{List}
 use Prim.Native.Nat.{ℕ, zero, suc, _+_, _*_, _/_, _%_, _^_, _≤_, _<_}
 use native.Mathlib.Nat.{add-zero}
 use native.Mathlib.Omega.{arith}
-use lib.Bits.{bitXor, xor-lt}
+use lib.Bits.{bitXor}
 use lib.ListN.{getD, take}
 use Rattle.crc.specs.Crc.{bitStep, steps, byteStep, tabulate, crcTable}
-use Rattle.crc.specs.Steps.{peel, four-bytes}
+use Rattle.crc.specs.Steps.{peel, byte-step}
 
 -- the rule at each entry of a table
 pub tabulate-at : (f : ℕ → ℕ) (i n k : ℕ) → k < n → getD (tabulate f i n) k 0 ≡ f (i + k)
@@ -21,16 +21,16 @@ pub table-rule : (k : ℕ) → k < 256 → getD crcTable k 0 ≡ steps 8 k
 unfolding crcTable
 table-rule k h = let e : 0 + k ≡ k = omega arith in tabulate-at (steps 8) 0 256 k h ∙ ap (steps 8) e
 
--- The code's table has four rows of 256: row j has 8 * (j + 1) steps of each byte.
+-- The code's table has eight rows of 256: row j has 8 * (j + 1) steps of each byte.
 abbrev pub rowRule : ℕ → ℕ
 rowRule i = steps (8 * (i / 256 + 1)) (i % 256)
 
 unfoldable pub rowsTable : List ℕ
-rowsTable = tabulate rowRule 0 1024
+rowsTable = tabulate rowRule 0 2048
 
-pub rows-rule : (i : ℕ) → i < 1024 → getD rowsTable i 0 ≡ rowRule i
+pub rows-rule : (i : ℕ) → i < 2048 → getD rowsTable i 0 ≡ rowRule i
 unfolding rowsTable
-rows-rule i h = let e : 0 + i ≡ i = omega arith in tabulate-at rowRule 0 1024 i h ∙ ap rowRule e
+rows-rule i h = let e : 0 + i ≡ i = omega arith in tabulate-at rowRule 0 2048 i h ∙ ap rowRule e
 
 -- its first row is the 256-entry table
 pub first-row : take 256 rowsTable ≡ crcTable
@@ -38,7 +38,7 @@ unfolding rowsTable crcTable tabulate steps bitStep
 first-row = refl
 
 -- a look-up in row j
-pub look : (j r : ℕ) → j < 4 → r < 256 → getD rowsTable (256 * j + r) 0 ≡ steps (8 * (j + 1)) r
+pub look : (j r : ℕ) → j < 8 → r < 256 → getD rowsTable (256 * j + r) 0 ≡ steps (8 * (j + 1)) r
 look j r h l =
     let d : (256 * j + r) / 256 ≡ j = omega arith in
     let m : (256 * j + r) % 256 ≡ r = omega arith in
@@ -64,33 +64,39 @@ key k x e = omega arith
 pub entry : (k x : ℕ) → x % 256 + 256 ≡ k + 256 → steps 8 k ≡ getD crcTable (x % 256) 0
 entry k x e = ap (steps 8) (key k x e) ∙ sym (table-rule (x % 256) (omega arith))
 
-pub entry-in : (j k x : ℕ) → j < 4 → x % 256 + 256 ≡ k + 256 → steps (8 * (j + 1)) k ≡ getD rowsTable (256 * j + x % 256) 0
+pub entry-in : (j k x : ℕ) → j < 8 → x % 256 + 256 ≡ k + 256 → steps (8 * (j + 1)) k ≡ getD rowsTable (256 * j + x % 256) 0
 entry-in j k x h e = ap (steps (8 * (j + 1))) (key k x e) ∙ sym (look j (x % 256) h (omega arith))
 
--- 32 steps are four look-ups
-four-looks : (x y3 y2 y1 y0 : ℕ) → x < 2 ^ 32 → y3 ≡ getD rowsTable (768 + x % 256) 0 → y2 ≡ getD rowsTable (512 + x / 256 % 256) 0 → y1 ≡ getD rowsTable (256 + x / 65536 % 256) 0
-    → y0 ≡ getD crcTable (x / 16777216 % 256) 0 → bitXor y3 (bitXor y2 (bitXor y1 y0)) ≡ steps 32 x
-four-looks x y3 y2 y1 y0 h e3 e2 e1 e0 =
+-- a register's four bytes go their own ways
+peel4 : (n x : ℕ) → x < 2 ^ 32
+    → steps (8 + (8 + (8 + n))) x
+    ≡ bitXor (steps (8 + (8 + (8 + n))) (x % 256)) (bitXor (steps (8 + (8 + n)) (x / 256 % 256)) (bitXor (steps (8 + n) (x / 65536 % 256)) (steps n (x / 16777216 % 256))))
+peel4 n x h =
     let d1 : x / 256 / 256 ≡ x / 65536 = omega arith in
-    let d2 : x / 65536 / 256 ≡ x / 16777216 = omega arith in
-    let z : x / 16777216 % 256 ≡ x / 16777216 = omega arith in
+    let d2 : x / 65536 / 256 ≡ x / 16777216 % 256 = omega arith in
+    peel (8 + (8 + n)) x
+    ∙ ap (bitXor (steps (8 + (8 + (8 + n))) (x % 256)))
+    (peel (8 + n) (x / 256)
+    ∙ ap (bitXor (steps (8 + (8 + n)) (x / 256 % 256)))
+    (ap (steps (8 + n)) d1 ∙ peel n (x / 65536) ∙ ap (λ (y : ℕ). bitXor (steps (8 + n) (x / 65536 % 256)) (steps n y)) d2))
+
+-- four look-ups: in rows 0 to 3 they are 32 steps, in rows 4 to 7 they are 64
+pub looks-32 : (x y3 y2 y1 y0 : ℕ) → x < 2 ^ 32 → y3 ≡ getD rowsTable (768 + x % 256) 0 → y2 ≡ getD rowsTable (512 + x / 256 % 256) 0 → y1 ≡ getD rowsTable (256 + x / 65536 % 256) 0
+    → y0 ≡ getD crcTable (x / 16777216 % 256) 0 → bitXor y3 (bitXor y2 (bitXor y1 y0)) ≡ steps 32 x
+looks-32 x y3 y2 y1 y0 h e3 e2 e1 e0 =
     (λ i. bitXor ((e3 ∙ look 3 (x % 256) (omega arith) (omega arith)) i)
     (bitXor ((e2 ∙ look 2 (x / 256 % 256) (omega arith) (omega arith)) i)
-    (bitXor ((e1 ∙ look 1 (x / 65536 % 256) (omega arith) (omega arith)) i) ((e0 ∙ table-rule (x / 16777216 % 256) (omega arith) ∙ ap (steps 8) z) i))))
-    ∙ sym
-    (peel 24 x
-    ∙ ap (bitXor (steps 32 (x % 256)))
-    (peel 16 (x / 256)
-    ∙ ap (bitXor (steps 24 (x / 256 % 256)))
-    (ap (steps 16) d1 ∙ peel 8 (x / 65536) ∙ ap (λ (y : ℕ). bitXor (steps 16 (x / 65536 % 256)) (steps 8 y)) d2)))
+    (bitXor ((e1 ∙ look 1 (x / 65536 % 256) (omega arith) (omega arith)) i) ((e0 ∙ table-rule (x / 16777216 % 256) (omega arith)) i))))
+    ∙ sym (peel4 8 x h)
 
--- four bytes, as the code has them
-module _ (c b0 b1 b2 b3 w : ℕ) (h : c < 2 ^ 32) (h0 : b0 < 256) (h1 : b1 < 256) (h2 : b2 < 256) (h3 : b3 < 256) (q : w ≡ b3 * 16777216 + (b2 * 65536 + (b1 * 256 + b0))) where
-  pub four-by-table : (y3 y2 y1 y0 : ℕ) → y3 ≡ getD rowsTable (768 + bitXor c w % 256) 0 → y2 ≡ getD rowsTable (512 + bitXor c w / 256 % 256) 0
-      → y1 ≡ getD rowsTable (256 + bitXor c w / 65536 % 256) 0 → y0 ≡ getD crcTable (bitXor c w / 16777216 % 256) 0
-      → bitXor y3 (bitXor y2 (bitXor y1 y0)) ≡ byteStep (byteStep (byteStep (byteStep c b0) b1) b2) b3
-  four-by-table y3 y2 y1 y0 e3 e2 e1 e0 =
-      let l : w < 2 ^ 32 = omega arith in
-      four-looks (bitXor c w) y3 y2 y1 y0 (xor-lt 32 c w h l) e3 e2 e1 e0
-      ∙ ap (λ (y : ℕ). steps 32 (bitXor c y)) q
-      ∙ sym (four-bytes c b0 b1 b2 b3 h0 h1 h2)
+pub looks-64 : (x y3 y2 y1 y0 : ℕ) → x < 2 ^ 32 → y3 ≡ getD rowsTable (1792 + x % 256) 0 → y2 ≡ getD rowsTable (1536 + x / 256 % 256) 0 → y1 ≡ getD rowsTable (1280 + x / 65536 % 256) 0
+    → y0 ≡ getD rowsTable (1024 + x / 16777216 % 256) 0 → bitXor y3 (bitXor y2 (bitXor y1 y0)) ≡ steps 64 x
+looks-64 x y3 y2 y1 y0 h e3 e2 e1 e0 =
+    (λ i. bitXor ((e3 ∙ look 7 (x % 256) (omega arith) (omega arith)) i)
+    (bitXor ((e2 ∙ look 6 (x / 256 % 256) (omega arith) (omega arith)) i)
+    (bitXor ((e1 ∙ look 5 (x / 65536 % 256) (omega arith) (omega arith)) i) ((e0 ∙ look 4 (x / 16777216 % 256) (omega arith) (omega arith)) i))))
+    ∙ sym (peel4 40 x h)
+
+-- one byte, as the code has it
+pub byte-by-table : (c b y : ℕ) → y ≡ getD crcTable (bitXor c b % 256) 0 → bitXor y (bitXor c b / 256) ≡ byteStep c b
+byte-by-table c b y e = ap (λ (z : ℕ). bitXor z (bitXor c b / 256)) (e ∙ table-rule (bitXor c b % 256) (omega arith)) ∙ sym (byte-step c b)

@@ -4,7 +4,7 @@ use Prim.Native.Nat.{_≤_, _-_}
 use native.Mathlib.Omega.{arith}
 use lib.ListN.{length, drop}
 use Rattle.crc.specs.Crc.{feedOf}
-use Rattle.crc.specs.Feed.{feed-four, up-to-end}
+use Rattle.crc.specs.Feed.{feed-eight, up-to-end}
 use borrow.Author.Needs.{needs}
 use Rattle.crc.proofs.feed_by.Statement.{statement}
 use Rattle.crc.proofs.feed_by.Tie as tie
@@ -16,9 +16,9 @@ abbrev μ-loop : tie.MeasureT-loop
 μ-loop c bytes x₀ i₀ x i = length bytes - i
 
 loop-again : tie.Need-loop-again Inv-loop μ-loop
-loop-again c = let l = c .before .before .before .before .before .before in
+loop-again c = let l = c .before .before .before .before .before .before .before .before .before .before in
     let a = l .before .before .args in
-    (search needs, rw (c .step4 .ensures) (sym (feed-four (l .loop .x) (a .bytes .now) (l .loop .i) (omega arith))) ∙ l .loop .inv .1)
+    (search needs, rw (c .step8 .ensures) (sym (feed-eight (l .loop .x) (a .bytes .now) (l .loop .i) (omega arith))) ∙ l .loop .inv .1)
 
 returns : tie.Need-returns Inv-loop μ-loop
 returns c = let l = c .before .before .before in
@@ -32,6 +32,14 @@ feed-by-spec =
     Inv-loop
     μ-loop
     (λ c. (search needs, refl))
+    (λ c. search needs)
+    (λ c. search needs)
+    (λ c. search needs)
+    (λ c. search needs)
+    (λ c. search needs)
+    (λ c. search needs)
+    (λ c. search needs)
+    (λ c. search needs)
     (λ c. search needs)
     (λ c. search needs)
     (λ c. search needs)
