@@ -18,6 +18,7 @@ help:
 	@echo "make verify         the program that judges a journal: $(VERIFY) FILE VENDOR MODE"
 	@echo 'make install        headers, archive and pkg-config file to PREFIX (/usr/local)'
 	@echo 'make host-test      the tests of the host kit against the archive'
+	@echo 'make selftest       every wrong server must be found by the comparison that conform makes'
 	@echo 'make conform        the library beside the reference on eight million events; make soak MINUTES=60 for longer'
 	@echo 'make bench          speed beside an ordinary Rust server, to target/speed.md; make bench-docs to docs/SPEED.md'
 	@echo 'make instructions   the same in instructions of a call, counted by valgrind'

@@ -15,7 +15,7 @@ use Rattle.model.specs.MessageTypes.{Initialize, AsyncInitialize, AsyncMaximumM
 use Rattle.model.specs.State.{Entry, Server, at, blank, live, halfOpen, slotOfNumber}
 use Rattle.model.specs.Place.{Role, Role.r-none, Role.r-halfOpen, Role.r-synchronous, Role.r-asynchronous, roleBy, roleOf, slotIn, placeOf, roleIn, onConnection}
 use Rattle.model.specs.Checks.{Verdict.v-acts, Rule, first, either, openingRules, asynchronousRules}
-use Rattle.model.proofs.Fits.{Passes, opening-passed, async-passed}
+use Rattle.claims.proofs.Fits.{Passes, opening-passed, async-passed}
 use Rattle.model.proofs.Place.{place-role, place-sound}
 use Rattle.checks.specs.Opening.{all-live}
 use Rattle.state.specs.Search.{roleNumber, past-none}

@@ -19,9 +19,9 @@ use Rattle.model.specs.State.{Server}
 use Rattle.model.specs.Interface.{Event, Event.opening, Event.delivery, Event.cut, Event.clock, Event.answer, Event.status, Event.setting, Setting, Setting.watch, Setting.patterns, Reply, Reply.refused as turned-away, Reply.done, Reply.withheld, Reply.took}
 use Rattle.model.specs.Refusals.{causes, refusal}
 use Rattle.model.specs.Step.{Result, Line, answered, finish, plan, step, final, log}
-use Rattle.model.proofs.Fits.{uncaused}
-use Rattle.model.proofs.Listing.{tells-bad}
-use Rattle.model.proofs.Refused.{changes-nothing}
+use Rattle.claims.proofs.Fits.{uncaused}
+use Rattle.claims.proofs.Listing.{tells-bad}
+use Rattle.claims.proofs.Refused.{changes-nothing}
 use Rattle.judging.specs.Replay.{callOf, byReply, byCall, deed}
 use Rattle.judging.specs.Kept.{recordedSetting, recorded, KeepableSetting, Keepable, AllKeepable, isRefused, bodiesOf, NoneRefused}
 

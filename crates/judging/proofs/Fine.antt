@@ -22,8 +22,8 @@ use Rattle.model.specs.Locks.{change}
 use Rattle.model.specs.Refusals.{refusal}
 use Rattle.model.specs.SentFits.{LinesFit}
 use Rattle.model.specs.Step.{Result, Line, finish, plan, step, final, log}
-use Rattle.model.proofs.Bound.{bound-run}
-use Rattle.model.proofs.SentFits.{sent-fits}
+use Rattle.claims.proofs.Bound.{bound-run}
+use Rattle.claims.proofs.SentFits.{sent-fits}
 use Rattle.judging.specs.Kept.{recordedSetting, recorded, Keepable, AllKeepable, isRefused, bodiesOf}
 use Rattle.judging.proofs.Calls.{step-taken, no-cause, payload-short, list-short, fits-recorded}
 

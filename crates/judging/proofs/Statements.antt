@@ -26,10 +26,10 @@ use Rattle.verifier.specs.Verdict.{after, Accepted, accepted-is, closed-accepte
 use Rattle.model.specs.State.{Making, Server, fresh}
 use Rattle.model.specs.Interface.{Event, Event.answer, Reply.done}
 use Rattle.model.specs.Step.{Line, step, final, log}
-use Rattle.model.proofs.Agreement.{agreement}
-use Rattle.model.proofs.Isolation.{isolated}
-use Rattle.model.proofs.IsolationRun.{isolation-run}
-use Rattle.model.proofs.Tied.{tie}
+use Rattle.claims.proofs.Agreement.{agreement}
+use Rattle.claims.proofs.Isolation.{isolated}
+use Rattle.claims.proofs.IsolationRun.{isolation-run}
+use Rattle.claims.proofs.Tied.{tie}
 use Rattle.judging.specs.Replay.{deed, verdict}
 use Rattle.judging.specs.Kept.{recorded, AllKeepable, isRefused, bodyOf, bodiesOf, NoneRefused, Good}
 use Rattle.judging.specs.Statements.{Entry, Vouched, Stranger, Statements}

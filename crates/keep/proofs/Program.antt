@@ -20,9 +20,9 @@ use Rattle.model.specs.Step.{Line, Result, log, step, final}
 use Rattle.model.specs.Demand3.{Seen, seen, seenEvents}
 use Rattle.model.specs.Possible.{Possible, AllPossible}
 use Rattle.model.specs.SentFits.{LinesFit}
-use Rattle.model.proofs.Fits.{uncaused}
-use Rattle.model.proofs.Refused.{never-planned}
-use Rattle.model.proofs.SentFits.{sent-fits}
+use Rattle.claims.proofs.Fits.{uncaused}
+use Rattle.claims.proofs.Refused.{never-planned}
+use Rattle.claims.proofs.SentFits.{sent-fits}
 use Rattle.state.specs.View.{Memory, view}
 use Rattle.server.specs.Events.{Fresh}
 use Rattle.server.specs.Program.{Run, Run.stop as no-more}

@@ -22,7 +22,7 @@ use Rattle.model.specs.Missing.{missing}
 use Rattle.model.specs.Post.{Post}
 use Rattle.model.specs.Refusals.{causes, refusal}
 use Rattle.model.specs.Step.{step}
-use Rattle.model.proofs.Fits.{uncaused}
+use Rattle.claims.proofs.Fits.{uncaused}
 use Rattle.sensing.specs.Words.{clean, clean-is}
 use Rattle.state.specs.View.{Memory, view}
 use Rattle.sessions.specs.declared.Delivery.{Delivery}

@@ -21,7 +21,7 @@ use Rattle.model.specs.State.{Server}
 use Rattle.model.specs.Interface.{Event.setting, Setting.patterns}
 use Rattle.model.specs.Allowing.{isBad, isTooMany}
 use Rattle.model.specs.Refusals.{causes, refusal}
-use Rattle.model.proofs.Fits.{uncaused}
+use Rattle.claims.proofs.Fits.{uncaused}
 use Rattle.journal.specs.Bytes.{append-bytes, field-bytes}
 use Rattle.record.specs.Layout as layout
 use Rattle.record.specs.Layout.{row}

@@ -19,9 +19,9 @@ use Rattle.model.specs.Interface.{Event, Event.opening, Event.delivery, Event.c
 use Rattle.model.specs.Refusals.{causes, refusal}
 use Rattle.model.specs.Step.{Result, answered, step}
 use Rattle.model.specs.Bound.{roomOf, outputBound}
-use Rattle.model.proofs.Bound.{bound}
-use Rattle.model.proofs.Fits.{uncaused}
-use Rattle.model.proofs.Refused.{for-its-cause, changes-nothing}
+use Rattle.claims.proofs.Bound.{bound}
+use Rattle.claims.proofs.Fits.{uncaused}
+use Rattle.claims.proofs.Refused.{for-its-cause, changes-nothing}
 use Rattle.state.specs.View.{Memory, view}
 use Rattle.queue.specs.Queue.{count-is}
 use Rattle.queue.specs.Requests.{countOf}

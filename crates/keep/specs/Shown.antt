@@ -14,7 +14,7 @@ use Rattle.model.specs.State.{Server}
 use Rattle.model.specs.Interface.{Event.answer}
 use Rattle.model.specs.Refusals.{causes, refusal}
 use Rattle.model.specs.Step.{answered, finish, plan, step}
-use Rattle.model.proofs.Scanning.{header-take}
+use Rattle.claims.proofs.Scanning.{header-take}
 use Rattle.journal.specs.Bytes.{below}
 use Rattle.record.specs.Layout.{mostShown}
 

@@ -34,7 +34,7 @@ use Rattle.model.specs.Checks.{verdict}
 use Rattle.model.specs.Place.{roleOf, slotOf}
 use Rattle.model.specs.Scan.{scan}
 use Rattle.model.specs.Step.{answered, effect, finish, plan, received, step, withholds}
-use Rattle.model.proofs.Refused.{Took, effect-took}
+use Rattle.claims.proofs.Refused.{Took, effect-took}
 use Rattle.state.specs.View.{Memory, view, numeral}
 use Rattle.sessions.specs.declared.Delivery.{Delivery}
 use Rattle.sessions.specs.Did.{numbersOf}

@@ -12,7 +12,7 @@ use Rattle.model.specs.Step.{Line, log, step}
 use Rattle.model.specs.Demand3.{Seen, seen}
 use Rattle.model.specs.Happening.{happened}
 use Rattle.model.specs.InStep.{Numbering, noted, noted-line, numberingOf, countUp, error-0, Counts, NeverOut}
-use Rattle.model.proofs.Replies.{Erring, erring}
+use Rattle.claims.proofs.Replies.{Erring, erring}
 use Rattle.server.specs.Program.{notedSeen, notedIn, CountsIn, NeverOutIn}
 
 -- the reader looks at no frame

@@ -28,51 +28,51 @@ use Rattle.model.specs.Demand3.{Seen, seen, seenEvents, Calls, Calls.none as no
 use Rattle.model.specs.Tie.{Track, nothingYet, track, trackOfLog, said}
 use Rattle.model.specs.IsolationRun as Log
 use Rattle.model.specs.IsolationRun.{Undisturbed}
-use Rattle.model.proofs.Demand3.{demand3, made, one}
-use Rattle.model.proofs.Refused.{Took, effect-took}
+use Rattle.claims.proofs.Demand3.{demand3, made, one}
+use Rattle.claims.proofs.Refused.{Took, effect-took}
 use Rattle.model.specs.SessionId.{lastInLog}
 use Rattle.model.specs.Permitted.{ActsExactly}
 use Rattle.model.specs.Opening.{Opens}
 use Rattle.model.specs.Standing.{StandsOn}
-use Rattle.model.proofs.Deciding.{run-decides}
-use Rattle.model.proofs.OnlyWhole.{taken-whole}
-use Rattle.model.proofs.ReadBack.{reads-back}
-use Rattle.model.proofs.Permitted.{permitted-acts}
-use Rattle.model.proofs.Opening.{sessions-open}
-use Rattle.model.proofs.Locality.{local-run}
-use Rattle.model.proofs.Standing.{stands-on}
-use Rattle.model.proofs.Tied.{tie}
-use Rattle.model.proofs.NextQuestion.{next-question}
+use Rattle.claims.proofs.Deciding.{run-decides}
+use Rattle.claims.proofs.OnlyWhole.{taken-whole}
+use Rattle.claims.proofs.ReadBack.{reads-back}
+use Rattle.claims.proofs.Permitted.{permitted-acts}
+use Rattle.claims.proofs.Opening.{sessions-open}
+use Rattle.claims.proofs.Locality.{local-run}
+use Rattle.claims.proofs.Standing.{stands-on}
+use Rattle.claims.proofs.Tied.{tie}
+use Rattle.claims.proofs.NextQuestion.{next-question}
 use Rattle.model.specs.NextQuestion.{questionUnread, synchronousOf, asynchronousOf, owes}
 use Rattle.model.specs.MessageTypes.{Error, DataEND, Interrupted, AsyncInterrupted, commands, AsyncLock, AsyncLockResponse}
 use Rattle.model.specs.Access.{Command, accessOf}
 use Rattle.model.specs.InStep.{Numbering, Knows, opened, expected, error-0, numbering}
-use Rattle.model.proofs.InStep.{in-steps, out}
+use Rattle.claims.proofs.InStep.{in-steps, out}
 use Rattle.commands.specs.Lists.{linesOf}
 use Rattle.commands.specs.Rulings.{judged}
 use Rattle.model.specs.Allowing.{Admits}
 use Rattle.model.specs.AllowedOnly.{PassesBefore, answered-128, sends128, Refused128, listAfter, listRead, listSet, GoodList}
 use Rattle.model.specs.Listing.{ListedAnswer, listedAnswer}
-use Rattle.model.proofs.AllowedOnly as Allowing
-use Rattle.model.proofs.Listing.{allowed-run}
+use Rattle.claims.proofs.AllowedOnly as Allowing
+use Rattle.claims.proofs.Listing.{allowed-run}
 use Rattle.model.specs.Possible.{AllPossible}
 use Rattle.model.specs.SentFits.{LinesFit}
-use Rattle.model.proofs.SentFits.{sent-fits}
+use Rattle.claims.proofs.SentFits.{sent-fits}
 use Rattle.model.specs.Fewer.{FewerLocks, answers1}
-use Rattle.model.proofs.Fewer.{fewer-never-hurts}
+use Rattle.claims.proofs.Fewer.{fewer-never-hurts}
 use Rattle.model.specs.AnsweredOnce.{Release.none-stands, Once, clockIn}
-use Rattle.model.proofs.AnsweredOnce.{answered-once}
+use Rattle.claims.proofs.AnsweredOnce.{answered-once}
 use Rattle.model.specs.LockModel.{notShared}
 use Rattle.model.specs.Deciding.{modelAfter}
 use Rattle.model.specs.Holders.{holdersOf, Ascending, holdsLock}
-use Rattle.model.proofs.Holders.{holders-shown}
+use Rattle.claims.proofs.Holders.{holders-shown}
 use Rattle.model.specs.GrantsSeen.{noneYet, grantsOf, Shows}
-use Rattle.model.proofs.GrantsSeen.{grants-seen}
-use Rattle.model.proofs.IsolationRun.{isolation-run}
+use Rattle.claims.proofs.GrantsSeen.{grants-seen}
+use Rattle.claims.proofs.IsolationRun.{isolation-run}
 use Rattle.model.specs.Canonical.{canonical, omits}
 use Rattle.model.specs.Sensing.{serviceAfter}
 use Rattle.model.specs.Watching.{isService, servedBy}
-use Rattle.model.proofs.Watching.{watches}
+use Rattle.claims.proofs.Watching.{watches}
 use Rattle.model.specs.ReadBack.{framesSeen}
 use Rattle.model.specs.Happening.{happened}
 use Rattle.state.specs.Fresh.{freshStrings, freshWords}

@@ -1,0 +1,1 @@
+// No code: proofs/ holds the proofs of the claims that model/specs states.
