@@ -44,6 +44,8 @@ const READINGS: usize = 250;
 const KEPT: u32 = 16;
 /// Bytes that the sum of an entry is over.
 const SUMMED: usize = 1_024;
+/// A lock string that fills a word.
+pub const SHORT_STRING: usize = 8;
 const COMMAND: &[u8] = b"CONFigure:VOLTage:DC 10,0.001;:INITiate";
 /// 32 patterns, a line each, beside comments.
 const VOLTMETER: &str = include_str!("../../gateway/lists/voltmeter.txt");
@@ -98,7 +100,8 @@ pub struct Script {
     pub pieces: [Part; 3],
     /// Exclusive, with a long timeout.
     pub wait: Part,
-    /// For each session a string of the greatest length, with a long timeout; the last byte tells them apart.
+    /// For each session a string of eight bytes, and one of the greatest length, with a long timeout; the last byte tells them apart.
+    pub wait_short: Vec<Part>,
     pub wait_long: Vec<Part>,
     reading: Part,
     /// Readings as text, and in blocks of as many as a block may have.
@@ -114,9 +117,9 @@ impl Script {
         let mut keep = |part: &[u8]| kept(&mut bytes, part);
         let mut draw = Draw::new();
         let piece = message(kind::DATA_END, 0, FIRST, COMMAND);
-        let long = |session: u8| {
-            let mut string = [b's'; LOCK_STRING];
-            string[LOCK_STRING - 1] = session;
+        let named = |length: usize, session: u8| {
+            let mut string = vec![b's'; length];
+            string[length - 1] = session;
             message(kind::LOCK, 1, u32::MAX, &string)
         };
         Script {
@@ -125,8 +128,11 @@ impl Script {
             shared: keep(&message(kind::LOCK, 1, 0, b"calibration")),
             pieces: [7, 16, 40].map(|length| keep(&piece[..length])),
             wait: keep(&message(kind::LOCK, 1, u32::MAX, b"")),
+            wait_short: (1..=SESSIONS as u8)
+                .map(|session| keep(&named(SHORT_STRING, session)))
+                .collect(),
             wait_long: (1..=SESSIONS as u8)
-                .map(|session| keep(&long(session)))
+                .map(|session| keep(&named(LOCK_STRING, session)))
                 .collect(),
             reading: keep(&[b'7'; PAYLOAD]),
             texts: (0..KEPT).map(|one| keep(text(one).as_bytes())).collect(),

@@ -5,7 +5,7 @@ use reference::wire::kind;
 
 use crate::contender::Sum;
 use crate::draw::Draw;
-use crate::script::{Part, Script, Step, ALLOWED, NOT_ALLOWED};
+use crate::script::{Part, Script, Step, ALLOWED, NOT_ALLOWED, SHORT_STRING};
 
 pub struct Workload {
     pub name: String,
@@ -69,6 +69,8 @@ impl Plan {
 
 /// All that sessions can be open at once.
 const ALL: u32 = SESSIONS as u32;
+/// Some of the others.
+const FEW: u32 = 8;
 
 /// Rounds of the mix: with six deliveries each, 02's 1,200,000.
 const ROUNDS: usize = 200_000;
@@ -234,10 +236,10 @@ impl Author {
         }
     }
 
-    /// One session holds and all others wait; each release grants the next one, and who released asks
-    /// again. `asks` is a session's request.
-    fn storm(&mut self, asks: fn(&Script, u32) -> Part) {
-        let mut line = Draw::new().shuffled(ALL);
+    /// Of so many sessions one holds and all others wait; each release grants the next one, and who
+    /// released asks again. `asks` is a session's request.
+    fn storm(&mut self, sessions: u32, asks: fn(&Script, u32) -> Part) {
+        let mut line = Draw::new().shuffled(sessions);
         for session in &line {
             self.script
                 .asynchronous(*session, asks(&self.script, *session));
@@ -264,6 +266,30 @@ impl Author {
         while self.script.steps.len() < self.count() {
             self.script.release(0);
             self.script.asynchronous(0, self.script.exclusive);
+        }
+    }
+
+    /// The mix without lock messages while the first session holds the exclusive lock and so many others
+    /// wait for it: Data and DataEND of the holder, status queries and pieces of any session.
+    fn beside_waiting(&mut self, others: u32) {
+        let mut draw = Draw::new();
+        self.script.asynchronous(0, self.script.exclusive);
+        for other in 1..=others {
+            self.script.asynchronous(other, self.script.wait);
+        }
+        self.begin();
+        for _ in 0..self.count() {
+            let (status, piece) = (
+                draw.pick(&self.script.status),
+                draw.pick(&self.script.pieces),
+            );
+            let session = draw.below(ALL);
+            match draw.pick(&[Kind::Data, Kind::DataEnd, Kind::Status, Kind::Piece]) {
+                Kind::Data => self.script.message(0, kind::DATA),
+                Kind::DataEnd => self.script.message(0, kind::DATA_END),
+                Kind::Status => self.script.asynchronous(session, status),
+                _ => self.script.synchronous(session, piece),
+            }
         }
     }
 
@@ -348,7 +374,15 @@ const FEWER: [(u32, Make); 3] = [
 
 /// A session's request in the rows with waiting requests.
 const EXCLUSIVE: fn(&Script, u32) -> Part = |script, _| script.wait;
+const SHORT: fn(&Script, u32) -> Part = |script, session| script.wait_short[session as usize];
 const LONG: fn(&Script, u32) -> Part = |script, session| script.wait_long[session as usize];
+
+/// How the common way grows with those that wait: not at all, if all is well.
+const BESIDE: [(u32, Make); 3] = [
+    (0, |a| a.beside_waiting(0)),
+    (FEW, |a| a.beside_waiting(FEW)),
+    (ALL - 1, |a| a.beside_waiting(ALL - 1)),
+];
 
 /// Answers with readings, as text and as blocks that are looked into.
 const READINGS: [(&str, Make); 3] = [
@@ -415,6 +449,12 @@ pub fn all() -> Vec<Plan> {
         Plan::new("02's mix, a third of Data held", third_held),
         Plan::new("Data and DataEND, held", Author::held),
     ]);
+    for (others, make) in BESIDE {
+        let name = format!("the mix without locks, {others} waiting");
+        all.push(Plan::new(&name, make));
+    }
+    let few: Make = |a| a.storm(FEW + 1, EXCLUSIVE);
+    all.push(Plan::new(&format!("exclusive, {FEW} waiting"), few));
     all.extend(waiting(ALL - 1).map(|(name, make)| Plan::new(&name, make)));
     all.push(Plan::new("DataEND and 1,024-byte answers", Author::answers));
     let settings = READINGS.into_iter().chain(COMMANDS).chain(SET);
@@ -428,14 +468,16 @@ pub fn all() -> Vec<Plan> {
 }
 
 /// Lock requests and releases while so many others wait.
-fn waiting(others: u32) -> [(String, Make); 4] {
+fn waiting(others: u32) -> [(String, Make); 5] {
+    let short = format!("{SHORT_STRING}-byte strings, {others} waiting");
     let long = format!("{LOCK_STRING}-byte strings, {others} waiting");
     let to_share = format!("release in vain, {others} wait to share");
     [
         (format!("exclusive, {others} waiting"), |a| {
-            a.storm(EXCLUSIVE);
+            a.storm(ALL, EXCLUSIVE);
         }),
-        (long, |a| a.storm(LONG)),
+        (short, |a| a.storm(ALL, SHORT)),
+        (long, |a| a.storm(ALL, LONG)),
         (format!("release in vain, {others} waiting"), |a| {
             a.in_vain(EXCLUSIVE);
         }),
