@@ -112,6 +112,8 @@ number-cases =
     record { server = withLast 65534 (opening 9 ∷ []); call = send 9 initialize; test = λ r. isActed lastSessionId (r .reply) && eqb (r .server .rest .lastIssued) lastSessionId }
     ∷ record { server = withLast lastSessionId (opening 9 ∷ []); call = send 9 initialize; test = λ r. isActed 1 (r .reply) }
     ∷ record { server = withLast lastSessionId (opening 8 ∷ send 8 initialize ∷ opening 9 ∷ []); call = send 9 initialize; test = λ r. isActed 2 (r .reply) }
+    -- a session of whatever number is joined: 32,768 here
+    ∷ record { server = final (withLast 32767 (opening 8 ∷ opening 9 ∷ [])) (send 8 initialize ∷ []); call = send 9 (message 17 0 32768 []); test = λ r. isActed 32768 (r .reply) }
     ∷ []
 
 -- M. A string a byte too long is neither granted nor waits; another string is not granted; a request with timeout 0 does not wait; one at
@@ -229,7 +231,7 @@ pub access-holds : map passes access-cases ≡ replicate 4 true
 unfolding access-cases passes after isHeld isActed unsent entryIn waitingIn answersTo fitsBuffer noneExpired final step refusal causes answered plan finish received effect verdict placeOf acts synchronousExchange synchronousSaid asynchronousRest asynchronousSaid asynchronousEvent controlled mayAnswer answerNumber availableAt sensed requested settingSensings watched readingsIn blockOf scan freshScan header field encode headerBytes frameBytes bytesOf classOf mayGrant access passOver grantPass change
 access-holds = refl
 
-pub number-holds : map passes number-cases ≡ replicate 3 true
+pub number-holds : map passes number-cases ≡ replicate 4 true
 unfolding number-cases withLast passes after isHeld isActed unsent entryIn waitingIn answersTo fitsBuffer noneExpired final step refusal causes answered plan finish received effect verdict placeOf acts synchronousExchange synchronousSaid asynchronousRest asynchronousSaid asynchronousEvent controlled mayAnswer answerNumber availableAt sensed requested settingSensings watched readingsIn blockOf scan freshScan header field encode headerBytes frameBytes bytesOf classOf mayGrant access passOver grantPass change
 number-holds = refl
 

@@ -5,6 +5,8 @@ pub mod Bench
 pub mod Figures
 pub mod Corners
 pub mod WatchCorners
+pub mod ListCorners
+pub mod SmallCorners
 pub mod Instance
 pub mod Cases
 pub mod FormCorners
