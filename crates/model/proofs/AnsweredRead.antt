@@ -12,7 +12,7 @@ use Rattle.wire.specs.Class.{one-of}
 use Rattle.wire.specs.Frame.{Frame}
 use Rattle.model.specs.Sizes.{noConnection}
 use Rattle.model.specs.Lists.{all, keep}
-use Rattle.model.specs.State.{Server, Entry, Waiting, Standing, Standing.no-release, Standing.release-of, Kind.exclusive-lock, Kind.shared-lock, at, live, noGrants, blank, slotOfNumber}
+use Rattle.model.specs.State.{Server, Entry, Waiting, Standing, Standing.no-release, Standing.release-of, Kind.exclusive-lock, Kind.shared-lock, at, live, blank, slotOfNumber}
 use Rattle.model.specs.Interface.{Event}
 use Rattle.model.specs.Place.{onConnection, slotIn}
 use Rattle.model.specs.Step.{Result, step, log}
@@ -388,7 +388,7 @@ module _ (c : ℕ) (real : c ≡ noConnection → ⊥) (s : ℕ) (p : Release) (
       apart n alive e z false true eu ew = absurd (eqb-false _ _ n (place-unique E x i (v .sound .firm .connections x r) (on-first x i alive (z ∙ sym (eqb-true _ _ ew)))))
       apart n alive e z false false eu ew = refl
 
-      go : (b : Bool) → eqb i (slotIn E x) ≡ b → live (record { number = cond b 0 ((at E i) .number); synchronous = 0; asynchronous = 0; exclusive = false; shared = []; last = 0; standing = no-release; locksGranted = noGrants }) ≡ true → cond b noConnection ((at E i) .asynchronous) ≡ c
+      go : (b : Bool) → eqb i (slotIn E x) ≡ b → not (eqb (cond b 0 ((at E i) .number)) 0) ≡ true → cond b noConnection ((at E i) .asynchronous) ≡ c
           → (cond b noConnection ((at E i) .synchronous) ≡ s) × (releaseOf (cond b no-release ((at E i) .standing)) ≡ cond (eqb x c || eqb x s) none-stands p)
       go true n alive e = absurd (real (sym e))
       go false n alive e = let w = k i alive e in (w .0, w .1 ∙ sym (apart n alive e (w .0) (eqb x c) (eqb x s) refl refl))

@@ -15,7 +15,7 @@ use Rattle.model.specs.Sizes.{sessionLimit, connectionLimit, stringLimit, listL
 use Rattle.model.specs.State.{Entry, Waiting, Locks, Exchange, Connection, RemoteLocal, Allowed, Allowed.any-command, Rest, Server, withAllowed, blank, at, freshExchange, closedConnection, exchangeAt, connectionAt, Sensing, freshSensing, sensingAt}
 use Rattle.readings.specs.Record.{Recorded}
 use Rattle.model.specs.Exchange.{withAnswering, withClear, withClientSize, withMode, withCount, withExpectation, withNumber}
-use Rattle.model.specs.Locks.{withOrder, withGranted}
+use Rattle.model.specs.Locks.{withRow, withOrder, withGranted}
 use Rattle.state.specs.Table.{tab, tab-same, tab-set, getD-tab, apart}
 use Rattle.state.specs.Grid.{upd, upd-set, part, grid, grid-set, grid-off, getD-grid, word-of}
 use Rattle.state.specs.Bits.{bit}
@@ -61,9 +61,9 @@ connectionWith zero v x = record { isOpen = flag v; remainder = x .remainder }
 connectionWith (suc f) v x = record { isOpen = x .isOpen; remainder = v }
 
 abbrev pub entryWith : ℕ → ℕ → Entry → Entry
-entryWith zero v e = record { number = v; synchronous = e .synchronous; asynchronous = e .asynchronous; exclusive = e .exclusive; shared = e .shared; last = e .last; standing = e .standing; locksGranted = e .locksGranted }
-entryWith (suc zero) v e = record { number = e .number; synchronous = v % 256; asynchronous = e .asynchronous; exclusive = e .exclusive; shared = e .shared; last = e .last; standing = e .standing; locksGranted = e .locksGranted }
-entryWith (suc (suc f)) v e = record { number = e .number; synchronous = e .synchronous; asynchronous = v % 256; exclusive = e .exclusive; shared = e .shared; last = e .last; standing = e .standing; locksGranted = e .locksGranted }
+entryWith zero v e = withRow v (e .synchronous) (e .asynchronous) e
+entryWith (suc zero) v e = withRow (e .number) (v % 256) (e .asynchronous) e
+entryWith (suc (suc f)) v e = withRow (e .number) (e .synchronous) (v % 256) e
 
 abbrev pub orderWith : ℕ → ℕ → Entry → Entry
 orderWith zero v e = withOrder (v % 2 ^ 32) (e .standing) e
@@ -146,6 +146,24 @@ onEntry d i g =
       rest = d .rest;
     }
 
+-- equal words make equal entries, and equal connections
+pub entry-same : (t t′ r r′ : ℕ → ℕ) (x x′ : Bool) (y y′ : List ℕ) → ((f : ℕ) → f < ENTRY → t f ≡ t′ f) → ((f : ℕ) → f < ORDER → r f ≡ r′ f) → x ≡ x′ → y ≡ y′
+    → entryFrom t r x y ≡ entryFrom t′ r′ x′ y′
+entry-same t t′ r r′ x x′ y y′ p q u v =
+    λ k. record {
+      number = p 0 (lit< tt) k;
+      synchronous = p 1 (lit< tt) k;
+      asynchronous = p 2 (lit< tt) k;
+      exclusive = u k;
+      shared = v k;
+      last = q 0 (lit< tt) k % 2 ^ 32;
+      standing = standingOf (q 1 (lit< tt) k);
+      locksGranted = record { grantedAt = q 2 (lit< tt) k; grants = q 3 (lit< tt) k };
+    }
+
+pub connection-same : (t t′ : ℕ → ℕ) → ((f : ℕ) → f < HOME → t f ≡ t′ f) → connectionFrom t ≡ connectionFrom t′
+connection-same t t′ e = λ k. record { isOpen = flag (e 0 (lit< tt) k); remainder = e 1 (lit< tt) k }
+
 module _ (w : List ℕ) where
   -- a store elsewhere is not seen in a word; here it is
   pub off : (a v i : ℕ) → (i ≡ a → ⊥) → word (set w a v) i ≡ word w i
@@ -183,16 +201,8 @@ module _ (w : List ℕ) where
       → entryAt (set w a v) key i ≡ entryAt w key i
   unfolding entryAt
   entry-off key a v i h p q n o =
-      λ k. record {
-        number = field-off a v i 0 h (lit< tt) n o k;
-        synchronous = field-off a v i 1 h (lit< tt) n o k;
-        asynchronous = field-off a v i 2 h (lit< tt) n o k;
-        exclusive = eqb (off a v HOLDER p k) (i + 1);
-        shared = cond (eqb (bit (off a v SHARERS q k) i) 1) key [];
-        last = order-off a v i 0 h (lit< tt) o k % 2 ^ 32;
-        standing = standingOf (order-off a v i 1 h (lit< tt) o k);
-        locksGranted = record { grantedAt = order-off a v i 2 h (lit< tt) o k; grants = order-off a v i 3 h (lit< tt) o k };
-      }
+      entry-same (fieldOf (set w a v) i) (fieldOf w i) (orderWord (set w a v) i) (orderWord w i) _ _ _ _ (λ f l. field-off a v i f h l n o) (λ f l. order-off a v i f h l o)
+      (ap (λ (x : ℕ). eqb x (i + 1)) (off a v HOLDER p)) (ap (λ (x : ℕ). cond (eqb (bit x i) 1) key []) (off a v SHARERS q))
 
   pub entries-off : (key : List ℕ) (a v : ℕ) → (HOLDER ≡ a → ⊥) → (SHARERS ≡ a → ⊥) → Homeless a → (a < ENTRIES) ⊎ (REQUESTS ≤ a)
       → entriesOf (set w a v) key ≡ entriesOf w key
@@ -308,7 +318,7 @@ sensing-row r f v h l =
 connection-row : (r : List ℕ) (f v : ℕ) → length r ≡ CONNECTION → f < HOME → connectionOf (set r f v) ≡ connectionWith f v (connectionOf r)
 connection-row r f v h l =
     let t : (g : ℕ) → word (set r f v) g ≡ cond (eqb g f) v (word r g) = (λ g. row-stored r f v g (omega arith)) in
-    (λ k. record { isOpen = flag (t 0 k); remainder = t 1 k }) ∙ by f l
+    connection-same (word (set r f v)) (λ (g : ℕ). cond (eqb g f) v (word r g)) (λ g x. t g) ∙ by f l
   where
     by : (f : ℕ) → f < HOME → connectionFrom (λ (g : ℕ). cond (eqb g f) v (word r g)) ≡ connectionWith f v (connectionOf r)
     by zero l = refl
@@ -396,16 +406,8 @@ module _ (w key : List ℕ) (i f v : ℕ) (h : i < sessionLimit) (l : f < ORDER)
   unfolding entryAt
   entry-with j r m p =
       let a : ℕ = ORDERS + i * ORDER + f in
-      λ k. record {
-        number = order-fields j 0 m (lit< tt) k;
-        synchronous = order-fields j 1 m (lit< tt) k;
-        asynchronous = order-fields j 2 m (lit< tt) k;
-        exclusive = eqb (off w a v HOLDER (omega arith) k) (j + 1);
-        shared = cond (eqb (bit (off w a v SHARERS (omega arith) k) j) 1) key [];
-        last = p 0 (lit< tt) k % 2 ^ 32;
-        standing = standingOf (p 1 (lit< tt) k);
-        locksGranted = record { grantedAt = p 2 (lit< tt) k; grants = p 3 (lit< tt) k };
-      }
+      entry-same (fieldOf ordered j) (fieldOf w j) (orderWord ordered j) r _ _ _ _ (λ g l. order-fields j g m l) p
+      (ap (λ (x : ℕ). eqb x (j + 1)) (off w a v HOLDER (omega arith))) (ap (λ (x : ℕ). cond (eqb (bit x j) 1) key []) (off w a v SHARERS (omega arith)))
 
   order-row : length w ≡ WORDS → entryAt ordered key i ≡ orderWith f v (entryAt w key i)
   unfolding entryAt
