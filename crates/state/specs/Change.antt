@@ -146,7 +146,7 @@ onEntry d i g =
       rest = d .rest;
     }
 
--- equal words make equal entries, and equal connections
+-- equal words make equal entries, exchanges and connections
 pub entry-same : (t t′ r r′ : ℕ → ℕ) (x x′ : Bool) (y y′ : List ℕ) → ((f : ℕ) → f < ENTRY → t f ≡ t′ f) → ((f : ℕ) → f < ORDER → r f ≡ r′ f) → x ≡ x′ → y ≡ y′
     → entryFrom t r x y ≡ entryFrom t′ r′ x′ y′
 entry-same t t′ r r′ x x′ y y′ p q u v =
@@ -159,6 +159,20 @@ entry-same t t′ r r′ x x′ y y′ p q u v =
       last = q 0 (lit< tt) k % 2 ^ 32;
       standing = standingOf (q 1 (lit< tt) k);
       locksGranted = record { grantedAt = q 2 (lit< tt) k; grants = q 3 (lit< tt) k };
+    }
+
+exchange-same : (t t′ : ℕ → ℕ) → ((f : ℕ) → t f ≡ t′ f) → exchangeFrom t ≡ exchangeFrom t′
+exchange-same t t′ e =
+    λ k. record {
+      inClear = flag (e 0 k);
+      asked = askedOf (e 1 k);
+      messageAvailable = flag (e 2 k);
+      clientSize = e 3 k;
+      overlap = flag (e 4 k);
+      count = e 5 k % 2 ^ 32;
+      anySent = flag (e 6 k);
+      rmtExpected = flag (e 7 k);
+      numberExpected = e 8 k % 2 ^ 32;
     }
 
 pub connection-same : (t t′ : ℕ → ℕ) → ((f : ℕ) → f < HOME → t f ≡ t′ f) → connectionFrom t ≡ connectionFrom t′
@@ -273,33 +287,20 @@ row-stored r f v g h =
     let d : 0 + g ≡ g = zero-add g in
     (rw (e, d) at (stored r 0 f v g (rw e h)))
 
+exchange-by : (t : ℕ → ℕ) (f v : ℕ) → f < EXCHANGE → exchangeFrom (λ (g : ℕ). cond (eqb g f) v (t g)) ≡ exchangeWith f v (exchangeFrom t)
+exchange-by t zero v l = refl
+exchange-by t (suc zero) v l = refl
+exchange-by t (suc (suc zero)) v l = refl
+exchange-by t (suc (suc (suc zero))) v l = refl
+exchange-by t (suc (suc (suc (suc zero)))) v l = refl
+exchange-by t (suc (suc (suc (suc (suc zero))))) v l = refl
+exchange-by t (suc (suc (suc (suc (suc (suc zero)))))) v l = refl
+exchange-by t (suc (suc (suc (suc (suc (suc (suc zero))))))) v l = refl
+exchange-by t (suc (suc (suc (suc (suc (suc (suc (suc zero)))))))) v l = refl
+exchange-by t (suc (suc (suc (suc (suc (suc (suc (suc (suc f))))))))) v l = absurd (omega arith)
+
 exchange-row : (r : List ℕ) (f v : ℕ) → length r ≡ EXCHANGE → f < EXCHANGE → exchangeOf (set r f v) ≡ exchangeWith f v (exchangeOf r)
-exchange-row r f v h l =
-    let t : (g : ℕ) → word (set r f v) g ≡ cond (eqb g f) v (word r g) = (λ g. row-stored r f v g (omega arith)) in
-    (λ k. record {
-      inClear = flag (t 0 k);
-      asked = askedOf (t 1 k);
-      messageAvailable = flag (t 2 k);
-      clientSize = t 3 k;
-      overlap = flag (t 4 k);
-      count = t 5 k % 2 ^ 32;
-      anySent = flag (t 6 k);
-      rmtExpected = flag (t 7 k);
-      numberExpected = t 8 k % 2 ^ 32;
-    })
-    ∙ by f l
-  where
-    by : (f : ℕ) → f < EXCHANGE → exchangeFrom (λ (g : ℕ). cond (eqb g f) v (word r g)) ≡ exchangeWith f v (exchangeOf r)
-    by zero l = refl
-    by (suc zero) l = refl
-    by (suc (suc zero)) l = refl
-    by (suc (suc (suc zero))) l = refl
-    by (suc (suc (suc (suc zero)))) l = refl
-    by (suc (suc (suc (suc (suc zero))))) l = refl
-    by (suc (suc (suc (suc (suc (suc zero)))))) l = refl
-    by (suc (suc (suc (suc (suc (suc (suc zero))))))) l = refl
-    by (suc (suc (suc (suc (suc (suc (suc (suc zero)))))))) l = refl
-    by (suc (suc (suc (suc (suc (suc (suc (suc (suc f))))))))) l = absurd (omega arith)
+exchange-row r f v h l = exchange-same (word (set r f v)) (λ (g : ℕ). cond (eqb g f) v (word r g)) (λ g. row-stored r f v g (omega arith)) ∙ exchange-by (word r) f v l
 
 sensing-row : (r : List ℕ) (f v : ℕ) → length r ≡ SENSING → f < SENSING → sensingOf (set r f v) ≡ sensingWith f v (sensingOf r)
 sensing-row r f v h l =
@@ -315,15 +316,13 @@ sensing-row r f v h l =
     by (suc (suc (suc (suc (suc zero))))) l = refl
     by (suc (suc (suc (suc (suc (suc f)))))) l = absurd (omega arith)
 
+connection-by : (t : ℕ → ℕ) (f v : ℕ) → f < HOME → connectionFrom (λ (g : ℕ). cond (eqb g f) v (t g)) ≡ connectionWith f v (connectionFrom t)
+connection-by t zero v l = refl
+connection-by t (suc zero) v l = refl
+connection-by t (suc (suc f)) v l = absurd (omega arith)
+
 connection-row : (r : List ℕ) (f v : ℕ) → length r ≡ CONNECTION → f < HOME → connectionOf (set r f v) ≡ connectionWith f v (connectionOf r)
-connection-row r f v h l =
-    let t : (g : ℕ) → word (set r f v) g ≡ cond (eqb g f) v (word r g) = (λ g. row-stored r f v g (omega arith)) in
-    connection-same (word (set r f v)) (λ (g : ℕ). cond (eqb g f) v (word r g)) (λ g x. t g) ∙ by f l
-  where
-    by : (f : ℕ) → f < HOME → connectionFrom (λ (g : ℕ). cond (eqb g f) v (word r g)) ≡ connectionWith f v (connectionOf r)
-    by zero l = refl
-    by (suc zero) l = refl
-    by (suc (suc f)) l = absurd (omega arith)
+connection-row r f v h l = connection-same (word (set r f v)) (λ (g : ℕ). cond (eqb g f) v (word r g)) (λ g x. row-stored r f v g (omega arith)) ∙ connection-by (word r) f v l
 
 module _ (w s : List ℕ) (i f v : ℕ) (long : length w ≡ WORDS) where
   pub exchange-stored : i < sessionLimit → f < EXCHANGE
@@ -451,6 +450,13 @@ order-stored w s i f v n h l =
     }
 
 -- a field of a row, read: the word that stands there, stored again, changes nothing
+again : (t : ℕ → ℕ) (f g : ℕ) → cond (eqb g f) (t f) (t g) ≡ t g
+again t f g = by (eqb g f) refl
+  where
+    by : (b : Bool) → eqb g f ≡ b → cond b (t f) (t g) ≡ t g
+    by true e = ap t (sym (eqb-true g f e))
+    by false e = refl
+
 module _ (w : List ℕ) (i : ℕ) where
   exchange-at : i < sessionLimit → exchangeAt (restOf w) i ≡ exchangeOf (part w (EXCHANGES + i * EXCHANGE) EXCHANGE)
   unfolding restOf
@@ -458,20 +464,9 @@ module _ (w : List ℕ) (i : ℕ) where
 
   pub exchange-read : (f : ℕ) → i < sessionLimit → f < EXCHANGE → exchangeWith f (word w (EXCHANGES + i * EXCHANGE + f)) (exchangeAt (restOf w) i) ≡ exchangeAt (restOf w) i
   exchange-read f h l =
-      let r : List ℕ = part w (EXCHANGES + i * EXCHANGE) EXCHANGE in
-      ap₂ (exchangeWith f) (sym (word-of w (EXCHANGES + i * EXCHANGE) EXCHANGE f l)) (exchange-at h) ∙ again f l ∙ sym (exchange-at h)
-    where
-      again : (f : ℕ) → f < EXCHANGE → exchangeWith f (word (part w (EXCHANGES + i * EXCHANGE) EXCHANGE) f) (exchangeOf (part w (EXCHANGES + i * EXCHANGE) EXCHANGE)) ≡ exchangeOf (part w (EXCHANGES + i * EXCHANGE) EXCHANGE)
-      again zero l = refl
-      again (suc zero) l = refl
-      again (suc (suc zero)) l = refl
-      again (suc (suc (suc zero))) l = refl
-      again (suc (suc (suc (suc zero)))) l = refl
-      again (suc (suc (suc (suc (suc zero))))) l = refl
-      again (suc (suc (suc (suc (suc (suc zero)))))) l = refl
-      again (suc (suc (suc (suc (suc (suc (suc zero))))))) l = refl
-      again (suc (suc (suc (suc (suc (suc (suc (suc zero)))))))) l = refl
-      again (suc (suc (suc (suc (suc (suc (suc (suc (suc f))))))))) l = absurd (omega arith)
+      let b : ℕ = EXCHANGES + i * EXCHANGE in
+      let r : ℕ → ℕ = word (part w b EXCHANGE) in
+      ap₂ (exchangeWith f) (sym (word-of w b EXCHANGE f l)) (exchange-at h) ∙ sym (exchange-by r f (r f) l) ∙ exchange-same (λ (g : ℕ). cond (eqb g f) (r f) (r g)) r (again r f) ∙ sym (exchange-at h)
 
   pub sensing-at : i < sessionLimit → sensingAt (restOf w) i ≡ sensingFrom (sensingWord w i)
   unfolding restOf
@@ -491,12 +486,9 @@ module _ (w : List ℕ) (i : ℕ) where
 
   pub connection-read : (f : ℕ) → i < connectionLimit → f < HOME → connectionWith f (word w (CONNECTIONS + i * CONNECTION + f)) (connectionAt (restOf w) i) ≡ connectionAt (restOf w) i
   connection-read f h l =
-      ap₂ (connectionWith f) (sym (word-of w (CONNECTIONS + i * CONNECTION) CONNECTION f (omega arith))) (connection-at h) ∙ again f l ∙ sym (connection-at h)
-    where
-      again : (f : ℕ) → f < HOME → connectionWith f (word (part w (CONNECTIONS + i * CONNECTION) CONNECTION) f) (connectionOf (part w (CONNECTIONS + i * CONNECTION) CONNECTION)) ≡ connectionOf (part w (CONNECTIONS + i * CONNECTION) CONNECTION)
-      again zero l = refl
-      again (suc zero) l = refl
-      again (suc (suc f)) l = absurd (omega arith)
+      let b : ℕ = CONNECTIONS + i * CONNECTION in
+      let r : ℕ → ℕ = word (part w b CONNECTION) in
+      ap₂ (connectionWith f) (sym (word-of w b CONNECTION f (omega arith))) (connection-at h) ∙ sym (connection-by r f (r f) l) ∙ connection-same (λ (g : ℕ). cond (eqb g f) (r f) (r g)) r (λ g x. again r f g) ∙ sym (connection-at h)
 
   pub entry-at : (s : List ℕ) → i < sessionLimit → at (locksOf w s .entries) i ≡ entryAt w (keyOf w s) i
   unfolding locksOf entriesOf
@@ -518,11 +510,9 @@ module _ (w : List ℕ) (i : ℕ) where
 
   order-again : (key : List ℕ) (f : ℕ) → f < ORDER → orderWith f (orderWord w i f) (entryAt w key i) ≡ entryAt w key i
   unfolding entryAt
-  order-again key zero l = refl
-  order-again key (suc zero) l = refl
-  order-again key (suc (suc zero)) l = refl
-  order-again key (suc (suc (suc zero))) l = refl
-  order-again key (suc (suc (suc (suc f)))) l = absurd (omega arith)
+  order-again key f l =
+      let r : ℕ → ℕ = orderWord w i in
+      sym (order-by (fieldOf w i) _ _ r f (r f) l) ∙ entry-same (fieldOf w i) (fieldOf w i) (λ (g : ℕ). cond (eqb g f) (r f) (r g)) r _ _ _ _ (λ g x. refl) (λ g x. again r f g) refl refl
 
   pub order-read : (s : List ℕ) (f : ℕ) → i < sessionLimit → f < ORDER → orderWith f (orderWord w i f) (at (locksOf w s .entries) i) ≡ at (locksOf w s .entries) i
   order-read s f h l = ap (orderWith f (orderWord w i f)) (entry-at s h) ∙ order-again (keyOf w s) f l ∙ sym (entry-at s h)
