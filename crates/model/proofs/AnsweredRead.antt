@@ -14,6 +14,7 @@ use Rattle.model.specs.Sizes.{noConnection}
 use Rattle.model.specs.Lists.{all, keep}
 use Rattle.model.specs.State.{Server, Entry, Waiting, Standing, Standing.no-release, Standing.release-of, Kind.exclusive-lock, Kind.shared-lock, at, live, blank, slotOfNumber}
 use Rattle.model.specs.Interface.{Event}
+use Rattle.model.specs.Locks.{withRow, withOrder}
 use Rattle.model.specs.Place.{onConnection, slotIn}
 use Rattle.model.specs.Step.{Result, step, log}
 use Rattle.model.specs.Happening.{Heard, Heard.silence, Heard.with-code, Action, Happening, Happening.unmoved, Happening.connected, Happening.disconnected, Happening.skipped-over, Happening.errored, Happening.message-acted, Happening.clock-read, Happening.status-set, Happening.setting-made, Happening.answer-sent, Happening.answer-withheld}
@@ -365,16 +366,8 @@ module _ (c : ℕ) (real : c ≡ noConnection → ⊥) (s : ℕ) (p : Release) (
   abbrev rowed : Happening → ℕ → Entry
   rowed h i =
       let x = at E i in
-      record {
-        number = inSlot number-row E i h (x .number);
-        synchronous = inSlot synchronous-row E i h (x .synchronous);
-        asynchronous = inSlot asynchronous-row E i h (x .asynchronous);
-        exclusive = x .exclusive;
-        shared = x .shared;
-        last = x .last;
-        standing = inSlot (standing-row x) E i h (x .standing);
-        locksGranted = x .locksGranted;
-      }
+      withOrder (x .last) (inSlot (standing-row x) E i h (x .standing))
+      (withRow (inSlot number-row E i h (x .number)) (inSlot synchronous-row E i h (x .synchronous)) (inSlot asynchronous-row E i h (x .asynchronous)) x)
 
   same-both : {A : Type 0} (b : Bool) (x : A) → cond b x x ≡ x
   same-both true x = refl
