@@ -18,7 +18,7 @@ use Rattle.readings.specs.Request.{requestCode}
 use Rattle.model.specs.Sizes.{noConnection, payloadLimit}
 use Rattle.model.specs.State.{Server, Entry, Exchange, Connection, RemoteLocal, at, live, blank, freshExchange, openExchange, closedConnection, openConnection, exchangeAt, connectionAt, slotOfNumber, withConnection, withExchange, withRemoteLocal, withSession, withStatus, Sensing, freshSensing, sensingAt, withSensing}
 use Rattle.model.specs.Place.{slotOf, entryOf, onConnection}
-use Rattle.model.specs.Scan.{Scan, Scan.skipping, Scan.part, sorted, freshScan, scan, size, leftover}
+use Rattle.model.specs.Scan.{Scan, Scan.skipping, sorted, freshScan, scan, size, leftover}
 use Rattle.model.specs.Exchange
 use Rattle.model.specs.Exchange.{controlled}
 use Rattle.model.specs.Step.{channels, shutAll, closing}
@@ -30,7 +30,7 @@ use Rattle.model.specs.Interface.{Setting, Setting.watch, Setting.patter
 use Rattle.model.specs.Acts.{say}
 use Rattle.model.proofs.Basics.{or→, or-of, or-r}
 use Rattle.model.proofs.Place.{place-sound}
-use Rattle.model.proofs.LocalityLists.{set-at, touch, row-message, row-kept, exchangeRow, withRemainder, connectionWay, kept-open}
+use Rattle.model.proofs.LocalityLists.{set-at, touch, row-message, row-kept, exchangeRow, connectionWay}
 use Rattle.model.proofs.LocalityParts.{Singles, RestPart}
 
 -- what stands once changes by messages, clock readings, status changes and settings alone
@@ -183,9 +183,8 @@ rest-opening d c =
       connections = record { size = length-set (d .rest .connections) c _; each = λ x l. set-at (d .rest .connections) c (openConnection 0) closedConnection x l };
     }
 
-pub rest-skipped : (d : Server) (c k : ℕ) → (connectionAt (d .rest) c) .isOpen ≡ true
-    → RestPart d (skipped-over c k) (withConnection (d .rest) c (openConnection ((connectionAt (d .rest) c) .remainder - k)))
-rest-skipped d c k o =
+pub rest-skipped : (d : Server) (c k : ℕ) (z : Connection) → z ≡ connectionWay .by-skip k (connectionAt (d .rest) c) → RestPart d (skipped-over c k) (withConnection (d .rest) c z)
+rest-skipped d c k z e =
     record {
       singles = singles-still d (skipped-over c k) tt;
       exchanges = record { size = refl; each = λ i l. refl };
@@ -193,15 +192,15 @@ rest-skipped d c k o =
       connections =
           record {
             size = length-set (d .rest .connections) c _;
-            each = λ x l. touch (d .rest .connections) c (connectionWay .by-skip k) _ closedConnection x l (kept-open _ (connectionAt (d .rest) c) o);
+            each = λ x l. touch (d .rest .connections) c (connectionWay .by-skip k) z closedConnection x l e;
           };
     }
 
 -- an Error leaves a remainder just where the length is above 1,024, and moves the number expected of a session on its synchronous connection
-pub rest-error : (d : Server) (c : ℕ) (h : Header) (m : ℕ) (y : Exchange) (k : Heard) → (connectionAt (d .rest) c) .isOpen ≡ true → m ≡ cond (ltb 1024 (h .len)) (h .len) ((connectionAt (d .rest) c) .remainder)
+pub rest-error : (d : Server) (c : ℕ) (h : Header) (z : Connection) (y : Exchange) (k : Heard) → z ≡ connectionWay .by-error h (connectionAt (d .rest) c)
     → y ≡ cond (eqb ((entryOf d c) .synchronous) c) ((exchangeRow (d .rest .made .prefersOverlap)) .by-error h (exchangeAt (d .rest) (slotOf d c))) (exchangeAt (d .rest) (slotOf d c))
-    → RestPart d (errored c h k) (withConnection (withExchange (d .rest) (slotOf d c) y) c (openConnection m))
-rest-error d c h m y k o e ey =
+    → RestPart d (errored c h k) (withConnection (withExchange (d .rest) (slotOf d c) y) c z)
+rest-error d c h z y k e ey =
     record {
       singles = singles-still d (errored c h k) tt;
       exchanges =
@@ -213,7 +212,7 @@ rest-error d c h m y k o e ey =
       connections =
           record {
             size = length-set (d .rest .connections) c _;
-            each = λ x l. touch (d .rest .connections) c (connectionWay .by-error h) _ closedConnection x l (kept-open m (connectionAt (d .rest) c) o ∙ ap (λ (r : ℕ). withRemainder r (connectionAt (d .rest) c)) e);
+            each = λ x l. touch (d .rest .connections) c (connectionWay .by-error h) z closedConnection x l e;
           };
     }
   where
