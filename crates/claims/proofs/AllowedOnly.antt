@@ -15,7 +15,7 @@ use Rattle.wire.specs.Frame.{Frame, frameOf}
 use Rattle.wire.specs.MessageId.{next}
 use Rattle.model.specs.MessageTypes.{FatalError, Error, DataEND, commands}
 use Rattle.model.specs.Lists.{all}
-use Rattle.model.specs.State.{Server, Entry, Exchange, Connection, at, slotOfNumber, exchangeAt, connectionAt, sensingAt, openConnection, closedConnection}
+use Rattle.model.specs.State.{Server, Entry, Exchange, Connection, at, slotOfNumber, exchangeAt, connectionAt, sensingAt}
 use Rattle.model.specs.Allowing.{admits, admits-is}
 use Rattle.model.specs.Interface.{Event, Event.opening, Event.delivery, Event.cut, Event.clock, Event.answer, Event.status, Event.setting, Outcome.error-sent, Outcome.acted, Reply.took}
 use Rattle.model.specs.Scan.{Scan, Scan.empty, Scan.few, Scan.wrong, Scan.skipping, Scan.long, Scan.part, Scan.whole, scan}
@@ -37,7 +37,7 @@ use Rattle.claims.proofs.Scanning.{whole-scan}
 use Rattle.claims.proofs.Access.{accessed, made, outside, role-sync}
 use Rattle.claims.proofs.Forms.{typed, command-passes, sync-permitted, Synchronous}
 use Rattle.claims.proofs.Permitted.{shows, whole-step, whole-does}
-use Rattle.claims.proofs.InStep.{set-same, open-now}
+use Rattle.claims.proofs.InStep.{connections-kept}
 
 -- ---- the rule of the list
 
@@ -100,9 +100,6 @@ module _ (d : Server) (c : ℕ) (bs : List ℕ) (room : ℕ) where
   abbrev x₀ : Exchange
   x₀ = exchangeAt (d .rest) i₀
 
-  abbrev y₀ : Connection
-  y₀ = connectionAt (d .rest) c
-
   not-admitted : (AdmittedBy d bs → ⊥) → admits (d .rest .allowed) p₀ ≡ false
   not-admitted n = isn't _ (λ e. n (admits-is (d .rest .allowed) p₀ .0 e))
 
@@ -126,7 +123,7 @@ module _ (d : Server) (c : ℕ) (bs : List ℕ) (room : ℕ) where
         frames = frameOf c Error 128 0 [] ∷ [];
       }
 
-  errs : finish d (effect (v-error 128) (Scan.whole (header bs) p₀) r-synchronous d i₀ c) ≡ left (set (d .rest .exchanges) i₀ (counted r-synchronous (Scan.whole (header bs) p₀) x₀)) (set (d .rest .connections) c (openConnection 0))
+  errs : finish d (effect (v-error 128) (Scan.whole (header bs) p₀) r-synchronous d i₀ c) ≡ left (set (d .rest .exchanges) i₀ (counted r-synchronous (Scan.whole (header bs) p₀) x₀)) ((effect (v-error 128) (Scan.whole (header bs) p₀) r-synchronous d i₀ c) .rest .connections)
   unfolding finish effect change
   errs = refl
 
@@ -134,13 +131,12 @@ module _ (d : Server) (c : ℕ) (bs : List ℕ) (room : ℕ) where
   refuses z w n =
       let m : eqb ((header bs) .param) (x₀ .numberExpected) ≡ true = eq-eqb _ _ (w .in-step) in
       let k : ltb 1 ((header bs) .code) ≡ false = le-ltb 1 ((header bs) .code) (w .good-code) in
-      let o : openConnection 0 ≡ y₀ = λ j. record { isOpen = sym (open-now d c bs room z) j; remainder = sym (w .command .message .no-remainder) j } in
       let s : counted r-synchronous (Scan.whole (header bs) p₀) x₀ ≡ stepped x₀ = rw (w .command .not-in-clear, w .command .of-type, m) in
       let t : header bs ≡ typed DataEND (header bs) = λ j. record { kind = w .data-end j; code = (header bs) .code; param = (header bs) .param; len = (header bs) .len } in
       whole-step d c bs room z (w .command .message) r-synchronous (role-sync d c (w .command .on-synchronous))
       ∙ ap (λ v. finish d (effect v (Scan.whole (header bs) p₀) r-synchronous d i₀ c)) (ap (λ (h : Header). first (Checks.synchronousRules d i₀ h p₀)) t ∙ listed-128 d i₀ p₀ (w .command .not-in-clear) (w .has-access) (header bs) m k (not-admitted n))
       ∙ errs
-      ∙ ap₂ left (ap (set (d .rest .exchanges) i₀) s) (ap (set (d .rest .connections) c) o ∙ set-same (d .rest .connections) c closedConnection)
+      ∙ ap₂ left (ap (set (d .rest .exchanges) i₀) s) (connections-kept d c bs room 128 z (w .command .message .no-remainder))
 
   only-allowed : (k n : ℕ) → (step d (delivery c bs room)) .reply ≡ took acted k n → (header bs) .kind ≡ DataEND → AdmittedBy d bs
   only-allowed k n e t = admits-is (d .rest .allowed) p₀ .0 (go (sync-permitted d i₀ p₀ (header bs) (ap (λ (r : Role). judged r d i₀ (header bs) p₀) (sym on) ∙ (shows d c bs room k n e) .passes)))

@@ -12,8 +12,9 @@ use Rattle.wire.specs.Class.{one-of}
 use Rattle.wire.specs.Frame.{Frame}
 use Rattle.model.specs.Sizes.{noConnection}
 use Rattle.model.specs.Lists.{all, keep}
-use Rattle.model.specs.State.{Server, Entry, Waiting, Standing, Standing.no-release, Standing.release-of, Kind.exclusive-lock, Kind.shared-lock, at, live, noGrants, blank, slotOfNumber}
+use Rattle.model.specs.State.{Server, Entry, Waiting, Standing, Standing.no-release, Standing.release-of, Kind.exclusive-lock, Kind.shared-lock, at, live, blank, slotOfNumber}
 use Rattle.model.specs.Interface.{Event}
+use Rattle.model.specs.Locks.{withRow, withOrder}
 use Rattle.model.specs.Place.{onConnection, slotIn}
 use Rattle.model.specs.Step.{Result, step, log}
 use Rattle.model.specs.Happening.{Heard, Heard.silence, Heard.with-code, Action, Happening, Happening.unmoved, Happening.connected, Happening.disconnected, Happening.skipped-over, Happening.errored, Happening.message-acted, Happening.clock-read, Happening.status-set, Happening.setting-made, Happening.answer-sent, Happening.answer-withheld}
@@ -365,16 +366,8 @@ module _ (c : ℕ) (real : c ≡ noConnection → ⊥) (s : ℕ) (p : Release) (
   abbrev rowed : Happening → ℕ → Entry
   rowed h i =
       let x = at E i in
-      record {
-        number = inSlot number-row E i h (x .number);
-        synchronous = inSlot synchronous-row E i h (x .synchronous);
-        asynchronous = inSlot asynchronous-row E i h (x .asynchronous);
-        exclusive = x .exclusive;
-        shared = x .shared;
-        last = x .last;
-        standing = inSlot (standing-row x) E i h (x .standing);
-        locksGranted = x .locksGranted;
-      }
+      withOrder (x .last) (inSlot (standing-row x) E i h (x .standing))
+      (withRow (inSlot number-row E i h (x .number)) (inSlot synchronous-row E i h (x .synchronous)) (inSlot asynchronous-row E i h (x .asynchronous)) x)
 
   same-both : {A : Type 0} (b : Bool) (x : A) → cond b x x ≡ x
   same-both true x = refl
@@ -388,7 +381,7 @@ module _ (c : ℕ) (real : c ≡ noConnection → ⊥) (s : ℕ) (p : Release) (
       apart n alive e z false true eu ew = absurd (eqb-false _ _ n (place-unique E x i (v .sound .firm .connections x r) (on-first x i alive (z ∙ sym (eqb-true _ _ ew)))))
       apart n alive e z false false eu ew = refl
 
-      go : (b : Bool) → eqb i (slotIn E x) ≡ b → live (record { number = cond b 0 ((at E i) .number); synchronous = 0; asynchronous = 0; exclusive = false; shared = []; last = 0; standing = no-release; locksGranted = noGrants }) ≡ true → cond b noConnection ((at E i) .asynchronous) ≡ c
+      go : (b : Bool) → eqb i (slotIn E x) ≡ b → not (eqb (cond b 0 ((at E i) .number)) 0) ≡ true → cond b noConnection ((at E i) .asynchronous) ≡ c
           → (cond b noConnection ((at E i) .synchronous) ≡ s) × (releaseOf (cond b no-release ((at E i) .standing)) ≡ cond (eqb x c || eqb x s) none-stands p)
       go true n alive e = absurd (real (sym e))
       go false n alive e = let w = k i alive e in (w .0, w .1 ∙ sym (apart n alive e (w .0) (eqb x c) (eqb x s) refl refl))

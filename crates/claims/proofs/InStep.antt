@@ -14,7 +14,7 @@ use Rattle.wire.specs.Class.{one-of, classOf}
 use Rattle.model.specs.Sizes.{noConnection}
 use Rattle.model.specs.MessageTypes.{Error, Trigger, commands}
 use Rattle.model.specs.Lists.{all}
-use Rattle.model.specs.State.{Server, Exchange, Connection, at, exchangeAt, connectionAt, freshExchange, closedConnection, openConnection, fresh, Making}
+use Rattle.model.specs.State.{Server, Exchange, Connection, at, exchangeAt, connectionAt, freshExchange, closedConnection, fresh, Making}
 use Rattle.model.specs.Interface.{Event, Event.delivery, Outcome.error-sent, Reply, Reply.took}
 use Rattle.model.specs.Scan.{Scan, Scan.empty, Scan.few, Scan.wrong, Scan.skipping, Scan.long, Scan.part, Scan.whole, scan}
 use Rattle.model.specs.Place.{slotOf, entryOf, Role, Role.r-none, Role.r-halfOpen, Role.r-synchronous, Role.r-asynchronous, roleOf}
@@ -38,6 +38,7 @@ use Rattle.claims.proofs.Access.{accessed, sync-role, role-sync}
 use Rattle.claims.proofs.Forms.{_also_, typed, command-passes}
 use Rattle.claims.proofs.Permitted.{whole-step, whole-does}
 use Rattle.claims.proofs.Numbering.{Reads, carries-it, call-reads, fresh-reads, run-reads}
+use Rattle.claims.proofs.LocalityLists.{withRemainder, kept-open}
 
 -- the rules of the synchronous channel at a command outside a clear
 in-order : (a k : Bool) → cond (not a) v-held (cond k (v-error 2) v-acts) ≡ v-error 0 → ⊥
@@ -178,13 +179,18 @@ module _ (d : Server) (c : ℕ) (bs : List ℕ) (room : ℕ) where
   unfolding refusal causes
   open-now z = not-off _ ((uncaused (causes d (delivery c bs room)) refl z) .1 .1 .0)
 
+  -- an Error to a message that is taken whole leaves the connections
+  pub connections-kept : (n : ℕ) → refusal d (delivery c bs room) ≡ 0 → y₁ .remainder ≡ 0 → (effect (v-error n) (Scan.whole (header bs) p₀) r-synchronous d i₀ c) .rest .connections ≡ d .rest .connections
+  unfolding effect
+  connections-kept n z e = ap (set (d .rest .connections) c) (kept-open 0 y₁ (open-now z) ∙ ap (λ (r : ℕ). withRemainder r y₁) (sym e)) ∙ set-same (d .rest .connections) c closedConnection
+
   abbrev told-so : Server → Result
   told-so s = record { server = s; reply = took error-sent (16 + (header bs) .len) 0; frames = error-0 c }
 
   abbrev left : List Exchange → List Connection → Result
   left ns ks = told-so record { locks = d .locks; rest = record { exchanges = ns; sensings = d .rest .sensings; connections = ks; lastIssued = d .rest .lastIssued; made = d .rest .made; status = d .rest .status; remoteLocal = d .rest .remoteLocal; allowed = d .rest .allowed } }
 
-  errs : finish d (effect (v-error 0) (Scan.whole (header bs) p₀) r-synchronous d i₀ c) ≡ left (set (d .rest .exchanges) i₀ (counted r-synchronous (Scan.whole (header bs) p₀) x₁)) (set (d .rest .connections) c (openConnection 0))
+  errs : finish d (effect (v-error 0) (Scan.whole (header bs) p₀) r-synchronous d i₀ c) ≡ left (set (d .rest .exchanges) i₀ (counted r-synchronous (Scan.whole (header bs) p₀) x₁)) ((effect (v-error 0) (Scan.whole (header bs) p₀) r-synchronous d i₀ c) .rest .connections)
   unfolding finish effect change
   errs = refl
 
@@ -196,11 +202,10 @@ module _ (d : Server) (c : ℕ) (bs : List ℕ) (room : ℕ) where
   answered : refusal d (delivery c bs room) ≡ 0 → Command d c bs → accessOf d c ≡ true → ((header bs) .param ≡ x₁ .numberExpected → ⊥) → step d (delivery c bs room) ≡ told-so d
   answered z w a n =
       let m : eqb ((header bs) .param) (x₁ .numberExpected) ≡ false = ne-eqb _ _ n in
-      let o : openConnection 0 ≡ y₁ = λ j. record { isOpen = sym (open-now z) j; remainder = sym (w .message .no-remainder) j } in
       whole-step d c bs room z (w .message) r-synchronous (role-sync d c (w .on-synchronous))
       ∙ ap (λ v. finish d (effect v (Scan.whole (header bs) p₀) r-synchronous d i₀ c)) (out-of-step d i₀ p₀ (header bs) (w .not-in-clear) a m ((header bs) .kind) (w .of-type))
       ∙ errs
-      ∙ ap₂ left (ap (set (d .rest .exchanges) i₀) (unmoved m (x₁ .inClear) (one-of commands ((header bs) .kind))) ∙ set-same (d .rest .exchanges) i₀ freshExchange) (ap (set (d .rest .connections) c) o ∙ set-same (d .rest .connections) c closedConnection)
+      ∙ ap₂ left (ap (set (d .rest .exchanges) i₀) (unmoved m (x₁ .inClear) (one-of commands ((header bs) .kind))) ∙ set-same (d .rest .exchanges) i₀ freshExchange) (connections-kept 0 z (w .message .no-remainder))
 
   pub out : OutOfStep d c bs room
   out = record { answered = answered }

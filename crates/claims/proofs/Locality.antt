@@ -15,7 +15,7 @@ use Rattle.wire.specs.Class.{one-of, synchronous, asynchronous}
 use Rattle.model.specs.Sizes.{noConnection}
 use Rattle.model.specs.State.{Making, Server, Entry, at, live, halfOpen, blank, slotOfNumber, connectionAt, exchangeAt, Asked, Asked.none, Asked.some, Exchange, withExchange, sensingAt, withSensings}
 use Rattle.model.specs.Interface.{Event, Event.opening, Event.delivery, Event.cut, Event.clock, Event.answer, Event.status, Event.setting, Outcome.acted, Outcome.closed, Reply, Reply.done, Reply.withheld, Reply.took}
-use Rattle.model.specs.Scan.{Scan, Scan.empty, Scan.few, Scan.wrong, Scan.skipping, Scan.long, Scan.part, Scan.whole, scan, size, leftover}
+use Rattle.model.specs.Scan.{Scan, Scan.empty, Scan.few, Scan.wrong, Scan.skipping, Scan.long, Scan.part, Scan.whole, scan, size}
 use Rattle.model.specs.Place.{slotIn, slotOf, roleOf, roleBy, onConnection, entryOf, Role, Role.r-none, Role.r-halfOpen, Role.r-synchronous, Role.r-asynchronous}
 use Rattle.model.specs.Locks
 use Rattle.model.specs.Locks.{LockEvent, change, grantPass, passOver}
@@ -38,6 +38,7 @@ use Rattle.claims.proofs.Classes.{acted-class}
 use Rattle.claims.proofs.Numbers.{live-found}
 use Rattle.claims.proofs.Fits.{Passes, uncaused, opening-passed, sync-passed, async-passed, real-delivery, real-cut}
 use Rattle.claims.proofs.Closing.{pass-looks}
+use Rattle.claims.proofs.LocalityLists.{withRemainder, kept-open}
 use Rattle.claims.proofs.LocalityParts.{assemble}
 use Rattle.claims.proofs.LocalityRest.{rest-unmoved, rest-clock, rest-status, rest-setting, service-due, rest-answer, rest-withheld, rest-opening, rest-skipped, rest-error, scan-error, rest-closing}
 use Rattle.claims.proofs.LocalityLocks.{locks-unmoved, locks-opening, locks-skipped, locks-error, locks-status, locks-setting, locks-answer, locks-withheld, locks-clock, locks-closing, freed, stay, pass-frames, refused-frames}
@@ -210,13 +211,13 @@ module _ (d : Server) (c : ℕ) (bs : List ℕ) (room : ℕ) (real : c ≡ noCon
   effect-local v-more s r es er ev = idle-local _
   effect-local v-held s r es er ev = idle-local _
   effect-local v-skipped s r es er ev =
-      assemble d _ _ (d .locks .entries) [] (rest-skipped d c (size s) opened) (locks-skipped d c (size s)) refl (λ o k n e. cc)
+      assemble d _ _ (d .locks .entries) [] (rest-skipped d c (size s) _ (kept-open _ (connectionAt (d .rest) c) opened)) (locks-skipped d c (size s)) refl (λ o k n e. cc)
   effect-local v-ignored s r es er ev = local-unmoved d _ (λ o k n e. cc)
   effect-local (v-error x) s r es er ev =
       let z = error-scan r d (slotOf d c) s x ev in
       let y = exchangeAt (d .rest) (slotOf d c) in
       assemble d _ _ (d .locks .entries) []
-      (rest-error d c (header bs) (leftover s) (counted r s y) (with-code x) opened (scan-error ((connectionAt (d .rest) c) .remainder) bs s es (z .0) (z .1)) (numbered-row d c bs real x r s y es er ev))
+      (rest-error d c (header bs) _ (counted r s y) (with-code x) (kept-open _ (connectionAt (d .rest) c) opened ∙ ap (λ (k : ℕ). withRemainder k (connectionAt (d .rest) c)) (scan-error ((connectionAt (d .rest) c) .remainder) bs s es (z .0) (z .1))) (numbered-row d c bs real x r s y es er ev))
       (locks-error d c (header bs) (with-code x))
       refl
       (λ o k n e. cc)

@@ -9,13 +9,13 @@ use lib.ListN.{getD, set, length, length-set}
 use lib.Seq.{getD-set-same, getD-set-other}
 use borrow.Author.Tests.{eqb-true, eq-eqb, ne-eqb}
 use Rattle.wire.specs.declared.Header.{Header}
-use Rattle.model.specs.State.{Entry, Waiting, Exchange, Asked.none, at, blank, slotOfNumber}
+use Rattle.model.specs.State.{Entry, Waiting, Exchange, Connection, at, blank, freshExchange, closedConnection, openConnection, slotOfNumber}
 use Rattle.model.specs.Place.{slotIn}
 use Rattle.model.specs.Locks.{withLocks, withGranted, giveAt}
 use Rattle.model.specs.Exchange
 use Rattle.model.specs.Closing.{OldestFirst, OldestFirst.pass-end, OldestFirst.pass-grant, OldestFirst.pass-wait}
 use Rattle.model.specs.Happening.{Action, Happening, Happening.unmoved, Happening.connected, Happening.disconnected, Happening.skipped-over, Happening.errored, Happening.message-acted, Happening.clock-read, Happening.status-set, Happening.setting-made, Happening.answer-sent, Happening.answer-withheld}
-use Rattle.model.specs.LocalityRows.{Row, inSlot, slotActed, clear-row, asked-row, available-row, size-row, mode-row, count-row, sent-row, expected-row, step-row, number-row, synchronous-row, asynchronous-row, exclusive-row, shared-row, last-row, standing-row, moreGranted, granted-row}
+use Rattle.model.specs.LocalityRows.{Row, inSlot, slotActed, concerns, Way, inPlace, remainder-row, clear-row, asked-row, available-row, size-row, mode-row, count-row, sent-row, expected-row, step-row, number-row, synchronous-row, asynchronous-row, exclusive-row, shared-row, last-row, standing-row, moreGranted, granted-row}
 use Rattle.model.specs.Locality.{entryDue, givenExclusive, givenShared, givenGrants, Look}
 use Rattle.model.proofs.Basics.{same?}
 
@@ -95,10 +95,10 @@ abbrev pub exchangeRow : Bool → Row Exchange
 exchangeRow preferred =
     record {
       by-message = λ a x. record { inClear = clear-row .by-message a (x .inClear); asked = (asked-row x) .by-message a (x .asked); messageAvailable = (available-row x) .by-message a (x .messageAvailable); clientSize = size-row .by-message a (x .clientSize); overlap = (mode-row preferred) .by-message a (x .overlap); count = count-row .by-message a (x .count); anySent = sent-row .by-message a (x .anySent); rmtExpected = expected-row .by-message a (x .rmtExpected); numberExpected = (step-row x) .by-message a (x .numberExpected) };
-      by-answer = λ b x. record { inClear = clear-row .by-answer b (x .inClear); asked = (asked-row x) .by-answer b (x .asked); messageAvailable = (available-row x) .by-answer b (x .messageAvailable); clientSize = size-row .by-answer b (x .clientSize); overlap = (mode-row preferred) .by-answer b (x .overlap); count = count-row .by-answer b (x .count); anySent = sent-row .by-answer b (x .anySent); rmtExpected = expected-row .by-answer b (x .rmtExpected); numberExpected = x .numberExpected };
-      when-withheld = λ x. record { inClear = clear-row .when-withheld (x .inClear); asked = (asked-row x) .when-withheld (x .asked); messageAvailable = (available-row x) .when-withheld (x .messageAvailable); clientSize = size-row .when-withheld (x .clientSize); overlap = (mode-row preferred) .when-withheld (x .overlap); count = count-row .when-withheld (x .count); anySent = sent-row .when-withheld (x .anySent); rmtExpected = expected-row .when-withheld (x .rmtExpected); numberExpected = x .numberExpected };
+      by-answer = λ b x. Exchange.withExpectation (expected-row .by-answer b (x .rmtExpected)) (Exchange.withCount (count-row .by-answer b (x .count)) (sent-row .by-answer b (x .anySent)) (Exchange.withAnswering ((asked-row x) .by-answer b (x .asked)) ((available-row x) .by-answer b (x .messageAvailable)) x));
+      when-withheld = λ x. Exchange.withAnswering ((asked-row x) .when-withheld (x .asked)) ((available-row x) .when-withheld (x .messageAvailable)) x;
       by-error = λ h x. Exchange.withNumber ((step-row x) .by-error h (x .numberExpected)) x;
-      once-closed = record { inClear = clear-row .once-closed; asked = none; messageAvailable = false; clientSize = size-row .once-closed; overlap = (mode-row preferred) .once-closed; count = count-row .once-closed; anySent = sent-row .once-closed; rmtExpected = expected-row .once-closed; numberExpected = 0xffffff00 };
+      once-closed = freshExchange;
     }
 
 abbrev pub entryRow : ℕ → Row Entry
@@ -147,6 +147,43 @@ due-entry now es i (status-set b) x = refl
 due-entry now es i (setting-made s) x = refl
 due-entry now es i (answer-sent k p end) x = split-entry (eqb i (slotOfNumber es k)) x x
 due-entry now es i (answer-withheld k p) x = split-entry (eqb i (slotOfNumber es k)) x x
+
+-- the ways of a connection, and a field of them
+abbrev pub withRemainder : ℕ → Connection → Connection
+withRemainder n y = record { isOpen = y .isOpen; remainder = n }
+
+abbrev pub connectionWay : Way Connection
+connectionWay =
+    record {
+      once-open = openConnection 0;
+      once-closed = closedConnection;
+      by-skip = λ k y. withRemainder (remainder-row .by-skip k (y .remainder)) y;
+      by-error = λ h y. withRemainder (remainder-row .by-error h (y .remainder)) y;
+    }
+
+pub kept-open : (n : ℕ) (y : Connection) → y .isOpen ≡ true → openConnection n ≡ withRemainder n y
+kept-open n y o = λ j. record { isOpen = sym o j; remainder = n }
+
+pub project-way : {X A : Type 0} (g : X → A) (r : Way X) (s : Way A) → g (r .once-open) ≡ s .once-open → g (r .once-closed) ≡ s .once-closed → ((k : ℕ) (y : X) → g (r .by-skip k y) ≡ s .by-skip k (g y)) → ((h : Header) (y : X) → g (r .by-error h y) ≡ s .by-error h (g y))
+    → (es : List Entry) (x : ℕ) (h : Happening) (y : X) → g (inPlace r es x h y) ≡ inPlace s es x h (g y)
+project-way {X = X} {A = A} g r s o q m v es x h y = by h
+  where
+    push : (b : Bool) (z : X) (w : A) → g z ≡ w → g (cond b z y) ≡ cond b w (g y)
+    push true z w e = e
+    push false z w e = refl
+
+    by : (h : Happening) → g (inPlace r es x h y) ≡ inPlace s es x h (g y)
+    by unmoved = refl
+    by (connected c) = push (eqb x c) _ _ o
+    by (disconnected c k) = push (concerns es c x) _ _ q
+    by (skipped-over c k) = push (eqb x c) _ _ (m k y)
+    by (errored c f k) = push (eqb x c) _ _ (v f y)
+    by (message-acted a) = refl
+    by (clock-read t) = refl
+    by (status-set b) = refl
+    by (setting-made u) = refl
+    by (answer-sent n p end) = refl
+    by (answer-withheld n p) = refl
 
 -- what a look leaves of an entry
 abbrev pub lookedAt : ℕ → List Waiting → ℕ → Entry → Entry

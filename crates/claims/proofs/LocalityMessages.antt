@@ -68,7 +68,7 @@ afterTest b x = Exchange.withExpectation false (cond b (Exchange.interrupted x) 
 
 test-row : (b k : Bool) (x : Exchange) (f : Asked → Asked)
     → _≡_ {A = Exchange} (Exchange.stepped (Exchange.withAnswering (f ((afterTest b x) .asked)) (not k && (afterTest b x) .messageAvailable) (afterTest b x)))
-    record { inClear = x .inClear; asked = f (cond b none (x .asked)); messageAvailable = cond (b || k) false (x .messageAvailable); clientSize = x .clientSize; overlap = x .overlap; count = x .count; anySent = x .anySent; rmtExpected = false; numberExpected = (x .numberExpected + 2) % 2 ^ 32 }
+    (Exchange.withNumber ((x .numberExpected + 2) % 2 ^ 32) (Exchange.withExpectation false (Exchange.withAnswering (f (cond b none (x .asked))) (cond (b || k) false (x .messageAvailable)) x)))
 test-row true true x f = refl
 test-row true false x f = refl
 test-row false true x f = refl
@@ -86,8 +86,8 @@ module _ (d : Server) (c : ℕ) (h : Header) (p : List ℕ) where
 
   -- RMT-delivered at a status query
   rmt-row : _≡_ {A = Exchange} (Exchange.queried (h .code) ours)
-      record { inClear = ours .inClear; asked = ours .asked; messageAvailable = cond (eqb (h .code) 1) false (ours .messageAvailable); clientSize = ours .clientSize; overlap = ours .overlap; count = ours .count; anySent = ours .anySent; rmtExpected = cond (eqb (h .code) 1) false (ours .rmtExpected); numberExpected = ours .numberExpected }
-  rmt-row = λ j. record { inClear = ours .inClear; asked = ours .asked; messageAvailable = rmt (eqb (h .code) 1) (ours .messageAvailable) j; clientSize = ours .clientSize; overlap = ours .overlap; count = ours .count; anySent = ours .anySent; rmtExpected = rmt (eqb (h .code) 1) (ours .rmtExpected) j; numberExpected = ours .numberExpected }
+      (Exchange.withExpectation (cond (eqb (h .code) 1) false (ours .rmtExpected)) (Exchange.withAnswering (ours .asked) (cond (eqb (h .code) 1) false (ours .messageAvailable)) ours))
+  rmt-row = λ j. Exchange.withExpectation (rmt (eqb (h .code) 1) (ours .rmtExpected) j) (Exchange.withAnswering (ours .asked) (rmt (eqb (h .code) 1) (ours .messageAvailable) j) ours)
 
   -- message available at a status query, by the mode
   seen-row : (b : Bool) → Exchange.availableIn b h ours

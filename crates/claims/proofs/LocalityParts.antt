@@ -7,17 +7,14 @@ use Rattle.model.specs.State.{Making, Allowed, Server, Locks, Rest, Entry, Wait
 use Rattle.model.specs.Interface.{Outcome, Reply.took}
 use Rattle.model.specs.Step.{Result}
 use Rattle.model.specs.Happening.{Happening}
-use Rattle.model.specs.LocalityRows.{clear-row, asked-row, available-row, size-row, mode-row, count-row, sent-row, expected-row, step-row, requestsLeft, looksAfter, open-row, remainder-row, singly, clock-row, status-row, made-row, allowed-row, issued-row, enable-row, lockout-row, remote-row, sensing-row}
+use Rattle.model.specs.LocalityRows.{clear-row, asked-row, available-row, size-row, mode-row, count-row, sent-row, expected-row, step-row, requestsLeft, looksAfter, inPlace, open-row, remainder-row, singly, clock-row, status-row, made-row, allowed-row, issued-row, enable-row, lockout-row, remote-row, sensing-row}
 use Rattle.model.specs.LocalityReplies.{saidFirst, direct, answeredFirst, answerTo, sessionSaid}
 use Rattle.model.specs.Locality.{entryDue, Look, Local}
-use Rattle.claims.proofs.LocalityLists.{Rowed, project, exchangeRow, entryRow, due-entry, lookedAt, look-sized, look-each}
-
-abbrev pub connectionDue : List Entry → Happening → ℕ → Connection → Connection
-connectionDue es h x y = record { isOpen = open-row es x h (y .isOpen); remainder = remainder-row es x h (y .remainder) }
+use Rattle.claims.proofs.LocalityLists.{Rowed, project, project-way, connectionWay, exchangeRow, entryRow, due-entry, lookedAt, look-sized, look-each}
 
 pub record Places (d : Server) (h : Happening) (cs : List Connection) : Type 0 where
   pub size : length cs ≡ length (d .rest .connections)
-  pub each : (x : ℕ) → x < length (d .rest .connections) → getD cs x closedConnection ≡ connectionDue (d .locks .entries) h x (connectionAt (d .rest) x)
+  pub each : (x : ℕ) → x < length (d .rest .connections) → getD cs x closedConnection ≡ inPlace connectionWay (d .locks .entries) x h (connectionAt (d .rest) x)
 
 -- of the rest, what stands once: status byte, how the server was made, the number issued last, flags, allowed commands
 pub record Singles (d : Server) (h : Happening) (b : ℕ) (v : Making) (n : ℕ) (f : RemoteLocal) (a : Allowed) : Type 0 where
@@ -70,8 +67,8 @@ assemble d h r due granted p l f s =
       sensing-slots = p .sensings .size;
       sensing = λ i q. p .sensings .each i q;
       connection-places = p .connections .size;
-      is-open = λ x q. ap (λ (y : Connection). y .isOpen) (p .connections .each x q);
-      remainder = λ x q. ap (λ (y : Connection). y .remainder) (p .connections .each x q);
+      is-open = λ x q. ap (λ (y : Connection). y .isOpen) (p .connections .each x q) ∙ project-way (λ (y : Connection). y .isOpen) connectionWay open-row refl refl (λ k y. refl) (λ k y. refl) es x h _;
+      remainder = λ x q. ap (λ (y : Connection). y .remainder) (p .connections .each x q) ∙ project-way (λ (y : Connection). y .remainder) connectionWay remainder-row refl refl (λ k y. refl) (λ k y. refl) es x h _;
       slots = look-sized (d .locks .clock) due (r .server .locks .entries) _ (r .server .locks .waiting) granted (looksAfter es h) (l .look) ∙ l .rows .size;
       number = λ i q. ap (λ (x : Entry). x .number) (ends i q);
       synchronous = λ i q. ap (λ (x : Entry). x .synchronous) (ends i q);

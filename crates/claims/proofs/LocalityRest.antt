@@ -18,7 +18,7 @@ use Rattle.readings.specs.Request.{requestCode}
 use Rattle.model.specs.Sizes.{noConnection, payloadLimit}
 use Rattle.model.specs.State.{Server, Entry, Exchange, Connection, RemoteLocal, at, live, blank, freshExchange, openExchange, closedConnection, openConnection, exchangeAt, connectionAt, slotOfNumber, withConnection, withExchange, withRemoteLocal, withSession, withStatus, Sensing, freshSensing, sensingAt, withSensing}
 use Rattle.model.specs.Place.{slotOf, entryOf, onConnection}
-use Rattle.model.specs.Scan.{Scan, Scan.skipping, Scan.part, sorted, freshScan, scan, size, leftover}
+use Rattle.model.specs.Scan.{Scan, Scan.skipping, sorted, freshScan, scan, size, leftover}
 use Rattle.model.specs.Exchange
 use Rattle.model.specs.Exchange.{controlled}
 use Rattle.model.specs.Step.{channels, shutAll, closing}
@@ -30,7 +30,7 @@ use Rattle.model.specs.Interface.{Setting, Setting.watch, Setting.patterns}
 use Rattle.model.specs.Acts.{say}
 use Rattle.model.proofs.Basics.{or→, or-of, or-r}
 use Rattle.model.proofs.Place.{place-sound}
-use Rattle.claims.proofs.LocalityLists.{set-at, touch, row-message, row-kept, exchangeRow}
+use Rattle.claims.proofs.LocalityLists.{set-at, touch, row-message, row-kept, exchangeRow, connectionWay}
 use Rattle.claims.proofs.LocalityParts.{Singles, RestPart}
 
 -- what stands once changes by messages, clock readings, status changes and settings alone
@@ -174,22 +174,17 @@ rest-withheld d n m =
     }
 
 -- connections
-split-connection : (b : Bool) (u v : Connection) → cond b u v ≡ record { isOpen = cond b (u .isOpen) (v .isOpen); remainder = cond b (u .remainder) (v .remainder) }
-split-connection true u v = refl
-split-connection false u v = refl
-
 pub rest-opening : (d : Server) (c : ℕ) → RestPart d (connected c) (withConnection (d .rest) c (openConnection 0))
 rest-opening d c =
     record {
       singles = singles-still d (connected c) tt;
       exchanges = record { size = refl; each = λ i l. refl };
       sensings = record { size = refl; each = λ i l. refl };
-      connections = record { size = length-set (d .rest .connections) c _; each = λ x l. set-at (d .rest .connections) c (openConnection 0) closedConnection x l ∙ split-connection (eqb x c) (openConnection 0) (connectionAt (d .rest) x) };
+      connections = record { size = length-set (d .rest .connections) c _; each = λ x l. set-at (d .rest .connections) c (openConnection 0) closedConnection x l };
     }
 
-pub rest-skipped : (d : Server) (c k : ℕ) → (connectionAt (d .rest) c) .isOpen ≡ true
-    → RestPart d (skipped-over c k) (withConnection (d .rest) c (openConnection ((connectionAt (d .rest) c) .remainder - k)))
-rest-skipped d c k o =
+pub rest-skipped : (d : Server) (c k : ℕ) (z : Connection) → z ≡ connectionWay .by-skip k (connectionAt (d .rest) c) → RestPart d (skipped-over c k) (withConnection (d .rest) c z)
+rest-skipped d c k z e =
     record {
       singles = singles-still d (skipped-over c k) tt;
       exchanges = record { size = refl; each = λ i l. refl };
@@ -197,22 +192,15 @@ rest-skipped d c k o =
       connections =
           record {
             size = length-set (d .rest .connections) c _;
-            each = λ x l. touch (d .rest .connections) c f _ closedConnection x l (λ j. record { isOpen = sym o j; remainder = (connectionAt (d .rest) c) .remainder - k }) ∙ part (eqb x c) (connectionAt (d .rest) x);
+            each = λ x l. touch (d .rest .connections) c (connectionWay .by-skip k) z closedConnection x l e;
           };
     }
-  where
-    f : Connection → Connection
-    f y = record { isOpen = y .isOpen; remainder = y .remainder - k }
-
-    part : (b : Bool) (y : Connection) → cond b (f y) y ≡ record { isOpen = y .isOpen; remainder = cond b (y .remainder - k) (y .remainder) }
-    part true y = refl
-    part false y = refl
 
 -- an Error leaves a remainder just where the length is above 1,024, and moves the number expected of a session on its synchronous connection
-pub rest-error : (d : Server) (c : ℕ) (h : Header) (m : ℕ) (y : Exchange) (k : Heard) → (connectionAt (d .rest) c) .isOpen ≡ true → m ≡ cond (ltb 1024 (h .len)) (h .len) ((connectionAt (d .rest) c) .remainder)
+pub rest-error : (d : Server) (c : ℕ) (h : Header) (z : Connection) (y : Exchange) (k : Heard) → z ≡ connectionWay .by-error h (connectionAt (d .rest) c)
     → y ≡ cond (eqb ((entryOf d c) .synchronous) c) ((exchangeRow (d .rest .made .prefersOverlap)) .by-error h (exchangeAt (d .rest) (slotOf d c))) (exchangeAt (d .rest) (slotOf d c))
-    → RestPart d (errored c h k) (withConnection (withExchange (d .rest) (slotOf d c) y) c (openConnection m))
-rest-error d c h m y k o e ey =
+    → RestPart d (errored c h k) (withConnection (withExchange (d .rest) (slotOf d c) y) c z)
+rest-error d c h z y k e ey =
     record {
       singles = singles-still d (errored c h k) tt;
       exchanges =
@@ -224,13 +212,10 @@ rest-error d c h m y k o e ey =
       connections =
           record {
             size = length-set (d .rest .connections) c _;
-            each = λ x l. touch (d .rest .connections) c f _ closedConnection x l (λ j. record { isOpen = sym o j; remainder = e j }) ∙ part (eqb x c) (ltb 1024 n) (connectionAt (d .rest) x);
+            each = λ x l. touch (d .rest .connections) c (connectionWay .by-error h) z closedConnection x l e;
           };
     }
   where
-    n : ℕ
-    n = h .len
-
     moves : Exchange → Exchange
     moves x = (exchangeRow (d .rest .made .prefersOverlap)) .by-error h x
 
@@ -240,13 +225,6 @@ rest-error d c h m y k o e ey =
     here : (i : ℕ) (b : Bool) → eqb i (slotOf d c) ≡ b → (x : Exchange) → cond b (g x) x ≡ cond (b && eqb ((at (d .locks .entries) i) .synchronous) c) (moves x) x
     here i true q x = ap (λ (j : ℕ). cond (eqb ((at (d .locks .entries) j) .synchronous) c) (moves x) x) (sym (eqb-true i (slotOf d c) q))
     here i false q x = refl
-
-    f : Connection → Connection
-    f y = record { isOpen = y .isOpen; remainder = cond (ltb 1024 n) n (y .remainder) }
-
-    part : (b a : Bool) (y : Connection) → cond b (record { isOpen = y .isOpen; remainder = cond a n (y .remainder) }) y ≡ record { isOpen = y .isOpen; remainder = cond (b && a) n (y .remainder) }
-    part true a y = refl
-    part false a y = refl
 
 fresh-error : (bs : List ℕ) (s : Scan) → freshScan bs ≡ s → (size s ≡ 0 → ⊥) → leftover s ≡ cond (ltb 1024 ((header bs) .len)) ((header bs) .len) 0
 unfolding freshScan
@@ -325,7 +303,7 @@ module _ (d : Server) (c : ℕ) (real : c ≡ noConnection → ⊥) where
         connections =
             record {
               size = shut-size (d .rest .connections) (channels d c);
-              each = λ x l. shut-at (d .rest .connections) (channels d c) x l ∙ ap (λ b. cond b closedConnection (connectionAt (d .rest) x)) (concerned x) ∙ split-connection (concerns (d .locks .entries) c x) closedConnection (connectionAt (d .rest) x);
+              each = λ x l. shut-at (d .rest .connections) (channels d c) x l ∙ ap (λ b. cond b closedConnection (connectionAt (d .rest) x)) (concerned x);
             };
       }
 

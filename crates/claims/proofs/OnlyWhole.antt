@@ -158,7 +158,7 @@ module _ (d : Server) (c : ℕ) (bs : List ℕ) (b : Bytes bs) where
     by-verdict (v-error n) r h p e m o =
         record {
           shows = (none-owed (Scan.whole h p) e refl, inl record { shown = message-shown h p e; code = n; permitted = error-code n m; sent = refl });
-          tracks = tracks-store (d .rest) owed t c 0 _ (sym (nothing-left h p e) ∙ here c _ _) (λ j f. elsewhere c _ (owed j) j f);
+          tracks = tracks-store (d .rest) owed t c _ _ (sym (nothing-left h p e) ∙ here c _ _) (λ j f. elsewhere c _ (owed j) j f);
         }
     by-verdict (v-fatal n) r h p e m o =
         let w = ((alike bs) .whole h p) .0 ((fresh-scan q bs (Scan.whole h p) e refl) .1) in
@@ -183,7 +183,7 @@ module _ (d : Server) (c : ℕ) (bs : List ℕ) (b : Bytes bs) where
     too-long h r e =
         record {
           shows = (none-owed (Scan.long h) e refl, inr (long-shown h _ e refl));
-          tracks = tracks-store (d .rest) owed t c (h .len) _ (long-owes h e ∙ here c _ _) (λ j f. elsewhere c _ (owed j) j f);
+          tracks = tracks-store (d .rest) owed t c _ _ (long-owes h e ∙ here c _ _) (λ j f. elsewhere c _ (owed j) j f);
         }
 
     -- check 3, without a session and without its second channel
@@ -223,7 +223,7 @@ module _ (d : Server) (c : ℕ) (bs : List ℕ) (b : Bytes bs) where
             owes = subst (λ (z : ℕ). k ≤ z) (t c isOpen) (g .1);
             taken = sym (ap (λ (z : List ℕ). length z) (bytes-take k bs (g .0)) ∙ length-take-le k bs (g .2));
           };
-          tracks = tracks-store (d .rest) owed t c (q - k) _ (ap (λ (z : ℕ). z - k) (t c isOpen) ∙ here c _ _) (λ j x. elsewhere c _ (owed j) j x);
+          tracks = tracks-store (d .rest) owed t c _ _ (ap (λ (z : ℕ). z - k) (t c isOpen) ∙ here c _ _) (λ j x. elsewhere c _ (owed j) j x);
         }
     by-scan (long h) r e f o = by-long h r e f
     by-scan (part h) r e f o = by-part h r e f o
@@ -249,7 +249,7 @@ called d owed e t p o = let r = go (refusal d e) e refl p o in record { shows = 
         → Shows owed (shown e (taken ((answered n d e) .reply))) ((answered n d e) .reply) ((answered n d e) .frames)
         × Tracks ((answered n d e) .server .rest) (owesNext (shown e (taken ((answered n d e) .reply))) ((answered n d e) .reply) owed)
     go (suc n) e z p o = absurd (true≢false o)
-    go zero (opening c) z p o = (tt, tracks-store (d .rest) owed t c 0 (λ x. cond (eqb c x) 0 (owed x)) (here c (owed c) 0) (λ j f. elsewhere c 0 (owed j) j f))
+    go zero (opening c) z p o = (tt, tracks-store (d .rest) owed t c _ (λ x. cond (eqb c x) 0 (owed x)) (here c (owed c) 0) (λ j f. elsewhere c 0 (owed j) j f))
     go zero (delivery c bs room) z p o = let r = call-delivered d owed c bs room t p z o in (r .shows, r .tracks)
     go zero (cut c room) z p o = (tt, tracks-closing d c owed owed t (λ j. refl))
     go zero (clock k room) z p o = (tt, t)

@@ -9,7 +9,7 @@ use lib.Dec.{eqb}
 use lib.ListN.{getD, set}
 use borrow.Author.Tests.{eq-eqb, ne-eqb}
 use Rattle.wire.specs.declared.Header.{Header}
-use Rattle.model.specs.State.{Server, Rest, Connection, connectionAt, openConnection, closedConnection, withConnection}
+use Rattle.model.specs.State.{Server, Rest, Connection, connectionAt, closedConnection, withConnection}
 use Rattle.model.specs.Place.{Role, Role.r-none, Role.r-halfOpen, Role.r-synchronous, Role.r-asynchronous}
 use Rattle.model.specs.Acts
 use Rattle.model.specs.Step.{channels, shutAll, closing}
@@ -53,10 +53,10 @@ either-way false n = refl
 
 module _ (r : Rest) (owed : ℕ → ℕ) (t : Tracks r owed) where
   -- a store on connection c
-  pub tracks-store : (c n : ℕ) (next : ℕ → ℕ) → n ≡ next c → ((j : ℕ) → (j ≡ c → ⊥) → next j ≡ owed j) → Tracks (withConnection r c (openConnection n)) next
-  tracks-store c n next e f j o = go (stored (r .connections) c (openConnection n) j o)
+  pub tracks-store : (c : ℕ) (x : Connection) (next : ℕ → ℕ) → x .remainder ≡ next c → ((j : ℕ) → (j ≡ c → ⊥) → next j ≡ owed j) → Tracks (withConnection r c x) next
+  tracks-store c x next e f j o = go (stored (r .connections) c x j o)
     where
-      go : Stored (r .connections) c (openConnection n) j → (connectionAt (withConnection r c (openConnection n)) j) .remainder ≡ next j
+      go : Stored (r .connections) c x j → (connectionAt (withConnection r c x) j) .remainder ≡ next j
       go (inl h) = ap (λ (y : Connection). y .remainder) (h .1) ∙ e ∙ ap next (sym (h .0))
       go (inr h) =
           let q = h .1 in

@@ -4,10 +4,9 @@ use Prim.Native.Nat.{ℕ}
 use Rattle.model.specs.Lists.{keep}
 use Rattle.model.specs.Sizes.{noConnection, beforeFirst}
 use Rattle.model.specs.State.{Entry, Server, Standing.no-release, noGrants, blank}
-use Rattle.model.specs.Locks.{LockEvent.enter, LockEvent.join, LockEvent.close, elsewhere, withoutExclusive, withoutShared, withOrder, withGranted, opened, joined, change}
+use Rattle.model.specs.Locks.{withRow, LockEvent.enter, LockEvent.join, LockEvent.close, elsewhere, withoutExclusive, withoutShared, withOrder, withGranted, opened, joined, change}
 use Rattle.state.specs.Grid.{upd-upd, upd-set}
 use Rattle.state.specs.Change.{onEntry, orderWith}
-use Rattle.state.specs.Channels.{withRow}
 use Rattle.queue.specs.Queue.{onWaiting}
 use Rattle.state.specs.Tidy.{Tidy}
 use Rattle.state.specs.View.{Memory, view}

@@ -15,7 +15,7 @@ use Rattle.model.specs.Interface.{Event, Event.delivery, Outcome, Outcom
 use Rattle.model.specs.Step.{Line, Result, step, final, log}
 use Rattle.model.specs.Closing.{OldestFirst}
 use Rattle.model.specs.Happening.{Happening, heard, happened}
-use Rattle.model.specs.LocalityRows.{Row, inSlot, clear-row, asked-row, available-row, size-row, mode-row, count-row, sent-row, expected-row, step-row, number-row, synchronous-row, asynchronous-row, exclusive-row, shared-row, last-row, standing-row, moreGranted, granted-row, requestsLeft, looksAfter, open-row, remainder-row, isSilence, Single, singly, clock-row, status-row, made-row, allowed-row, issued-row, enable-row, lockout-row, remote-row, sensing-row}
+use Rattle.model.specs.LocalityRows.{Row, inSlot, clear-row, asked-row, available-row, size-row, mode-row, count-row, sent-row, expected-row, step-row, number-row, synchronous-row, asynchronous-row, exclusive-row, shared-row, last-row, standing-row, moreGranted, granted-row, requestsLeft, looksAfter, Way, inPlace, open-row, remainder-row, isSilence, Single, singly, clock-row, status-row, made-row, allowed-row, issued-row, enable-row, lockout-row, remote-row, sensing-row}
 use Rattle.model.specs.LocalityReplies.{saidFirst, direct, answeredFirst, answerTo, sessionSaid}
 
 -- what happened at a call, as the host sees it
@@ -64,9 +64,9 @@ EachExchange d h r field row =
     (i : ℕ) → i < length (d .rest .exchanges)
     → field (exchangeAt (r .server .rest) i) ≡ inSlot (row (exchangeAt (d .rest) i)) (d .locks .entries) i h (field (exchangeAt (d .rest) i))
 
-abbrev pub EachConnection : {A : Type 0} → Server → Happening → Result → (Connection → A) → (List Entry → ℕ → Happening → A → A) → Type 0
+abbrev pub EachConnection : {A : Type 0} → Server → Happening → Result → (Connection → A) → Way A → Type 0
 EachConnection d h r field row =
-    (x : ℕ) → x < length (d .rest .connections) → field (connectionAt (r .server .rest) x) ≡ row (d .locks .entries) x h (field (connectionAt (d .rest) x))
+    (x : ℕ) → x < length (d .rest .connections) → field (connectionAt (r .server .rest) x) ≡ inPlace row (d .locks .entries) x h (field (connectionAt (d .rest) x))
 
 -- the row may go by the session's other fields; with what the requests that are granted then make of it
 abbrev pub EachSession : {A : Type 0} → Server → Happening → Result → (ℕ → A → A) → (Entry → A) → (Entry → Row A) → Type 0

@@ -336,33 +336,35 @@ connectionsOf e = e .synchronous ∷ cond (eqb (e .asynchronous) noConnection) [
 abbrev pub concerns : List Entry → ℕ → ℕ → Bool
 concerns es c x = let e = at es (slotIn es c) in eqb x c || (live e && one-of (connectionsOf e) x)
 
--- whether connection x is open
-abbrev pub open-row : List Entry → ℕ → Happening → Bool → Bool
-open-row es x unmoved b = b
-open-row es x (connected c) b = cond (eqb x c) true b
-open-row es x (disconnected c k) b = cond (concerns es c x) false b
-open-row es x (skipped-over c k) b = b
-open-row es x (errored c h k) b = b
-open-row es x (message-acted a) b = b
-open-row es x (clock-read t) b = b
-open-row es x (status-set s) b = b
-open-row es x (setting-made u) b = b
-open-row es x (answer-sent n p end) b = b
-open-row es x (answer-withheld n m) b = b
+-- a field that each connection has: what it is once the connection is open, and once it is closed; what bytes that are skipped make of it, and
+-- a message that is answered Error
+pub record Way (A : Type 0) : Type 0 where
+  pub once-open : A
+  pub once-closed : A
+  pub by-skip : ℕ → A → A
+  pub by-error : Header → A → A
+
+-- of connection x; nothing else changes it
+abbrev pub inPlace : {A : Type 0} → Way A → List Entry → ℕ → Happening → A → A
+inPlace r es x unmoved y = y
+inPlace r es x (connected c) y = cond (eqb x c) (r .once-open) y
+inPlace r es x (disconnected c k) y = cond (concerns es c x) (r .once-closed) y
+inPlace r es x (skipped-over c k) y = cond (eqb x c) (r .by-skip k y) y
+inPlace r es x (errored c h k) y = cond (eqb x c) (r .by-error h y) y
+inPlace r es x (message-acted a) y = y
+inPlace r es x (clock-read t) y = y
+inPlace r es x (status-set b) y = y
+inPlace r es x (setting-made s) y = y
+inPlace r es x (answer-sent n p end) y = y
+inPlace r es x (answer-withheld n m) y = y
+
+-- whether it is open
+abbrev pub open-row : Way Bool
+open-row = record { once-open = true; once-closed = false; by-skip = λ k b. b; by-error = λ h b. b }
 
 -- its remainder to skip. Check 4: length above 1,024, the payload is skipped as it comes
-abbrev pub remainder-row : List Entry → ℕ → Happening → ℕ → ℕ
-remainder-row es x unmoved r = r
-remainder-row es x (connected c) r = cond (eqb x c) 0 r
-remainder-row es x (disconnected c k) r = cond (concerns es c x) 0 r
-remainder-row es x (skipped-over c k) r = cond (eqb x c) (r - k) r
-remainder-row es x (errored c h k) r = cond (eqb x c && ltb 1024 (h .len)) (h .len) r
-remainder-row es x (message-acted a) r = r
-remainder-row es x (clock-read t) r = r
-remainder-row es x (status-set b) r = r
-remainder-row es x (setting-made s) r = r
-remainder-row es x (answer-sent n p end) r = r
-remainder-row es x (answer-withheld n m) r = r
+abbrev pub remainder-row : Way ℕ
+remainder-row = record { once-open = 0; once-closed = 0; by-skip = λ k r. r - k; by-error = λ h r. cond (ltb 1024 (h .len)) (h .len) r }
 
 -- SINGLE FIELDS: what a message makes of it, a clock reading, a status change, what the host sets; nothing else changes it
 pub record Single (A : Type 0) : Type 0 where

@@ -66,12 +66,16 @@ mayGrant es i (x ∷ xs) = allBut noExclusive i es && all (fits (x ∷ xs)) es
 unfoldable pub access : List Entry → ℕ → Bool
 access es i = (at es i) .exclusive || (all noExclusive es && (not (noShared (at es i)) || all noShared es))
 
--- the entry of a session that opens; with its second connection
+-- with another SessionID and other connections
+abbrev pub withRow : ℕ → ℕ → ℕ → Entry → Entry
+withRow n a b e = record { number = n; synchronous = a; asynchronous = b; exclusive = e .exclusive; shared = e .shared; last = e .last; standing = e .standing; locksGranted = e .locksGranted }
+
+-- the entry of a session that opens, in a free slot; with its second connection
 abbrev pub opened : ℕ → ℕ → Entry
-opened n c = record { number = n; synchronous = c; asynchronous = noConnection; exclusive = false; shared = []; last = beforeFirst; standing = no-release; locksGranted = noGrants }
+opened n c = withRow n c noConnection blank
 
 abbrev pub joined : ℕ → Entry → Entry
-joined c e = record { number = e .number; synchronous = e .synchronous; asynchronous = c; exclusive = e .exclusive; shared = e .shared; last = e .last; standing = e .standing; locksGranted = e .locksGranted }
+joined c e = withRow (e .number) (e .synchronous) c e
 
 -- with other locks; with another last number and standing release
 abbrev pub withLocks : Bool → List ℕ → Entry → Entry

@@ -15,7 +15,7 @@ use Rattle.model.specs.Sizes.{sessionLimit, connectionLimit, stringLimit, listL
 use Rattle.model.specs.State.{Entry, Waiting, Locks, Exchange, Connection, RemoteLocal, Allowed, Allowed.any-command, Rest, Server, withAllowed, blank, at, freshExchange, closedConnection, exchangeAt, connectionAt, Sensing, freshSensing, sensingAt}
 use Rattle.readings.specs.Record.{Recorded}
 use Rattle.model.specs.Exchange.{withAnswering, withClear, withClientSize, withMode, withCount, withExpectation, withNumber}
-use Rattle.model.specs.Locks.{withOrder, withGranted}
+use Rattle.model.specs.Locks.{withRow, withOrder, withGranted}
 use Rattle.state.specs.Table.{tab, tab-same, tab-set, getD-tab, apart}
 use Rattle.state.specs.Grid.{upd, upd-set, part, grid, grid-set, grid-off, getD-grid, word-of}
 use Rattle.state.specs.Bits.{bit}
@@ -61,9 +61,9 @@ connectionWith zero v x = record { isOpen = flag v; remainder = x .remainder }
 connectionWith (suc f) v x = record { isOpen = x .isOpen; remainder = v }
 
 abbrev pub entryWith : ℕ → ℕ → Entry → Entry
-entryWith zero v e = record { number = v; synchronous = e .synchronous; asynchronous = e .asynchronous; exclusive = e .exclusive; shared = e .shared; last = e .last; standing = e .standing; locksGranted = e .locksGranted }
-entryWith (suc zero) v e = record { number = e .number; synchronous = v % 256; asynchronous = e .asynchronous; exclusive = e .exclusive; shared = e .shared; last = e .last; standing = e .standing; locksGranted = e .locksGranted }
-entryWith (suc (suc f)) v e = record { number = e .number; synchronous = e .synchronous; asynchronous = v % 256; exclusive = e .exclusive; shared = e .shared; last = e .last; standing = e .standing; locksGranted = e .locksGranted }
+entryWith zero v e = withRow v (e .synchronous) (e .asynchronous) e
+entryWith (suc zero) v e = withRow (e .number) (v % 256) (e .asynchronous) e
+entryWith (suc (suc f)) v e = withRow (e .number) (e .synchronous) (v % 256) e
 
 abbrev pub orderWith : ℕ → ℕ → Entry → Entry
 orderWith zero v e = withOrder (v % 2 ^ 32) (e .standing) e
@@ -146,6 +146,38 @@ onEntry d i g =
       rest = d .rest;
     }
 
+-- equal words make equal entries, exchanges and connections
+pub entry-same : (t t′ r r′ : ℕ → ℕ) (x x′ : Bool) (y y′ : List ℕ) → ((f : ℕ) → f < ENTRY → t f ≡ t′ f) → ((f : ℕ) → f < ORDER → r f ≡ r′ f) → x ≡ x′ → y ≡ y′
+    → entryFrom t r x y ≡ entryFrom t′ r′ x′ y′
+entry-same t t′ r r′ x x′ y y′ p q u v =
+    λ k. record {
+      number = p 0 (lit< tt) k;
+      synchronous = p 1 (lit< tt) k;
+      asynchronous = p 2 (lit< tt) k;
+      exclusive = u k;
+      shared = v k;
+      last = q 0 (lit< tt) k % 2 ^ 32;
+      standing = standingOf (q 1 (lit< tt) k);
+      locksGranted = record { grantedAt = q 2 (lit< tt) k; grants = q 3 (lit< tt) k };
+    }
+
+exchange-same : (t t′ : ℕ → ℕ) → ((f : ℕ) → t f ≡ t′ f) → exchangeFrom t ≡ exchangeFrom t′
+exchange-same t t′ e =
+    λ k. record {
+      inClear = flag (e 0 k);
+      asked = askedOf (e 1 k);
+      messageAvailable = flag (e 2 k);
+      clientSize = e 3 k;
+      overlap = flag (e 4 k);
+      count = e 5 k % 2 ^ 32;
+      anySent = flag (e 6 k);
+      rmtExpected = flag (e 7 k);
+      numberExpected = e 8 k % 2 ^ 32;
+    }
+
+pub connection-same : (t t′ : ℕ → ℕ) → ((f : ℕ) → f < HOME → t f ≡ t′ f) → connectionFrom t ≡ connectionFrom t′
+connection-same t t′ e = λ k. record { isOpen = flag (e 0 (lit< tt) k); remainder = e 1 (lit< tt) k }
+
 module _ (w : List ℕ) where
   -- a store elsewhere is not seen in a word; here it is
   pub off : (a v i : ℕ) → (i ≡ a → ⊥) → word (set w a v) i ≡ word w i
@@ -183,16 +215,8 @@ module _ (w : List ℕ) where
       → entryAt (set w a v) key i ≡ entryAt w key i
   unfolding entryAt
   entry-off key a v i h p q n o =
-      λ k. record {
-        number = field-off a v i 0 h (lit< tt) n o k;
-        synchronous = field-off a v i 1 h (lit< tt) n o k;
-        asynchronous = field-off a v i 2 h (lit< tt) n o k;
-        exclusive = eqb (off a v HOLDER p k) (i + 1);
-        shared = cond (eqb (bit (off a v SHARERS q k) i) 1) key [];
-        last = order-off a v i 0 h (lit< tt) o k % 2 ^ 32;
-        standing = standingOf (order-off a v i 1 h (lit< tt) o k);
-        locksGranted = record { grantedAt = order-off a v i 2 h (lit< tt) o k; grants = order-off a v i 3 h (lit< tt) o k };
-      }
+      entry-same (fieldOf (set w a v) i) (fieldOf w i) (orderWord (set w a v) i) (orderWord w i) _ _ _ _ (λ f l. field-off a v i f h l n o) (λ f l. order-off a v i f h l o)
+      (ap (λ (x : ℕ). eqb x (i + 1)) (off a v HOLDER p)) (ap (λ (x : ℕ). cond (eqb (bit x i) 1) key []) (off a v SHARERS q))
 
   pub entries-off : (key : List ℕ) (a v : ℕ) → (HOLDER ≡ a → ⊥) → (SHARERS ≡ a → ⊥) → Homeless a → (a < ENTRIES) ⊎ (REQUESTS ≤ a)
       → entriesOf (set w a v) key ≡ entriesOf w key
@@ -263,33 +287,20 @@ row-stored r f v g h =
     let d : 0 + g ≡ g = zero-add g in
     (rw (e, d) at (stored r 0 f v g (rw e h)))
 
+exchange-by : (t : ℕ → ℕ) (f v : ℕ) → f < EXCHANGE → exchangeFrom (λ (g : ℕ). cond (eqb g f) v (t g)) ≡ exchangeWith f v (exchangeFrom t)
+exchange-by t zero v l = refl
+exchange-by t (suc zero) v l = refl
+exchange-by t (suc (suc zero)) v l = refl
+exchange-by t (suc (suc (suc zero))) v l = refl
+exchange-by t (suc (suc (suc (suc zero)))) v l = refl
+exchange-by t (suc (suc (suc (suc (suc zero))))) v l = refl
+exchange-by t (suc (suc (suc (suc (suc (suc zero)))))) v l = refl
+exchange-by t (suc (suc (suc (suc (suc (suc (suc zero))))))) v l = refl
+exchange-by t (suc (suc (suc (suc (suc (suc (suc (suc zero)))))))) v l = refl
+exchange-by t (suc (suc (suc (suc (suc (suc (suc (suc (suc f))))))))) v l = absurd (omega arith)
+
 exchange-row : (r : List ℕ) (f v : ℕ) → length r ≡ EXCHANGE → f < EXCHANGE → exchangeOf (set r f v) ≡ exchangeWith f v (exchangeOf r)
-exchange-row r f v h l =
-    let t : (g : ℕ) → word (set r f v) g ≡ cond (eqb g f) v (word r g) = (λ g. row-stored r f v g (omega arith)) in
-    (λ k. record {
-      inClear = flag (t 0 k);
-      asked = askedOf (t 1 k);
-      messageAvailable = flag (t 2 k);
-      clientSize = t 3 k;
-      overlap = flag (t 4 k);
-      count = t 5 k % 2 ^ 32;
-      anySent = flag (t 6 k);
-      rmtExpected = flag (t 7 k);
-      numberExpected = t 8 k % 2 ^ 32;
-    })
-    ∙ by f l
-  where
-    by : (f : ℕ) → f < EXCHANGE → exchangeFrom (λ (g : ℕ). cond (eqb g f) v (word r g)) ≡ exchangeWith f v (exchangeOf r)
-    by zero l = refl
-    by (suc zero) l = refl
-    by (suc (suc zero)) l = refl
-    by (suc (suc (suc zero))) l = refl
-    by (suc (suc (suc (suc zero)))) l = refl
-    by (suc (suc (suc (suc (suc zero))))) l = refl
-    by (suc (suc (suc (suc (suc (suc zero)))))) l = refl
-    by (suc (suc (suc (suc (suc (suc (suc zero))))))) l = refl
-    by (suc (suc (suc (suc (suc (suc (suc (suc zero)))))))) l = refl
-    by (suc (suc (suc (suc (suc (suc (suc (suc (suc f))))))))) l = absurd (omega arith)
+exchange-row r f v h l = exchange-same (word (set r f v)) (λ (g : ℕ). cond (eqb g f) v (word r g)) (λ g. row-stored r f v g (omega arith)) ∙ exchange-by (word r) f v l
 
 sensing-row : (r : List ℕ) (f v : ℕ) → length r ≡ SENSING → f < SENSING → sensingOf (set r f v) ≡ sensingWith f v (sensingOf r)
 sensing-row r f v h l =
@@ -305,15 +316,13 @@ sensing-row r f v h l =
     by (suc (suc (suc (suc (suc zero))))) l = refl
     by (suc (suc (suc (suc (suc (suc f)))))) l = absurd (omega arith)
 
+connection-by : (t : ℕ → ℕ) (f v : ℕ) → f < HOME → connectionFrom (λ (g : ℕ). cond (eqb g f) v (t g)) ≡ connectionWith f v (connectionFrom t)
+connection-by t zero v l = refl
+connection-by t (suc zero) v l = refl
+connection-by t (suc (suc f)) v l = absurd (omega arith)
+
 connection-row : (r : List ℕ) (f v : ℕ) → length r ≡ CONNECTION → f < HOME → connectionOf (set r f v) ≡ connectionWith f v (connectionOf r)
-connection-row r f v h l =
-    let t : (g : ℕ) → word (set r f v) g ≡ cond (eqb g f) v (word r g) = (λ g. row-stored r f v g (omega arith)) in
-    (λ k. record { isOpen = flag (t 0 k); remainder = t 1 k }) ∙ by f l
-  where
-    by : (f : ℕ) → f < HOME → connectionFrom (λ (g : ℕ). cond (eqb g f) v (word r g)) ≡ connectionWith f v (connectionOf r)
-    by zero l = refl
-    by (suc zero) l = refl
-    by (suc (suc f)) l = absurd (omega arith)
+connection-row r f v h l = connection-same (word (set r f v)) (λ (g : ℕ). cond (eqb g f) v (word r g)) (λ g x. row-stored r f v g (omega arith)) ∙ connection-by (word r) f v l
 
 module _ (w s : List ℕ) (i f v : ℕ) (long : length w ≡ WORDS) where
   pub exchange-stored : i < sessionLimit → f < EXCHANGE
@@ -396,16 +405,8 @@ module _ (w key : List ℕ) (i f v : ℕ) (h : i < sessionLimit) (l : f < ORDER)
   unfolding entryAt
   entry-with j r m p =
       let a : ℕ = ORDERS + i * ORDER + f in
-      λ k. record {
-        number = order-fields j 0 m (lit< tt) k;
-        synchronous = order-fields j 1 m (lit< tt) k;
-        asynchronous = order-fields j 2 m (lit< tt) k;
-        exclusive = eqb (off w a v HOLDER (omega arith) k) (j + 1);
-        shared = cond (eqb (bit (off w a v SHARERS (omega arith) k) j) 1) key [];
-        last = p 0 (lit< tt) k % 2 ^ 32;
-        standing = standingOf (p 1 (lit< tt) k);
-        locksGranted = record { grantedAt = p 2 (lit< tt) k; grants = p 3 (lit< tt) k };
-      }
+      entry-same (fieldOf ordered j) (fieldOf w j) (orderWord ordered j) r _ _ _ _ (λ g l. order-fields j g m l) p
+      (ap (λ (x : ℕ). eqb x (j + 1)) (off w a v HOLDER (omega arith))) (ap (λ (x : ℕ). cond (eqb (bit x j) 1) key []) (off w a v SHARERS (omega arith)))
 
   order-row : length w ≡ WORDS → entryAt ordered key i ≡ orderWith f v (entryAt w key i)
   unfolding entryAt
@@ -449,6 +450,13 @@ order-stored w s i f v n h l =
     }
 
 -- a field of a row, read: the word that stands there, stored again, changes nothing
+again : (t : ℕ → ℕ) (f g : ℕ) → cond (eqb g f) (t f) (t g) ≡ t g
+again t f g = by (eqb g f) refl
+  where
+    by : (b : Bool) → eqb g f ≡ b → cond b (t f) (t g) ≡ t g
+    by true e = ap t (sym (eqb-true g f e))
+    by false e = refl
+
 module _ (w : List ℕ) (i : ℕ) where
   exchange-at : i < sessionLimit → exchangeAt (restOf w) i ≡ exchangeOf (part w (EXCHANGES + i * EXCHANGE) EXCHANGE)
   unfolding restOf
@@ -456,20 +464,9 @@ module _ (w : List ℕ) (i : ℕ) where
 
   pub exchange-read : (f : ℕ) → i < sessionLimit → f < EXCHANGE → exchangeWith f (word w (EXCHANGES + i * EXCHANGE + f)) (exchangeAt (restOf w) i) ≡ exchangeAt (restOf w) i
   exchange-read f h l =
-      let r : List ℕ = part w (EXCHANGES + i * EXCHANGE) EXCHANGE in
-      ap₂ (exchangeWith f) (sym (word-of w (EXCHANGES + i * EXCHANGE) EXCHANGE f l)) (exchange-at h) ∙ again f l ∙ sym (exchange-at h)
-    where
-      again : (f : ℕ) → f < EXCHANGE → exchangeWith f (word (part w (EXCHANGES + i * EXCHANGE) EXCHANGE) f) (exchangeOf (part w (EXCHANGES + i * EXCHANGE) EXCHANGE)) ≡ exchangeOf (part w (EXCHANGES + i * EXCHANGE) EXCHANGE)
-      again zero l = refl
-      again (suc zero) l = refl
-      again (suc (suc zero)) l = refl
-      again (suc (suc (suc zero))) l = refl
-      again (suc (suc (suc (suc zero)))) l = refl
-      again (suc (suc (suc (suc (suc zero))))) l = refl
-      again (suc (suc (suc (suc (suc (suc zero)))))) l = refl
-      again (suc (suc (suc (suc (suc (suc (suc zero))))))) l = refl
-      again (suc (suc (suc (suc (suc (suc (suc (suc zero)))))))) l = refl
-      again (suc (suc (suc (suc (suc (suc (suc (suc (suc f))))))))) l = absurd (omega arith)
+      let b : ℕ = EXCHANGES + i * EXCHANGE in
+      let r : ℕ → ℕ = word (part w b EXCHANGE) in
+      ap₂ (exchangeWith f) (sym (word-of w b EXCHANGE f l)) (exchange-at h) ∙ sym (exchange-by r f (r f) l) ∙ exchange-same (λ (g : ℕ). cond (eqb g f) (r f) (r g)) r (again r f) ∙ sym (exchange-at h)
 
   pub sensing-at : i < sessionLimit → sensingAt (restOf w) i ≡ sensingFrom (sensingWord w i)
   unfolding restOf
@@ -489,12 +486,9 @@ module _ (w : List ℕ) (i : ℕ) where
 
   pub connection-read : (f : ℕ) → i < connectionLimit → f < HOME → connectionWith f (word w (CONNECTIONS + i * CONNECTION + f)) (connectionAt (restOf w) i) ≡ connectionAt (restOf w) i
   connection-read f h l =
-      ap₂ (connectionWith f) (sym (word-of w (CONNECTIONS + i * CONNECTION) CONNECTION f (omega arith))) (connection-at h) ∙ again f l ∙ sym (connection-at h)
-    where
-      again : (f : ℕ) → f < HOME → connectionWith f (word (part w (CONNECTIONS + i * CONNECTION) CONNECTION) f) (connectionOf (part w (CONNECTIONS + i * CONNECTION) CONNECTION)) ≡ connectionOf (part w (CONNECTIONS + i * CONNECTION) CONNECTION)
-      again zero l = refl
-      again (suc zero) l = refl
-      again (suc (suc f)) l = absurd (omega arith)
+      let b : ℕ = CONNECTIONS + i * CONNECTION in
+      let r : ℕ → ℕ = word (part w b CONNECTION) in
+      ap₂ (connectionWith f) (sym (word-of w b CONNECTION f (omega arith))) (connection-at h) ∙ sym (connection-by r f (r f) l) ∙ connection-same (λ (g : ℕ). cond (eqb g f) (r f) (r g)) r (λ g x. again r f g) ∙ sym (connection-at h)
 
   pub entry-at : (s : List ℕ) → i < sessionLimit → at (locksOf w s .entries) i ≡ entryAt w (keyOf w s) i
   unfolding locksOf entriesOf
@@ -516,11 +510,9 @@ module _ (w : List ℕ) (i : ℕ) where
 
   order-again : (key : List ℕ) (f : ℕ) → f < ORDER → orderWith f (orderWord w i f) (entryAt w key i) ≡ entryAt w key i
   unfolding entryAt
-  order-again key zero l = refl
-  order-again key (suc zero) l = refl
-  order-again key (suc (suc zero)) l = refl
-  order-again key (suc (suc (suc zero))) l = refl
-  order-again key (suc (suc (suc (suc f)))) l = absurd (omega arith)
+  order-again key f l =
+      let r : ℕ → ℕ = orderWord w i in
+      sym (order-by (fieldOf w i) _ _ r f (r f) l) ∙ entry-same (fieldOf w i) (fieldOf w i) (λ (g : ℕ). cond (eqb g f) (r f) (r g)) r _ _ _ _ (λ g x. refl) (λ g x. again r f g) refl refl
 
   pub order-read : (s : List ℕ) (f : ℕ) → i < sessionLimit → f < ORDER → orderWith f (orderWord w i f) (at (locksOf w s .entries) i) ≡ at (locksOf w s .entries) i
   order-read s f h l = ap (orderWith f (orderWord w i f)) (entry-at s h) ∙ order-again (keyOf w s) f l ∙ sym (entry-at s h)

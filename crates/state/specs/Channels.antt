@@ -10,20 +10,16 @@ use lib.ListN.{length, set, length-set}
 use borrow.Author.Tests.{eqb-true, eqb-false}
 use Rattle.model.specs.Sizes.{sessionLimit, connectionLimit, noConnection}
 use Rattle.model.specs.State.{Entry, Locks, Connection, Allowed.any-command, Server, withAllowed}
-use Rattle.model.specs.Locks.{joined}
+use Rattle.model.specs.Locks.{withRow, joined}
 use Rattle.state.specs.Table.{tab-same}
 use Rattle.state.specs.Grid.{upd, upd-same, grid, grid-set, grid-off}
 use Rattle.state.specs.Bits.{bit}
 use Rattle.state.specs.Layout.{CLOCK, VENDOR, PREFERENCE, STATUS, LAST, ENABLE, LOCKOUT, REMOTE, HOLDER, SHARERS, ENTRIES, ENTRY, ORDERS, ORDER, EXCHANGES, EXCHANGE, CONNECTIONS, CONNECTION, HOME, WORDS, SENSINGS, SENSING}
-use Rattle.state.specs.View.{memory, standingOf, word, flag, keyOf, orderWord, rowWord, homeIn, homeAt, homeOf, fieldOf, entryAt, entriesOf, locksOf, exchangeOf, connectionOf, restOf, view, sensingOf}
+use Rattle.state.specs.View.{memory, word, flag, keyOf, orderWord, rowWord, homeIn, homeAt, homeOf, fieldOf, entryAt, entriesOf, locksOf, exchangeOf, connectionOf, restOf, view, sensingOf}
 use Rattle.state.specs.Confirmed.{field-same, field-else, field-number, field-free, field-past, field-shown, Shows, shows}
-use Rattle.state.specs.Change.{onEntry, off, here, key-off, waiting-off, allowed-off, rest-off, entries-change}
+use Rattle.state.specs.Change.{onEntry, off, here, entry-same, connection-same, key-off, waiting-off, allowed-off, rest-off, entries-change}
 use Rattle.state.specs.Tidy.{Tidy, TidyHome, Shown}
 use Rattle.state.specs.Keeping.{table-tidy, live-row, same-row}
-
--- a slot with another SessionID and other connections
-abbrev pub withRow : ℕ → ℕ → ℕ → Entry → Entry
-withRow n a b e = record { number = n; synchronous = a; asynchronous = b; exclusive = e .exclusive; shared = e .shared; last = e .last; standing = e .standing; locksGranted = e .locksGranted }
 
 -- no slot shows connection c
 abbrev pub Unshown : List ℕ → ℕ → Type 0
@@ -48,7 +44,7 @@ row-stored w s i f v h l =
     }
 
 home-row : (r : List ℕ) (v : ℕ) → connectionOf (set r HOME v) ≡ connectionOf r
-home-row r v = λ k. record { isOpen = flag (off r HOME v 0 (omega arith) k); remainder = off r HOME v 1 (omega arith) k }
+home-row r v = connection-same (word (set r HOME v)) (word r) (λ f l. off r HOME v f (omega arith))
 
 home-rest : (w : List ℕ) (c v : ℕ) → length w ≡ WORDS → c < connectionLimit → restOf (set w (homeAt c) v) ≡ restOf w
 unfolding restOf
@@ -85,16 +81,8 @@ module _ (w w′ key : List ℕ) (j : ℕ) (holder : word w′ HOLDER ≡ word w
   entry-rowed : (n a b : ℕ) → fieldOf w′ j 0 ≡ n → fieldOf w′ j 1 ≡ a → fieldOf w′ j 2 ≡ b → entryAt w′ key j ≡ withRow n a b (entryAt w key j)
   unfolding entryAt
   entry-rowed n a b p q r =
-      λ k. record {
-        number = p k;
-        synchronous = q k;
-        asynchronous = r k;
-        exclusive = eqb (holder k) (j + 1);
-        shared = cond (eqb (bit (sharers k) j) 1) key [];
-        last = order 0 k % 2 ^ 32;
-        standing = standingOf (order 1 k);
-        locksGranted = record { grantedAt = order 2 k; grants = order 3 k };
-      }
+      entry-same (fieldOf w′ j) (fieldOf w′ j) (orderWord w′ j) (orderWord w j) _ _ _ _ (λ f l. refl) (λ f l. order f) (ap (λ (x : ℕ). eqb x (j + 1)) holder) (ap (λ (x : ℕ). cond (eqb (bit x j) 1) key []) sharers)
+      ∙ λ k. withRow (p k) (q k) (r k) (entryAt w key j)
 
   entry-kept : ((f : ℕ) → f < ENTRY → fieldOf w′ j f ≡ fieldOf w j f) → entryAt w′ key j ≡ entryAt w key j
   unfolding entryAt

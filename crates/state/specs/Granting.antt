@@ -6,7 +6,7 @@ use mathlib.Core.List.{List, [], _∷_, _++_}
 use Prim.Native.Nat.{ℕ, zero, suc, _+_, _*_, _-_, _%_, _^_, _≤_, _<_}
 use native.Mathlib.Nat.{zero-add}
 use native.Mathlib.Omega.{arith}
-use lib.Dec.{eqb, lit<}
+use lib.Dec.{eqb}
 use lib.ListN.{length, getD, set}
 use borrow.Author.Tests.{eq-eqb, ne-eqb}
 use Rattle.model.specs.Sizes.{sessionLimit}
@@ -15,9 +15,9 @@ use Rattle.model.specs.Locks.{give, withoutExclusive, withoutShared}
 use Rattle.state.specs.Grid.{upd}
 use Rattle.state.specs.Bits.{bit, without, with-bit, without-same, without-other, with-same, with-other, with-first}
 use Rattle.state.specs.Layout.{LOCKS, CLOCK, HOLDER, SHARERS, KEY, ENTRIES, ENTRY, ORDERS, ORDER, WORDS}
-use Rattle.state.specs.View.{Memory, memory, standingOf, word, keyOf, homeAt, fieldOf, orderWord, entryFrom, entryAt, entriesOf, waitingOf, locksOf, view}
+use Rattle.state.specs.View.{Memory, memory, word, keyOf, homeAt, fieldOf, orderWord, entryFrom, entryAt, entriesOf, waitingOf, locksOf, view}
 use Rattle.state.specs.Confirmed.{field-same}
-use Rattle.state.specs.Change.{onEntry, off, here, key-off, waiting-off, rest-off, entries-change}
+use Rattle.state.specs.Change.{onEntry, off, here, entry-same, key-off, waiting-off, rest-off, entries-change}
 
 -- slot j with another exclusive holder, with another set of sharers
 module _ (w key : List ℕ) (j : ℕ) (long : length w ≡ WORDS) where
@@ -25,31 +25,13 @@ module _ (w key : List ℕ) (j : ℕ) (long : length w ≡ WORDS) where
   unfolding entryAt
   entry-holder v =
       let t : (f : ℕ) → f < ENTRY → fieldOf (set w HOLDER v) j f ≡ fieldOf w j f = field-same w (set w HOLDER v) j (λ g l. off w HOLDER v (ENTRIES + j * ENTRY + g) (omega arith)) (λ c l. off w HOLDER v (homeAt c) (omega arith)) in
-      λ k. record {
-        number = t 0 (lit< tt) k;
-        synchronous = t 1 (lit< tt) k;
-        asynchronous = t 2 (lit< tt) k;
-        exclusive = eqb (here w HOLDER v (omega arith) k) (j + 1);
-        shared = cond (eqb (bit (off w HOLDER v SHARERS (omega arith) k) j) 1) key [];
-        last = off w HOLDER v (ORDERS + j * ORDER + 0) (omega arith) k % 2 ^ 32;
-        standing = standingOf (off w HOLDER v (ORDERS + j * ORDER + 1) (omega arith) k);
-        locksGranted = record { grantedAt = off w HOLDER v (ORDERS + j * ORDER + 2) (omega arith) k; grants = off w HOLDER v (ORDERS + j * ORDER + 3) (omega arith) k };
-      }
+      entry-same _ (fieldOf w j) (orderWord (set w HOLDER v) j) (orderWord w j) _ _ _ _ t (λ f l. off w HOLDER v (ORDERS + j * ORDER + f) (omega arith)) (ap (λ (x : ℕ). eqb x (j + 1)) (here w HOLDER v (omega arith))) (ap (λ (x : ℕ). cond (eqb (bit x j) 1) key []) (off w HOLDER v SHARERS (omega arith)))
 
   entry-sharers : (v : ℕ) → entryAt (set w SHARERS v) key j ≡ entryFrom (fieldOf w j) (orderWord w j) ((entryAt w key j) .exclusive) (cond (eqb (bit v j) 1) key [])
   unfolding entryAt
   entry-sharers v =
       let t : (f : ℕ) → f < ENTRY → fieldOf (set w SHARERS v) j f ≡ fieldOf w j f = field-same w (set w SHARERS v) j (λ g l. off w SHARERS v (ENTRIES + j * ENTRY + g) (omega arith)) (λ c l. off w SHARERS v (homeAt c) (omega arith)) in
-      λ k. record {
-        number = t 0 (lit< tt) k;
-        synchronous = t 1 (lit< tt) k;
-        asynchronous = t 2 (lit< tt) k;
-        exclusive = eqb (off w SHARERS v HOLDER (omega arith) k) (j + 1);
-        shared = cond (eqb (bit (here w SHARERS v (omega arith) k) j) 1) key [];
-        last = off w SHARERS v (ORDERS + j * ORDER + 0) (omega arith) k % 2 ^ 32;
-        standing = standingOf (off w SHARERS v (ORDERS + j * ORDER + 1) (omega arith) k);
-        locksGranted = record { grantedAt = off w SHARERS v (ORDERS + j * ORDER + 2) (omega arith) k; grants = off w SHARERS v (ORDERS + j * ORDER + 3) (omega arith) k };
-      }
+      entry-same _ (fieldOf w j) (orderWord (set w SHARERS v) j) (orderWord w j) _ _ _ _ t (λ f l. off w SHARERS v (ORDERS + j * ORDER + f) (omega arith)) (ap (λ (x : ℕ). eqb x (j + 1)) (off w SHARERS v HOLDER (omega arith))) (ap (λ (x : ℕ). cond (eqb (bit x j) 1) key []) (here w SHARERS v (omega arith)))
 
   -- slot j as its words have it, with these locks
   entry-as : (x : Bool) (y : List ℕ) → (entryAt w key j) .exclusive ≡ x → (entryAt w key j) .shared ≡ y

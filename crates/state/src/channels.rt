@@ -1,9 +1,9 @@
 // Which session has a connection: it stands in the slot's row, and the slot in the connection's home. A connection that both name is the session's.
 ghost use Prim.Native.Nat.{ℕ, _*_, _+_, _<_};
-ghost use Rattle.model.specs.Locks.{joined};
+ghost use Rattle.model.specs.Locks.{joined, withRow};
 ghost use Rattle.model.specs.Sizes.{connectionLimit, noConnection, sessionLimit};
 ghost use Rattle.state.specs.Change.{onEntry};
-ghost use Rattle.state.specs.Channels.{Unshown, withRow};
+ghost use Rattle.state.specs.Channels.{Unshown};
 ghost use Rattle.state.specs.Closing.{Cleared, LeftHome};
 ghost use Rattle.state.specs.Layout.{ENTRIES, ENTRY, WORDS};
 ghost use Rattle.state.specs.Tidy.{Tidy};
