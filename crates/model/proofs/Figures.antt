@@ -21,7 +21,8 @@ use Rattle.model.specs.Acts.{acts, synchronousExchange, synchronousSaid,
 use Rattle.model.specs.Sensing.{sensed, requested, settingSensings}
 use Rattle.model.specs.Refusals.{refusal, causes}
 use Rattle.model.specs.Step.{log, step, answered, plan, finish, received, effect}
-use Rattle.model.proofs.Table.{Call, call, played, expected, message, send, cal, eightZeros, opened}
+use Rattle.model.specs.Demand3.{Seen}
+use Rattle.model.proofs.Table.{call, played, message, send, cal, eightZeros, opened}
 
 -- the queries of the figures, numbered as 003 has it; RMT-delivered or not
 abbrev query : ℕ → ℕ → List ℕ
@@ -38,7 +39,7 @@ answered-with t n b = 0 ∷ 0x48 ∷ 0x53 ∷ t ∷ 0 ∷ 0xff ∷ 0xff ∷ 0xff
 abbrev interrupted-by : ℕ → List ℕ
 interrupted-by n = bare 1 14 n ++ bare 0 13 n
 
-pub figures : List (List Call)
+pub figures : List (List Seen)
 figures =
     -- 2, slow client: it sends the second query without having read the first response, so says that the RMT was not delivered; the second
     -- response goes its way, and so does the third query
@@ -74,6 +75,6 @@ figures =
     ∷ []))
     ∷ []
 
-pub figures-hold : map played figures ≡ map expected figures
+pub figures-hold : map played figures ≡ figures
 unfolding figures log step refusal causes answered plan finish received effect verdict placeOf acts synchronousExchange synchronousSaid asynchronousRest asynchronousSaid asynchronousEvent controlled mayAnswer answerNumber availableAt sensed requested settingSensings watched readingsIn blockOf scan freshScan header field encode headerBytes frameBytes bytesOf classOf mayGrant access passOver grantPass change
 figures-hold = refl
