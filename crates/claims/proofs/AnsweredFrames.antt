@@ -16,7 +16,7 @@ use Rattle.model.specs.State.{Server, Entry, Waiting, Standing, Standing.no-rel
 use Rattle.model.specs.Step.{Result}
 use Rattle.model.specs.Happening.{Heard, Heard.silence, Heard.with-code, Action, Happening, Happening.unmoved, Happening.connected, Happening.disconnected, Happening.skipped-over, Happening.errored, Happening.message-acted, Happening.clock-read, Happening.status-set, Happening.setting-made, Happening.answer-sent, Happening.answer-withheld, heard}
 use Rattle.model.specs.LocalityRows.{kindOf, slotActed, isCode, codeWhere, endedWith, interruptedBy, requestsOf, reachedBy, looksAfter, tripsBy}
-use Rattle.model.specs.LocalityReplies.{preferred, numberSent, plainTo, ReplyTo, replyIn, replies, saidTo, fatalTo, pairTo, saidFirst, direct, answeredFirst, answerTo, serviceTo}
+use Rattle.model.specs.LocalityReplies.{preferred, numberSent, plainTo, ReplyTo, replyIn, replies, saidTo, fatalTo, pairTo, saidFirst, direct, answeredFirst, waitingAnswer, serviceTo}
 use Rattle.model.specs.Locality.{Local}
 use Rattle.model.specs.AnsweredOnce.{lockOnly}
 use Rattle.model.specs.GrantsSeen.{ofClear, toWaiting}
@@ -30,9 +30,9 @@ lock-append (f ∷ xs) ys = go (eqb (f .message .kind) 5) (lock-append xs ys)
     go true e = ap (λ zs. f ∷ zs) e
     go false e = e
 
-pub lock-to : (k : ℕ) (es : List Entry) (ws : List Waiting) → lockOnly (map (answerTo k es) ws) ≡ map (answerTo k es) ws
+pub lock-to : (k : ℕ) (es : List Entry) (ws : List Waiting) → lockOnly (map (waitingAnswer k es) ws) ≡ map (waitingAnswer k es) ws
 lock-to k es [] = refl
-lock-to k es (w ∷ ws) = ap (λ fs. answerTo k es w ∷ fs) (lock-to k es ws)
+lock-to k es (w ∷ ws) = ap (λ fs. waitingAnswer k es w ∷ fs) (lock-to k es ws)
 
 -- what is no lock answer
 lock-said : (q : Heard) (t : ℕ) (cs : List ℕ) → eqb t 5 ≡ false → lockOnly (saidTo q t cs) ≡ []
@@ -86,10 +86,10 @@ module _ (d : Server) where
 
   -- a message that acted
   module _ (a : Action) (fs : List Frame) (due : List Entry) (gs : List Waiting) (told : a .told ≡ heard 5 fs)
-      (frames : fs ≡ saidFirst d (message-acted a) ++ (answeredFirst d (message-acted a) ++ (direct d (message-acted a) ++ map (answerTo 1 due) gs)))
+      (frames : fs ≡ saidFirst d (message-acted a) ++ (answeredFirst d (message-acted a) ++ (direct d (message-acted a) ++ map (waitingAnswer 1 due) gs)))
       (none : looksAfter es (message-acted a) ≡ false → gs ≡ []) where
     abbrev pub G : List Frame
-    G = map (answerTo 1 due) gs
+    G = map (waitingAnswer 1 due) gs
 
     abbrev t₀ : ℕ
     t₀ = kindOf a
@@ -98,7 +98,7 @@ module _ (d : Server) where
     e₀ = at es (slotActed es a)
 
     abbrev pub zeros : List Frame
-    zeros = map (answerTo 0 es) (keep (requestsOf (slotActed es a)) ws)
+    zeros = map (waitingAnswer 0 es) (keep (requestsOf (slotActed es a)) ws)
 
     abbrev pub ended : Heard
     ended = endedWith a (e₀ .standing)
@@ -119,18 +119,18 @@ module _ (d : Server) where
 
     -- the goal, by the three tests
     abbrev Says : Bool → Bool → Type 0
-    Says x y = cond x (drop 1 (lockOnly fs)) (cond y (ofClear fs) (lockOnly fs)) ≡ map (answerTo 0 es) (cond y (keep (requestsOf (slotActed es a)) ws) []) ++ G
+    Says x y = cond x (drop 1 (lockOnly fs)) (cond y (ofClear fs) (lockOnly fs)) ≡ map (waitingAnswer 0 es) (cond y (keep (requestsOf (slotActed es a)) ws) []) ++ G
 
     -- nobody is granted where no release is answered
     ungranted : eqb t₀ 4 ≡ false → ended ≡ silence → G ≡ []
-    ungranted q e = ap (map (answerTo 1 due)) (none (rw q (ap (λ (r : Heard). isCode 1 r || isCode 2 r) e)))
+    ungranted q e = ap (map (waitingAnswer 1 due)) (none (rw q (ap (λ (r : Heard). isCode 1 r || isCode 2 r) e)))
 
     -- AsyncLock: its own answer first
     own-answer : (x : Heard) → a .told ≡ x → fs ≡ saidTo x 5 (a .connection ∷ []) ++ G → drop 1 (saidTo x 5 (a .connection ∷ []) ++ G) ≡ G
     own-answer (with-code k) e f = refl
     own-answer silence e f = go gs (sym e ∙ told ∙ ap (heard 5) f)
       where
-        go : (gs : List Waiting) → silence ≡ heard 5 (map (answerTo 1 due) gs) → drop 1 (map (answerTo 1 due) gs) ≡ map (answerTo 1 due) gs
+        go : (gs : List Waiting) → silence ≡ heard 5 (map (waitingAnswer 1 due) gs) → drop 1 (map (waitingAnswer 1 due) gs) ≡ map (waitingAnswer 1 due) gs
         go [] h = refl
         go (w ∷ gs) h = absurd (let z : _≡_ {A = ℕ} 0 1 = cc in omega arith)
 
@@ -138,10 +138,10 @@ module _ (d : Server) where
     pub unanswered : t₀ ≡ 4 → a .told ≡ silence → fs ≡ []
     unanswered q e = go gs (sym e ∙ told ∙ ap (heard 5) f) f
       where
-        f : fs ≡ map (answerTo 1 due) gs
+        f : fs ≡ map (waitingAnswer 1 due) gs
         f = rw (q, e) at frames
 
-        go : (gs : List Waiting) → silence ≡ heard 5 (map (answerTo 1 due) gs) → fs ≡ map (answerTo 1 due) gs → fs ≡ []
+        go : (gs : List Waiting) → silence ≡ heard 5 (map (waitingAnswer 1 due) gs) → fs ≡ map (waitingAnswer 1 due) gs → fs ≡ []
         go [] h f = f
         go (w ∷ gs) h f = absurd (let z : _≡_ {A = ℕ} 0 1 = cc in omega arith)
 
@@ -165,9 +165,9 @@ module _ (d : Server) where
     append [] ys zs = refl
     append (x ∷ xs) ys zs = ap (λ us. x ∷ us) (append xs ys zs)
 
-    clear-zeros : (vs : List Waiting) (ys : List Frame) → ofClear (map (answerTo 0 es) vs ++ ys) ≡ map (answerTo 0 es) vs ++ ofClear ys
+    clear-zeros : (vs : List Waiting) (ys : List Frame) → ofClear (map (waitingAnswer 0 es) vs ++ ys) ≡ map (waitingAnswer 0 es) vs ++ ofClear ys
     clear-zeros [] ys = refl
-    clear-zeros (v ∷ vs) ys = ap (λ us. answerTo 0 es v ∷ us) (clear-zeros vs ys)
+    clear-zeros (v ∷ vs) ys = ap (λ us. waitingAnswer 0 es v ∷ us) (clear-zeros vs ys)
 
     clear-ended : (s : Standing) (x : ℕ) (ys : List Frame) → ofClear (saidTo (codeWhere (λ n. true) s) 5 (x ∷ []) ++ ys) ≡ ofClear ys
     clear-ended no-release x ys = refl
@@ -202,7 +202,7 @@ module _ (d : Server) where
         let e : ended ≡ silence = rw (o, r) in
         first-is false false q r ∙ ap (λ (x : Heard). lockOnly (saidTo x 5 (e₀ .asynchronous ∷ [])) ++ G) e
 
-    pub acted-frames : toWaiting (message-acted a) fs ≡ map (answerTo 0 es) (taken (message-acted a)) ++ G
+    pub acted-frames : toWaiting (message-acted a) fs ≡ map (waitingAnswer 0 es) (taken (message-acted a)) ++ G
     acted-frames = go (eqb t₀ 4) (eqb t₀ 19) (one-of (6 ∷ 7 ∷ 12 ∷ []) t₀) refl refl refl
       where
         go : (x y z : Bool) → eqb t₀ 4 ≡ x → eqb t₀ 19 ≡ y → one-of (6 ∷ 7 ∷ 12 ∷ []) t₀ ≡ z → Says (eqb t₀ 4 || one-of (6 ∷ 7 ∷ 12 ∷ []) t₀) (eqb t₀ 19)
@@ -219,7 +219,7 @@ module _ (d : Server) where
 pub record Told (d : Server) (h : Happening) (fs : List Frame) : Type 0 where
   pub own : (a : Action) → h ≡ message-acted a → a .told ≡ heard 5 fs
 
-pub frames-told : (d : Server) (h : Happening) (r : Result) (l : Local d h r) → Told d h (r .frames) → toWaiting h (r .frames) ≡ map (answerTo 0 (d .locks .entries)) (taken d h) ++ map (answerTo 1 (l .due)) (l .granted)
+pub frames-told : (d : Server) (h : Happening) (r : Result) (l : Local d h r) → Told d h (r .frames) → toWaiting h (r .frames) ≡ map (waitingAnswer 0 (d .locks .entries)) (taken d h) ++ map (waitingAnswer 1 (l .due)) (l .granted)
 frames-told d unmoved r l t = ap lockOnly (l .frames) ∙ lock-to 1 (l .due) (l .granted)
 frames-told d (connected c) r l t = ap lockOnly (l .frames) ∙ lock-to 1 (l .due) (l .granted)
 frames-told d (disconnected c k) r l t = ap lockOnly (l .frames) ∙ lock-append (saidTo k 2 (fatalTo (d .locks .entries) c)) _ ∙ ap₂ _++_ (lock-said k 2 (fatalTo (d .locks .entries) c) refl) (lock-to 1 (l .due) (l .granted))
@@ -229,10 +229,10 @@ frames-told d (message-acted a) r l t = acted-frames d a (r .frames) (l .due) (l
   where
     nobody : looksAfter (d .locks .entries) (message-acted a) ≡ false → l .granted ≡ []
     nobody e = (rw e at (l .waiting)) .2
-frames-told d (clock-read u) r l t = ap lockOnly (l .frames) ∙ lock-append (map (answerTo 0 (d .locks .entries)) (keep (reachedBy u) (d .locks .waiting))) _ ∙ ap₂ _++_ (lock-to 0 (d .locks .entries) (keep (reachedBy u) (d .locks .waiting))) (lock-to 1 (l .due) (l .granted))
+frames-told d (clock-read u) r l t = ap lockOnly (l .frames) ∙ lock-append (map (waitingAnswer 0 (d .locks .entries)) (keep (reachedBy u) (d .locks .waiting))) _ ∙ ap₂ _++_ (lock-to 0 (d .locks .entries) (keep (reachedBy u) (d .locks .waiting))) (lock-to 1 (l .due) (l .granted))
 frames-told d (status-set b) r l t = ap lockOnly (l .frames) ∙ lock-to 1 (l .due) (l .granted)
 frames-told d (setting-made s) r l t = ap lockOnly (l .frames) ∙ lock-to 1 (l .due) (l .granted)
-frames-told d (answer-sent n p end) r l t = ap lockOnly (l .frames) ∙ lock-append (f ∷ fs) (map (answerTo 1 (l .due)) (l .granted)) ∙ ap₂ _++_ (go end (lockOnly fs) (none-served (not (s .tripped) && tripsBy p s))) (lock-to 1 (l .due) (l .granted))
+frames-told d (answer-sent n p end) r l t = ap lockOnly (l .frames) ∙ lock-append (f ∷ fs) (map (waitingAnswer 1 (l .due)) (l .granted)) ∙ ap₂ _++_ (go end (lockOnly fs) (none-served (not (s .tripped) && tripsBy p s))) (lock-to 1 (l .due) (l .granted))
   where
     f : Frame
     f = frameOf ((at (d .locks .entries) (slotOfNumber (d .locks .entries) n)) .synchronous) (cond end 7 6) 0 (numberSent (exchangeAt (d .rest) (slotOfNumber (d .locks .entries) n))) p

@@ -15,15 +15,15 @@ use Rattle.model.specs.MessageTypes.{AsyncLock}
 use Rattle.model.specs.Lists.{all, keep}
 use Rattle.model.specs.State.{Server, Locks, Entry, Waiting, Standing, Standing.no-release, Standing.release-of, Kind.exclusive-lock, Kind.shared-lock, at, live, blank, slotOfNumber, fresh, Making}
 use Rattle.model.specs.Interface.{Event, Event.delivery, Event.clock, Outcome.acted, Reply, Reply.took}
-use Rattle.model.specs.Place.{onConnection, slotIn, slotOf, entryOf, Role.r-asynchronous, roleOf}
+use Rattle.model.specs.Place.{isOnConnection, slotIn, slotOf, entryOf, Role.r-asynchronous, roleOf}
 use Rattle.model.specs.Locks.{Answer, LockEvent.request, elsewhere, noPlace, holds, mayGrant, stands, ruling, respond, change}
 use Rattle.model.specs.Step.{Result, finish, lockFrame, step, final, log}
 use Rattle.model.specs.Happening.{Heard, Action, Happening, Happening.unmoved, Happening.connected, Happening.disconnected, Happening.skipped-over, Happening.errored, Happening.message-acted, Happening.clock-read, Happening.status-set, Happening.setting-made, Happening.answer-sent, Happening.answer-withheld, heard, happened}
 use Rattle.model.specs.LocalityRows.{kindOf, slotActed, inSlot, asynchronous-row, synchronous-row, number-row, isSilence, endedWith, waits, requestsOf, reachedBy, requestsLeft, looksAfter}
-use Rattle.model.specs.LocalityReplies.{answerTo}
+use Rattle.model.specs.LocalityReplies.{waitingAnswer}
 use Rattle.model.specs.Locality.{atCall, Local}
 use Rattle.model.specs.NextQuestion.{synchronousOf}
-use Rattle.model.specs.AnsweredOnce.{codesTo, Release, Release.none-stands, answeredTo, releaseAfter, Call, Call.closes, Call.expires, Call.clears, Call.other, callOf, joins, NoMore, Meets, Once, clockIn, AnsweredOnce}
+use Rattle.model.specs.AnsweredOnce.{codesTo, Release, Release.none-stands, answeredTo, releaseAfter, Call, Call.closes, Call.expires, Call.clears, Call.other, callOf, takesConnection, NoMore, Meets, Once, clockIn, AnsweredOnce}
 use Rattle.model.proofs.Basics.{and-l, and-r, both, or-of, or-r, or→, not-of, inside, all-keep}
 use Rattle.claims.proofs.Invariant.{Inv, Good}
 use Rattle.model.proofs.Place.{place-sound, place-unique, async-live}
@@ -63,7 +63,7 @@ module _ (c : ℕ) (real : c ≡ noConnection → ⊥) (s t j : ℕ) (p : Releas
   abbrev apart-from : Waiting → Bool
   apart-from w = eqb (w .slot) j || away c 0 E w
 
-  own-connection : onConnection c (at E j) ≡ true
+  own-connection : isOnConnection c (at E j) ≡ true
   own-connection = both _ _ (k .alive) (or-r (eqb ((at E j) .synchronous) c) _ (eq-eqb _ _ (k .second)))
 
   others : (ws : List Waiting) → Good E ws → all apart-from ws ≡ true
@@ -74,7 +74,7 @@ module _ (c : ℕ) (real : c ≡ noConnection → ⊥) (s t j : ℕ) (p : Releas
       go true y ex ey = refl
       go false false ex ey = refl
       go false true ex ey =
-          let on : onConnection c (at E (w .slot)) ≡ true = both _ _ (and-l (live (at E (w .slot))) _ (g .0)) (or-r (eqb ((at E (w .slot)) .synchronous) c) _ ey) in
+          let on : isOnConnection c (at E (w .slot)) ≡ true = both _ _ (and-l (live (at E (w .slot))) _ (g .0)) (or-r (eqb ((at E (w .slot)) .synchronous) c) _ ey) in
           absurd (eqb-false _ _ ex (k .inv .sound .firm .connections c real (w .slot) j on own-connection))
 
   all-others : all apart-from W ≡ true
@@ -100,11 +100,11 @@ module _ (c : ℕ) (real : c ≡ noConnection → ⊥) (s t j : ℕ) (p : Releas
     abbrev Quieted : Type 0
     Quieted = all (away c 0 (r .server .locks .entries)) (r .server .locks .waiting) ≡ true
 
-    A-is : A ≡ codesTo c (map (answerTo 0 E) (taken d h)) ++ codesTo c (map (answerTo 1 (l .due)) (l .granted))
+    A-is : A ≡ codesTo c (map (waitingAnswer 0 E) (taken d h)) ++ codesTo c (map (waitingAnswer 1 (l .due)) (l .granted))
     A-is = codes c real d h r l f (k .inv) v′
 
     -- it is dropped, with these codes
-    dropped : (xs : List ℕ) → joins c h ≡ false → codesTo c (map (answerTo 0 E) (taken d h)) ≡ xs → all apart-from left₀ ≡ true → None j left₀ → (A ≡ xs ++ []) × Quieted
+    dropped : (xs : List ℕ) → takesConnection c h ≡ false → codesTo c (map (waitingAnswer 0 E) (taken d h)) ≡ xs → all apart-from left₀ ≡ true → None j left₀ → (A ≡ xs ++ []) × Quieted
     dropped xs n e a o =
         let x = quiet-after c real d h r l f (k .inv) v′ n (away-of left₀ a o) in
         (A-is ∙ ap₂ _++_ e (x .0), x .1)
@@ -116,13 +116,13 @@ module _ (c : ℕ) (real : c ≡ noConnection → ⊥) (s t j : ℕ) (p : Releas
     abbrev On : Type 0
     On = ((A ≡ []) × (One j t (r .server .locks .waiting))) ⊎ ((A ≡ 1 ∷ []) × Quieted)
 
-    looked : joins c h ≡ false → all (away c 0 E) (taken d h) ≡ true → all apart-from left₀ ≡ true → One j t left₀ → Same → On
+    looked : takesConnection c h ≡ false → all (away c 0 E) (taken d h) ≡ true → all apart-from left₀ ≡ true → One j t left₀ → Same → On
     looked n a b o m = go (look-one (d .locks .clock) j t (looksAfter E h) (l .due) left₀ (r .server .locks .entries) (r .server .locks .waiting) (l .granted) (l .waiting) o)
       where
         q : (all apart-from (r .server .locks .waiting) ≡ true) × (all apart-from (l .granted) ≡ true)
         q = look-all (d .locks .clock) apart-from (looksAfter E h) (l .due) left₀ (r .server .locks .entries) (r .server .locks .waiting) (l .granted) (l .waiting) b
 
-        none-taken : codesTo c (map (answerTo 0 E) (taken d h)) ≡ []
+        none-taken : codesTo c (map (waitingAnswer 0 E) (taken d h)) ≡ []
         none-taken = codes-none c 0 E (taken d h) a
 
         due-apart : (w : Waiting) → apart-from w ≡ true → (eqb (w .slot) j || away c 1 (l .due) w) ≡ true
@@ -152,7 +152,7 @@ module _ (c : ℕ) (real : c ≡ noConnection → ⊥) (s t j : ℕ) (p : Releas
     abbrev Untouched : Type 0
     Untouched = On × Same
 
-    calm : joins c h ≡ false → taken d h ≡ [] → left₀ ≡ W → Same → Untouched
+    calm : takesConnection c h ≡ false → taken d h ≡ [] → left₀ ≡ W → Same → Untouched
     calm n a b m = (looked n (rw a) (rw b all-others) (rw b (k .one)) m, m)
 
   -- by what happened
@@ -189,7 +189,7 @@ module _ (c : ℕ) (real : c ≡ noConnection → ⊥) (s t j : ℕ) (p : Releas
       by (inl z) = true≢false (sym (or-r (eqb x c) _ (eq-eqb _ _ (sym (eqb-true _ _ z) ∙ ap (λ (i : ℕ). (at E i) .synchronous) q ∙ k .first))) ∙ e)
       by (inr z) = true≢false (sym (or-of _ _ (eq-eqb _ _ (sym (eqb-true _ _ z) ∙ ap (λ (i : ℕ). (at E i) .asynchronous) q ∙ k .second))) ∙ e)
 
-      go : (onConnection x (at E (slotIn E x)) ≡ true) ⊎ (at E (slotIn E x) ≡ blank) → ⊥
+      go : (isOnConnection x (at E (slotIn E x)) ≡ true) ⊎ (at E (slotIn E x) ≡ blank) → ⊥
       go (inl h) = by (or→ (eqb ((at E (slotIn E x)) .synchronous) x) _ (and-r (live (at E (slotIn E x))) _ h))
       go (inr h) = true≢false (sym (k .alive) ∙ ap (λ (i : ℕ). live (at E i)) (sym q) ∙ ap live h)
 
@@ -231,11 +231,11 @@ module _ (c : ℕ) (real : c ≡ noConnection → ⊥) (s t j : ℕ) (p : Releas
     abbrev s₀ : ℕ
     s₀ = slotActed E a
 
-    no-join : joins c (message-acted a) ≡ false
+    no-join : takesConnection c (message-acted a) ≡ false
     no-join = go (eqb (kindOf a) 17) (eqb (a .connection) c) refl refl
       where
         go : (x y : Bool) → eqb (kindOf a) 17 ≡ x → eqb (a .connection) c ≡ y → (x && y) ≡ false
-        go true true ex ey = absurd ((f .pairs (eqb-true _ _ ex)) .unused j (subst (λ (i : ℕ). onConnection i (at E j) ≡ true) (sym (eqb-true _ _ ey)) own-connection))
+        go true true ex ey = absurd ((f .pairs (eqb-true _ _ ex)) .unused j (subst (λ (i : ℕ). isOnConnection i (at E j) ≡ true) (sym (eqb-true _ _ ey)) own-connection))
         go true false ex ey = refl
         go false y ex ey = refl
 
@@ -267,8 +267,8 @@ module _ (c : ℕ) (real : c ≡ noConnection → ⊥) (s t j : ℕ) (p : Releas
         elsewhere-new : elsewhere j (newest d a r l f w) ≡ true
         elsewhere-new = ap not (ne-eqb s₀ j not-own)
 
-        none-taken : codesTo c (map (answerTo 0 E) (taken d (message-acted a))) ≡ []
-        none-taken = ap (λ (i : ℕ). codesTo c (map (answerTo 0 E) (cond (eqb i 19) (keep (requestsOf s₀) W) []))) (is-lock d a r l f w)
+        none-taken : codesTo c (map (waitingAnswer 0 E) (taken d (message-acted a))) ≡ []
+        none-taken = ap (λ (i : ℕ). codesTo c (map (waitingAnswer 0 E) (cond (eqb i 19) (keep (requestsOf s₀) W) []))) (is-lock d a r l f w)
 
     -- its own device clear, and another's
     module _ (q : kindOf a ≡ 19) where
@@ -285,7 +285,7 @@ module _ (c : ℕ) (real : c ≡ noConnection → ⊥) (s t j : ℕ) (p : Releas
       own-clear e =
           let mine : s₀ ≡ j = clear-slot ∙ ap (slotIn E) e ∙ sym (place-unique E c j (k .inv .sound .firm .connections c real) own-connection) in
           dropped (message-acted a) r l f v′ (0 ∷ []) no-join
-          (ap (λ (ws : List Waiting). codesTo c (map (answerTo 0 E) ws)) clear-taken ∙ codes-one c 0 E j t (k .second) (keep (requestsOf s₀) W) (all-keep apart-from (requestsOf s₀) W all-others) (keep-one j t (requestsOf s₀) (λ w z y. eq-eqb _ _ (z ∙ sym mine)) W (k .one)))
+          (ap (λ (ws : List Waiting). codesTo c (map (waitingAnswer 0 E) ws)) clear-taken ∙ codes-one c 0 E j t (k .second) (keep (requestsOf s₀) W) (all-keep apart-from (requestsOf s₀) W all-others) (keep-one j t (requestsOf s₀) (λ w z y. eq-eqb _ _ (z ∙ sym mine)) W (k .one)))
           (rw clear-left (all-keep apart-from (λ w. not (requestsOf s₀ w)) W all-others))
           (rw clear-left (keep-gone j t (λ w. not (requestsOf s₀ w)) (λ w z y. ap not (eq-eqb _ _ (z ∙ sym mine))) W (k .one)))
 
@@ -324,7 +324,7 @@ module _ (c : ℕ) (real : c ≡ noConnection → ⊥) (s t j : ℕ) (p : Releas
   met (answer-withheld m q) r l f v′ = let b = eqb j (slotOfNumber E m) in plainly (answer-withheld m q) r l f v′ (calm (answer-withheld m q) r l f v′ refl refl refl (rows (answer-withheld m q) r l f v′ (same-both₀ b ((at E j) .number)) (same-both₀ b ((at E j) .synchronous)) (same-both₀ b ((at E j) .asynchronous))))
 
   -- no other session takes the connection, and none has the other one
-  unjoined : (h : Happening) (r : Result) → Local d h r → Facts d h (r .frames) → Inv (r .server .locks) → joins c h ≡ false
+  unjoined : (h : Happening) (r : Result) → Local d h r → Facts d h (r .frames) → Inv (r .server .locks) → takesConnection c h ≡ false
   unjoined (message-acted a) r l f v′ = no-join a r l f v′
   unjoined unmoved r l f v′ = refl
   unjoined (connected x) r l f v′ = refl

@@ -20,9 +20,9 @@ use Rattle.model.specs.Refusals.{refusal}
 use Rattle.model.specs.Step.{Result, answered, step, final}
 use Rattle.model.specs.Happening.{Heard, Heard.silence, Action, Happening, Happening.unmoved, Happening.connected, Happening.disconnected, Happening.skipped-over, Happening.errored, Happening.message-acted, Happening.clock-read, Happening.status-set, Happening.setting-made, Happening.answer-sent, Happening.answer-withheld, heard, happened}
 use Rattle.model.specs.LocalityRows.{kindOf, slotActed, inSlot, asynchronous-row, isSilence, waits, requestsOf, reachedBy, requestsLeft, looksAfter}
-use Rattle.model.specs.LocalityReplies.{answerTo}
+use Rattle.model.specs.LocalityReplies.{waitingAnswer}
 use Rattle.model.specs.Locality.{atCall, Local}
-use Rattle.model.specs.AnsweredOnce.{codesTo, nothingSent, begins, joins}
+use Rattle.model.specs.AnsweredOnce.{codesTo, nothingSent, beginsToWait, takesConnection}
 use Rattle.model.proofs.Basics.{and-l, and-r, both, not-of, inside, all-keep, all-snoc}
 use Rattle.claims.proofs.Invariant.{Inv, Good}
 use Rattle.claims.proofs.Events.{Pairs}
@@ -189,7 +189,7 @@ past [] i l = refl
 past (x ∷ es) zero l = absurd (omega arith)
 past (x ∷ es) (suc i) l = past es i (omega arith)
 
-row-away : (c : ℕ) → (c ≡ noConnection → ⊥) → (es : List Entry) (i : ℕ) (h : Happening) (x : ℕ) → joins c h ≡ false → eqb x c ≡ false → eqb (inSlot asynchronous-row es i h x) c ≡ false
+row-away : (c : ℕ) → (c ≡ noConnection → ⊥) → (es : List Entry) (i : ℕ) (h : Happening) (x : ℕ) → takesConnection c h ≡ false → eqb x c ≡ false → eqb (inSlot asynchronous-row es i h x) c ≡ false
 row-away c real es i unmoved x n e = e
 row-away c real es i (connected y) x n e = e
 row-away c real es i (disconnected y k) x n e = go (eqb i (slotIn es y))
@@ -242,18 +242,18 @@ module _ (c : ℕ) (real : c ≡ noConnection → ⊥) (d : Server) (h : Happeni
   left = requestsLeft es (d .locks .clock) h ws
 
   -- what it answers to connection c
-  pub codes : codesTo c (toWaiting h (r .frames)) ≡ codesTo c (map (answerTo 0 es) (taken d h)) ++ codesTo c (map (answerTo 1 (l .due)) (l .granted))
-  codes = ap (codesTo c) (frames-told d h r l (told-own d h (r .frames) f)) ∙ codes-append c (map (answerTo 0 es) (taken d h)) _
+  pub codes : codesTo c (toWaiting h (r .frames)) ≡ codesTo c (map (waitingAnswer 0 es) (taken d h)) ++ codesTo c (map (waitingAnswer 1 (l .due)) (l .granted))
+  codes = ap (codesTo c) (frames-told d h r l (told-own d h (r .frames) f)) ∙ codes-append c (map (waitingAnswer 0 es) (taken d h)) _
 
   -- no slot gets connection c but by a join
-  pub away-due : joins c h ≡ false → (i : ℕ) → eqb ((at es i) .asynchronous) c ≡ false → eqb ((at (l .due) i) .asynchronous) c ≡ false
+  pub away-due : takesConnection c h ≡ false → (i : ℕ) → eqb ((at es i) .asynchronous) c ≡ false → eqb ((at (l .due) i) .asynchronous) c ≡ false
   away-due n i e = go (ltb i (length es)) refl
     where
       go : (b : Bool) → ltb i (length es) ≡ b → eqb ((at (l .due) i) .asynchronous) c ≡ false
       go true q = ap (λ (x : Entry). eqb (x .asynchronous) c) (l .due-is i (ltb-true _ _ q)) ∙ row-away c real es i h ((at es i) .asynchronous) n e
       go false q = ap (λ (x : Entry). eqb (x .asynchronous) c) (past (l .due) i (omega (arith, ltb-false i (length es) q, l .due-slots))) ∙ ne-eqb noConnection c (λ z. real (sym z))
 
-  pub away-after : joins c h ≡ false → (i : ℕ) → eqb ((at es i) .asynchronous) c ≡ false → eqb ((at es′ i) .asynchronous) c ≡ false
+  pub away-after : takesConnection c h ≡ false → (i : ℕ) → eqb ((at es i) .asynchronous) c ≡ false → eqb ((at es′ i) .asynchronous) c ≡ false
   away-after n i e = go (ltb i (length es)) refl
     where
       go : (b : Bool) → ltb i (length es) ≡ b → eqb ((at es′ i) .asynchronous) c ≡ false
@@ -261,7 +261,7 @@ module _ (c : ℕ) (real : c ≡ noConnection → ⊥) (d : Server) (h : Happeni
       go false q = ap (λ (x : Entry). eqb (x .asynchronous) c) (past es′ i (omega (arith, ltb-false i (length es) q, l .slots))) ∙ ne-eqb noConnection c (λ z. real (sym z))
 
   -- where no request that is left is of a session with connection c, none is granted to it, and none is after
-  pub quiet-after : joins c h ≡ false → all (away c 0 es) left ≡ true → (codesTo c (map (answerTo 1 (l .due)) (l .granted)) ≡ []) × (all (away c 0 es′) ws′ ≡ true)
+  pub quiet-after : takesConnection c h ≡ false → all (away c 0 es) left ≡ true → (codesTo c (map (waitingAnswer 1 (l .due)) (l .granted)) ≡ []) × (all (away c 0 es′) ws′ ≡ true)
   quiet-after n a =
       let q = look-all (d .locks .clock) (away c 0 es) (looksAfter es h) (l .due) left es′ ws′ (l .granted) (l .waiting) a in (
         codes-none c 1 (l .due) (l .granted) (all-imp (away c 0 es) (away c 1 (l .due)) (λ w e. ap not (away-due n (w .slot) (not-of _ e))) (l .granted) (q .1)),
@@ -311,7 +311,7 @@ module _ (c : ℕ) (real : c ≡ noConnection → ⊥) (d : Server) (q : Quiet c
   Stays h r = (codesTo c (toWaiting h (r .frames)) ≡ []) × (all (away c 0 (r .server .locks .entries)) (r .server .locks .waiting) ≡ true)
 
   module _ (h : Happening) (r : Result) (l : Local d h r) (f : Facts d h (r .frames)) (v′ : Inv (r .server .locks)) where
-    stays : joins c h ≡ false → all (away c 0 (d .locks .entries)) (taken d h) ≡ true → all (away c 0 (d .locks .entries)) (requestsLeft (d .locks .entries) (d .locks .clock) h (d .locks .waiting)) ≡ true → Stays h r
+    stays : takesConnection c h ≡ false → all (away c 0 (d .locks .entries)) (taken d h) ≡ true → all (away c 0 (d .locks .entries)) (requestsLeft (d .locks .entries) (d .locks .clock) h (d .locks .waiting)) ≡ true → Stays h r
     stays n a b =
         let x = quiet-after c real d h r l f (q .inv) v′ n b in
         (codes c real d h r l f (q .inv) v′ ∙ ap₂ _++_ (codes-none c 0 (d .locks .entries) (taken d h) a) (x .0), x .1)
@@ -319,7 +319,7 @@ module _ (c : ℕ) (real : c ≡ noConnection → ⊥) (d : Server) (q : Quiet c
   kept : (p : Waiting → Bool) → all (away c 0 (d .locks .entries)) (keep p (d .locks .waiting)) ≡ true
   kept p = all-keep (away c 0 (d .locks .entries)) p (d .locks .waiting) (q .none)
 
-  acted-quiet : (a : Action) (r : Result) (l : Local d (message-acted a) r) (f : ActedFacts d a (r .frames)) → Inv (r .server .locks) → begins c (message-acted a) (r .frames) ≡ false → joins c (message-acted a) ≡ false → Stays (message-acted a) r
+  acted-quiet : (a : Action) (r : Result) (l : Local d (message-acted a) r) (f : ActedFacts d a (r .frames)) → Inv (r .server .locks) → beginsToWait c (message-acted a) (r .frames) ≡ false → takesConnection c (message-acted a) ≡ false → Stays (message-acted a) r
   acted-quiet a r l f v′ n not-join = stays (message-acted a) r l f v′ not-join (taken-away (eqb (kindOf a) 19)) (left-away (waits a) refl (eqb (kindOf a) 19))
     where
       taken-away : (b : Bool) → all (away c 0 (d .locks .entries)) (cond b (keep (requestsOf (slotActed (d .locks .entries) a)) (d .locks .waiting)) []) ≡ true
@@ -340,7 +340,7 @@ module _ (c : ℕ) (real : c ≡ noConnection → ⊥) (d : Server) (q : Quiet c
       left-away false w true = kept (λ w. not (requestsOf (slotActed (d .locks .entries) a) w))
       left-away false w false = q .none
 
-  pub quiet-at : (h : Happening) (r : Result) → Local d h r → Facts d h (r .frames) → Inv (r .server .locks) → begins c h (r .frames) ≡ false → joins c h ≡ false → Stays h r
+  pub quiet-at : (h : Happening) (r : Result) → Local d h r → Facts d h (r .frames) → Inv (r .server .locks) → beginsToWait c h (r .frames) ≡ false → takesConnection c h ≡ false → Stays h r
   quiet-at unmoved r l f v′ n m = stays unmoved r l f v′ refl refl (q .none)
   quiet-at (connected x) r l f v′ n m = stays (connected x) r l f v′ refl refl (q .none)
   quiet-at (disconnected x k) r l f v′ n m = stays (disconnected x k) r l f v′ refl refl (kept (λ w. not (requestsOf (slotIn (d .locks .entries) x) w)))

@@ -15,13 +15,13 @@ use Rattle.model.specs.Lists.{all, keep}
 use Rattle.model.specs.State.{Server, Entry, Waiting, Standing, Standing.no-release, Standing.release-of, Kind.exclusive-lock, Kind.shared-lock, at, live, blank, slotOfNumber}
 use Rattle.model.specs.Interface.{Event}
 use Rattle.model.specs.Locks.{withRow, withOrder}
-use Rattle.model.specs.Place.{onConnection, slotIn}
+use Rattle.model.specs.Place.{isOnConnection, slotIn}
 use Rattle.model.specs.Step.{Result, step, log}
 use Rattle.model.specs.Happening.{Heard, Heard.silence, Heard.with-code, Action, Happening, Happening.unmoved, Happening.connected, Happening.disconnected, Happening.skipped-over, Happening.errored, Happening.message-acted, Happening.clock-read, Happening.status-set, Happening.setting-made, Happening.answer-sent, Happening.answer-withheld}
 use Rattle.model.specs.LocalityRows.{kindOf, slotActed, inSlot, number-row, synchronous-row, asynchronous-row, standing-row, isSilence, codeWhere, endedWith, requestsOf, looksAfter}
-use Rattle.model.specs.LocalityReplies.{saidTo, answerTo}
+use Rattle.model.specs.LocalityReplies.{saidTo, waitingAnswer}
 use Rattle.model.specs.Locality.{atCall, Local}
-use Rattle.model.specs.AnsweredOnce.{lockOnly, codesTo, Release, Release.none-stands, Release.stands-for, isStanding, waitsFor, asksLock, clearsAll, endsRelease, releaseAfter, lessRelease, lessOwn, begins, joins, lessAny, NoneWaits, NoneWaits.last, NoneWaits.own-request, NoneWaits.still, NoMore, NoMore.ended, NoMore.anew, NoMore.taken-over, NoMore.silent}
+use Rattle.model.specs.AnsweredOnce.{lockOnly, codesTo, Release, Release.none-stands, Release.stands-for, isStanding, waitsFor, asksLock, clearsAll, endsRelease, releaseAfter, lessRelease, lessOwn, beginsToWait, takesConnection, lessAny, NoneWaits, NoneWaits.last, NoneWaits.own-request, NoneWaits.still, NoMore, NoMore.ended, NoMore.anew, NoMore.taken-over, NoMore.silent}
 use Rattle.model.proofs.Basics.{and-l, and-r, both, or-of, or-r, or→}
 use Rattle.claims.proofs.Invariant.{Inv}
 use Rattle.model.proofs.Place.{place-unique}
@@ -59,12 +59,12 @@ said-away c silence x e = refl
 said-away c (with-code k) x e = rw e
 
 -- a release's code behind zeros
-less-zeros : (c k : ℕ) (es : List Entry) (ws : List Waiting) (ys : List ℕ) → eqb k 0 ≡ false → lessRelease (codesTo c (map (answerTo 0 es) ws) ++ k ∷ ys) ≡ codesTo c (map (answerTo 0 es) ws) ++ ys
+less-zeros : (c k : ℕ) (es : List Entry) (ws : List Waiting) (ys : List ℕ) → eqb k 0 ≡ false → lessRelease (codesTo c (map (waitingAnswer 0 es) ws) ++ k ∷ ys) ≡ codesTo c (map (waitingAnswer 0 es) ws) ++ ys
 less-zeros c k es [] ys e = rw e
 less-zeros c k es (w ∷ ws) ys e = go (eqb ((at es (w .slot)) .asynchronous) c) (less-zeros c k es ws ys e)
   where
-    go : (b : Bool) → lessRelease (codesTo c (map (answerTo 0 es) ws) ++ k ∷ ys) ≡ codesTo c (map (answerTo 0 es) ws) ++ ys
-        → lessRelease (cond b (0 ∷ codesTo c (map (answerTo 0 es) ws)) (codesTo c (map (answerTo 0 es) ws)) ++ k ∷ ys) ≡ cond b (0 ∷ codesTo c (map (answerTo 0 es) ws)) (codesTo c (map (answerTo 0 es) ws)) ++ ys
+    go : (b : Bool) → lessRelease (codesTo c (map (waitingAnswer 0 es) ws) ++ k ∷ ys) ≡ codesTo c (map (waitingAnswer 0 es) ws) ++ ys
+        → lessRelease (cond b (0 ∷ codesTo c (map (waitingAnswer 0 es) ws)) (codesTo c (map (waitingAnswer 0 es) ws)) ++ k ∷ ys) ≡ cond b (0 ∷ codesTo c (map (waitingAnswer 0 es) ws)) (codesTo c (map (waitingAnswer 0 es) ws)) ++ ys
     go true h = ap (λ zs. 0 ∷ zs) h
     go false h = h
 
@@ -91,7 +91,7 @@ module _ (c s : ℕ) (p : Release) (d : Server) (a : Action) (r : Result) (l : L
   t₀ = kindOf a
 
   abbrev gs : List Frame
-  gs = map (answerTo 1 (l .due)) (l .granted)
+  gs = map (waitingAnswer 1 (l .due)) (l .granted)
 
   abbrev g : List ℕ
   g = codesTo c gs
@@ -100,7 +100,7 @@ module _ (c s : ℕ) (p : Release) (d : Server) (a : Action) (r : Result) (l : L
   ws₀ = keep (requestsOf s₀) (d .locks .waiting)
 
   abbrev zs : List ℕ
-  zs = codesTo c (map (answerTo 0 es) ws₀)
+  zs = codesTo c (map (waitingAnswer 0 es) ws₀)
 
   abbrev xs : List ℕ
   xs = codesTo c (lockOnly (r .frames))
@@ -119,14 +119,14 @@ module _ (c s : ℕ) (p : Release) (d : Server) (a : Action) (r : Result) (l : L
   abbrev Reads : Bool → Bool → Bool → Type 0
   Reads x y z = less x y z (isStanding p) xs ≡ codesTo c (toWaiting (message-acted a) (r .frames))
 
-  waiting-are : codesTo c (toWaiting (message-acted a) (r .frames)) ≡ codesTo c (map (answerTo 0 es) (taken d (message-acted a))) ++ g
-  waiting-are = ap (codesTo c) (acted-frames d a (r .frames) (l .due) (l .granted) (f .told) (l .frames) nobody) ∙ codes-append c (map (answerTo 0 es) (taken d (message-acted a))) gs
+  waiting-are : codesTo c (toWaiting (message-acted a) (r .frames)) ≡ codesTo c (map (waitingAnswer 0 es) (taken d (message-acted a))) ++ g
+  waiting-are = ap (codesTo c) (acted-frames d a (r .frames) (l .due) (l .granted) (f .told) (l .frames) nobody) ∙ codes-append c (map (waitingAnswer 0 es) (taken d (message-acted a))) gs
 
   waiting-grants : eqb t₀ 19 ≡ false → codesTo c (toWaiting (message-acted a) (r .frames)) ≡ g
-  waiting-grants e = waiting-are ∙ ap (λ (b : Bool). codesTo c (map (answerTo 0 es) (cond b ws₀ [])) ++ g) e
+  waiting-grants e = waiting-are ∙ ap (λ (b : Bool). codesTo c (map (waitingAnswer 0 es) (cond b ws₀ [])) ++ g) e
 
   waiting-clear : eqb t₀ 19 ≡ true → codesTo c (toWaiting (message-acted a) (r .frames)) ≡ zs ++ g
-  waiting-clear e = waiting-are ∙ ap (λ (b : Bool). codesTo c (map (answerTo 0 es) (cond b ws₀ [])) ++ g) e
+  waiting-clear e = waiting-are ∙ ap (λ (b : Bool). codesTo c (map (waitingAnswer 0 es) (cond b ws₀ [])) ++ g) e
 
   -- AsyncLock
   module _ (q : t₀ ≡ 4) where
@@ -153,17 +153,17 @@ module _ (c s : ℕ) (p : Release) (d : Server) (a : Action) (r : Result) (l : L
     lock-other-read e = lock-codes ∙ ap (λ ys. ys ++ g) (said-away c (a .told) (a .connection) e) ∙ sym (waiting-grants lock-not-clear)
 
   -- what a release that ends is answered
-  ended-codes : eqb t₀ 4 ≡ false → (y : Bool) → eqb t₀ 19 ≡ y → xs ≡ (codesTo c (cond y (map (answerTo 0 es) ws₀) []) ++ codesTo c (saidTo (endedWith a (e₀ .standing)) 5 (e₀ .asynchronous ∷ []))) ++ g
+  ended-codes : eqb t₀ 4 ≡ false → (y : Bool) → eqb t₀ 19 ≡ y → xs ≡ (codesTo c (cond y (map (waitingAnswer 0 es) ws₀) []) ++ codesTo c (saidTo (endedWith a (e₀ .standing)) 5 (e₀ .asynchronous ∷ []))) ++ g
   ended-codes e y z =
       ap (codesTo c) (first-is d a (r .frames) (l .due) (l .granted) (f .told) (l .frames) nobody false y e z ∙ ap (λ (fs : List Frame). fs ++ gs) (locks y))
-      ∙ codes-append c (cond y (map (answerTo 0 es) ws₀) [] ++ said) gs
-      ∙ ap (λ ys. ys ++ g) (codes-append c (cond y (map (answerTo 0 es) ws₀) []) said)
+      ∙ codes-append c (cond y (map (waitingAnswer 0 es) ws₀) [] ++ said) gs
+      ∙ ap (λ ys. ys ++ g) (codes-append c (cond y (map (waitingAnswer 0 es) ws₀) []) said)
     where
       said : List Frame
       said = saidTo (endedWith a (e₀ .standing)) 5 (e₀ .asynchronous ∷ [])
 
-      locks : (y : Bool) → lockOnly (cond y (map (answerTo 0 es) ws₀) [] ++ said) ≡ cond y (map (answerTo 0 es) ws₀) [] ++ said
-      locks true = lock-append (map (answerTo 0 es) ws₀) said ∙ ap₂ _++_ (lock-to 0 es ws₀) (lock-own (endedWith a (e₀ .standing)) (e₀ .asynchronous))
+      locks : (y : Bool) → lockOnly (cond y (map (waitingAnswer 0 es) ws₀) [] ++ said) ≡ cond y (map (waitingAnswer 0 es) ws₀) [] ++ said
+      locks true = lock-append (map (waitingAnswer 0 es) ws₀) said ∙ ap₂ _++_ (lock-to 0 es ws₀) (lock-own (endedWith a (e₀ .standing)) (e₀ .asynchronous))
       locks false = lock-own (endedWith a (e₀ .standing)) (e₀ .asynchronous)
 
   -- AsyncDeviceClear
@@ -347,10 +347,10 @@ module _ (c : ℕ) (real : c ≡ noConnection → ⊥) (s : ℕ) (p : Release) (
   abbrev E : List Entry
   E = d .locks .entries
 
-  on-second : (i : ℕ) → live (at E i) ≡ true → (at E i) .asynchronous ≡ c → onConnection c (at E i) ≡ true
+  on-second : (i : ℕ) → live (at E i) ≡ true → (at E i) .asynchronous ≡ c → isOnConnection c (at E i) ≡ true
   on-second i a e = both _ _ a (or-r (eqb ((at E i) .synchronous) c) _ (eq-eqb _ _ e))
 
-  on-first : (x i : ℕ) → live (at E i) ≡ true → (at E i) .synchronous ≡ x → onConnection x (at E i) ≡ true
+  on-first : (x i : ℕ) → live (at E i) ≡ true → (at E i) .synchronous ≡ x → isOnConnection x (at E i) ≡ true
   on-first x i a e = both _ _ a (or-of _ _ (eq-eqb _ _ e))
 
   -- of the entry that a call leaves in slot i
@@ -377,7 +377,7 @@ module _ (c : ℕ) (real : c ≡ noConnection → ⊥) (s : ℕ) (p : Release) (
   closed-row x q r i = go (eqb i (slotIn E x)) refl
     where
       apart : eqb i (slotIn E x) ≡ false → live (at E i) ≡ true → (at E i) .asynchronous ≡ c → (at E i) .synchronous ≡ s → (u w : Bool) → eqb x c ≡ u → eqb x s ≡ w → cond (u || w) none-stands p ≡ p
-      apart n alive e z true w eu ew = absurd (eqb-false _ _ n (place-unique E x i (v .sound .firm .connections x r) (subst (λ (y : ℕ). onConnection y (at E i) ≡ true) (sym (eqb-true _ _ eu)) (on-second i alive e))))
+      apart n alive e z true w eu ew = absurd (eqb-false _ _ n (place-unique E x i (v .sound .firm .connections x r) (subst (λ (y : ℕ). isOnConnection y (at E i) ≡ true) (sym (eqb-true _ _ eu)) (on-second i alive e))))
       apart n alive e z false true eu ew = absurd (eqb-false _ _ n (place-unique E x i (v .sound .firm .connections x r) (on-first x i alive (z ∙ sym (eqb-true _ _ ew)))))
       apart n alive e z false false eu ew = refl
 
@@ -386,7 +386,7 @@ module _ (c : ℕ) (real : c ≡ noConnection → ⊥) (s : ℕ) (p : Release) (
       go true n alive e = absurd (real (sym e))
       go false n alive e = let w = k i alive e in (w .0, w .1 ∙ sym (apart n alive e (w .0) (eqb x c) (eqb x s) refl refl))
 
-  module _ (a : Action) (fs : List Frame) (f : ActedFacts d a fs) (away : joins c (message-acted a) ≡ false) where
+  module _ (a : Action) (fs : List Frame) (f : ActedFacts d a fs) (away : takesConnection c (message-acted a) ≡ false) where
     abbrev j₀ : ℕ
     j₀ = slotActed E a
 
@@ -407,7 +407,7 @@ module _ (c : ℕ) (real : c ≡ noConnection → ⊥) (s : ℕ) (p : Release) (
     named true x y = refl
     named false x y = refl
 
-    -- its own message, that opens or joins no session
+    -- its own message, that opens or takesConnection no session
     own-row : (x : Entry) → live x ≡ true → x .asynchronous ≡ c → at E j₀ ≡ x → eqb u₀ 0 ≡ false
         → releaseOf (stood ((eqb u₀ 4 && eqb (a .message .code) 0) && isSilence (a .told)) (eqb u₀ 0) (endedWith a (x .standing)) x) ≡ p′
     own-row x alive e i z = go (eqb u₀ 4) (eqb u₀ 19) (one-of (6 ∷ 7 ∷ 12 ∷ []) u₀) refl refl refl
@@ -514,7 +514,7 @@ module _ (c : ℕ) (real : c ≡ noConnection → ⊥) (s : ℕ) (p : Release) (
         go true n alive e = own (eqb u₀ 17) (eqb u₀ 0) refl refl (eqb-true _ _ n) alive e
         go false n alive e = let w = k i alive e in (w .0, w .1 ∙ others-row i n alive e)
 
-  row-known : (h : Happening) (fs : List Frame) → Facts d h fs → joins c h ≡ false → (i : ℕ) → Holds (releaseAfter c s h p) (rowed h i)
+  row-known : (h : Happening) (fs : List Frame) → Facts d h fs → takesConnection c h ≡ false → (i : ℕ) → Holds (releaseAfter c s h p) (rowed h i)
   row-known (message-acted a) fs f n i = acted-row a fs f n i
   row-known (disconnected x q) fs f n i = closed-row x q f i
   row-known unmoved fs f n i = k i
@@ -533,7 +533,7 @@ module _ (c : ℕ) (real : c ≡ noConnection → ⊥) (s : ℕ) (p : Release) (
       let b = eqb i (slotOfNumber E m) in
       built p (at E i) (rowed (answer-withheld m q) i) (same-both b ((at E i) .number)) (same-both b ((at E i) .synchronous)) (same-both b ((at E i) .asynchronous)) (same-both b ((at E i) .standing)) (k i)
 
-  pub known-after : (h : Happening) (r : Result) (l : Local d h r) → Facts d h (r .frames) → joins c h ≡ false → Known c s (releaseAfter c s h p) (r .server .locks .entries)
+  pub known-after : (h : Happening) (r : Result) (l : Local d h r) → Facts d h (r .frames) → takesConnection c h ≡ false → Known c s (releaseAfter c s h p) (r .server .locks .entries)
   known-after h r l f n i = go (ltb i (length E)) refl
     where
       go : (b : Bool) → ltb i (length E) ≡ b → Holds (releaseAfter c s h p) (at (r .server .locks .entries) i)
@@ -561,7 +561,7 @@ module _ (c : ℕ) (d : Server) (q : Quiet c d) where
   abbrev Taken : Happening → Result → Type 0
   Taken h r = (codesTo c (lockOnly (r .frames)) ≡ []) × (lessAny c h (codesTo c (lockOnly (r .frames))) ≡ []) × (all (away c 0 (r .server .locks .entries)) (r .server .locks .waiting) ≡ true)
 
-  acted-joins : (a : Action) (r : Result) → Local d (message-acted a) r → ActedFacts d a (r .frames) → joins c (message-acted a) ≡ true → Taken (message-acted a) r
+  acted-joins : (a : Action) (r : Result) → Local d (message-acted a) r → ActedFacts d a (r .frames) → takesConnection c (message-acted a) ≡ true → Taken (message-acted a) r
   acted-joins a r l f n = (no-codes, any-read c d (message-acted a) r l f (waiting-grants c 0 none-stands d a r l f (rw t) ∙ no-grants), rw waiting-same (free (d .locks .waiting) (q .none) (q .second)))
     where
       E₀ : List Entry
@@ -579,13 +579,13 @@ module _ (c : ℕ) (d : Server) (q : Quiet c d) where
       waiting-same : r .server .locks .waiting ≡ d .locks .waiting
       waiting-same = looked .0
 
-      no-grants : codesTo c (map (answerTo 1 (l .due)) (l .granted)) ≡ []
-      no-grants = ap (λ (ws : List Waiting). codesTo c (map (answerTo 1 (l .due)) ws)) (looked .1)
+      no-grants : codesTo c (map (waitingAnswer 1 (l .due)) (l .granted)) ≡ []
+      no-grants = ap (λ (ws : List Waiting). codesTo c (map (waitingAnswer 1 (l .due)) ws)) (looked .1)
 
       no-codes : codesTo c (lockOnly (r .frames)) ≡ []
       no-codes = other-read c 0 none-stands d a r l f (rw t) (rw t) (rw t) ∙ waiting-grants c 0 none-stands d a r l f (rw t) ∙ no-grants
 
-      -- the session that joins was half-open, so no request waits of it
+      -- the session that takesConnection was half-open, so no request waits of it
       half : (at E₀ (slotActed E₀ a)) .asynchronous ≡ noConnection
       half = (f .pairs t) .half
 
@@ -607,7 +607,7 @@ module _ (c : ℕ) (d : Server) (q : Quiet c d) where
       free [] x y = refl
       free (w ∷ ws) x y = both _ _ (cell w (and-l (away c 0 E₀ w) _ x) (and-l (away noConnection 0 E₀ w) _ y)) (free ws (and-r (away c 0 E₀ w) _ x) (and-r (away noConnection 0 E₀ w) _ y))
 
-  joins-at : (h : Happening) (r : Result) → Local d h r → Facts d h (r .frames) → joins c h ≡ true → Taken h r
+  joins-at : (h : Happening) (r : Result) → Local d h r → Facts d h (r .frames) → takesConnection c h ≡ true → Taken h r
   joins-at (message-acted a) r l f n = acted-joins a r l f n
   joins-at unmoved r l f n = absurd (true≢false (sym n))
   joins-at (connected x) r l f n = absurd (true≢false (sym n))
@@ -634,7 +634,7 @@ module _ (c : ℕ) (real : c ≡ noConnection → ⊥) (e : Event) (d : Server) 
   next-quiet : all (away c 0 ((step d e) .server .locks .entries)) ((step d e) .server .locks .waiting) ≡ true → Quiet c ((step d e) .server)
   next-quiet a = record { inv = inv-call d e (q .inv); sized = sized-call d e (q .sized); none = a; second = second-call d e (q .inv) (q .sized) (q .second) }
 
-  still-quiet : begins c now ((step d e) .frames) ≡ false → (b : Bool) → joins c now ≡ b → (lessAny c now (codesTo c (lockOnly ((step d e) .frames))) ≡ []) × Quiet c ((step d e) .server)
+  still-quiet : beginsToWait c now ((step d e) .frames) ≡ false → (b : Bool) → takesConnection c now ≡ b → (lessAny c now (codesTo c (lockOnly ((step d e) .frames))) ≡ []) × Quiet c ((step d e) .server)
   still-quiet w true j = let x = joins-at c d q now (step d e) here known-of j in (x .1, next-quiet (x .2))
   still-quiet w false j =
       let x = quiet-at c real d q now (step d e) here known-of (inv-call d e (q .inv)) w j in
@@ -643,16 +643,16 @@ module _ (c : ℕ) (real : c ≡ noConnection → ⊥) (e : Event) (d : Server) 
 none-list : (c : ℕ) → (c ≡ noConnection → ⊥) → (es : List Event) (d : Server) → Quiet c d → NoneWaits c (log d es)
 unfolding log
 none-list c real [] d q = NoneWaits.last
-none-list c real (e ∷ es) d q = go (begins c (atCall d e) ((step d e) .frames)) refl (λ z. none-list c real es ((step d e) .server) z)
+none-list c real (e ∷ es) d q = go (beginsToWait c (atCall d e) ((step d e) .frames)) refl (λ z. none-list c real es ((step d e) .server) z)
   where
-    go : (b : Bool) → begins c (atCall d e) ((step d e) .frames) ≡ b → (Quiet c ((step d e) .server) → NoneWaits c (log ((step d e) .server) es)) → NoneWaits c (record { event = e; reply = (step d e) .reply; frames = (step d e) .frames } ∷ log ((step d e) .server) es)
+    go : (b : Bool) → beginsToWait c (atCall d e) ((step d e) .frames) ≡ b → (Quiet c ((step d e) .server) → NoneWaits c (log ((step d e) .server) es)) → NoneWaits c (record { event = e; reply = (step d e) .reply; frames = (step d e) .frames } ∷ log ((step d e) .server) es)
     go true w rest = NoneWaits.own-request _ _ w
-    go false w rest = let x = still-quiet c real e d q w (joins c (atCall d e)) refl in NoneWaits.still _ _ (x .0) (rest (x .1))
+    go false w rest = let x = still-quiet c real e d q w (takesConnection c (atCall d e)) refl in NoneWaits.still _ _ (x .0) (rest (x .1))
 
 pub quiet-list : (c : ℕ) → (c ≡ noConnection → ⊥) → (s : ℕ) (p : Release) (es : List Event) (d : Server) → Quiet c d → Known c s p (d .locks .entries) → NoMore c s p (log d es)
 unfolding log
 quiet-list c real s p [] d q k = NoMore.ended p
-quiet-list c real s p (e ∷ es) d q k = go (begins c h₀ ((step d e) .frames)) (joins c h₀) refl refl (λ z y. quiet-list c real s (releaseAfter c s h₀ p) es ((step d e) .server) z y)
+quiet-list c real s p (e ∷ es) d q k = go (beginsToWait c h₀ ((step d e) .frames)) (takesConnection c h₀) refl refl (λ z y. quiet-list c real s (releaseAfter c s h₀ p) es ((step d e) .server) z y)
   where
     h₀ : Happening
     h₀ = atCall d e
@@ -663,7 +663,7 @@ quiet-list c real s p (e ∷ es) d q k = go (begins c h₀ ((step d e) .frames))
     f₀ : Facts d h₀ ((step d e) .frames)
     f₀ = facts d (q .inv) (q .sized) e ((step d e) .reply) refl
 
-    go : (b j : Bool) → begins c h₀ ((step d e) .frames) ≡ b → joins c h₀ ≡ j → (Quiet c ((step d e) .server) → Known c s (releaseAfter c s h₀ p) ((step d e) .server .locks .entries) → NoMore c s (releaseAfter c s h₀ p) (log ((step d e) .server) es))
+    go : (b j : Bool) → beginsToWait c h₀ ((step d e) .frames) ≡ b → takesConnection c h₀ ≡ j → (Quiet c ((step d e) .server) → Known c s (releaseAfter c s h₀ p) ((step d e) .server .locks .entries) → NoMore c s (releaseAfter c s h₀ p) (log ((step d e) .server) es))
         → NoMore c s p (record { event = e; reply = (step d e) .reply; frames = (step d e) .frames } ∷ log ((step d e) .server) es)
     go true j w n rest = NoMore.anew p _ _ w
     go false true w n rest =

@@ -24,7 +24,7 @@ use Rattle.model.specs.Acts
 use Rattle.model.specs.Refusals.{refusal}
 use Rattle.model.specs.Step.{Result, effect, received, plan, answered, finish, step, lockFrame}
 use Rattle.model.specs.Closing.{Closes, Closes.by-cut, Closes.by-delivery}
-use Rattle.model.specs.Standing.{answerTo}
+use Rattle.model.specs.Standing.{isAnswerTo}
 use Rattle.claims.proofs.Scanning.{whole-scan}
 
 -- the type of a lock message
@@ -85,27 +85,27 @@ pub acted-reply : {d : Server} {c : ℕ} {bs : List ℕ} {room : ℕ} {x : LockE
 unfolding finish
 acted-reply a = ap (λ (r : Result). r .reply) (a .does)
 
-sent-answer : (n x : ℕ) (gs : List Frame) (xs : List Answer) (a : Answer) (fs : List Frame) → a .to ≡ x → a .code ≡ n → any (answerTo n x) (gs ++ (map lockFrame (xs ++ a ∷ []) ++ fs)) ≡ true
+sent-answer : (n x : ℕ) (gs : List Frame) (xs : List Answer) (a : Answer) (fs : List Frame) → a .to ≡ x → a .code ≡ n → any (isAnswerTo n x) (gs ++ (map lockFrame (xs ++ a ∷ []) ++ fs)) ≡ true
 sent-answer n x gs xs a fs et ec = ap not (behind gs)
   where
     and-false : (b : Bool) → (b && false) ≡ false
     and-false true = refl
     and-false false = refl
 
-    none : (xs : List Answer) → all (λ f. not (answerTo n x f)) (map lockFrame (xs ++ a ∷ []) ++ fs) ≡ false
+    none : (xs : List Answer) → all (λ f. not (isAnswerTo n x f)) (map lockFrame (xs ++ a ∷ []) ++ fs) ≡ false
     none [] = rw (eq-eqb (a .code) n ec, eq-eqb (a .to) x et)
-    none (y ∷ ys) = rw (none ys) (and-false (not (answerTo n x (lockFrame y))))
+    none (y ∷ ys) = rw (none ys) (and-false (not (isAnswerTo n x (lockFrame y))))
 
-    behind : (gs : List Frame) → all (λ f. not (answerTo n x f)) (gs ++ (map lockFrame (xs ++ a ∷ []) ++ fs)) ≡ false
+    behind : (gs : List Frame) → all (λ f. not (isAnswerTo n x f)) (gs ++ (map lockFrame (xs ++ a ∷ []) ++ fs)) ≡ false
     behind [] = none xs
-    behind (g ∷ gs) = rw (behind gs) (and-false (not (answerTo n x g)))
+    behind (g ∷ gs) = rw (behind gs) (and-false (not (isAnswerTo n x g)))
 
 pub acted-sends : {d : Server} {c : ℕ} {bs : List ℕ} {room : ℕ} {x : LockEvent} → Acted d c bs room x → (n y : ℕ) (xs : List Answer) (a : Answer) → (change (d .locks) x) .answers ≡ xs ++ a ∷ [] → a .to ≡ y → a .code ≡ n
-    → any (answerTo n y) ((step d (delivery c bs room)) .frames) ≡ true
+    → any (isAnswerTo n y) ((step d (delivery c bs room)) .frames) ≡ true
 unfolding finish
 acted-sends {d = d} {x = x} m n y xs a q et ec =
-    ap (λ (r : Result). any (answerTo n y) (r .frames)) (m .does)
-    ∙ ap (λ ys. any (answerTo n y) (m .first ++ (map lockFrame ys ++ (m .said ++ map lockFrame ((settle (frees (d .locks) x) ((change (d .locks) x) .locks)) .answers))))) q
+    ap (λ (r : Result). any (isAnswerTo n y) (r .frames)) (m .does)
+    ∙ ap (λ ys. any (isAnswerTo n y) (m .first ++ (map lockFrame ys ++ (m .said ++ map lockFrame ((settle (frees (d .locks) x) ((change (d .locks) x) .locks)) .answers))))) q
     ∙ sent-answer n y (m .first) xs a _ et ec
 
 module _

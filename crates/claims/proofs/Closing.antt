@@ -12,7 +12,7 @@ use Rattle.model.specs.Sizes.{noConnection}
 use Rattle.model.specs.Lists.{all, keep}
 use Rattle.model.specs.State.{Locks, Entry, Waiting, blank, at, live, Server, fresh, Making}
 use Rattle.model.specs.Interface.{Event, Event.delivery, Event.cut}
-use Rattle.model.specs.Place.{onConnection, slotOf, entryOf}
+use Rattle.model.specs.Place.{isOnConnection, slotOf, entryOf}
 use Rattle.model.specs.Locks
 use Rattle.model.specs.Locks.{Answer, LockEvent, noShared, mayGrant, give, giveAt, grant, elsewhere, tell, after, put, passOver, grantPass, change, settle, frees}
 use Rattle.model.specs.Acts
@@ -183,7 +183,7 @@ module _ (l : Locks) (v : Inv l) (i : ℕ) where
   frames-told (w ∷ ws) = ap (λ xs. grantFrame (l .entries) w ∷ xs) (frames-told ws)
 
   -- a connection of slot i gets none of the answers
-  sent-elsewhere : (x : ℕ) → (x ≡ noConnection → ⊥) → onConnection x (at (l .entries) i) ≡ true → (ws : List Waiting) → all (elsewhere i) ws ≡ true → Each (λ w. live (at (l .entries) (w .slot)) ≡ true) ws
+  sent-elsewhere : (x : ℕ) → (x ≡ noConnection → ⊥) → isOnConnection x (at (l .entries) i) ≡ true → (ws : List Waiting) → all (elsewhere i) ws ≡ true → Each (λ w. live (at (l .entries) (w .slot)) ≡ true) ws
       → all (λ f. not (eqb (f .to) x)) (map (grantFrame (l .entries)) ws) ≡ true
   sent-elsewhere x n o [] a h = refl
   sent-elsewhere x n o (w ∷ ws) a h =
@@ -229,7 +229,7 @@ module _ (d : Server) (e : Event) (c : ℕ) (v : Inv (d .locks)) (z : refusal d 
         ap₂ (λ (ws : List Waiting) (es : List Entry). (passOver (d .locks .clock) ws es) .answers) (u .1) (u .0) ∙ ap (λ (x : Locks.LockResult). x .answers) q,
       )
     where
-      vacant : (onConnection c (entryOf d c) ≡ true) ⊎ (entryOf d c ≡ blank) → entryOf d c ≡ blank
+      vacant : (isOnConnection c (entryOf d c) ≡ true) ⊎ (entryOf d c ≡ blank) → entryOf d c ≡ blank
       vacant (inl h) = absurd (true≢false (sym (and-l (live (entryOf d c)) _ h) ∙ n))
       vacant (inr h) = h
 

@@ -13,7 +13,7 @@ use Rattle.model.specs.Lists.{tally}
 use Rattle.model.specs.State.{Locks, Entry, Waiting, Kind.exclusive-lock, Kind.shared-lock, Standing.no-release, Standing.release-of, blank, at, live, Server, fresh, Making}
 use Rattle.model.specs.Interface.{Event, Event.opening, Event.delivery, Event.cut, Event.clock, Event.answer, Event.status, Event.setting, Reply}
 use Rattle.model.specs.Scan.{Scan, Scan.empty, Scan.few, Scan.wrong, Scan.skipping, Scan.long, Scan.part, Scan.whole}
-use Rattle.model.specs.Place.{slotIn, onConnection, slotOf, Role, Role.r-none, Role.r-halfOpen, Role.r-synchronous, Role.r-asynchronous}
+use Rattle.model.specs.Place.{slotIn, isOnConnection, slotOf, Role, Role.r-none, Role.r-halfOpen, Role.r-synchronous, Role.r-asynchronous}
 use Rattle.model.specs.Locks
 use Rattle.model.specs.Locks.{LockResult, Answer, LockEvent, elsewhere, holds, give, giveAt, grant, mayGrant, after, put, passOver, grantPass, change, refuse, tell, noShared}
 use Rattle.model.specs.Checks.{Verdict, Verdict.v-more, Verdict.v-skipped, Verdict.v-held, Verdict.v-ignored, Verdict.v-closed, Verdict.v-acts, Verdict.v-error, Verdict.v-fatal}
@@ -22,7 +22,7 @@ use Rattle.model.specs.Refusals.{refusal}
 use Rattle.model.specs.Step.{withholds, effect, received, plan, answered, finish, step, final, log}
 use Rattle.model.specs.LockModel.{Session, Model, Told, Fed, modelStep, modelRun, freshModel, on, notShared}
 use Rattle.model.specs.Agreement.{asSession, feed, Agrees}
-use Rattle.model.specs.Count.{locksOf, locksHeld, isGrant, isRelease, count, locksOn, lost, dropped, Balanced, Count}
+use Rattle.model.specs.Count.{locksOf, locksHeld, isGrant, tellsRelease, count, locksOn, lost, dropped, Balanced, Count}
 use Rattle.model.proofs.Basics.{and-l, and-r, both, not-of, isn't, inside, all-at}
 use Rattle.model.proofs.Place.{place-sound, place-complete}
 use Rattle.claims.proofs.Invariant.{Inv, Good, Firm, clean, backed-at, good-apart}
@@ -70,7 +70,7 @@ unfolding count
 count-append p [] ys = omega arith
 count-append p (x ∷ xs) ys = omega (arith, count-append p xs ys)
 
-refuse-none : (es : List Entry) (p : Waiting → Bool) (ws : List Waiting) → (count isGrant (map toldOf (refuse es p ws)) ≡ 0) × (count isRelease (map toldOf (refuse es p ws)) ≡ 0)
+refuse-none : (es : List Entry) (p : Waiting → Bool) (ws : List Waiting) → (count isGrant (map toldOf (refuse es p ws)) ≡ 0) × (count tellsRelease (map toldOf (refuse es p ws)) ≡ 0)
 unfolding count
 refuse-none es p [] = (refl, refl)
 refuse-none es p (w ∷ ws) = go (p w) (refuse-none es p ws)
@@ -78,14 +78,14 @@ refuse-none es p (w ∷ ws) = go (p w) (refuse-none es p ws)
     rs : List Answer
     rs = refuse es p ws
 
-    go : (b : Bool) → (count isGrant (map toldOf rs) ≡ 0) × (count isRelease (map toldOf rs) ≡ 0)
-        → (count isGrant (map toldOf (cond b rs (tell es (w .slot) 0 true ∷ rs))) ≡ 0) × (count isRelease (map toldOf (cond b rs (tell es (w .slot) 0 true ∷ rs))) ≡ 0)
+    go : (b : Bool) → (count isGrant (map toldOf rs) ≡ 0) × (count tellsRelease (map toldOf rs) ≡ 0)
+        → (count isGrant (map toldOf (cond b rs (tell es (w .slot) 0 true ∷ rs))) ≡ 0) × (count tellsRelease (map toldOf (cond b rs (tell es (w .slot) 0 true ∷ rs))) ≡ 0)
     go true h = h
     go false h = (omega arith, omega arith)
 
 -- the pass grants what it answers
 abbrev Passing : List Entry → Locks.Passed → Type 0
-Passing es r = (locksHeld (r .entries) ≡ locksHeld es + count isGrant (map toldOf (r .answers))) × (count isRelease (map toldOf (r .answers)) ≡ 0)
+Passing es r = (locksHeld (r .entries) ≡ locksHeld es + count isGrant (map toldOf (r .answers))) × (count tellsRelease (map toldOf (r .answers)) ≡ 0)
 
 pass-count : (now : ℕ) (ws : List Waiting) (es : List Entry) → Good es ws → Passing es (passOver now ws es)
 unfolding passOver count
@@ -113,7 +113,7 @@ lostIn es (Locks.close i) = locksOf (at es i)
 lostIn es (Locks.reading t) = 0
 
 abbrev Even : Locks → List Entry → List Answer → ℕ → Type 0
-Even l es xs n = locksHeld (l .entries) + count isGrant (map toldOf xs) ≡ count isRelease (map toldOf xs) + n + locksHeld es
+Even l es xs n = locksHeld (l .entries) + count isGrant (map toldOf xs) ≡ count tellsRelease (map toldOf xs) + n + locksHeld es
 
 -- releases: a lock that is freed and answered was held
 free-even : (l : Locks) (i n : ℕ) (t x s b : Bool) → live (at (l .entries) i) ≡ true → (at (l .entries) i) .exclusive ≡ x → noShared (at (l .entries) i) ≡ s
@@ -163,7 +163,7 @@ module _ (l : Locks) (g : Good (l .entries) (l .waiting)) (f : Firm (l .entries)
       let l′ = Locks.withWaiting l (Rattle.model.specs.Lists.keep (elsewhere i) (l .waiting)) in
       let r = refuse-none (l .entries) (elsewhere i) (l .waiting) in
       let h = complete-even l′ i beforeFirst u x (owed-any ((at (l .entries) i) .standing) (at (l .entries) i) (backed-at (l .entries) i f)) in
-      rw (map-append (refuse (l .entries) (elsewhere i) (l .waiting)) ((Locks.completed u l′ i beforeFirst) .answers), count-append isGrant (map toldOf (refuse (l .entries) (elsewhere i) (l .waiting))), count-append isRelease (map toldOf (refuse (l .entries) (elsewhere i) (l .waiting)))) (omega arith)
+      rw (map-append (refuse (l .entries) (elsewhere i) (l .waiting)) ((Locks.completed u l′ i beforeFirst) .answers), count-append isGrant (map toldOf (refuse (l .entries) (elsewhere i) (l .waiting))), count-append tellsRelease (map toldOf (refuse (l .entries) (elsewhere i) (l .waiting)))) (omega arith)
   change-even (Locks.close i) x = omega (arith, held-blank (l .entries) i)
   change-even (Locks.reading t) x = let r = refuse-none (l .entries) (Locks.unexpired t) (l .waiting) in omega arith
 
@@ -175,7 +175,7 @@ module _ (l : Locks) (g : Good (l .entries) (l .waiting)) (f : Firm (l .entries)
       let c = change l e in
       let h = change-even e x in
       let r = pass-count (c .locks .clock) (c .locks .waiting) (c .locks .entries) ((change-sound l g f e x) .good) in
-      rw (map-append (c .answers) ((passOver (c .locks .clock) (c .locks .waiting) (c .locks .entries)) .answers), count-append isGrant (map toldOf (c .answers)), count-append isRelease (map toldOf (c .answers))) (omega arith)
+      rw (map-append (c .answers) ((passOver (c .locks .clock) (c .locks .waiting) (c .locks .entries)) .answers), count-append isGrant (map toldOf (c .answers)), count-append tellsRelease (map toldOf (c .answers))) (omega arith)
 
 -- the locks of a connection's session
 conn-own : (ss : List Session) (es : List Entry) → Same ss es → Firm es → (c : ℕ) → (c ≡ noConnection → ⊥) → (p : Session → Bool) → p (asSession blank) ≡ false
@@ -185,7 +185,7 @@ conn-own ss es s f c r p b = s (λ x. on c x && p x) ∙ tally-seen (λ x. on c 
     i : ℕ
     i = slotIn es c
 
-    off : (j : ℕ) → (onConnection c (at es j) ≡ true → ⊥) → lower (λ x. on c x && p x) (at es j) ≡ false
+    off : (j : ℕ) → (isOnConnection c (at es j) ≡ true → ⊥) → lower (λ x. on c x && p x) (at es j) ≡ false
     off j n = while (live (at es j)) _ false (λ u. ap (λ z. z && p (asSession (at es j))) (on-seen c (at es j) r ∙ isn't _ (λ h. n (both _ _ u h)))) ∙ and-last (live (at es j))
       where
         and-last : (a : Bool) → (a && false) ≡ false
@@ -201,13 +201,13 @@ conn-own ss es s f c r p b = s (λ x. on c x && p x) ∙ tally-seen (λ x. on c 
     none-but (x ∷ es) zero = none-tally es
     none-but (x ∷ es) (suc i) = omega (arith, none-but es i)
 
-    go : (onConnection c (at es i) ≡ true) ⊎ (at es i ≡ blank) → tally (lower (λ x. on c x && p x)) es ≡ one (p (asSession (at es i)))
+    go : (isOnConnection c (at es i) ≡ true) ⊎ (at es i ≡ blank) → tally (lower (λ x. on c x && p x)) es ≡ one (p (asSession (at es i)))
     go (inl h) =
-        tally-split (lower (λ x. on c x && p x)) es i (inside (onConnection c) es i refl h)
+        tally-split (lower (λ x. on c x && p x)) es i (inside (isOnConnection c) es i refl h)
         ∙ ap₂ (λ (x : Bool) (n : ℕ). one x + n) (ap₂ (λ (y z : Bool). y && (z && p (asSession (at es i)))) (and-l (live (at es i)) _ h) (on-seen c (at es i) r ∙ and-r (live (at es i)) _ h)) (tallyBut-cong _ (λ e. false) es i (λ j d. off j (λ h′. d (f .connections c r j i h′ h))) ∙ none-but es i)
         ∙ omega arith
     go (inr h) =
-        tally-cong _ (λ e. false) es (λ j. off j (λ h′. true≢false (sym (place-complete es c j h′) ∙ ap (onConnection c) h)))
+        tally-cong _ (λ e. false) es (λ j. off j (λ h′. true≢false (sym (place-complete es c j h′) ∙ ap (isOnConnection c) h)))
         ∙ none-tally es
         ∙ sym (ap one (ap (λ e. p (asSession e)) h ∙ b))
 
@@ -289,12 +289,12 @@ module _ (d : Server) (m : Model) (a : Agrees (d .locks) m) (i : Inv (d .locks))
 
   -- one call
   call-even : (e : Event) → locksHeld (d .locks .entries) + count isGrant ((modelStep m (feed e ((step d e) .reply))) .told)
-      ≡ count isRelease ((modelStep m (feed e ((step d e) .reply))) .told) + lost m (feed e ((step d e) .reply)) + locksHeld ((step d e) .server .locks .entries)
+      ≡ count tellsRelease ((modelStep m (feed e ((step d e) .reply))) .told) + lost m (feed e ((step d e) .reply)) + locksHeld ((step d e) .server .locks .entries)
   unfolding step answered finish modelStep count
   call-even e = go (refusal d e) refl
     where
       go : (n : ℕ) → refusal d e ≡ n → locksHeld (d .locks .entries) + count isGrant ((modelStep m (feed e ((answered n d e) .reply))) .told)
-          ≡ count isRelease ((modelStep m (feed e ((answered n d e) .reply))) .told) + lost m (feed e ((answered n d e) .reply)) + locksHeld ((answered n d e) .server .locks .entries)
+          ≡ count tellsRelease ((modelStep m (feed e ((answered n d e) .reply))) .told) + lost m (feed e ((answered n d e) .reply)) + locksHeld ((answered n d e) .server .locks .entries)
       go zero z =
           let f = plan-fit d e i z in
           rw (always-settled (d .locks) i ((plan d e) .event) f, (call-core d m e a i z) .told, plan-lost e z) (event-even (d .locks) (i .sound .good) (i .sound .firm) ((plan d e) .event) f)
@@ -308,7 +308,7 @@ balances (e ∷ es) d m a i =
     let x = modelStep m (feed e ((step d e) .reply)) in
     let h = call-even d m a i e in
     let ih = balances es ((step d e) .server) (x .model) (call-locks d m e a i) (inv-call d e i) in
-    record { balance = rw (count-append isGrant (x .told), count-append isRelease (x .told)) (omega (arith, h, ih .balance)) }
+    record { balance = rw (count-append isGrant (x .told), count-append tellsRelease (x .told)) (omega (arith, h, ih .balance)) }
 
 pub counted : (v : Making) (es : List Event) → Count v es
 unfolding locksHeld

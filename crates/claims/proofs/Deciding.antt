@@ -18,7 +18,7 @@ use Rattle.model.specs.Lists.{all, any, tally, keep}
 use Rattle.model.specs.State.{Entry, blank, at, live, Server, fresh, Making}
 use Rattle.model.specs.Interface.{Event, Event.opening, Event.delivery, Event.cut, Event.clock, Event.answer, Event.status, Event.setting, Outcome.held, Outcome.acted, Reply, Reply.took}
 use Rattle.model.specs.Scan.{Scan}
-use Rattle.model.specs.Place.{onConnection, slotIn, slotOf, entryOf, Role, Role.r-none, Role.r-halfOpen, Role.r-synchronous, Role.r-asynchronous, roleBy, roleOf}
+use Rattle.model.specs.Place.{isOnConnection, slotIn, slotOf, entryOf, Role, Role.r-none, Role.r-halfOpen, Role.r-synchronous, Role.r-asynchronous, roleBy, roleOf}
 use Rattle.model.specs.Locks
 use Rattle.model.specs.Locks.{Answer, noExclusive, noShared, access, change, settle, frees}
 use Rattle.model.specs.Checks.{Verdict.v-acts, isUnrecognised, verdict, judged, either}
@@ -47,11 +47,11 @@ use Rattle.claims.proofs.Access.{accessed}
 use Rattle.claims.proofs.Fewer.{Request, request-step, step-request}
 
 -- a question to the session of connection c
-module _ (ss : List Session) (es : List Entry) (s : Same ss es) (f : Firm es) (c : ℕ) (real : c ≡ noConnection → ⊥) (i : ℕ) (v : onConnection c (at es i) ≡ true) where
+module _ (ss : List Session) (es : List Entry) (s : Same ss es) (f : Firm es) (c : ℕ) (real : c ≡ noConnection → ⊥) (i : ℕ) (v : isOnConnection c (at es i) ≡ true) where
   none-on : (q : Session → Bool) → all (λ x. not (on c x && q x)) ss ≡ not (q (asSession (at es i)))
   none-on q =
       all-lift ss es s (λ x. not (on c x && q x))
-      ∙ all-split (lift (λ x. not (on c x && q x))) es i (inside (onConnection c) es i refl v)
+      ∙ all-split (lift (λ x. not (on c x && q x))) es i (inside (isOnConnection c) es i refl v)
       ∙ ap₂ _&&_ here (allBut-cong _ (λ e. true) es i (λ j d. out j d (live (at es j)) (on c (asSession (at es j))) refl refl) ∙ allBut-true es i)
       ∙ and-true _
     where
@@ -91,7 +91,7 @@ async-own es c e = go (place-sound es c)
     r : (live x ≡ true) × (eqb (x .synchronous) c ≡ false)
     r = role-async (live x) (eqb (x .asynchronous) noConnection) (eqb (x .synchronous) c) (sym (place-role es c) ∙ e)
 
-    go : (onConnection c x ≡ true) ⊎ (x ≡ blank) → x .asynchronous ≡ c
+    go : (isOnConnection c x ≡ true) ⊎ (x ≡ blank) → x .asynchronous ≡ c
     go (inl h) = eqb-true _ _ (rw (r .1) at (and-r (live x) _ h))
     go (inr h) = absurd (true≢false (sym (r .0) ∙ ap live h))
 
@@ -137,7 +137,7 @@ module _ (d : Server) (m : Model) (a : Agrees (d .locks) m) (v : Inv (d .locks))
       ∙ ap₂ (λ (x y : ℕ). frameOf c AsyncLockInfoResponse x y [] ∷ []) code-same count-same
 
   -- access
-  access-same : refusal d (delivery c bs room) ≡ 0 → onConnection c (entryOf d c) ≡ true → accessOn m c ≡ accessOf d c
+  access-same : refusal d (delivery c bs room) ≡ 0 → isOnConnection c (entryOf d c) ≡ true → accessOn m c ≡ accessOf d c
   access-same z o =
       let i = slotOf d c in
       let u : live (at (d .locks .entries) i) ≡ true = and-l (live (entryOf d c)) _ o in
@@ -146,7 +146,7 @@ module _ (d : Server) (m : Model) (a : Agrees (d .locks) m) (v : Inv (d .locks))
       ∙ sym (by .gives-access i u ∙ ap₂ (λ (x y : Bool). x || (all notExclusive (m .sessions) && (y || all notShared (m .sessions)))) (own-is (λ s. s .exclusive)) (own-is (λ s. not (notShared s)))
       ∙ ap (λ b. (entryOf d c) .exclusive || (b && (not (noShared (entryOf d c)) || all notShared (m .sessions)))) (sym (not-not (all notExclusive (m .sessions)))))
 
-  command-on : Command d c bs → onConnection c (entryOf d c) ≡ true
+  command-on : Command d c bs → isOnConnection c (entryOf d c) ≡ true
   command-on q = rw (q .on-synchronous .alive, q .on-synchronous .synchronous-one) (go (eqb c c) refl)
     where
       go : (b : Bool) → eqb c c ≡ b → (b || eqb ((entryOf d c) .asynchronous) c) ≡ true

@@ -11,7 +11,7 @@ use borrow.Author.Tests.{eqb-true}
 use Rattle.model.specs.Sizes.{noConnection, sessionLimit, beforeFirst}
 use Rattle.model.specs.Lists.{all, keep, isNil}
 use Rattle.model.specs.State.{Entry, Waiting, blank, at, live, Locks, Kind.exclusive-lock, Kind.shared-lock, Standing, Standing.no-release, Standing.release-of, freshLocks}
-use Rattle.model.specs.Place.{onConnection}
+use Rattle.model.specs.Place.{isOnConnection}
 use Rattle.model.specs.Locks
 use Rattle.model.specs.Locks.{elsewhere, holds, noExclusive, noShared, grant, mayGrant, change, settle, frees}
 use Rattle.model.proofs.Basics.{and-l, and-r, both, not-of, contra, or-of, or-r, or→, apart, all-set, all-snoc, all-keep, all-kept, all-at, sole-store, sole-same}
@@ -25,13 +25,13 @@ pub record Enters (es : List Entry) (i n c : ℕ) : Type 0 where
   pub within : i < length es
   pub fresh : (j : ℕ) → numbered n (at es j) ≡ true → ⊥
   pub nonzero : eqb n 0 ≡ false
-  pub unused : (j : ℕ) → onConnection c (at es j) ≡ true → ⊥
+  pub unused : (j : ℕ) → isOnConnection c (at es j) ≡ true → ⊥
   pub real : c ≡ noConnection → ⊥
 
 pub record Pairs (es : List Entry) (i c : ℕ) : Type 0 where
   pub alive : live (at es i) ≡ true
   pub half : (at es i) .asynchronous ≡ noConnection
-  pub unused : (j : ℕ) → onConnection c (at es j) ≡ true → ⊥
+  pub unused : (j : ℕ) → isOnConnection c (at es j) ≡ true → ⊥
   pub real : c ≡ noConnection → ⊥
 
 abbrev pub Fit : List Entry → Locks.LockEvent → Type 0
@@ -50,7 +50,7 @@ firm-enter es i n c x f =
     record {
       clean-all = all-set clean es i _ (or-r (not (eqb n 0)) true refl) (f .clean-all);
       numbers = λ m. sole-store (numbered m) es i _ (λ h j d v. taken-by m j (eqb-true n m (and-r (not (eqb n 0)) _ h)) v) (f .numbers m);
-      connections = λ c′ r. sole-store (onConnection c′) es i _ (λ h j d v. other c′ r j (or→ (eqb c c′) _ (and-r (not (eqb n 0)) _ h)) v) (f .connections c′ r);
+      connections = λ c′ r. sole-store (isOnConnection c′) es i _ (λ h j d v. other c′ r j (or→ (eqb c c′) _ (and-r (not (eqb n 0)) _ h)) v) (f .connections c′ r);
       one-exclusive = sole-same exclusive es i _ (λ h. absurd (false≢true h)) (f .one-exclusive);
       backed-all = all-set backed es i _ refl (f .backed-all);
       slots = length-set es i _ ∙ f .slots;
@@ -59,7 +59,7 @@ firm-enter es i n c x f =
     taken-by : (m j : ℕ) → n ≡ m → numbered m (at es j) ≡ true → ⊥
     taken-by m j e v = x .fresh j (rw (← e) at v)
 
-    other : (c′ : ℕ) → (c′ ≡ noConnection → ⊥) → (j : ℕ) → (eqb c c′ ≡ true) ⊎ (eqb noConnection c′ ≡ true) → onConnection c′ (at es j) ≡ true → ⊥
+    other : (c′ : ℕ) → (c′ ≡ noConnection → ⊥) → (j : ℕ) → (eqb c c′ ≡ true) ⊎ (eqb noConnection c′ ≡ true) → isOnConnection c′ (at es j) ≡ true → ⊥
     other c′ r j (inl e) v = x .unused j (rw (← eqb-true c c′ e) at v)
     other c′ r j (inr e) v = r (sym (eqb-true noConnection c′ e))
 
@@ -76,13 +76,13 @@ firm-pair es i c x f =
     record {
       clean-all = all-set clean es i _ (all-at clean es i refl (f .clean-all)) (f .clean-all);
       numbers = λ m. sole-same (numbered m) es i _ (λ h. h) (f .numbers m);
-      connections = λ c′ r. sole-store (onConnection c′) es i _ (λ h j d v. other c′ r j d (or→ (eqb ((at es i) .synchronous) c′) _ (and-r (live (at es i)) _ h)) v) (f .connections c′ r);
+      connections = λ c′ r. sole-store (isOnConnection c′) es i _ (λ h j d v. other c′ r j d (or→ (eqb ((at es i) .synchronous) c′) _ (and-r (live (at es i)) _ h)) v) (f .connections c′ r);
       one-exclusive = sole-same exclusive es i _ (λ h. h) (f .one-exclusive);
       backed-all = all-set backed es i _ (joined-backed (at es i) c (backed-at es i f)) (f .backed-all);
       slots = length-set es i _ ∙ f .slots;
     }
   where
-    other : (c′ : ℕ) → (c′ ≡ noConnection → ⊥) → (j : ℕ) → (j ≡ i → ⊥) → (eqb ((at es i) .synchronous) c′ ≡ true) ⊎ (eqb c c′ ≡ true) → onConnection c′ (at es j) ≡ true → ⊥
+    other : (c′ : ℕ) → (c′ ≡ noConnection → ⊥) → (j : ℕ) → (j ≡ i → ⊥) → (eqb ((at es i) .synchronous) c′ ≡ true) ⊎ (eqb c c′ ≡ true) → isOnConnection c′ (at es j) ≡ true → ⊥
     other c′ r j d (inl e) v = d (f .connections c′ r j i v (both _ _ (x .alive) (or-of _ _ e)))
     other c′ r j d (inr e) v = x .unused j (rw (← eqb-true c c′ e) at v)
 

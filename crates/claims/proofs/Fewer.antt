@@ -17,7 +17,7 @@ use Rattle.model.specs.Lists.{all, any}
 use Rattle.model.specs.State.{Locks, Entry, Waiting, at, live, blank, Server, Rest, connectionAt, exchangeAt, freshExchange, withConnections, withExchange, withSensing, freshSensing}
 use Rattle.model.specs.Interface.{Event, Event.delivery, Outcome.held, Outcome.closed, Outcome.acted, Reply.took}
 use Rattle.model.specs.Scan.{Scan, Scan.whole, scan}
-use Rattle.model.specs.Place.{onConnection, slotOf, entryOf, Role, Role.r-none, Role.r-halfOpen, Role.r-synchronous, Role.r-asynchronous, roleIn, roleOf}
+use Rattle.model.specs.Place.{isOnConnection, slotOf, entryOf, Role, Role.r-none, Role.r-halfOpen, Role.r-synchronous, Role.r-asynchronous, roleIn, roleOf}
 use Rattle.model.specs.Locks
 use Rattle.model.specs.Locks.{noExclusive, noShared, mayGrant, access, holds, elsewhere, change, noPlace}
 use Rattle.model.specs.Checks
@@ -91,7 +91,7 @@ module _ (i : ℕ) (es es′ : List Entry) (f : Fewer i es es′) where
       go (inr e) = or-r ((at es i) .exclusive) _ (more (and-l (all noExclusive es) _ e) (or→ (not (noShared (at es i))) _ (and-r (all noExclusive es) _ e)))
 
   pub no-worse : NoWorse i es es′
-  no-worse = record { granted = may-fewer; access = access-fewer }
+  no-worse = record { granted = may-fewer; has-access = access-fewer }
 
 -- a request answered 1: the same tests come out alike
 module _ (l l′ : Locks) (i t : ℕ) (k : List ℕ) (f : Fewer i (l .entries) (l′ .entries)) (ws : l′ .waiting ≡ l .waiting) (now : l′ .clock ≡ l .clock) where
@@ -174,7 +174,7 @@ module _ (d : Server) (c : ℕ) (bs : List ℕ) (room : ℕ) where
 
 -- two servers that differ only in the locks of others
 module _ (d d′ : Server) (c : ℕ) (f : FewerLocks (slotOf d c) d d′) (bs : List ℕ) (room : ℕ) where
-  conn-same : (j : ℕ) → onConnection c (at (d′ .locks .entries) j) ≡ onConnection c (at (d .locks .entries) j)
+  conn-same : (j : ℕ) → isOnConnection c (at (d′ .locks .entries) j) ≡ isOnConnection c (at (d .locks .entries) j)
   conn-same j = rw (f .numbers j, f .synchronous j, f .asynchronous j)
 
   slot-same : slotOf d′ c ≡ slotOf d c
@@ -341,7 +341,7 @@ module _ (d : Server) (l′ : Locks) (c : ℕ) (f : FewerLocks (slotOf d c) d re
   has-role : roleOf (d .locks .entries) c ≡ r-none → ⊥
   has-role e = no-role (d .locks .entries) c e i₀ (on (place-sound (d .locks .entries) c))
     where
-      on : (onConnection c (entryOf d c) ≡ true) ⊎ (entryOf d c ≡ blank) → onConnection c (entryOf d c) ≡ true
+      on : (isOnConnection c (entryOf d c) ≡ true) ⊎ (entryOf d c ≡ blank) → isOnConnection c (entryOf d c) ≡ true
       on (inl h) = h
       on (inr h) = absurd (true≢false (sym alive ∙ ap live h))
 

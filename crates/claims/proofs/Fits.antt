@@ -13,7 +13,7 @@ use Rattle.model.specs.Lists.{all}
 use Rattle.model.specs.State.{Entry, at, live, halfOpen, slotOfNumber, Server, connectionAt, fresh, Making}
 use Rattle.model.specs.Interface.{Event, Event.opening, Event.delivery, Event.cut, Event.clock, Event.answer, Event.status, Event.setting}
 use Rattle.model.specs.Scan.{Scan, Scan.empty, Scan.few, Scan.wrong, Scan.skipping, Scan.long, Scan.part, Scan.whole, scan}
-use Rattle.model.specs.Place.{onConnection, slotOf, Role, Role.r-none, Role.r-halfOpen, Role.r-synchronous, Role.r-asynchronous, roleOf}
+use Rattle.model.specs.Place.{isOnConnection, slotOf, Role, Role.r-none, Role.r-halfOpen, Role.r-synchronous, Role.r-asynchronous, roleOf}
 use Rattle.model.specs.Checks
 use Rattle.model.specs.Checks.{Verdict, Verdict.v-more, Verdict.v-skipped, Verdict.v-held, Verdict.v-ignored, Verdict.v-closed, Verdict.v-acts, Verdict.v-error, Verdict.v-fatal, Rule, first, verdict, judged, either}
 use Rattle.model.specs.Acts
@@ -198,5 +198,5 @@ pub inv-run : (v : Making) (es : List Event) → Inv ((final (fresh v) es) .lock
 inv-run v es = inv-list es (fresh v) inv-fresh
 
 -- so the session found is the only one on the connection
-pub found-run : (v : Making) (es : List Event) (c j : ℕ) → (c ≡ noConnection → ⊥) → onConnection c (at ((final (fresh v) es) .locks .entries) j) ≡ true → j ≡ slotOf (final (fresh v) es) c
+pub found-run : (v : Making) (es : List Event) (c j : ℕ) → (c ≡ noConnection → ⊥) → isOnConnection c (at ((final (fresh v) es) .locks .entries) j) ≡ true → j ≡ slotOf (final (fresh v) es) c
 found-run v es c j r h = place-unique ((final (fresh v) es) .locks .entries) c j ((inv-run v es) .sound .firm .connections c r) h

@@ -15,11 +15,11 @@ use Rattle.model.specs.Sizes.{noConnection, sessionLimit, grantsLimit}
 use Rattle.model.specs.Lists.{all, keep}
 use Rattle.model.specs.State.{Server, Granted, Entry, Waiting, at, live, noGrants, slotOfNumber, fresh, Making}
 use Rattle.model.specs.Interface.{Event}
-use Rattle.model.specs.Place.{onConnection, slotIn}
+use Rattle.model.specs.Place.{isOnConnection, slotIn}
 use Rattle.model.specs.Step.{Result, step, final, log}
 use Rattle.model.specs.Happening.{Heard.silence, Action, Happening, Happening.unmoved, Happening.connected, Happening.disconnected, Happening.skipped-over, Happening.errored, Happening.message-acted, Happening.clock-read, Happening.status-set, Happening.setting-made, Happening.answer-sent, Happening.answer-withheld}
 use Rattle.model.specs.LocalityRows.{kindOf, slotActed, inSlot, isCode, codeWhere, obtains, waits, number-row, asynchronous-row, moreGranted, granted-row, requestsOf, requestsLeft, looksAfter, singly, clock-row}
-use Rattle.model.specs.LocalityReplies.{answerTo}
+use Rattle.model.specs.LocalityReplies.{waitingAnswer}
 use Rattle.model.specs.Locality.{atCall, givenGrants, Local}
 use Rattle.model.specs.GrantsSeen.{toWaiting, Grants, noneYet, ownGrants, afterOwn, answersTo, grantsBy, grantsOf, grantsOfSession, atMost, lastReading, GrantsSeen}
 use Rattle.model.proofs.Basics.{and-l, and-r, both, not-of, all-keep, inside, same?}
@@ -69,13 +69,13 @@ module _ (now c : ℕ) where
   answers-append (f ∷ fs) gs xs = answers-append fs gs (cond (eqb (f .message .code) 1 && eqb (f .to) c) (now ∷ xs) xs)
 
   -- answers 0 do not count
-  zeros : (es : List Entry) (ws : List Waiting) (xs : List ℕ) → answersTo now c (map (answerTo 0 es) ws) xs ≡ xs
+  zeros : (es : List Entry) (ws : List Waiting) (xs : List ℕ) → answersTo now c (map (waitingAnswer 0 es) ws) xs ≡ xs
   zeros es [] xs = refl
   zeros es (w ∷ ws) xs = zeros es ws xs
 
   -- answers 1 do where they are to slot i's connection
   module _ (i : ℕ) (due : List Entry) (Q : Waiting → Bool) (m : (w : Waiting) → Q w ≡ true → eqb ((at due (w .slot)) .asynchronous) c ≡ eqb (w .slot) i) where
-    ones : (gs : List Waiting) (xs : List ℕ) → all Q gs ≡ true → noted (answersTo now c (map (answerTo 1 due) gs) xs) ≡ givenGrants now gs i (noted xs)
+    ones : (gs : List Waiting) (xs : List ℕ) → all Q gs ≡ true → noted (answersTo now c (map (waitingAnswer 1 due) gs) xs) ≡ givenGrants now gs i (noted xs)
     ones [] xs a = refl
     ones (w ∷ gs) xs a =
         ones gs (cond (eqb ((at due (w .slot)) .asynchronous) c) (now ∷ xs) xs) (and-r (Q w) _ a)
@@ -357,7 +357,7 @@ module _ (d : Server) (f : ℕ → Grants) (g : Counts d f) (r : Result) where
         or-right true y e = refl
         or-right false y e = e
 
-        on : (j : ℕ) → live (at es j) ≡ true → (at es j) .asynchronous ≡ (at es (w .slot)) .asynchronous → onConnection ((at es (w .slot)) .asynchronous) (at es j) ≡ true
+        on : (j : ℕ) → live (at es j) ≡ true → (at es j) .asynchronous ≡ (at es (w .slot)) .asynchronous → isOnConnection ((at es (w .slot)) .asynchronous) (at es j) ≡ true
         on j a e = both _ _ a (or-right (eqb ((at es j) .synchronous) ((at es (w .slot)) .asynchronous)) _ (eq-eqb _ _ e))
 
         go : (w .slot ≡ i) ⊎ (w .slot ≡ i → ⊥) → eqb ((at es (w .slot)) .asynchronous) ((at es i) .asynchronous) ≡ eqb (w .slot) i
@@ -366,16 +366,16 @@ module _ (d : Server) (f : ℕ → Grants) (g : Counts d f) (r : Result) where
             ne-eqb ((at es (w .slot)) .asynchronous) ((at es i) .asynchronous) (λ x. e (g .inv .sound .firm .connections ((at es (w .slot)) .asynchronous) real (w .slot) i (on (w .slot) alive refl) (on i (lived i v (goes .0)) (sym x))))
             ∙ sym (ne-eqb _ _ e)
 
-    passed : noted (answersTo now (q₀ .second) (map (answerTo 1 (l .due)) (l .granted)) (q₀ .readings)) ≡ givenGrants now (l .granted) i (noted (q₀ .readings))
+    passed : noted (answersTo now (q₀ .second) (map (waitingAnswer 1 (l .due)) (l .granted)) (q₀ .readings)) ≡ givenGrants now (l .granted) i (noted (q₀ .readings))
     passed = go (looksAfter es h) refl
       where
-        go : (b : Bool) → looksAfter es h ≡ b → noted (answersTo now (q₀ .second) (map (answerTo 1 (l .due)) (l .granted)) (q₀ .readings)) ≡ givenGrants now (l .granted) i (noted (q₀ .readings))
+        go : (b : Bool) → looksAfter es h ≡ b → noted (answersTo now (q₀ .second) (map (waitingAnswer 1 (l .due)) (l .granted)) (q₀ .readings)) ≡ givenGrants now (l .granted) i (noted (q₀ .readings))
         go true q =
             ones now (q₀ .second) i (l .due) (Left h) (to-slot q) (l .granted) (q₀ .readings)
             ((look-all now (Left h) (looksAfter es h) (l .due) (requestsLeft es now h ws) es′ (r .server .locks .waiting) (l .granted) (l .waiting) (lefts h q)) .1)
         go false q =
             let x = rw q at (l .waiting) in
-            subst (λ (gs : List Waiting). noted (answersTo now (q₀ .second) (map (answerTo 1 (l .due)) gs) (q₀ .readings)) ≡ givenGrants now gs i (noted (q₀ .readings))) (sym (x .2)) refl
+            subst (λ (gs : List Waiting). noted (answersTo now (q₀ .second) (map (waitingAnswer 1 (l .due)) gs) (q₀ .readings)) ≡ givenGrants now gs i (noted (q₀ .readings))) (sym (x .2)) refl
 
     counted : ((at es′ i) .asynchronous ≡ (grantsBy now h (r .frames) (n′ i) (f (n′ i))) .second) × ((at es′ i) .locksGranted ≡ noted ((grantsBy now h (r .frames) (n′ i) (f (n′ i))) .readings))
     counted =
@@ -386,8 +386,8 @@ module _ (d : Server) (f : ℕ → Grants) (g : Counts d f) (r : Result) where
               ∙ sym passed
               ∙ ap noted (sym
               (ap (λ (fs : List Frame). answersTo now (q₀ .second) fs (q₀ .readings)) (frames-told d h r l (told-own d h (r .frames) k))
-              ∙ answers-append now (q₀ .second) (map (answerTo 0 es) (taken d h)) (map (answerTo 1 (l .due)) (l .granted)) (q₀ .readings)
-              ∙ ap (answersTo now (q₀ .second) (map (answerTo 1 (l .due)) (l .granted))) (zeros now (q₀ .second) es (taken d h) (q₀ .readings)))),
+              ∙ answers-append now (q₀ .second) (map (waitingAnswer 0 es) (taken d h)) (map (waitingAnswer 1 (l .due)) (l .granted)) (q₀ .readings)
+              ∙ ap (answersTo now (q₀ .second) (map (waitingAnswer 1 (l .due)) (l .granted))) (zeros now (q₀ .second) es (taken d h) (q₀ .readings)))),
         )
 
 counts-call : (d : Server) (f : ℕ → Grants) (e : Event) → Counts d f → Counts ((step d e) .server) (λ n. grantsBy (d .locks .clock) (atCall d e) ((step d e) .frames) n (f n))

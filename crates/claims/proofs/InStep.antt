@@ -28,7 +28,7 @@ use Rattle.model.specs.Refusals.{causes, refusal}
 use Rattle.model.specs.Step.{Result, counted, effect, finish, step, final, log}
 use Rattle.model.specs.Access.{Command, accessOf}
 use Rattle.model.specs.Happening.{Heard.with-code, heard}
-use Rattle.model.specs.InStep.{Numbering, opened, took-one, expected, noted-line, numbering, countUp, error-0, Counts, OnlyPayload, NeverOut, OutOfStep, InStep}
+use Rattle.model.specs.InStep.{Numbering, firstNumbering, took-one, expected, noted-line, numbering, countUp, error-0, Counts, OnlyPayload, NeverOut, OutOfStep, InStep}
 use Rattle.model.proofs.Basics.{and-l, and-r, not-of, not-off}
 use Rattle.claims.proofs.Fits.{uncaused, real-delivery}
 use Rattle.claims.proofs.ReadOff.{each-of}
@@ -279,7 +279,7 @@ in-steps v es =
           let s = w .on-synchronous in
           let e = m ∙ sym (counts-on k) ∙ ap expected (sym t) ∙ (g .knows (slotOf d c) (s .alive)) .number in
           ap (λ (x : Result). x .reply) (whole-does d c bs room z (w .message) r-synchronous (role-sync d c s) (command-passes d (slotOf d c) (payloadOf (header bs) bs) (w .not-in-clear) a (header bs) e f (λ t. admits-is (d .rest .allowed) (payloadOf (header bs) bs) .1 (l t))));
-      never = λ n c. never-out es (fresh v) (λ n. opened noConnection) (fresh-reads v) n c;
+      never = λ n c. never-out es (fresh v) (λ n. firstNumbering noConnection) (fresh-reads v) n c;
     }
   where
     d : Server

@@ -11,7 +11,7 @@ use borrow.Author.Tests.{ne-eqb}
 use Rattle.model.specs.Sizes.{noConnection, sessionLimit}
 use Rattle.model.specs.Lists.{all, keep, isNil}
 use Rattle.model.specs.State.{Entry, Waiting, blank, at, live, Locks, Kind.exclusive-lock, Kind.shared-lock, Standing, Standing.no-release, Standing.release-of}
-use Rattle.model.specs.Place.{onConnection}
+use Rattle.model.specs.Place.{isOnConnection}
 use Rattle.model.specs.Locks
 use Rattle.model.specs.Locks.{Passed, elsewhere, noExclusive, noShared, give, giveAt, grant, mayGrant, after, put, passOver}
 use Rattle.claims.proofs.GrantingRule.{ready, may-exclusive, may-back}
@@ -49,7 +49,7 @@ exclusive e = e .exclusive
 pub record Firm (es : List Entry) : Type 0 where
   pub clean-all : all clean es ≡ true
   pub numbers : (n : ℕ) → Sole (numbered n) es
-  pub connections : (c : ℕ) → (c ≡ noConnection → ⊥) → Sole (onConnection c) es
+  pub connections : (c : ℕ) → (c ≡ noConnection → ⊥) → Sole (isOnConnection c) es
   pub one-exclusive : Sole exclusive es
   pub backed-all : all backed es ≡ true
   pub slots : length es ≡ sessionLimit
@@ -68,7 +68,7 @@ firm-same es i y c b n s a x f =
     record {
       clean-all = all-set clean es i y c (f .clean-all);
       numbers = λ m. sole-same (numbered m) es i y (λ h. rw n at h) (f .numbers m);
-      connections = λ c r. sole-same (onConnection c) es i y (λ h. rw (n, s, a) at h) (f .connections c r);
+      connections = λ c r. sole-same (isOnConnection c) es i y (λ h. rw (n, s, a) at h) (f .connections c r);
       one-exclusive = x;
       backed-all = all-set backed es i y b (f .backed-all);
       slots = length-set es i y ∙ f .slots;
@@ -141,7 +141,7 @@ firm-blank es i f =
     record {
       clean-all = all-set clean es i blank refl (f .clean-all);
       numbers = λ m. sole-same (numbered m) es i blank (λ h. absurd (false≢true h)) (f .numbers m);
-      connections = λ c r. sole-same (onConnection c) es i blank (λ h. absurd (false≢true h)) (f .connections c r);
+      connections = λ c r. sole-same (isOnConnection c) es i blank (λ h. absurd (false≢true h)) (f .connections c r);
       one-exclusive = sole-same exclusive es i blank (λ h. absurd (false≢true h)) (f .one-exclusive);
       backed-all = all-set backed es i blank refl (f .backed-all);
       slots = length-set es i blank ∙ f .slots;

@@ -16,7 +16,7 @@ use Rattle.model.specs.Sizes.{noConnection}
 use Rattle.model.specs.State.{Making, Server, Entry, at, live, halfOpen, blank, slotOfNumber, connectionAt, exchangeAt, Asked, Asked.none, Asked.some, Exchange, withExchange, sensingAt, withSensings}
 use Rattle.model.specs.Interface.{Event, Event.opening, Event.delivery, Event.cut, Event.clock, Event.answer, Event.status, Event.setting, Outcome.acted, Outcome.closed, Reply, Reply.done, Reply.withheld, Reply.took}
 use Rattle.model.specs.Scan.{Scan, Scan.empty, Scan.few, Scan.wrong, Scan.skipping, Scan.long, Scan.part, Scan.whole, scan, size}
-use Rattle.model.specs.Place.{slotIn, slotOf, roleOf, roleBy, onConnection, entryOf, Role, Role.r-none, Role.r-halfOpen, Role.r-synchronous, Role.r-asynchronous}
+use Rattle.model.specs.Place.{slotIn, slotOf, roleOf, roleBy, isOnConnection, entryOf, Role, Role.r-none, Role.r-halfOpen, Role.r-synchronous, Role.r-asynchronous}
 use Rattle.model.specs.Locks
 use Rattle.model.specs.Locks.{LockEvent, change, grantPass, passOver}
 use Rattle.model.specs.Exchange.{withNumber, answerNumberIn, answerNumber, numberAsked, answeredWith, interrupted}
@@ -62,7 +62,7 @@ second-is es c r = go (place-sound es c)
     on (inl h) = absurd (true≢false (sym h ∙ not-first (live e) (eqb (e .asynchronous) noConnection) (eqb (e .synchronous) c) (sym (place-role es c) ∙ r)))
     on (inr h) = eqb-true (e .asynchronous) c h
 
-    go : (onConnection c e ≡ true) ⊎ (e ≡ blank) → e .asynchronous ≡ c
+    go : (isOnConnection c e ≡ true) ⊎ (e ≡ blank) → e .asynchronous ≡ c
     go (inl h) = on (or→ (eqb (e .synchronous) c) (eqb (e .asynchronous) c) (and-r (live e) (eqb (e .synchronous) c || eqb (e .asynchronous) c) h))
     go (inr h) = absurd (true≢false (sym (async-live es c r) ∙ ap live h))
 
@@ -175,7 +175,7 @@ module _ (d : Server) (c : ℕ) (bs : List ℕ) (real : c ≡ noConnection → �
   no-session : roleOf (d .locks .entries) c ≡ r-none → eqb (e₀ .synchronous) c ≡ false
   no-session er = go (place-sound (d .locks .entries) c)
     where
-      go : (onConnection c e₀ ≡ true) ⊎ (e₀ ≡ blank) → eqb (e₀ .synchronous) c ≡ false
+      go : (isOnConnection c e₀ ≡ true) ⊎ (e₀ ≡ blank) → eqb (e₀ .synchronous) c ≡ false
       go (inl h) = absurd (no-role (d .locks .entries) c er (slotOf d c) h)
       go (inr h) = ap (λ (e : Entry). eqb (e .synchronous) c) h ∙ ne-eqb noConnection c (λ z. real (sym z))
 

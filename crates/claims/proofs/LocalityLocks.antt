@@ -15,7 +15,7 @@ use Rattle.model.specs.Locks.{withLocks, withOrder, tell, refuse, unexpired, el
 use Rattle.model.specs.Step.{lockFrame}
 use Rattle.model.specs.Happening.{Heard, Action, Happening.unmoved, Happening.connected, Happening.disconnected, Happening.skipped-over, Happening.errored, Happening.message-acted, Happening.clock-read, Happening.status-set, Happening.setting-made, Happening.answer-sent, Happening.answer-withheld}
 use Rattle.model.specs.LocalityRows.{kindOf, slotActed, isCode, isSilence, codeWhere, requestsLeft, looksAfter}
-use Rattle.model.specs.LocalityReplies.{saidTo, answerTo}
+use Rattle.model.specs.LocalityReplies.{saidTo, waitingAnswer}
 use Rattle.model.specs.Locality.{Look}
 use Rattle.model.specs.Interface.{Setting}
 use Rattle.claims.proofs.Simulation.{dueBy}
@@ -78,20 +78,20 @@ module _ (d : Server) where
       }
 
 -- answers, as frames
-pub told-frames : (es : List Entry) (gs : List Waiting) → map lockFrame (map (told es) gs) ≡ map (answerTo 1 es) gs
+pub told-frames : (es : List Entry) (gs : List Waiting) → map lockFrame (map (told es) gs) ≡ map (waitingAnswer 1 es) gs
 told-frames es [] = refl
-told-frames es (w ∷ gs) = ap (λ (fs : List Frame). answerTo 1 es w ∷ fs) (told-frames es gs)
+told-frames es (w ∷ gs) = ap (λ (fs : List Frame). waitingAnswer 1 es w ∷ fs) (told-frames es gs)
 
-pub pass-frames : (now : ℕ) (ws : List Waiting) (es : List Entry) → map lockFrame ((passOver now ws es) .answers) ≡ map (answerTo 1 es) ((pass-looks now ws es) .grants)
+pub pass-frames : (now : ℕ) (ws : List Waiting) (es : List Entry) → map lockFrame ((passOver now ws es) .answers) ≡ map (waitingAnswer 1 es) ((pass-looks now ws es) .grants)
 pass-frames now ws es = ap (map lockFrame) ((pass-looks now ws es) .answers) ∙ told-frames es ((pass-looks now ws es) .grants)
 
-pub refused-frames : (es : List Entry) (q : Waiting → Bool) (ws : List Waiting) → map lockFrame (refuse es (λ w. not (q w)) ws) ≡ map (answerTo 0 es) (keep q ws)
+pub refused-frames : (es : List Entry) (q : Waiting → Bool) (ws : List Waiting) → map lockFrame (refuse es (λ w. not (q w)) ws) ≡ map (waitingAnswer 0 es) (keep q ws)
 refused-frames es q [] = refl
 refused-frames es q (w ∷ ws) = go (q w) (refused-frames es q ws)
   where
-    go : (b : Bool) → map lockFrame (refuse es (λ w. not (q w)) ws) ≡ map (answerTo 0 es) (keep q ws)
-        → map lockFrame (cond (not b) (refuse es (λ w. not (q w)) ws) (tell es (w .slot) 0 true ∷ refuse es (λ w. not (q w)) ws)) ≡ map (answerTo 0 es) (cond b (w ∷ keep q ws) (keep q ws))
-    go true h = ap (λ (fs : List Frame). answerTo 0 es w ∷ fs) h
+    go : (b : Bool) → map lockFrame (refuse es (λ w. not (q w)) ws) ≡ map (waitingAnswer 0 es) (keep q ws)
+        → map lockFrame (cond (not b) (refuse es (λ w. not (q w)) ws) (tell es (w .slot) 0 true ∷ refuse es (λ w. not (q w)) ws)) ≡ map (waitingAnswer 0 es) (cond b (w ∷ keep q ws) (keep q ws))
+    go true h = ap (λ (fs : List Frame). waitingAnswer 0 es w ∷ fs) h
     go false h = h
 
 -- a closing
@@ -141,7 +141,7 @@ abbrev pub grantsBy : ℕ → Bool → List Waiting → List Entry → List Wait
 grantsBy now true ws es = (pass-looks now ws es) .grants
 grantsBy now false ws es = []
 
-pub settle-frames : (b : Bool) (l : Locks) → map lockFrame ((settle b l) .answers) ≡ map (answerTo 1 (l .entries)) (grantsBy (l .clock) b (l .waiting) (l .entries))
+pub settle-frames : (b : Bool) (l : Locks) → map lockFrame ((settle b l) .answers) ≡ map (waitingAnswer 1 (l .entries)) (grantsBy (l .clock) b (l .waiting) (l .entries))
 unfolding grantPass
 settle-frames true l = pass-frames (l .clock) (l .waiting) (l .entries)
 settle-frames false l = refl

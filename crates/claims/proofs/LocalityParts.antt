@@ -8,7 +8,7 @@ use Rattle.model.specs.Interface.{Outcome, Reply.took}
 use Rattle.model.specs.Step.{Result}
 use Rattle.model.specs.Happening.{Happening}
 use Rattle.model.specs.LocalityRows.{clear-row, asked-row, available-row, size-row, mode-row, count-row, sent-row, expected-row, step-row, requestsLeft, looksAfter, inPlace, open-row, remainder-row, singly, clock-row, status-row, made-row, allowed-row, issued-row, enable-row, lockout-row, remote-row, sensing-row}
-use Rattle.model.specs.LocalityReplies.{saidFirst, direct, answeredFirst, answerTo, sessionSaid}
+use Rattle.model.specs.LocalityReplies.{saidFirst, direct, answeredFirst, waitingAnswer, sessionSaid}
 use Rattle.model.specs.Locality.{entryDue, Look, Local}
 use Rattle.claims.proofs.LocalityLists.{Rowed, project, project-way, connectionWay, exchangeRow, entryRow, due-entry, lookedAt, look-sized, look-each}
 
@@ -43,7 +43,7 @@ pub record LocksPart (d : Server) (h : Happening) (l : Locks) (due : List Entry)
   pub look : Look (d .locks .clock) (looksAfter (d .locks .entries) h) due (requestsLeft (d .locks .entries) (d .locks .clock) h (d .locks .waiting)) (l .entries) (l .waiting) granted
 
 pub assemble : (d : Server) (h : Happening) (r : Result) (due : List Entry) (granted : List Waiting) → RestPart d h (r .server .rest) → LocksPart d h (r .server .locks) due granted
-    → r .frames ≡ saidFirst d h ++ (answeredFirst d h ++ (direct d h ++ map (answerTo 1 due) granted)) → ((o : Outcome) (k n : ℕ) → r .reply ≡ took o k n → n ≡ sessionSaid d h n) → Local d h r
+    → r .frames ≡ saidFirst d h ++ (answeredFirst d h ++ (direct d h ++ map (waitingAnswer 1 due) granted)) → ((o : Outcome) (k n : ℕ) → r .reply ≡ took o k n → n ≡ sessionSaid d h n) → Local d h r
 assemble d h r due granted p l f s =
     record {
       clock = l .clock;

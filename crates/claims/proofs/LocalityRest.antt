@@ -17,7 +17,7 @@ use Rattle.readings.specs.Some.{tripped-some}
 use Rattle.readings.specs.Request.{requestCode}
 use Rattle.model.specs.Sizes.{noConnection, payloadLimit}
 use Rattle.model.specs.State.{Server, Entry, Exchange, Connection, RemoteLocal, at, live, blank, freshExchange, openExchange, closedConnection, openConnection, exchangeAt, connectionAt, slotOfNumber, withConnection, withExchange, withRemoteLocal, withSession, withStatus, Sensing, freshSensing, sensingAt, withSensing}
-use Rattle.model.specs.Place.{slotOf, entryOf, onConnection}
+use Rattle.model.specs.Place.{slotOf, entryOf, isOnConnection}
 use Rattle.model.specs.Scan.{Scan, Scan.skipping, sorted, freshScan, scan, size, leftover}
 use Rattle.model.specs.Exchange
 use Rattle.model.specs.Exchange.{controlled}
@@ -279,7 +279,7 @@ module _ (d : Server) (c : ℕ) (real : c ≡ noConnection → ⊥) where
       on (inl s) = or-of (eqb x (e .synchronous)) (one-of (cond (eqb (e .asynchronous) noConnection) [] (e .asynchronous ∷ [])) x) (eq-eqb x (e .synchronous) (eqb-true x c q ∙ sym (eqb-true (e .synchronous) c s)))
       on (inr s) = or-r (eqb x (e .synchronous)) (one-of (cond (eqb (e .asynchronous) noConnection) [] (e .asynchronous ∷ [])) x) (second (eqb-true (e .asynchronous) c s) (eqb (e .asynchronous) noConnection) refl)
 
-      go : (onConnection c e ≡ true) ⊎ (e ≡ blank) → one-of (connectionsOf e) x ≡ true
+      go : (isOnConnection c e ≡ true) ⊎ (e ≡ blank) → one-of (connectionsOf e) x ≡ true
       go (inl h) = on (or→ (eqb (e .synchronous) c) _ (rw v at h))
       go (inr h) = absurd (true≢false (sym v ∙ ap live h))
 

@@ -11,7 +11,7 @@ use Rattle.model.specs.Step.{Result}
 use Rattle.model.specs.Closing.{OldestFirst, OldestFirst.pass-end, OldestFirst.pass-grant, OldestFirst.pass-wait}
 use Rattle.model.specs.Happening.{Happening}
 use Rattle.model.specs.LocalityRows.{looksAfter, requestsLeft}
-use Rattle.model.specs.LocalityReplies.{saidFirst, direct, answeredFirst, answerTo}
+use Rattle.model.specs.LocalityReplies.{saidFirst, direct, answeredFirst, waitingAnswer}
 use Rattle.model.specs.Locality.{Look, Local, NothingFree}
 
 same-list : {A : Type 0} (z : A) (xs ys : List A) → length xs ≡ length ys → ((i : ℕ) → i < length ys → getD xs i z ≡ getD ys i z) → xs ≡ ys
@@ -95,7 +95,7 @@ module _ (d : Server) (h : Happening) (r r′ : Result) (a : Local d h r) (b : L
       }
 
   same-frames : r .frames ≡ r′ .frames
-  same-frames = a .frames ∙ ap₂ (λ (es : List Entry) (gs : List Waiting). saidFirst d h ++ (answeredFirst d h ++ (direct d h ++ map (answerTo 1 es) gs))) same-due (same-locks .2) ∙ sym (b .frames)
+  same-frames = a .frames ∙ ap₂ (λ (es : List Entry) (gs : List Waiting). saidFirst d h ++ (answeredFirst d h ++ (direct d h ++ map (waitingAnswer 1 es) gs))) same-due (same-locks .2) ∙ sym (b .frames)
 
 pub nothing-free : NothingFree
 nothing-free = record { decides = λ d h r r′ a b. (same-server d h r r′ a b, same-frames d h r r′ a b) }

@@ -30,7 +30,7 @@ use Rattle.model.specs.Deciding.{modelAfter}
 use Rattle.model.specs.Tie.{Track, said}
 use Rattle.model.specs.Happening.{Heard, Heard.silence, Heard.with-code, Action, Happening, Happening.unmoved, Happening.connected, Happening.disconnected, Happening.skipped-over, Happening.errored, Happening.message-acted, Happening.clock-read, Happening.status-set, Happening.setting-made, Happening.answer-sent, Happening.answer-withheld, seenDelivery, happened}
 use Rattle.model.specs.LocalityRows.{kindOf, slotActed, endedWith, interruptedBy, requestsOf, reachedBy}
-use Rattle.model.specs.LocalityReplies.{plainTo, ReplyTo, replyIn, replies, saidTo, fatalTo, pairTo, saidFirst, direct, answeredFirst, answerTo}
+use Rattle.model.specs.LocalityReplies.{plainTo, ReplyTo, replyIn, replies, saidTo, fatalTo, pairTo, saidFirst, direct, answeredFirst, waitingAnswer}
 use Rattle.model.specs.Locality.{atCall}
 use Rattle.model.specs.NextQuestion.{isAnswer, questionUnread, firstConnection, synchronousOf, asynchronousOf, owes, Answered, NextQuestion}
 use Rattle.model.specs.Sensing.{serviceAfter}

@@ -16,14 +16,14 @@ use Rattle.model.specs.Sizes.{noConnection, sessionLimit}
 use Rattle.model.specs.MessageTypes.{commands}
 use Rattle.model.specs.State.{Server, Entry, Exchange, at, live, slotOfNumber, exchangeAt, fresh, Making}
 use Rattle.model.specs.Interface.{Event, Event.opening, Event.delivery, Event.cut, Event.clock, Event.answer, Event.status, Event.setting, Outcome, Outcome.more-needed, Outcome.skipped, Outcome.held, Outcome.ignored, Outcome.error-sent, Outcome.closed, Outcome.acted, Reply, Reply.refused, Reply.done, Reply.withheld, Reply.took}
-use Rattle.model.specs.Place.{onConnection, slotIn, slotOf}
+use Rattle.model.specs.Place.{isOnConnection, slotIn, slotOf}
 use Rattle.model.specs.Checks.{judged}
 use Rattle.model.specs.Step.{Result, step, final, log}
 use Rattle.model.specs.Happening.{Heard, Action, Happening, Happening.unmoved, Happening.connected, Happening.disconnected, Happening.skipped-over, Happening.errored, Happening.message-acted, Happening.clock-read, Happening.status-set, Happening.setting-made, Happening.answer-sent, Happening.answer-withheld, happened}
 use Rattle.model.specs.LocalityRows.{kindOf, slotActed, inSlot, clear-row, step-row, number-row, synchronous-row}
 use Rattle.model.specs.LocalityReplies.{sessionSaid}
 use Rattle.model.specs.Locality.{atCall, Local}
-use Rattle.model.specs.InStep.{Numbering, opened, took-one, expected, actedFor, actedForAnother, refusedOne, noted, numberingOf, numbering, Knows}
+use Rattle.model.specs.InStep.{Numbering, firstNumbering, took-one, expected, actedFor, actedForAnother, refusedOne, numberingAfter, numberingOf, numbering, Knows}
 use Rattle.model.proofs.Basics.{both, not-off, inside, same?}
 use Rattle.claims.proofs.Invariant.{Inv}
 use Rattle.claims.proofs.Events.{Enters, inv-fresh, blank-at}
@@ -42,7 +42,7 @@ pub record Reads (d : Server) (f : ℕ → Numbering) : Type 0 where
   pub inv : Inv (d .locks)
   pub sized : length (d .rest .exchanges) ≡ sessionLimit
   pub knows : (i : ℕ) → live (at (d .locks .entries) i) ≡ true → Knows (f ((at (d .locks .entries) i) .number)) (at (d .locks .entries) i) (exchangeAt (d .rest) i)
-  -- no other session is noted with its connection
+  -- no other session is numberingAfter with its connection
   pub sole : (n i : ℕ) → live (at (d .locks .entries) i) ≡ true → ((f n) .connection ≡ noConnection → ⊥) → (f n) .connection ≡ (at (d .locks .entries) i) .synchronous → n ≡ (at (d .locks .entries) i) .number
 
 -- a command that acts carries the number expected
@@ -165,7 +165,7 @@ module _ (c m : ℕ) (p : Numbering) where
   kept-connection : (t : ℕ) → eqb t 0 ≡ false → (actedFor c t m p) .connection ≡ p .connection
   kept-connection t q = go (one-of commands t) (eqb t 19) (eqb t 8)
     where
-      go : (x a b : Bool) → (cond x (took-one m p) (cond (eqb t 0) (opened c) (cond a (record { connection = p .connection; inClear = true; taken = [] }) (cond b (record { connection = p .connection; inClear = false; taken = p .taken }) p)))) .connection ≡ p .connection
+      go : (x a b : Bool) → (cond x (took-one m p) (cond (eqb t 0) (firstNumbering c) (cond a (record { connection = p .connection; inClear = true; taken = [] }) (cond b (record { connection = p .connection; inClear = false; taken = p .taken }) p)))) .connection ≡ p .connection
       go true a b = refl
       go false true b = rw q
       go false false true = rw q
@@ -216,36 +216,36 @@ module _ (d : Server) (f : ℕ → Numbering) (g : Reads d f) (r : Result) where
   Known i p = Knows p (at es′ i) (x′ i)
 
   abbrev Goal : Happening → ℕ → Type 0
-  Goal h i = Known i (noted h ((at es′ i) .number) (f ((at es′ i) .number))) × ((n : ℕ) → ((noted h n (f n)) .connection ≡ noConnection → ⊥) → (noted h n (f n)) .connection ≡ (at es′ i) .synchronous → n ≡ (at es′ i) .number)
+  Goal h i = Known i (numberingAfter h ((at es′ i) .number) (f ((at es′ i) .number))) × ((n : ℕ) → ((numberingAfter h n (f n)) .connection ≡ noConnection → ⊥) → (numberingAfter h n (f n)) .connection ≡ (at es′ i) .synchronous → n ≡ (at es′ i) .number)
 
   was-live : (i : ℕ) → live (at es′ i) ≡ true → (at es′ i) .number ≡ (at es i) .number → live (at es i) ≡ true
   was-live i v e = ap (λ n. not (eqb n 0)) (sym e) ∙ v
 
   -- a slot that stays who it is
   stays : (h : Happening) (i : ℕ) → live (at es′ i) ≡ true → (b : Bool) (m : ℕ) → Leaves i ((at es i) .number) ((at es i) .synchronous) b m
-      → Same (noted h ((at es i) .number) (f ((at es i) .number))) ((f ((at es i) .number)) .connection) b m
-      → ((n : ℕ) → ((noted h n (f n)) .connection ≡ noConnection → ⊥) → (noted h n (f n)) .connection ≡ (at es i) .synchronous → (f n) .connection ≡ (at es i) .synchronous) → Goal h i
+      → Same (numberingAfter h ((at es i) .number) (f ((at es i) .number))) ((f ((at es i) .number)) .connection) b m
+      → ((n : ℕ) → ((numberingAfter h n (f n)) .connection ≡ noConnection → ⊥) → (numberingAfter h n (f n)) .connection ≡ (at es i) .synchronous → (f n) .connection ≡ (at es i) .synchronous) → Goal h i
   stays h i v b m t s o =
       let alive = was-live i v (t .0) in (
-        subst (λ (n : ℕ). Known i (noted h n (f n))) (sym (t .0)) record { connection = s .0 ∙ (g .knows i alive) .connection ∙ sym (t .1); in-clear = s .1 ∙ sym (t .2); number = s .2 ∙ sym (t .3) },
+        subst (λ (n : ℕ). Known i (numberingAfter h n (f n))) (sym (t .0)) record { connection = s .0 ∙ (g .knows i alive) .connection ∙ sym (t .1); in-clear = s .1 ∙ sym (t .2); number = s .2 ∙ sym (t .3) },
         λ n w e. let y = o n w (e ∙ t .1) in g .sole n i alive (λ z. w (e ∙ t .1 ∙ sym y ∙ z)) y ∙ sym (t .0),
       )
 
   -- nothing of the session is touched
-  untouched : (h : Happening) (i : ℕ) → live (at es′ i) ≡ true → Leaves i ((at es i) .number) ((at es i) .synchronous) ((x i) .inClear) ((x i) .numberExpected) → ((n : ℕ) → noted h n (f n) ≡ f n) → Goal h i
+  untouched : (h : Happening) (i : ℕ) → live (at es′ i) ≡ true → Leaves i ((at es i) .number) ((at es i) .synchronous) ((x i) .inClear) ((x i) .numberExpected) → ((n : ℕ) → numberingAfter h n (f n) ≡ f n) → Goal h i
   untouched h i v t e =
       let n = (at es i) .number in
       let k = g .knows i (was-live i v (t .0)) in
       stays h i v ((x i) .inClear) ((x i) .numberExpected) t (rw (e n) (refl, k .in-clear, k .number)) (λ m w q. ap (λ (p : Numbering). p .connection) (sym (e m)) ∙ q)
 
   closed-not : (h : Happening) (i : ℕ) → live (at es′ i) ≡ true → (b : Bool) → Leaves i (cond b 0 ((at es i) .number)) (cond b noConnection ((at es i) .synchronous)) (cond b false ((x i) .inClear)) (cond b 0xffffff00 ((x i) .numberExpected))
-      → ((n : ℕ) → noted h n (f n) ≡ f n) → Goal h i
+      → ((n : ℕ) → numberingAfter h n (f n) ≡ f n) → Goal h i
   closed-not h i v true t e = absurd (false≢true (ap (λ n. not (eqb n 0)) (sym (t .0)) ∙ v))
   closed-not h i v false t e = untouched h i v t e
 
   -- an answer
   answered-not : (h : Happening) (i : ℕ) → live (at es′ i) ≡ true → (b : Bool) → Leaves i (cond b ((at es i) .number) ((at es i) .number)) (cond b ((at es i) .synchronous) ((at es i) .synchronous)) (cond b ((x i) .inClear) ((x i) .inClear)) (cond b ((x i) .numberExpected) ((x i) .numberExpected))
-      → ((n : ℕ) → noted h n (f n) ≡ f n) → Goal h i
+      → ((n : ℕ) → numberingAfter h n (f n) ≡ f n) → Goal h i
   answered-not h i v true t e = untouched h i v t e
   answered-not h i v false t e = untouched h i v t e
 
@@ -254,7 +254,7 @@ module _ (d : Server) (f : ℕ → Numbering) (g : Reads d f) (r : Result) where
     abbrev hap : Happening
     hap = errored c h k
 
-    same-place : (n : ℕ) → (noted hap n (f n)) .connection ≡ (f n) .connection
+    same-place : (n : ℕ) → (numberingAfter hap n (f n)) .connection ≡ (f n) .connection
     same-place n = go (eqb ((f n) .connection) c)
       where
         go : (b : Bool) → (cond b (refusedOne h (f n)) (f n)) .connection ≡ (f n) .connection
@@ -288,7 +288,7 @@ module _ (d : Server) (f : ℕ → Numbering) (g : Reads d f) (r : Result) where
 
         go : (b : Bool) → eqb ((at es i) .synchronous) c ≡ b → Goal hap i
         go true q =
-            let on : onConnection c (at es i) ≡ true = rw (alive, q) in
+            let on : isOnConnection c (at es i) ≡ true = rw (alive, q) in
             let s : eqb i (slotIn es c) ≡ true = eq-eqb i _ (place-unique es c i (g .inv .sound .firm .connections c real) on) in
             here true (ap (λ (m : ℕ). eqb m c) (k₁ .connection) ∙ q) (rw (s, q) at u)
         go false q =
@@ -315,7 +315,7 @@ module _ (d : Server) (f : ℕ → Numbering) (g : Reads d f) (r : Result) where
 
     -- not Initialize: no connection changes
     module _ (q : eqb t₀ 0 ≡ false) where
-      same-connection : (n : ℕ) → (noted did n (f n)) .connection ≡ (f n) .connection
+      same-connection : (n : ℕ) → (numberingAfter did n (f n)) .connection ≡ (f n) .connection
       same-connection n = go (eqb (a .session) n)
         where
           go : (b : Bool) → (cond b (actedFor (a .connection) t₀ m₀ (f n)) (actedForAnother (a .connection) t₀ (f n))) .connection ≡ (f n) .connection
@@ -389,16 +389,16 @@ module _ (d : Server) (f : ℕ → Numbering) (g : Reads d f) (r : Result) where
           go : (i ≡ z₀) ⊎ (i ≡ z₀ → ⊥) → Goal did i
           go (inl e) =
               let u : Begins i true = rw (eq-eqb i z₀ e) at (begun i t) in
-              let opens : noted did (a .session) (f (a .session)) ≡ opened (a .connection) = rw (eq-eqb (a .session) (a .session) refl, q) in (
-                subst (λ (n : ℕ). Known i (noted did n (f n))) (sym (u .0)) (subst (Known i) (sym opens) record { connection = sym (u .1); in-clear = sym (u .2); number = sym (u .3) }),
+              let opens : numberingAfter did (a .session) (f (a .session)) ≡ firstNumbering (a .connection) = rw (eq-eqb (a .session) (a .session) refl, q) in (
+                subst (λ (n : ℕ). Known i (numberingAfter did n (f n))) (sym (u .0)) (subst (Known i) (sym opens) record { connection = sym (u .1); in-clear = sym (u .2); number = sym (u .3) }),
                 λ n w c. mine n (eqb (a .session) n) refl (c ∙ u .1) ∙ sym (u .0),
               )
             where
-              another : (n : ℕ) (b : Bool) → eqb ((f n) .connection) (a .connection) ≡ b → (cond b (opened noConnection) (f n)) .connection ≡ a .connection → ⊥
+              another : (n : ℕ) (b : Bool) → eqb ((f n) .connection) (a .connection) ≡ b → (cond b (firstNumbering noConnection) (f n)) .connection ≡ a .connection → ⊥
               another n true w c = n₀ .real (sym c)
               another n false w c = eqb-false _ _ w c
 
-              mine : (n : ℕ) (b : Bool) → eqb (a .session) n ≡ b → (noted did n (f n)) .connection ≡ a .connection → n ≡ a .session
+              mine : (n : ℕ) (b : Bool) → eqb (a .session) n ≡ b → (numberingAfter did n (f n)) .connection ≡ a .connection → n ≡ a .session
               mine n true w c = sym (eqb-true _ _ w)
               mine n false w c = absurd (another n (eqb ((f n) .connection) (a .connection)) refl (rw (w, q) at c))
           go (inr e) =
@@ -410,11 +410,11 @@ module _ (d : Server) (f : ℕ → Numbering) (g : Reads d f) (r : Result) where
               let apart : eqb ((f n) .connection) (a .connection) ≡ false = ne-eqb _ _ (λ z. other-place i alive (sym (k₁ .connection) ∙ z)) in
               stays did i v _ _ u (rw (not-mine, q, apart) (refl, k₁ .in-clear, k₁ .number)) (λ m w z. others m w z alive (eqb (a .session) m) refl)
             where
-              others : (m : ℕ) → ((noted did m (f m)) .connection ≡ noConnection → ⊥) → (noted did m (f m)) .connection ≡ (at es i) .synchronous → live (at es i) ≡ true → (b : Bool) → eqb (a .session) m ≡ b → (f m) .connection ≡ (at es i) .synchronous
+              others : (m : ℕ) → ((numberingAfter did m (f m)) .connection ≡ noConnection → ⊥) → (numberingAfter did m (f m)) .connection ≡ (at es i) .synchronous → live (at es i) ≡ true → (b : Bool) → eqb (a .session) m ≡ b → (f m) .connection ≡ (at es i) .synchronous
               others m w z alive true y = absurd (other-place i alive (sym (rw (y, q) at z)))
               others m w z alive false y = by (eqb ((f m) .connection) (a .connection)) refl (rw (y, q) at w) (rw (y, q) at z)
                 where
-                  by : (b : Bool) → eqb ((f m) .connection) (a .connection) ≡ b → ((cond b (opened noConnection) (f m)) .connection ≡ noConnection → ⊥) → (cond b (opened noConnection) (f m)) .connection ≡ (at es i) .synchronous → (f m) .connection ≡ (at es i) .synchronous
+                  by : (b : Bool) → eqb ((f m) .connection) (a .connection) ≡ b → ((cond b (firstNumbering noConnection) (f m)) .connection ≡ noConnection → ⊥) → (cond b (firstNumbering noConnection) (f m)) .connection ≡ (at es i) .synchronous → (f m) .connection ≡ (at es i) .synchronous
                   by true y w c = absurd (w refl)
                   by false y w c = c
 
@@ -439,7 +439,7 @@ module _ (d : Server) (f : ℕ → Numbering) (g : Reads d f) (r : Result) where
   call-at (answer-sent m p end) l k i v = answered-not (answer-sent m p end) i v (eqb i (slotOfNumber es m)) (table (answer-sent m p end) l i v) (λ n. refl)
   call-at (answer-withheld m j) l k i v = answered-not (answer-withheld m j) i v (eqb i (slotOfNumber es m)) (table (answer-withheld m j) l i v) (λ n. refl)
 
-pub call-reads : (d : Server) (f : ℕ → Numbering) (e : Event) → Reads d f → Reads ((step d e) .server) (λ n. noted (atCall d e) n (f n))
+pub call-reads : (d : Server) (f : ℕ → Numbering) (e : Event) → Reads d f → Reads ((step d e) .server) (λ n. numberingAfter (atCall d e) n (f n))
 call-reads d f e g =
     let l = local-call d e in
     let k = facts d (g .inv) (g .sized ∙ sym (g .inv .sound .firm .slots)) e ((step d e) .reply) refl in
@@ -454,9 +454,9 @@ call-reads d f e g =
 pub list-reads : (es : List Event) (d : Server) (f : ℕ → Numbering) → Reads d f → Reads (final d es) (λ n. numberingOf (log d es) n (f n))
 unfolding final log numberingOf
 list-reads [] d f g = record { inv = g .inv; sized = g .sized; knows = g .knows; sole = g .sole }
-list-reads (e ∷ es) d f g = list-reads es ((step d e) .server) (λ n. noted (atCall d e) n (f n)) (call-reads d f e g)
+list-reads (e ∷ es) d f g = list-reads es ((step d e) .server) (λ n. numberingAfter (atCall d e) n (f n)) (call-reads d f e g)
 
-pub fresh-reads : (v : Making) → Reads (fresh v) (λ n. opened noConnection)
+pub fresh-reads : (v : Making) → Reads (fresh v) (λ n. firstNumbering noConnection)
 fresh-reads v =
     record {
       inv = inv-fresh;
@@ -466,4 +466,4 @@ fresh-reads v =
     }
 
 pub run-reads : (v : Making) (es : List Event) → Reads (final (fresh v) es) (λ n. numbering v es n)
-run-reads v es = list-reads es (fresh v) (λ n. opened noConnection) (fresh-reads v)
+run-reads v es = list-reads es (fresh v) (λ n. firstNumbering noConnection) (fresh-reads v)

@@ -30,7 +30,7 @@ use Rattle.model.specs.Step.{effect, received, plan, answered, finish, step, fi
 use Rattle.model.specs.Canonical.{omits, taken, bytes, shown, kept}
 use Rattle.model.specs.Reader.{messageWith, ReadsLong}
 use Rattle.model.specs.Possible.{Possible, AllPossible}
-use Rattle.model.specs.OnlyWhole.{ShowsMessage, ShowsLong, FatalFirst, Closes, Closes.by-prologue, Closes.by-header, Closes.by-message, ShowsReply, Shows, owesNext, OnlyWhole, TakenWhole}
+use Rattle.model.specs.OnlyWhole.{ShowsMessage, ShowsLong, FatalFirst, ClosedBy, ClosedBy.by-prologue, ClosedBy.by-header, ClosedBy.by-message, ShowsReply, Shows, owesNext, OnlyWhole, TakenWhole}
 use Rattle.model.specs.Outcomes.{owedIn}
 use Rattle.model.proofs.Basics.{not-off}
 use Rattle.model.proofs.Place.{no-role, place-sound}
@@ -46,7 +46,7 @@ use Rattle.claims.proofs.Owed.{Tracks, tracks-store, tracks-same, track
 no-session : (d : Server) (c : ℕ) → roleOf (d .locks .entries) c ≡ r-none → (at (d .locks .entries) (slotOf d c)) .number ≡ 0
 no-session d c e = go (place-sound (d .locks .entries) c)
   where
-    go : (Rattle.model.specs.Place.onConnection c (entryOf d c) ≡ true) ⊎ (entryOf d c ≡ blank) → (entryOf d c) .number ≡ 0
+    go : (Rattle.model.specs.Place.isOnConnection c (entryOf d c) ≡ true) ⊎ (entryOf d c ≡ blank) → (entryOf d c) .number ≡ 0
     go (inl h) = absurd (no-role (d .locks .entries) c e (slotOf d c) h)
     go (inr h) = ap (λ (x : Entry). x .number) h
 
@@ -105,7 +105,7 @@ module _ (d : Server) (c : ℕ) (bs : List ℕ) (b : Bytes bs) where
     i = slotOf d c
 
     -- closing
-    fatal-done : (n : ℕ) (s : Scan) (r : Role) → scan q bs ≡ s → reads s ≡ true → Closes ((at (d .locks .entries) i) .number) bs ((finish d (effect (v-fatal n) s r d i c)) .frames) → Here (effect (v-fatal n) s r d i c)
+    fatal-done : (n : ℕ) (s : Scan) (r : Role) → scan q bs ≡ s → reads s ≡ true → ClosedBy ((at (d .locks .entries) i) .number) bs ((finish d (effect (v-fatal n) s r d i c)) .frames) → Here (effect (v-fatal n) s r d i c)
     unfolding effect
     fatal-done n s r e f x = record { shows = (none-owed s e f, refl, x); tracks = tracks-closing d c owed _ t (no-change c owed) }
 

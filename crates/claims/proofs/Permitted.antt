@@ -16,7 +16,7 @@ use Rattle.model.specs.Lists.{all, tally}
 use Rattle.model.specs.State.{Entry, blank, at, live, halfOpen, slotOfNumber, Server, connectionAt, fresh, Making}
 use Rattle.model.specs.Interface.{Event, Event.delivery, Outcome.acted, Reply.took}
 use Rattle.model.specs.Scan.{Scan, freshScan, scan}
-use Rattle.model.specs.Place.{onConnection, slotOf, entryOf, Role, Role.r-none, Role.r-halfOpen, Role.r-synchronous, Role.r-asynchronous, roleBy, roleIn, roleOf}
+use Rattle.model.specs.Place.{isOnConnection, slotOf, entryOf, Role, Role.r-none, Role.r-halfOpen, Role.r-synchronous, Role.r-asynchronous, roleBy, roleIn, roleOf}
 use Rattle.model.specs.Allowing.{admits-is}
 use Rattle.model.specs.Locks.{issued}
 use Rattle.model.specs.Checks.{Verdict.v-acts, verdict, judged}
@@ -68,7 +68,7 @@ module _ (d : Server) (c : ℕ) where
   role-none : WithoutRole d c → roleOf (d .locks .entries) c ≡ r-none
   role-none w = place-role (d .locks .entries) c ∙ go (place-sound (d .locks .entries) c)
     where
-      go : (onConnection c (entryOf d c) ≡ true) ⊎ (entryOf d c ≡ blank) → roleIn c (entryOf d c) ≡ r-none
+      go : (isOnConnection c (entryOf d c) ≡ true) ⊎ (entryOf d c ≡ blank) → roleIn c (entryOf d c) ≡ r-none
       go (inl h) = absurd (w .no-session (slotOf d c) h)
       go (inr h) = ap (roleIn c) h
 

@@ -13,7 +13,7 @@ use Rattle.wire.specs.Class.{one-of}
 use Rattle.model.specs.Sizes.{noConnection}
 use Rattle.model.specs.Lists.{all, allBut, keep, same, tally}
 use Rattle.model.specs.State.{Entry, blank, at, live}
-use Rattle.model.specs.Place.{onConnection, slotIn}
+use Rattle.model.specs.Place.{isOnConnection, slotIn}
 use Rattle.model.specs.Locks.{noExclusive, noShared, fits, mayGrant}
 use Rattle.model.specs.LockModel.{Session, own, others, notShared, notExclusive, allowed, onNumber, alter, secondConnection, on}
 use Rattle.model.specs.Agreement.{asSession, asSessions}
@@ -174,15 +174,15 @@ drop-seen ss es s f c r p = tally-keep p (on c) ss ∙ s (λ x. not (on c x) && 
     i : ℕ
     i = slotIn es c
 
-    off : (j : ℕ) → (onConnection c (at es j) ≡ true → ⊥) → lower (λ x. not (on c x) && p x) (at es j) ≡ lower p (at es j)
+    off : (j : ℕ) → (isOnConnection c (at es j) ≡ true → ⊥) → lower (λ x. not (on c x) && p x) (at es j) ≡ lower p (at es j)
     off j n = while (live (at es j)) _ _ (λ u. ap (λ b. not b && p (asSession (at es j))) (on-seen c (at es j) r ∙ isn't _ (λ h. n (both _ _ u h))))
 
-    go : (onConnection c (at es i) ≡ true) ⊎ (at es i ≡ blank) → tally (lower (λ x. not (on c x) && p x)) es ≡ tally (lower p) (set es i blank)
+    go : (isOnConnection c (at es i) ≡ true) ⊎ (at es i ≡ blank) → tally (lower (λ x. not (on c x) && p x)) es ≡ tally (lower p) (set es i blank)
     go (inl h) =
-        let l : i < length es = inside (onConnection c) es i refl h in
+        let l : i < length es = inside (isOnConnection c) es i refl h in
         tally-split (lower (λ x. not (on c x) && p x)) es i l
         ∙ ap₂ (λ (b : Bool) (n : ℕ). one b + n) (ap₂ (λ (u b : Bool). u && (not b && p (asSession (at es i)))) (and-l (live (at es i)) _ h) (on-seen c (at es i) r ∙ and-r (live (at es i)) _ h)) (tallyBut-cong _ (lower p) es i (λ j d. off j (λ h′. d (f .connections c r j i h′ h))))
         ∙ sym (tally-split (lower p) (set es i blank) i (rw (length-set es i blank) l) ∙ ap₂ (λ (b : Bool) (n : ℕ). one b + n) (ap (lower p) (getD-set-same es i blank blank l)) (tallyBut-at (lower p) es i blank))
     go (inr h) =
-        tally-cong _ (lower p) es (λ j. off j (λ h′. true≢false (sym (place-complete es c j h′) ∙ ap (onConnection c) h)))
+        tally-cong _ (lower p) es (λ j. off j (λ h′. true≢false (sym (place-complete es c j h′) ∙ ap (isOnConnection c) h)))
         ∙ sym (tally-same (lower p) es i blank (ap (lower p) (sym h)))

@@ -13,7 +13,7 @@ use Rattle.model.specs.State.{Server, Entry, Waiting, at, slotOfNumber, exchang
 use Rattle.model.specs.Step.{Result}
 use Rattle.model.specs.Happening.{Heard, Heard.silence, Heard.with-code, Happening, Happening.unmoved, Happening.connected, Happening.disconnected, Happening.skipped-over, Happening.errored, Happening.message-acted, Happening.clock-read, Happening.status-set, Happening.setting-made, Happening.answer-sent, Happening.answer-withheld}
 use Rattle.model.specs.LocalityRows.{kindOf, slotActed, endedWith, interruptedBy, requestsOf, reachedBy}
-use Rattle.model.specs.LocalityReplies.{plainTo, ReplyTo, replyIn, replies, saidTo, fatalTo, pairTo, saidFirst, direct, answeredFirst, answerTo}
+use Rattle.model.specs.LocalityReplies.{plainTo, ReplyTo, replyIn, replies, saidTo, fatalTo, pairTo, saidFirst, direct, answeredFirst, waitingAnswer}
 use Rattle.model.specs.Locality.{Local}
 use Rattle.model.proofs.Basics.{and-l, and-r, both, not-off}
 use Rattle.claims.proofs.ReadOff.{Each, each-of}
@@ -56,7 +56,7 @@ module _ (q : ℕ → Bool) (away : all (λ t. not (q t)) sentTypes ≡ true) wh
   none-append [] ys a b = b
   none-append (x ∷ xs) ys a b = both _ _ (and-l (not (q (x .message .kind))) (none xs) a) (none-append xs ys (and-r (not (q (x .message .kind))) (none xs) a) b)
 
-  none-to : (k : ℕ) (es : List Entry) (ws : List Waiting) → none (map (answerTo k es) ws) ≡ true
+  none-to : (k : ℕ) (es : List Entry) (ws : List Waiting) → none (map (waitingAnswer k es) ws) ≡ true
   none-to k es [] = refl
   none-to k es (w ∷ ws) = both _ _ (is-not 5 refl) (none-to k es ws)
 
@@ -112,7 +112,7 @@ module _ (q : ℕ → Bool) (away : all (λ t. not (q t)) sentTypes ≡ true) wh
         e = at es (slotActed es a)
 
         zeros : List Frame
-        zeros = map (answerTo 0 es) (keep (requestsOf (slotActed es a)) (d .locks .waiting))
+        zeros = map (waitingAnswer 0 es) (keep (requestsOf (slotActed es a)) (d .locks .waiting))
 
         cleared : (b : Bool) → none (cond b zeros []) ≡ true
         cleared true = none-to 0 es (keep (requestsOf (slotActed es a)) (d .locks .waiting))

@@ -11,7 +11,7 @@ use borrow.Author.Tests.{eq-eqb, ne-eqb}
 use Rattle.model.specs.Sizes.{noConnection, beforeFirst}
 use Rattle.model.specs.Lists.{all, keep, any}
 use Rattle.model.specs.State.{Locks, Entry, Waiting, Kind.exclusive-lock, Kind.shared-lock, Standing, Standing.no-release, Standing.release-of, blank, at, live}
-use Rattle.model.specs.Place.{onConnection, slotIn}
+use Rattle.model.specs.Place.{isOnConnection, slotIn}
 use Rattle.model.specs.Locks
 use Rattle.model.specs.Locks.{LockResult, Answer, elsewhere, holds, noShared, give, mayGrant, change, tell, refuse, ruling}
 use Rattle.model.specs.LockModel
@@ -268,7 +268,7 @@ module _ (l : Locks) (m : Model) (a : Agrees l m) (g : Good (l .entries) (l .wai
           → (eqb ((at (l .entries) (w .slot)) .synchronous) c || eqb ((at (l .entries) (w .slot)) .asynchronous) c) ≡ eqb (w .slot) (slotIn (l .entries) c)
       go (inl e) = at-conn (place-sound (l .entries) c) ∙ sym (eq-eqb _ _ e)
         where
-          at-conn : (onConnection c (at (l .entries) (slotIn (l .entries) c)) ≡ true) ⊎ (at (l .entries) (slotIn (l .entries) c) ≡ blank)
+          at-conn : (isOnConnection c (at (l .entries) (slotIn (l .entries) c)) ≡ true) ⊎ (at (l .entries) (slotIn (l .entries) c) ≡ blank)
               → (eqb ((at (l .entries) (w .slot)) .synchronous) c || eqb ((at (l .entries) (w .slot)) .asynchronous) c) ≡ true
           at-conn (inl h) = ap (λ k. eqb ((at (l .entries) k) .synchronous) c || eqb ((at (l .entries) k) .asynchronous) c) e ∙ and-r (live (at (l .entries) (slotIn (l .entries) c))) _ h
           at-conn (inr h) = absurd (true≢false (sym u ∙ ap (λ k. live (at (l .entries) k)) e ∙ ap live h))

@@ -11,7 +11,7 @@ use Rattle.model.specs.Lists.{all, keep}
 use Rattle.model.specs.State.{Entry, Waiting, at}
 use Rattle.model.specs.Locks.{elsewhere}
 use Rattle.model.specs.Closing.{OldestFirst, OldestFirst.pass-end, OldestFirst.pass-grant, OldestFirst.pass-wait}
-use Rattle.model.specs.LocalityReplies.{answerTo}
+use Rattle.model.specs.LocalityReplies.{waitingAnswer}
 use Rattle.model.specs.Locality.{Look}
 use Rattle.model.specs.AnsweredOnce.{codesTo}
 use Rattle.model.proofs.Basics.{and-l, and-r, both, not-of, all-keep, apart}
@@ -116,13 +116,13 @@ module _ (c k : ℕ) (es : List Entry) where
   abbrev pub away : Waiting → Bool
   away w = not (eqb ((at es (w .slot)) .asynchronous) c)
 
-  pub codes-none : (ws : List Waiting) → all away ws ≡ true → codesTo c (map (answerTo k es) ws) ≡ []
+  pub codes-none : (ws : List Waiting) → all away ws ≡ true → codesTo c (map (waitingAnswer k es) ws) ≡ []
   codes-none [] a = refl
   codes-none (w ∷ ws) a =
       let far : eqb ((at es (w .slot)) .asynchronous) c ≡ false = not-of _ (and-l (away w) _ a) in
       rw far (codes-none ws (and-r (away w) _ a))
 
-  pub codes-one : (j t : ℕ) → (at es j) .asynchronous ≡ c → (ws : List Waiting) → all (λ w. eqb (w .slot) j || away w) ws ≡ true → One j t ws → codesTo c (map (answerTo k es) ws) ≡ k ∷ []
+  pub codes-one : (j t : ℕ) → (at es j) .asynchronous ≡ c → (ws : List Waiting) → all (λ w. eqb (w .slot) j || away w) ws ≡ true → One j t ws → codesTo c (map (waitingAnswer k es) ws) ≡ k ∷ []
   codes-one j t e [] a o = absurd o
   codes-one j t e (w ∷ ws) a (inl o) =
       let here : eqb ((at es (w .slot)) .asynchronous) c ≡ true = eq-eqb _ _ (ap (λ (i : ℕ). (at es i) .asynchronous) (o .0) ∙ e) in

@@ -20,10 +20,10 @@ use Rattle.model.specs.Refusals.{causes, refusal}
 use Rattle.model.specs.Step.{Result, answered, step, final, log}
 use Rattle.model.specs.Happening.{Action, Happening, Happening.unmoved, Happening.connected, Happening.disconnected, Happening.skipped-over, Happening.errored, Happening.message-acted, Happening.clock-read, Happening.status-set, Happening.setting-made, Happening.answer-sent, Happening.answer-withheld, happened}
 use Rattle.model.specs.LocalityRows.{kindOf, slotActed, inSlot, number-row, sensing-row, tripsBy, looksAfter}
-use Rattle.model.specs.LocalityReplies.{numberSent, plainTo, serviceFrom, serviceTo, answerTo}
+use Rattle.model.specs.LocalityReplies.{numberSent, plainTo, serviceFrom, serviceTo, waitingAnswer}
 use Rattle.model.specs.Locality.{atCall, Local}
 use Rattle.model.specs.NextQuestion.{asynchronousOf}
-use Rattle.model.specs.Watching.{begins, setFor, toldBy, senses, sensingIn, sensingOf, statusOf, isService, servedBy, Watches}
+use Rattle.model.specs.Watching.{opensSession, setFor, toldBy, senses, sensingIn, sensingOf, statusOf, isService, servedBy, Watches}
 use Rattle.model.proofs.Basics.{both, not-off, inside, same?}
 use Rattle.claims.proofs.Invariant.{Inv}
 use Rattle.claims.proofs.Events.{Enters, inv-fresh, blank-at}
@@ -301,7 +301,7 @@ module _ (v : Making) (es : List Event) where
     sent : r .frames ≡ own-frame ∷ serviceFrom (asynchronousOf v es n) (sensingOf v es n) p (statusOf v es)
     sent =
         l .frames
-        ∙ ap (λ gs. (own-frame ∷ serviceTo (at (D .locks .entries) slot) (sensingAt (D .rest) slot) p (D .rest .status)) ++ map (answerTo 1 (l .due)) gs) (l .waiting .2)
+        ∙ ap (λ gs. (own-frame ∷ serviceTo (at (D .locks .entries) slot) (sensingAt (D .rest) slot) p (D .rest .status)) ++ map (waitingAnswer 1 (l .due)) gs) (l .waiting .2)
         ∙ append-nil _
         ∙ (λ j. own-frame ∷ serviceFrom (sym (second-is v es n there) j) (known-here j) p (local-run (fresh v) es .status j))
 

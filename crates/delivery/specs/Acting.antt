@@ -13,7 +13,7 @@ use Rattle.model.specs.Sizes.{noConnection, sessionLimit}
 use Rattle.model.specs.Lists.{all, position}
 use Rattle.model.specs.MessageTypes.{Initialize, AsyncInitialize, AsyncMaximumMessageSize}
 use Rattle.model.specs.State.{Entry, Server, at, blank, live, halfOpen, slotOfNumber}
-use Rattle.model.specs.Place.{Role, Role.r-none, Role.r-halfOpen, Role.r-synchronous, Role.r-asynchronous, roleBy, roleOf, slotIn, placeOf, roleIn, onConnection}
+use Rattle.model.specs.Place.{Role, Role.r-none, Role.r-halfOpen, Role.r-synchronous, Role.r-asynchronous, roleBy, roleOf, slotIn, placeOf, roleIn, isOnConnection}
 use Rattle.model.specs.Checks.{Verdict.v-acts, Rule, first, either, openingRules, asynchronousRules}
 use Rattle.claims.proofs.Fits.{Passes, opening-passed, async-passed}
 use Rattle.model.proofs.Place.{place-role, place-sound}
@@ -68,7 +68,7 @@ second-connection w s c i e r =
     let p : roleIn c x ≡ r-asynchronous = sym (place-role es c) ∙ role-async (roleOf es c) r in
     ap (λ (j : ℕ). (at es j) .asynchronous) (sym e)
     ∙ ⊎-elim
-    (λ (q : onConnection c x ≡ true). eqb-true (x .asynchronous) c (second-of (live x) (eqb (x .asynchronous) noConnection) (eqb (x .synchronous) c) (eqb (x .asynchronous) c) p q))
+    (λ (q : isOnConnection c x ≡ true). eqb-true (x .asynchronous) c (second-of (live x) (eqb (x .asynchronous) noConnection) (eqb (x .synchronous) c) (eqb (x .asynchronous) c) p q))
     (λ (q : x ≡ blank). let z : roleNumber (roleIn c blank) ≡ roleNumber r-asynchronous = ap roleNumber (ap (roleIn c) (sym q) ∙ p) in absurd (omega arith))
     (place-sound es c)
 

@@ -31,8 +31,8 @@ pub record Quiet (x : LockResult) (m m′ : Memory) : Type 0 where
   pub tidy : Tidy m → Tidy m′
 
 -- an answer to slot i, as a frame; whether it answers a request or a release is not seen
-abbrev pub answerFrame : List Entry → ℕ → ℕ → Frame
-answerFrame es i n = lockFrame (tell es i n true)
+abbrev pub lockAnswerFrame : List Entry → ℕ → ℕ → Frame
+lockAnswerFrame es i n = lockFrame (tell es i n true)
 
 -- where writing ends: the buffer and the place behind the last frame
 pub record Spot : Type 0 where

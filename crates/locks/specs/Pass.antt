@@ -16,14 +16,14 @@ use Rattle.queue.specs.Queue.{noRequest, onWaiting, count-is}
 use Rattle.queue.specs.Requests.{countOf, stringAt}
 use Rattle.state.specs.Tidy.{Tidy}
 use Rattle.state.specs.View.{Memory, memory, locksOf, view}
-use Rattle.locks.specs.Outcome.{Met, Spot, spot, ends, ends-nil, ends-cons, answerFrame, met}
+use Rattle.locks.specs.Outcome.{Met, Spot, spot, ends, ends-nil, ends-cons, lockAnswerFrame, met}
 use Rattle.locks.specs.Granting.{grant-upd}
 use Rattle.locks.specs.Waiting.{swapped, next, moved-on, kept-more}
 
 -- slot i has got what its request asked for, and its frame is written
 pub record Granted (i : ℕ) (w w′ s s′ out out′ : List ℕ) (at r : ℕ) : Type 0 where
   pub server : view (memory w′ s′) ≡ onEntry (view (memory w s)) i (giveAt (locksOf w s .clock) (stringAt w s i))
-  pub buffer : out′ ≡ splice out at (frameBytes (answerFrame (locksOf w s .entries) i 1))
+  pub buffer : out′ ≡ splice out at (frameBytes (lockAnswerFrame (locksOf w s .entries) i 1))
   pub place : r ≡ at + 17
   pub tidy : Tidy (memory w s) → Tidy (memory w′ s′)
 
@@ -69,13 +69,13 @@ module _ (d : Server) (j k : ℕ) (r : Waiting) (x : ℕ) (out : List ℕ) (at :
 
   -- a request that may be granted is, and is told
   pub pass-grant : (d′ : Server) → d′ ≡ onEntry d x (giveAt (d .locks .clock) (r .string)) → mayGrant (d .locks .entries) x (r .string) ≡ true → at + 17 ≤ length out
-      → passed j k d out at ≡ passed (j + 1) k d′ (splice out at (frameBytes (answerFrame (d .locks .entries) x 1))) (at + 17)
+      → passed j k d out at ≡ passed (j + 1) k d′ (splice out at (frameBytes (lockAnswerFrame (d .locks .entries) x 1))) (at + 17)
   unfolding passed
   pass-grant d′ m q f =
       let ws : List Waiting = d .locks .waiting in
       let es : List Entry = d .locks .entries in
       let t : ℕ → Passed = (λ n. passOver (d .locks .clock) (drop (j + 1) ws) (grant (d .locks .clock) es n (r .string))) in
-      let o : List ℕ = splice out at (frameBytes (answerFrame es x 1)) in
+      let o : List ℕ = splice out at (frameBytes (lockAnswerFrame es x 1)) in
       ap (λ (p : Passed). behind d (take k ws) p out at) (over true q)
       ∙ ap (λ (n : ℕ). stand d ((t n) .entries) (take k ws ++ (t n) .waiting) (ends (tell es n 1 true ∷ (t n) .answers) out at)) y
       ∙ ap (stand d ((t x) .entries) (take k ws ++ (t x) .waiting)) (ends-cons (tell es x 1 true) ((t x) .answers) out at f)

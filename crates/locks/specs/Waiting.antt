@@ -19,7 +19,7 @@ use Rattle.model.specs.Locks.{Answer, LockResult, tell, elsewhere, unexpired, r
 use Rattle.queue.specs.Queue.{noRequest, onWaiting, count-is}
 use Rattle.queue.specs.Requests.{countOf}
 use Rattle.state.specs.View.{memory, requestAt, locksOf, view}
-use Rattle.locks.specs.Outcome.{ends, ends-cons, answerFrame}
+use Rattle.locks.specs.Outcome.{ends, ends-cons, lockAnswerFrame}
 
 -- what stays in a sweep: with a slot i, the requests of other slots; with none, those whose deadline is past t
 unfoldable pub stays : ℕ → ℕ → Waiting → Bool
@@ -101,7 +101,7 @@ module _ (es : List Entry) (p : Waiting → Bool) (ws : List Waiting) (j : ℕ) 
       ∙ ap (λ (b : Bool). cond b (refuse es p (drop (j + 1) ws)) (tell es (r .slot) 0 true ∷ refuse es p (drop (j + 1) ws))) q
 
   pub answer-leave : (x : ℕ) (out : List ℕ) (at : ℕ) → r .slot ≡ x → p r ≡ false → at + 17 ≤ length out
-      → ends (refuse es p (drop j ws)) out at ≡ ends (refuse es p (drop (j + 1) ws)) (splice out at (frameBytes (answerFrame es x 0))) (at + 17)
+      → ends (refuse es p (drop j ws)) out at ≡ ends (refuse es p (drop (j + 1) ws)) (splice out at (frameBytes (lockAnswerFrame es x 0))) (at + 17)
   answer-leave x out at y q f =
       ap (λ (xs : List Answer). ends xs out at) (refuse-leave q ∙ ap (λ (n : ℕ). tell es n 0 true ∷ refuse es p (drop (j + 1) ws)) y)
       ∙ ends-cons (tell es x 0 true) (refuse es p (drop (j + 1) ws)) out at f

@@ -29,7 +29,7 @@ use Rattle.model.specs.Canonical.{canonical, kept, omits, taken, showed}
 use Rattle.model.specs.LockModel
 use Rattle.model.specs.LockModel.{Session, Pending, Pending.none-pending, Pending.exclusive-until, Pending.shared-until, Request, Model, freshModel, modelStep, modelRun, allowed, look, looked, notExclusive, notShared}
 use Rattle.model.specs.Agreement.{feed, feeds, asSessions, asRequest, toldFrame, isLock}
-use Rattle.model.specs.Count.{count, isGrant, isRelease, dropped, locksHeld}
+use Rattle.model.specs.Count.{count, isGrant, tellsRelease, dropped, locksHeld}
 use Rattle.model.specs.Granting.{hasAccess}
 use Rattle.model.specs.Tie.{Track, trackOfLog, nothingYet}
 use Rattle.model.proofs.Table.{benchMaking, message, send, request, release, releaseOf, cal, Cal, initialize, asyncInitialize, three}
@@ -249,7 +249,7 @@ decisions-at = refl
 
 -- C: the count
 pub count-at : count isGrant ((modelRun freshModel (feeds (log d₀ rich))) .told)
-    ≡ count isRelease ((modelRun freshModel (feeds (log d₀ rich))) .told) + dropped freshModel (feeds (log d₀ rich)) + locksHeld ((final d₀ rich) .locks .entries)
+    ≡ count tellsRelease ((modelRun freshModel (feeds (log d₀ rich))) .told) + dropped freshModel (feeds (log d₀ rich)) + locksHeld ((final d₀ rich) .locks .entries)
 unfolding rich log final step refusal causes answered plan finish received effect verdict placeOf acts synchronousExchange synchronousSaid asynchronousRest asynchronousSaid asynchronousEvent controlled mayAnswer answerNumber availableAt sensed requested settingSensings watched readingsIn blockOf scan freshScan header field encode headerBytes frameBytes bytesOf classOf mayGrant access passOver grantPass change modelRun modelStep LockModel.request LockModel.release LockModel.message LockModel.reading LockModel.clearing LockModel.removal LockModel.delivered look looked allowed count dropped locksHeld
 count-at = refl
 

@@ -118,32 +118,32 @@ nothingSent [] = true
 nothingSent (f ∷ fs) = false
 
 -- a request comes to wait on connection c
-abbrev pub begins : ℕ → Happening → List Frame → Bool
-begins c (message-acted a) fs = asksLock c a && (not (eqb (a .message .code) 0) && nothingSent fs)
-begins c unmoved fs = false
-begins c (connected x) fs = false
-begins c (disconnected x k) fs = false
-begins c (skipped-over x k) fs = false
-begins c (errored x h k) fs = false
-begins c (clock-read t) fs = false
-begins c (status-set b) fs = false
-begins c (setting-made s) fs = false
-begins c (answer-sent n p end) fs = false
-begins c (answer-withheld n m) fs = false
+abbrev pub beginsToWait : ℕ → Happening → List Frame → Bool
+beginsToWait c (message-acted a) fs = asksLock c a && (not (eqb (a .message .code) 0) && nothingSent fs)
+beginsToWait c unmoved fs = false
+beginsToWait c (connected x) fs = false
+beginsToWait c (disconnected x k) fs = false
+beginsToWait c (skipped-over x k) fs = false
+beginsToWait c (errored x h k) fs = false
+beginsToWait c (clock-read t) fs = false
+beginsToWait c (status-set b) fs = false
+beginsToWait c (setting-made s) fs = false
+beginsToWait c (answer-sent n p end) fs = false
+beginsToWait c (answer-withheld n m) fs = false
 
 -- another session takes connection c
-abbrev pub joins : ℕ → Happening → Bool
-joins c (message-acted a) = eqb (kindOf a) AsyncInitialize && eqb (a .connection) c
-joins c unmoved = false
-joins c (connected x) = false
-joins c (disconnected x k) = false
-joins c (skipped-over x k) = false
-joins c (errored x h k) = false
-joins c (clock-read t) = false
-joins c (status-set b) = false
-joins c (setting-made s) = false
-joins c (answer-sent n p end) = false
-joins c (answer-withheld n m) = false
+abbrev pub takesConnection : ℕ → Happening → Bool
+takesConnection c (message-acted a) = eqb (kindOf a) AsyncInitialize && eqb (a .connection) c
+takesConnection c unmoved = false
+takesConnection c (connected x) = false
+takesConnection c (disconnected x k) = false
+takesConnection c (skipped-over x k) = false
+takesConnection c (errored x h k) = false
+takesConnection c (clock-read t) = false
+takesConnection c (status-set b) = false
+takesConnection c (setting-made s) = false
+takesConnection c (answer-sent n p end) = false
+takesConnection c (answer-withheld n m) = false
 
 -- the same of a session whose other connection and release are not known: a Data, DataEND or Trigger of anyone may end its release
 abbrev pub lessAny : ℕ → Happening → List ℕ → List ℕ
@@ -162,14 +162,14 @@ lessAny c (answer-withheld n m) xs = xs
 -- another session has connection c: nothing is answered there, until a request of its own comes to wait
 pub data NoneWaits (c : ℕ) : List Line → Type 0 where
   last : NoneWaits c []
-  own-request : (l : Line) (ls : List Line) → begins c (happening l) (l .frames) ≡ true → NoneWaits c (l ∷ ls)
+  own-request : (l : Line) (ls : List Line) → beginsToWait c (happening l) (l .frames) ≡ true → NoneWaits c (l ∷ ls)
   still : (l : Line) (ls : List Line) → lessAny c (happening l) (codesTo c (lockOnly (l .frames))) ≡ [] → NoneWaits c ls → NoneWaits c (l ∷ ls)
 
 -- it is answered no more: nothing is, until another request comes to wait on its connection, also where another session takes it
 pub data NoMore (c s : ℕ) : Release → List Line → Type 0 where
   ended : (p : Release) → NoMore c s p []
-  anew : (p : Release) (l : Line) (ls : List Line) → begins c (happening l) (l .frames) ≡ true → NoMore c s p (l ∷ ls)
-  taken-over : (p : Release) (l : Line) (ls : List Line) → joins c (happening l) ≡ true → codesTo c (lockOnly (l .frames)) ≡ [] → NoneWaits c ls → NoMore c s p (l ∷ ls)
+  anew : (p : Release) (l : Line) (ls : List Line) → beginsToWait c (happening l) (l .frames) ≡ true → NoMore c s p (l ∷ ls)
+  taken-over : (p : Release) (l : Line) (ls : List Line) → takesConnection c (happening l) ≡ true → codesTo c (lockOnly (l .frames)) ≡ [] → NoneWaits c ls → NoMore c s p (l ∷ ls)
   silent : (p : Release) (l : Line) (ls : List Line) → answeredTo c s p (happening l) (l .frames) ≡ [] → NoMore c s (releaseAfter c s (happening l) p) ls → NoMore c s p (l ∷ ls)
 
 -- a call that answers the request with codes xs meets it while it waits: its closing answers nothing, a reading at or past the deadline and a

@@ -25,8 +25,8 @@ locksHeld (e ∷ es) = locksOf e + locksHeld es
 abbrev pub isGrant : Told → Bool
 isGrant a = a .request && eqb (a .code) 1
 
-abbrev pub isRelease : Told → Bool
-isRelease a = not (a .request) && (eqb (a .code) 1 || eqb (a .code) 2)
+abbrev pub tellsRelease : Told → Bool
+tellsRelease a = not (a .request) && (eqb (a .code) 1 || eqb (a .code) 2)
 
 unfoldable pub count : (Told → Bool) → List Told → ℕ
 count p [] = 0
@@ -58,9 +58,9 @@ dropped m (f ∷ fs) = lost m f + dropped ((modelStep m f) .model) fs
 
 pub record Balanced (d : Server) (m : Model) (es : List Event) : Type 0 where
   pub balance : locksHeld (d .locks .entries) + count isGrant ((modelRun m (feeds (log d es))) .told)
-      ≡ count isRelease ((modelRun m (feeds (log d es))) .told) + dropped m (feeds (log d es)) + locksHeld ((final d es) .locks .entries)
+      ≡ count tellsRelease ((modelRun m (feeds (log d es))) .told) + dropped m (feeds (log d es)) + locksHeld ((final d es) .locks .entries)
 
 -- from the fresh server
 pub record Count (v : Making) (es : List Event) : Type 0 where
   pub balance : count isGrant ((modelRun freshModel (feeds (log (fresh v) es))) .told)
-      ≡ count isRelease ((modelRun freshModel (feeds (log (fresh v) es))) .told) + dropped freshModel (feeds (log (fresh v) es)) + locksHeld ((final (fresh v) es) .locks .entries)
+      ≡ count tellsRelease ((modelRun freshModel (feeds (log (fresh v) es))) .told) + dropped freshModel (feeds (log (fresh v) es)) + locksHeld ((final (fresh v) es) .locks .entries)

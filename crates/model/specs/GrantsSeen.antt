@@ -93,7 +93,7 @@ lastReading [] = 0
 lastReading (t ∷ ts) = t
 
 -- what the log tells is so
-pub record Shows (p : Grants) (e : Entry) : Type 0 where
+pub record AsTold (p : Grants) (e : Entry) : Type 0 where
   pub second : e .asynchronous ≡ p .second
   pub grants : e .locksGranted .grants ≡ atMost grantsLimit (length (p .readings))
   pub granted-at : e .locksGranted .grantedAt ≡ lastReading (p .readings)
@@ -101,4 +101,4 @@ pub record Shows (p : Grants) (e : Entry) : Type 0 where
 -- after any list from the fresh server, of each live session
 pub record GrantsSeen (v : Making) (es : List Event) : Type 0 where
   pub shows : (j : ℕ) → live (at ((final (fresh v) es) .locks .entries) j) ≡ true
-      → Shows (grantsOfSession v es ((at ((final (fresh v) es) .locks .entries) j) .number)) (at ((final (fresh v) es) .locks .entries) j)
+      → AsTold (grantsOfSession v es ((at ((final (fresh v) es) .locks .entries) j) .number)) (at ((final (fresh v) es) .locks .entries) j)

@@ -25,14 +25,14 @@ use Rattle.model.specs.Permitted.{commandForms, permits, ListAllows}
 use Rattle.model.specs.Happening.{Happening, Happening.unmoved, Happening.connected, Happening.disconnected, Happening.skipped-over, Happening.errored, Happening.message-acted, Happening.clock-read, Happening.status-set, Happening.answer-sent, Happening.answer-withheld, happened, Happening.setting-made}
 
 -- what the taken messages say of a session: its synchronous connection, whether it is in a device clear, and the numbers of its Data, DataEND
--- and Trigger messages since it opened or was last cleared, the last one first
+-- and Trigger messages since it firstNumbering or was last cleared, the last one first
 pub record Numbering : Type 0 where
   pub connection : ℕ
   pub inClear : Bool
   pub taken : List ℕ
 
-abbrev pub opened : ℕ → Numbering
-opened c = record { connection = c; inClear = false; taken = [] }
+abbrev pub firstNumbering : ℕ → Numbering
+firstNumbering c = record { connection = c; inClear = false; taken = [] }
 
 abbrev pub took-one : ℕ → Numbering → Numbering
 took-one n p = record { connection = p .connection; inClear = p .inClear; taken = n ∷ p .taken }
@@ -47,34 +47,34 @@ expected (n ∷ ns) = cond (eqb n (expected ns)) (next (expected ns)) (expected 
 abbrev pub actedFor : ℕ → ℕ → ℕ → Numbering → Numbering
 actedFor c t n p =
     cond (one-of commands t) (took-one n p)
-    (cond (eqb t Initialize) (opened c)
+    (cond (eqb t Initialize) (firstNumbering c)
     (cond (eqb t AsyncDeviceClear) (record { connection = p .connection; inClear = true; taken = [] })
     (cond (eqb t DeviceClearComplete) (record { connection = p .connection; inClear = false; taken = p .taken }) p)))
 
 abbrev pub actedForAnother : ℕ → ℕ → Numbering → Numbering
-actedForAnother c t p = cond (eqb t Initialize && eqb (p .connection) c) (opened noConnection) p
+actedForAnother c t p = cond (eqb t Initialize && eqb (p .connection) c) (firstNumbering noConnection) p
 
 -- a message on its synchronous connection that was answered Error, too large or refused by a check
 abbrev pub refusedOne : Header → Numbering → Numbering
 refusedOne h p = cond (not (p .inClear) && one-of commands (h .kind)) (took-one (h .param) p) p
 
 -- of session n, one call
-abbrev pub noted : Happening → ℕ → Numbering → Numbering
-noted unmoved n p = p
-noted (connected c) n p = p
-noted (disconnected c k) n p = p
-noted (skipped-over c k) n p = p
-noted (errored c h k) n p = cond (eqb (p .connection) c) (refusedOne h p) p
-noted (message-acted a) n p =
+abbrev pub numberingAfter : Happening → ℕ → Numbering → Numbering
+numberingAfter unmoved n p = p
+numberingAfter (connected c) n p = p
+numberingAfter (disconnected c k) n p = p
+numberingAfter (skipped-over c k) n p = p
+numberingAfter (errored c h k) n p = cond (eqb (p .connection) c) (refusedOne h p) p
+numberingAfter (message-acted a) n p =
     cond (eqb (a .session) n) (actedFor (a .connection) (a .message .kind) (a .message .param) p) (actedForAnother (a .connection) (a .message .kind) p)
-noted (clock-read t) n p = p
-noted (status-set b) n p = p
-noted (setting-made s) n p = p
-noted (answer-sent m x end) n p = p
-noted (answer-withheld m x) n p = p
+numberingAfter (clock-read t) n p = p
+numberingAfter (status-set b) n p = p
+numberingAfter (setting-made s) n p = p
+numberingAfter (answer-sent m x end) n p = p
+numberingAfter (answer-withheld m x) n p = p
 
 abbrev pub noted-line : Line → ℕ → Numbering → Numbering
-noted-line l n p = noted (happened (l .event) (l .reply) (l .frames)) n p
+noted-line l n p = numberingAfter (happened (l .event) (l .reply) (l .frames)) n p
 
 -- of session n, read off the log alone
 unfoldable pub numberingOf : List Line → ℕ → Numbering → Numbering
@@ -83,7 +83,7 @@ numberingOf (l ∷ ls) n p = numberingOf ls n (noted-line l n p)
 
 -- of session n, after the list
 abbrev pub numbering : Making → List Event → ℕ → Numbering
-numbering v es n = numberingOf (log (fresh v) es) n (opened noConnection)
+numbering v es n = numberingOf (log (fresh v) es) n (firstNumbering noConnection)
 
 -- the first k numbers of 003's count, the last one first
 abbrev pub countUp : ℕ → List ℕ
@@ -133,4 +133,4 @@ pub record InStep (v : Making) (es : List Event) : Type 0 where
       → permits commandForms (header bs) ≡ true → ListAllows (final (fresh v) es) bs → (numbering v es ((entryOf (final (fresh v) es) c) .number)) .taken ≡ countUp k → (header bs) .param ≡ nth k
       → (step (final (fresh v) es) (delivery c bs room)) .reply ≡ took acted (16 + (header bs) .len) ((entryOf (final (fresh v) es) c) .number)
   -- and it never meets this Error 0
-  pub never : (n : ℕ) → Counts (log (fresh v) es) n (opened noConnection) → NeverOut (log (fresh v) es) n (opened noConnection)
+  pub never : (n : ℕ) → Counts (log (fresh v) es) n (firstNumbering noConnection) → NeverOut (log (fresh v) es) n (firstNumbering noConnection)

@@ -16,7 +16,7 @@ use Rattle.model.specs.Step.{Line, Result, step, final, log}
 use Rattle.model.specs.Closing.{OldestFirst}
 use Rattle.model.specs.Happening.{Happening, heard, happened}
 use Rattle.model.specs.LocalityRows.{Row, inSlot, clear-row, asked-row, available-row, size-row, mode-row, count-row, sent-row, expected-row, step-row, number-row, synchronous-row, asynchronous-row, exclusive-row, shared-row, last-row, standing-row, moreGranted, granted-row, requestsLeft, looksAfter, Way, inPlace, open-row, remainder-row, isSilence, Single, singly, clock-row, status-row, made-row, allowed-row, issued-row, enable-row, lockout-row, remote-row, sensing-row}
-use Rattle.model.specs.LocalityReplies.{saidFirst, direct, answeredFirst, answerTo, sessionSaid}
+use Rattle.model.specs.LocalityReplies.{saidFirst, direct, answeredFirst, waitingAnswer, sessionSaid}
 
 -- what happened at a call, as the host sees it
 abbrev pub atCall : Server → Event → Happening
@@ -55,8 +55,8 @@ Look now true es ws es′ ws′ gs = OldestFirst now es ws es′ ws′ gs
 Look now false es ws es′ ws′ gs = (es′ ≡ es) × (ws′ ≡ ws) × (gs ≡ [])
 
 -- a row for what stands once; for the exchange of each slot; for each connection; for the session of each slot
-abbrev pub Once : {A : Type 0} → Server → Happening → Result → (Server → A) → Single A → Type 0
-Once d h r field row = field (r .server) ≡ singly row h (field d)
+abbrev pub StandsOnce : {A : Type 0} → Server → Happening → Result → (Server → A) → Single A → Type 0
+StandsOnce d h r field row = field (r .server) ≡ singly row h (field d)
 
 -- the row may go by the exchange's other fields
 abbrev pub EachExchange : {A : Type 0} → Server → Happening → Result → (Exchange → A) → (Exchange → Row A) → Type 0
@@ -76,14 +76,14 @@ EachSession d h r given field row =
 
 -- h happened, and a call left server r .server and sent frames r .frames: one row for every field of the server
 pub record Local (d : Server) (h : Happening) (r : Result) : Type 0 where
-  pub clock : Once d h r (λ s. s .locks .clock) clock-row
-  pub status : Once d h r (λ s. s .rest .status) status-row
-  pub made : Once d h r (λ s. s .rest .made) made-row
-  pub last-issued : Once d h r (λ s. s .rest .lastIssued) issued-row
-  pub allowed : Once d h r (λ s. s .rest .allowed) allowed-row
-  pub enable : Once d h r (λ s. s .rest .remoteLocal .enable) enable-row
-  pub lockout : Once d h r (λ s. s .rest .remoteLocal .lockout) lockout-row
-  pub remote : Once d h r (λ s. s .rest .remoteLocal .remote) remote-row
+  pub clock : StandsOnce d h r (λ s. s .locks .clock) clock-row
+  pub status : StandsOnce d h r (λ s. s .rest .status) status-row
+  pub made : StandsOnce d h r (λ s. s .rest .made) made-row
+  pub last-issued : StandsOnce d h r (λ s. s .rest .lastIssued) issued-row
+  pub allowed : StandsOnce d h r (λ s. s .rest .allowed) allowed-row
+  pub enable : StandsOnce d h r (λ s. s .rest .remoteLocal .enable) enable-row
+  pub lockout : StandsOnce d h r (λ s. s .rest .remoteLocal .lockout) lockout-row
+  pub remote : StandsOnce d h r (λ s. s .rest .remoteLocal .remote) remote-row
   -- exchanges
   pub exchange-slots : length (r .server .rest .exchanges) ≡ length (d .rest .exchanges)
   pub in-clear : EachExchange d h r (λ x. x .inClear) (λ x. clear-row)
@@ -119,7 +119,7 @@ pub record Local (d : Server) (h : Happening) (r : Result) : Type 0 where
   pub due-is : (i : ℕ) → i < length (d .locks .entries) → at due i ≡ entryDue (d .locks .clock) (d .locks .entries) h i (at (d .locks .entries) i)
   pub waiting : Look (d .locks .clock) (looksAfter (d .locks .entries) h) due (requestsLeft (d .locks .entries) (d .locks .clock) h (d .locks .waiting)) (r .server .locks .entries) (r .server .locks .waiting) granted
   -- every frame: an interruption (02, Q-5), the lock answers that come first, direct replies (02, Q-11: with the request for service), answers 1 to those granted
-  pub frames : r .frames ≡ saidFirst d h ++ (answeredFirst d h ++ (direct d h ++ map (answerTo 1 due) granted))
+  pub frames : r .frames ≡ saidFirst d h ++ (answeredFirst d h ++ (direct d h ++ map (waitingAnswer 1 due) granted))
   -- the session's number in the reply
   pub session : (o : Outcome) (k n : ℕ) → r .reply ≡ took o k n → n ≡ sessionSaid d h n
 

@@ -125,8 +125,8 @@ direct d (answer-sent n p end) =
 direct d (answer-withheld n m) = pairTo (at (d .locks .entries) (slotOfNumber (d .locks .entries) n)) m
 
 -- an answer to a waiting request goes to its session's asynchronous connection
-abbrev pub answerTo : ℕ → List Entry → Waiting → Frame
-answerTo k es w = plainTo ((at es (w .slot)) .asynchronous) 5 k 0
+abbrev pub waitingAnswer : ℕ → List Entry → Waiting → Frame
+waitingAnswer k es w = plainTo ((at es (w .slot)) .asynchronous) 5 k 0
 
 -- the lock answers that come before a direct reply: of AsyncLock (4) its own; of a clear (19) and a clock reading 0 to each request that
 -- waits no more, oldest first; then that of a standing release that the message ends (02, Q-3)
@@ -140,8 +140,8 @@ answeredFirst d (message-acted a) =
     let es = d .locks .entries in
     let e = at es (slotActed es a) in
     cond (eqb (kindOf a) 4) (saidTo (a .told) 5 (a .connection ∷ []))
-    (cond (eqb (kindOf a) 19) (map (answerTo 0 es) (keep (requestsOf (slotActed es a)) (d .locks .waiting))) [] ++ saidTo (endedWith a (e .standing)) 5 (e .asynchronous ∷ []))
-answeredFirst d (clock-read t) = map (answerTo 0 (d .locks .entries)) (keep (reachedBy t) (d .locks .waiting))
+    (cond (eqb (kindOf a) 19) (map (waitingAnswer 0 es) (keep (requestsOf (slotActed es a)) (d .locks .waiting))) [] ++ saidTo (endedWith a (e .standing)) 5 (e .asynchronous ∷ []))
+answeredFirst d (clock-read t) = map (waitingAnswer 0 (d .locks .entries)) (keep (reachedBy t) (d .locks .waiting))
 answeredFirst d (status-set b) = []
 answeredFirst d (setting-made s) = []
 answeredFirst d (answer-sent n p end) = []

@@ -56,13 +56,13 @@ pub record FatalFirst (n : ℕ) (fs : List Frame) : Type 0 where
   pub is : fs ≡ frameOf to FatalError n 0 [] ∷ others
 
 -- what closes a connection, of session n (0: none)
-pub data Closes (n : ℕ) (bs : List ℕ) (fs : List Frame) : Type 0 where
+pub data ClosedBy (n : ℕ) (bs : List ℕ) (fs : List Frame) : Type 0 where
   -- check 2: the prologue is wrong
-  by-prologue : decode bs ≡ Decoded.wrong → FatalFirst 1 fs → Closes n bs fs
+  by-prologue : decode bs ≡ Decoded.wrong → FatalFirst 1 fs → ClosedBy n bs fs
   -- check 3, by a header that begins right, alone: no session, or one without its second channel
-  by-header : 16 ≤ length bs → (decode bs ≡ Decoded.wrong → ⊥) → ((n ≡ 0) × FatalFirst 3 fs) ⊎ FatalFirst 2 fs → Closes n bs fs
+  by-header : 16 ≤ length bs → (decode bs ≡ Decoded.wrong → ⊥) → ((n ≡ 0) × FatalFirst 3 fs) ⊎ FatalFirst 2 fs → ClosedBy n bs fs
   -- a whole message
-  by-message : (m : Message) → decode bs ≡ Decoded.whole m → length (m .payload) ≤ payloadLimit → Closes n bs fs
+  by-message : (m : Message) → decode bs ≡ Decoded.whole m → length (m .payload) ≤ payloadLimit → ClosedBy n bs fs
 
 -- by outcome, of connection c that owes r bytes: the bytes shown, the count taken, the session number, the frames. A message is looked at
 -- only where nothing is owed. The canonical history has no delivery answered more needed or held
@@ -72,7 +72,7 @@ ShowsBy held r c bs k n fs = ⊥
 ShowsBy skipped r c bs k n fs = ShowsRest r bs k
 ShowsBy ignored r c bs k n fs = (r ≡ 0) × ShowsMessage bs k
 ShowsBy error-sent r c bs k n fs = (r ≡ 0) × (AnsweredError c bs k fs ⊎ ShowsLong c bs k fs)
-ShowsBy closed r c bs k n fs = (r ≡ 0) × (k ≡ 0) × Closes n bs fs
+ShowsBy closed r c bs k n fs = (r ≡ 0) × (k ≡ 0) × ClosedBy n bs fs
 ShowsBy acted r c bs k n fs = (r ≡ 0) × ShowsMessage bs k
 
 abbrev pub ShowsReply : Reply → ℕ → ℕ → List ℕ → List Frame → Type 0

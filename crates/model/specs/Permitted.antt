@@ -14,7 +14,7 @@ use Rattle.model.specs.Lists.{tally}
 use Rattle.model.specs.State.{at, live, halfOpen, Server, exchangeAt, connectionAt, fresh, Making}
 use Rattle.model.specs.Allowing.{Admits}
 use Rattle.model.specs.Interface.{Event, Event.delivery, Outcome.acted, Reply.took}
-use Rattle.model.specs.Place.{onConnection, slotOf, entryOf}
+use Rattle.model.specs.Place.{isOnConnection, slotOf, entryOf}
 use Rattle.model.specs.Checks.{hislip0}
 use Rattle.model.specs.Refusals.{refusal}
 use Rattle.model.specs.Step.{step, final, log}
@@ -79,7 +79,7 @@ pub record OnAsynchronous (d : Server) (c : ℕ) : Type 0 where
 
 -- 01: a connection without a role
 pub record WithoutRole (d : Server) (c : ℕ) : Type 0 where
-  pub no-session : (j : ℕ) → onConnection c (at (d .locks .entries) j) ≡ true → ⊥
+  pub no-session : (j : ℕ) → isOnConnection c (at (d .locks .entries) j) ≡ true → ⊥
 
 -- 01: "sub-address empty or "hislip0""
 pub record SubAddress (p : List ℕ) : Type 0 where

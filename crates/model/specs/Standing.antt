@@ -35,12 +35,12 @@ abbrev pub freesFirst : Entry → Kind
 freesFirst e = cond (e .exclusive) exclusive-lock shared-lock
 
 -- AsyncLockResponse with a code, to a connection
-abbrev pub answerTo : ℕ → ℕ → Frame → Bool
-answerTo n x f = (eqb (f .message .kind) AsyncLockResponse && eqb (f .message .code) n) && eqb (f .to) x
+abbrev pub isAnswerTo : ℕ → ℕ → Frame → Bool
+isAnswerTo n x f = (eqb (f .message .kind) AsyncLockResponse && eqb (f .message .code) n) && eqb (f .to) x
 
 -- a call sends an answer with a code to the session in slot j
 abbrev pub Answers : Server → ℕ → ℕ → Event → Type 0
-Answers d j n e = any (answerTo n ((at (d .locks .entries) j) .asynchronous)) ((step d e) .frames) ≡ true
+Answers d j n e = any (isAnswerTo n ((at (d .locks .entries) j) .asynchronous)) ((step d e) .frames) ≡ true
 
 -- how it ends: its session's Data, DataEND or Trigger of that number, or its AsyncDeviceClear, acts, and the release is answered by its kind;
 -- or the session closes

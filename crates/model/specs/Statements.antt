@@ -10,7 +10,7 @@ use Rattle.model.specs.Lists.{all}
 use Rattle.model.specs.State.{Server, Entry, Kind, at, fresh, Making}
 use Rattle.model.specs.Interface.{Event, Event.answer, Reply.refused, Reply.done}
 use Rattle.model.specs.Refusals.{refusal}
-use Rattle.model.specs.Place.{onConnection, slotOf}
+use Rattle.model.specs.Place.{isOnConnection, slotOf}
 use Rattle.model.specs.Locks.{mayGrant}
 use Rattle.model.specs.Step.{step, final}
 use Rattle.model.specs.Bound.{OutputFits}
@@ -147,7 +147,7 @@ pub record Beyond : Type 0 where
   -- is sent has one exactly if it is the first to trip the watch since it was set
   pub watches : (v : Making) (es : List Event) → Watches v es
   -- the session that has a connection is the one that is found
-  pub found : (v : Making) (es : List Event) (c j : ℕ) → (c ≡ noConnection → ⊥) → onConnection c (at ((final (fresh v) es) .locks .entries) j) ≡ true → j ≡ slotOf (final (fresh v) es) c
+  pub found : (v : Making) (es : List Event) (c j : ℕ) → (c ≡ noConnection → ⊥) → isOnConnection c (at ((final (fresh v) es) .locks .entries) j) ≡ true → j ≡ slotOf (final (fresh v) es) c
   pub one-string : (v : Making) (es : List Event) → OneStringRun v es
   pub always-room : (v : Making) (es : List Event) → AlwaysRoom v es
 

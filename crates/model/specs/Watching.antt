@@ -19,8 +19,8 @@ use Rattle.model.specs.Locality.{overLog}
 use Rattle.model.specs.NextQuestion.{asynchronousOf}
 
 -- of session n, one call: it opens with neither; what is set for it; what an answer that was sent to it says
-abbrev pub begins : Action → ℕ → Bool
-begins a n = eqb (kindOf a) 0 && eqb (a .session) n
+abbrev pub opensSession : Action → ℕ → Bool
+opensSession a n = eqb (kindOf a) 0 && eqb (a .session) n
 
 abbrev pub setFor : Setting → ℕ → Sensing → Sensing
 setFor (watch m l) n s = cond (eqb m n) (record { watch = l; tripped = false; recorded = s .recorded }) s
@@ -35,7 +35,7 @@ senses (connected c) n s = s
 senses (disconnected c k) n s = s
 senses (skipped-over c k) n s = s
 senses (errored c h k) n s = s
-senses (message-acted a) n s = cond (begins a n) freshSensing s
+senses (message-acted a) n s = cond (opensSession a n) freshSensing s
 senses (clock-read t) n s = s
 senses (status-set b) n s = s
 senses (setting-made x) n s = setFor x n s

@@ -11,12 +11,12 @@ use Rattle.model.specs.Interface.{Event, Event.opening, Event.delivery, Event.c
 use Rattle.model.specs.Step.{Line, log, step}
 use Rattle.model.specs.Demand3.{Seen, seen}
 use Rattle.model.specs.Happening.{happened}
-use Rattle.model.specs.InStep.{Numbering, noted, noted-line, numberingOf, countUp, error-0, Counts, NeverOut}
+use Rattle.model.specs.InStep.{Numbering, numberingAfter, noted-line, numberingOf, countUp, error-0, Counts, NeverOut}
 use Rattle.claims.proofs.Replies.{Erring, erring}
 use Rattle.server.specs.Program.{notedSeen, notedIn, CountsIn, NeverOutIn}
 
 -- the reader looks at no frame
-noted-same : (e : Event) (y : Reply) (fs : List Frame) (n : ℕ) (p : Numbering) → noted (happened e y fs) n p ≡ noted (happened e y []) n p
+noted-same : (e : Event) (y : Reply) (fs : List Frame) (n : ℕ) (p : Numbering) → numberingAfter (happened e y fs) n p ≡ numberingAfter (happened e y []) n p
 noted-same e (refused k) fs n p = refl
 noted-same e done fs n p = refl
 noted-same e withheld fs n p = refl

@@ -46,7 +46,7 @@ use Rattle.claims.proofs.NextQuestion.{next-question}
 use Rattle.model.specs.NextQuestion.{questionUnread, synchronousOf, asynchronousOf, owes}
 use Rattle.model.specs.MessageTypes.{Error, DataEND, Interrupted, AsyncInterrupted, commands, AsyncLock, AsyncLockResponse}
 use Rattle.model.specs.Access.{Command, accessOf}
-use Rattle.model.specs.InStep.{Numbering, Knows, opened, expected, error-0, numbering}
+use Rattle.model.specs.InStep.{Numbering, Knows, firstNumbering, expected, error-0, numbering}
 use Rattle.claims.proofs.InStep.{in-steps, out}
 use Rattle.commands.specs.Lists.{linesOf}
 use Rattle.commands.specs.Rulings.{judged}
@@ -66,7 +66,7 @@ use Rattle.model.specs.LockModel.{notShared}
 use Rattle.model.specs.Deciding.{modelAfter}
 use Rattle.model.specs.Holders.{holdersOf, Ascending, holdsLock}
 use Rattle.claims.proofs.Holders.{holders-shown}
-use Rattle.model.specs.GrantsSeen.{noneYet, grantsOf, Shows}
+use Rattle.model.specs.GrantsSeen.{noneYet, grantsOf, AsTold}
 use Rattle.claims.proofs.GrantsSeen.{grants-seen}
 use Rattle.claims.proofs.IsolationRun.{isolation-run}
 use Rattle.model.specs.Canonical.{canonical, omits}
@@ -290,13 +290,13 @@ module _ (v : Making) (m m′ : Memory) (ss : List Seen) (f : Fresh v m) (g : Ru
   by-log = made view (calls g) .0 ∙ ap (λ (x : Server). map seen (log x (seenEvents ss))) (f .shows)
 
   took-seen : (n : ℕ) → takenOf ss n ≡ numbering v (seenEvents ss) n
-  took-seen n = ap (λ (a : List Seen). takenOf a n) by-log ∙ noted-seen (log (fresh v) (seenEvents ss)) n (opened noConnection)
+  took-seen n = ap (λ (a : List Seen). takenOf a n) by-log ∙ noted-seen (log (fresh v) (seenEvents ss)) n (firstNumbering noConnection)
 
-  in-step : (n : ℕ) → CountsIn ss n (opened noConnection) → NeverOutIn ss n (opened noConnection)
+  in-step : (n : ℕ) → CountsIn ss n (firstNumbering noConnection) → NeverOutIn ss n (firstNumbering noConnection)
   in-step n c =
-      subst (λ (a : List Seen). NeverOutIn a n (opened noConnection)) (sym by-log)
-      (never-seen (seenEvents ss) (fresh v) n (opened noConnection)
-      (in-steps v (seenEvents ss) .never n (counts-seen (log (fresh v) (seenEvents ss)) n (opened noConnection) (subst (λ (a : List Seen). CountsIn a n (opened noConnection)) by-log c))))
+      subst (λ (a : List Seen). NeverOutIn a n (firstNumbering noConnection)) (sym by-log)
+      (never-seen (seenEvents ss) (fresh v) n (firstNumbering noConnection)
+      (in-steps v (seenEvents ss) .never n (counts-seen (log (fresh v) (seenEvents ss)) n (firstNumbering noConnection) (subst (λ (a : List Seen). CountsIn a n (firstNumbering noConnection)) by-log c))))
 
 -- one call from any memory
 module _ (m m′ : Memory) (s : Seen) (g : Run m (s ∷ []) m′) where
@@ -628,10 +628,10 @@ module _ (v : Making) (m m′ : Memory) (ss : List Seen) (f : Fresh v m) (g : Ru
       ∙ read-lines (log (fresh v) (seenEvents ss)) (sent-fits .any-run v (seenEvents ss) small p)
 
   seen-grants : v .vendor < 2 ^ 16 → AllPossible (seenEvents ss) → (j : ℕ) → live (at (view m′ .locks .entries) j) ≡ true
-      → Shows (grantsOf (map lineSeen ss) 0 ((at (view m′ .locks .entries) j) .number) noneYet) (at (view m′ .locks .entries) j)
+      → AsTold (grantsOf (map lineSeen ss) 0 ((at (view m′ .locks .entries) j) .number) noneYet) (at (view m′ .locks .entries) j)
   seen-grants small p j =
-      subst (λ (ls : List Line). live (at (view m′ .locks .entries) j) ≡ true → Shows (grantsOf ls 0 ((at (view m′ .locks .entries) j) .number) noneYet) (at (view m′ .locks .entries) j)) (sym (read-all small p))
-      (subst (λ (d : Server). live (at (d .locks .entries) j) ≡ true → Shows (grantsOf (log (fresh v) (seenEvents ss)) 0 ((at (d .locks .entries) j) .number) noneYet) (at (d .locks .entries) j)) (sym (left v m m′ ss f g))
+      subst (λ (ls : List Line). live (at (view m′ .locks .entries) j) ≡ true → AsTold (grantsOf ls 0 ((at (view m′ .locks .entries) j) .number) noneYet) (at (view m′ .locks .entries) j)) (sym (read-all small p))
+      (subst (λ (d : Server). live (at (d .locks .entries) j) ≡ true → AsTold (grantsOf (log (fresh v) (seenEvents ss)) 0 ((at (d .locks .entries) j) .number) noneYet) (at (d .locks .entries) j)) (sym (left v m m′ ss f g))
       ((grants-seen v (seenEvents ss)) .shows j))
 
 pub program : Program Fresh Run

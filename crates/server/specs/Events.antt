@@ -22,7 +22,7 @@ use Rattle.state.specs.View.{Memory, view}
 use Rattle.state.specs.Change.{onRest}
 use Rattle.state.specs.Fresh.{freshWords, freshStrings}
 use Rattle.locks.specs.Outcome.{Met}
-use Rattle.sessions.specs.Closing.{Closes, closedServer}
+use Rattle.sessions.specs.Closing.{ClosesPlace, closedServer}
 use Rattle.server.specs.declared.Answered.{Answered}
 use Rattle.server.specs.declared.Done.{Done}
 use Rattle.server.specs.Causes.{untimely, enough-room, clock-causes}
@@ -171,7 +171,7 @@ empty-output r e = e
 pub so-much : (r : Done) (end : ℕ) (fs : List Frame) → r ≡ record { refusal = 0; output = end } → end ≡ 0 + length (bytesOf fs) → r ≡ record { refusal = 0; output = length (bytesOf fs) }
 so-much r end fs e p = e ∙ ap (λ (x : ℕ). record { refusal = 0; output = x }) (p ∙ zero-add (length (bytesOf fs)))
 
-pub cut-call : (c i room : ℕ) (r : Done) (m m′ : Memory) (out out′ : List ℕ) (end : ℕ) → refusal (view m) (cut c room) ≡ 0 → slotOf (view m) c ≡ i → Closes (view m) c i m′ out out′ 0 end → r ≡ record { refusal = 0; output = end } → (Tidy m → Tidy m′)
+pub cut-call : (c i room : ℕ) (r : Done) (m m′ : Memory) (out out′ : List ℕ) (end : ℕ) → refusal (view m) (cut c room) ≡ 0 → slotOf (view m) c ≡ i → ClosesPlace (view m) c i m′ out out′ 0 end → r ≡ record { refusal = 0; output = end } → (Tidy m → Tidy m′)
     → Called (cut c room) r m m′ out out′
 cut-call c i room r m m′ out out′ end q e p f t =
     let d : Server = view m in

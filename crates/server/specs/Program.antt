@@ -21,7 +21,7 @@ use Rattle.model.specs.MessageTypes.{Error, DataEND, Trigger, Interrupted, Asyn
 use Rattle.model.specs.Place.{slotOf, entryOf}
 use Rattle.model.specs.Access.{Command, accessOf}
 use Rattle.model.specs.Happening.{happened}
-use Rattle.model.specs.InStep.{Numbering, Knows, opened, expected, noted, countUp, error-0}
+use Rattle.model.specs.InStep.{Numbering, Knows, firstNumbering, expected, numberingAfter, countUp, error-0}
 use Rattle.model.specs.Allowing.{Admits}
 use Rattle.model.specs.AllowedOnly.{PassesBefore, answered-128, Refused128, listAfter, GoodList}
 use Rattle.model.specs.IsolationRun.{Undisturbed}
@@ -41,7 +41,7 @@ use Rattle.model.specs.NextQuestion.{questionUnread, synchronousOf, asynchronou
 use Rattle.model.specs.Fewer.{FewerLocks}
 use Rattle.model.specs.AnsweredOnce.{Release.none-stands, Once, clockIn}
 use Rattle.model.specs.Holders.{holdersOf, Ascending, holdsLock}
-use Rattle.model.specs.GrantsSeen.{noneYet, grantsOf, Shows}
+use Rattle.model.specs.GrantsSeen.{noneYet, grantsOf, AsTold}
 use Rattle.model.specs.Refusals.{refusal}
 use Rattle.model.specs.Standing.{StandsOn}
 use Rattle.model.specs.Sensing.{serviceAfter}
@@ -122,7 +122,7 @@ shownOf v ss n = trackIn (v .prefersOverlap) ss n (nothingYet (v .prefersOverlap
 -- F about the program: an answer of the instrument that is not refused and not withheld writes one frame, to the session's synchronous connection (02,
 -- Q-11: and behind it the request for service, if it is the first to trip the watch). In
 -- synchronized mode its MessageID is that of the last DataEND or Trigger of the session that acted, with no device clear and no END answer
--- since; 02, Q-1: in overlap mode it is the count of the session's answers since it opened or was cleared
+-- since; 02, Q-1: in overlap mode it is the count of the session's answers since it firstNumbering or was cleared
 pub record Tied (v : Making) (ss : List Seen) (m : Memory) (n : ℕ) (payload : List ℕ) (end : Bool) (output : List ℕ) : Type 0 where
   pub number : ℕ
   pub asked : (shownOf v ss n) .overlap ≡ false → (shownOf v ss n) .asked ≡ some number
@@ -136,14 +136,14 @@ sensingSeen (s ∷ ss) n x = sensingSeen ss n (senses (happened (s .event) (s .r
 
 -- 02, Q-10: of session n, the numbers of its Data, DataEND and Trigger messages, read off what the host saw (the rule is the model's reader's)
 abbrev pub notedSeen : Seen → ℕ → Numbering → Numbering
-notedSeen s n p = noted (happened (s .event) (s .reply) []) n p
+notedSeen s n p = numberingAfter (happened (s .event) (s .reply) []) n p
 
 abbrev pub notedIn : List Seen → ℕ → Numbering → Numbering
 notedIn [] n p = p
 notedIn (s ∷ ss) n p = notedIn ss n (notedSeen s n p)
 
 abbrev pub takenOf : List Seen → ℕ → Numbering
-takenOf ss n = notedIn ss n (opened noConnection)
+takenOf ss n = notedIn ss n (firstNumbering noConnection)
 
 -- each number that is taken of the session is the next of 003's count
 abbrev pub CountsIn : List Seen → ℕ → Numbering → Type 0
@@ -236,7 +236,7 @@ pub record Program (New : Making → Memory → Type 0) (Ran : Memory → List S
       → refusal (view m) (delivery c bs room) ≡ 0 → Command (view m) c bs → accessOf (view m) c ≡ true → ((header bs) .param ≡ (exchangeAt (view m .rest) (slotOf (view m) c)) .numberExpected → ⊥)
       → (s .reply ≡ took error-sent (16 + (header bs) .len) 0) × (s .output ≡ bytesOf (error-0 c)) × (view m′ ≡ view m)
   -- a client that counts as 003 says never meets this Error 0, whatever of it is held, cut, too large or refused in between
-  pub in-step : (v : Making) (m m′ : Memory) (ss : List Seen) → New v m → Ran m ss m′ → (n : ℕ) → CountsIn ss n (opened noConnection) → NeverOutIn ss n (opened noConnection)
+  pub in-step : (v : Making) (m m′ : Memory) (ss : List Seen) → New v m → Ran m ss m′ → (n : ℕ) → CountsIn ss n (firstNumbering noConnection) → NeverOutIn ss n (firstNumbering noConnection)
   -- 02, Q-12: the list that is set is known from what the host saw, and has at most 32 patterns, each of them good
   pub list-read : (v : Making) (m m′ : Memory) (ss : List Seen) → New v m → Ran m ss m′ → (view m′ .rest .allowed ≡ listShown ss) × GoodList (listShown ss)
   -- a DataEND acts only if that list allows it
@@ -279,6 +279,6 @@ pub record Program (New : Making → Memory → Type 0) (Ran : Memory → List S
       → Ascending (holdersOf (view m′ .locks .entries))
       × ((p : ℕ → Bool → Bool → Bool) → tally (λ r. p (r .session) (r .exclusive) (r .shared)) (holdersOf (view m′ .locks .entries))
       ≡ tally (λ s. holdsLock s && p (s .number) (s .exclusive) (not (notShared s))) ((modelAfter v (seenEvents ss)) .sessions))
-  -- the number of each session is that of the answers 1 to its requests since it opened, its reading that of the last, as the host saw them
+  -- the number of each session is that of the answers 1 to its requests since it firstNumbering, its reading that of the last, as the host saw them
   pub grants-seen : (v : Making) (m m′ : Memory) (ss : List Seen) → v .vendor < 2 ^ 16 → New v m → Ran m ss m′ → AllPossible (seenEvents ss) → (j : ℕ) → live (at (view m′ .locks .entries) j) ≡ true
-      → Shows (grantsOf (map lineSeen ss) 0 ((at (view m′ .locks .entries) j) .number) noneYet) (at (view m′ .locks .entries) j)
+      → AsTold (grantsOf (map lineSeen ss) 0 ((at (view m′ .locks .entries) j) .number) noneYet) (at (view m′ .locks .entries) j)

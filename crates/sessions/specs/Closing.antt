@@ -14,7 +14,7 @@ use Rattle.model.specs.Lists.{all, position, keep}
 use Rattle.model.specs.State.{Entry, Waiting, Locks, Exchange, Connection, Rest, Server, at, blank, live, freshExchange, openExchange, closedConnection, exchangeAt, withConnections, withExchange, freshSensing, withSensing}
 use Rattle.wire.specs.MessageId.{start}
 use Rattle.model.specs.Exchange.{withCount}
-use Rattle.model.specs.Place.{onConnection, placeOf, slotIn, slotOf}
+use Rattle.model.specs.Place.{isOnConnection, placeOf, slotIn, slotOf}
 use Rattle.model.specs.Locks.{LockResult, LockEvent.close, elsewhere, change, grantPass}
 use Rattle.model.specs.Step.{channels, shutAll, closing, lockFrame}
 use Rattle.wire.specs.Frame.{bytesOf}
@@ -22,7 +22,7 @@ use Rattle.wire.specs.Splice.{splice}
 use Rattle.locks.specs.Outcome.{Met}
 use Rattle.state.specs.Table.{tab, length-tab, all-tab}
 use Rattle.state.specs.Grid.{upd, upd-upd, upd-set, grid}
-use Rattle.state.specs.Change.{onRest, onConnection as onRow, connectionWith, onExchange, exchangeWith}
+use Rattle.state.specs.Change.{onRest, isOnConnection as onRow, connectionWith, onExchange, exchangeWith}
 use Rattle.state.specs.View.{Memory, memory, view, entriesOf, entryAt, keyOf, requestAt, slotAt, waitingOf, locksOf, restOf, connectionOf}
 use Rattle.queue.specs.Requests.{countOf, slot-small}
 
@@ -89,9 +89,9 @@ module _ (w s : List ℕ) (c i : ℕ) (found : slotIn (locksOf w s .entries) c �
   unfolding placeOf
   session-lives h =
       let es : List Entry = locksOf w s .entries in
-      let l : position (onConnection c) es < length es = rw (found, sessions-held w s) h in
+      let l : position (isOnConnection c) es < length es = rw (found, sessions-held w s) h in
       and-first (live (at es i)) (eqb ((at es i) .synchronous) c || eqb ((at es i) .asynchronous) c)
-      (ap (λ (j : ℕ). onConnection c (at es j)) (sym found) ∙ found-passes (onConnection c) es blank l)
+      (ap (λ (j : ℕ). isOnConnection c (at es j)) (sym found) ∙ found-passes (isOnConnection c) es blank l)
 
   pub channels-of : i < sessionLimit → channels (view (memory w s)) c
       ≡ (at (locksOf w s .entries) i) .synchronous ∷ cond (eqb ((at (locksOf w s .entries) i) .asynchronous) noConnection) [] ((at (locksOf w s .entries) i) .asynchronous ∷ [])
@@ -166,13 +166,13 @@ module _ (w s : List ℕ) (c i : ℕ) (found : slotIn (locksOf w s .entries) c �
       }
 
 -- what closing a connection's place does: the session is closed, and those that wait are looked at; r is the place behind the frames
-pub record Closes (d : Server) (c i : ℕ) (m′ : Memory) (out out′ : List ℕ) (at r : ℕ) : Type 0 where
+pub record ClosesPlace (d : Server) (c i : ℕ) (m′ : Memory) (out out′ : List ℕ) (at r : ℕ) : Type 0 where
   pub server : view m′ ≡ record { locks = (grantPass ((closedServer d c i) .locks)) .locks; rest = closing d c }
   pub buffer : out′ ≡ splice out at (bytesOf (map lockFrame ((grantPass ((closedServer d c i) .locks)) .answers)))
   pub place : r ≡ at + length (bytesOf (map lockFrame ((grantPass ((closedServer d c i) .locks)) .answers)))
 
 pub closes : (d : Server) (c i : ℕ) (m m′ : Memory) (out out′ : List ℕ) (at r : ℕ) → view m ≡ closedServer d c i → Met (grantPass (view m .locks)) m m′ out out′ at r
-    → Closes d c i m′ out out′ at r
+    → ClosesPlace d c i m′ out out′ at r
 closes d c i m m′ out out′ at r e p =
     let f : view m .locks ≡ (closedServer d c i) .locks = ap (λ (x : Server). x .locks) e in
     record {

@@ -23,7 +23,7 @@ use Rattle.state.specs.Tidy.{Tidy}
 use Rattle.state.specs.View.{Memory, memory, view, flag, locksOf}
 use Rattle.sessions.specs.declared.Delivery.{Delivery}
 use Rattle.sessions.specs.Did.{Did, numbersOf, plainly}
-use Rattle.sessions.specs.Closing.{Closes, closedServer, sessions-held}
+use Rattle.sessions.specs.Closing.{ClosesPlace, closedServer, sessions-held}
 
 -- the plans
 abbrev pub errorPlan : Server → ℕ → ℕ → ℕ → ℕ → Plan
@@ -65,7 +65,7 @@ one-frame out out′ f e = e ∙ ap (splice out 0) (sym (bytes-one f))
 
 -- a closing: what is said first, then the answers of the grant pass
 pub did-closing : (d : Server) (c i : ℕ) (fs : List Frame) (r : Delivery) (m m′ : Memory) (out out₁ out′ : List ℕ) (at′ end : ℕ)
-    → out₁ ≡ splice out 0 (bytesOf fs) → at′ ≡ length (bytesOf fs) → length (bytesOf fs) ≤ length out → Closes d c i m′ out₁ out′ at′ end
+    → out₁ ≡ splice out 0 (bytesOf fs) → at′ ≡ length (bytesOf fs) → length (bytesOf fs) ≤ length out → ClosesPlace d c i m′ out₁ out′ at′ end
     → numbersOf r ≡ deliveryAnswer (took closed 0 ((at (d .locks .entries) i) .number)) end 0 → (Tidy m → Tidy m′)
     → Did (finish d (closePlan d c i fs)) r m m′ out out′
 unfolding finish change

@@ -1,6 +1,6 @@
 // Closing a connection and, if it has one, its session.
 ghost use Prim.Native.Nat.{ℕ, _+_, _<_, _≤_};
-ghost use Rattle.sessions.specs.Closing.{Closes, closedServer, shut};
+ghost use Rattle.sessions.specs.Closing.{ClosesPlace, closedServer, shut};
 ghost use Rattle.model.specs.Bound.{answersRoom};
 ghost use Rattle.model.specs.Place.{slotIn};
 ghost use Rattle.model.specs.Sizes.{noConnection};
@@ -93,7 +93,7 @@ pub fn close_place(
     i: usize,
 ) -> usize
     requires { ⌜ (at + answersRoom ≤ length (now out)) × ((s : List ℕ) → slotIn (locksOf (now w) s .entries) c ≡ i) ⌝ }
-    ensures { λ r. ⌜ Closes (view (memory (now (w .entry)) (now (strings .entry)))) c i (memory (now (w .exit)) (now (strings .exit))) (now (out .entry)) (now (out .exit)) at r × (Tidy (memory (now (w .entry)) (now (strings .entry))) → Tidy (memory (now (w .exit)) (now (strings .exit)))) ⌝ }
+    ensures { λ r. ⌜ ClosesPlace (view (memory (now (w .entry)) (now (strings .entry)))) c i (memory (now (w .exit)) (now (strings .exit))) (now (out .entry)) (now (out .exit)) at r × (Tidy (memory (now (w .entry)) (now (strings .entry))) → Tidy (memory (now (w .exit)) (now (strings .exit)))) ⌝ }
 {
     close_parts(w, strings, c, i);
     grant_pass::pass_waiting(w, strings, out, at)

@@ -11,7 +11,7 @@ use lib.ListN.{length}
 use borrow.Author.Tests.{eqb-true, eqb-false, ne-eqb, eq-eqb}
 use Rattle.model.specs.Sizes.{sessionLimit, connectionLimit, noConnection}
 use Rattle.model.specs.State.{Entry, at, live, halfOpen, slotOfNumber}
-use Rattle.model.specs.Place.{Role, Role.r-none, Role.r-halfOpen, Role.r-synchronous, Role.r-asynchronous, roleIn, onConnection, placeOf, slotIn, roleOf}
+use Rattle.model.specs.Place.{Role, Role.r-none, Role.r-halfOpen, Role.r-synchronous, Role.r-asynchronous, roleIn, isOnConnection, placeOf, slotIn, roleOf}
 use Rattle.model.proofs.Basics.{and-l, and-r, inside, pos-passes, pos-past, Sole}
 use Rattle.model.proofs.Place.{place-unique, place-role as role-is, no-role}
 use Rattle.state.specs.Table.{length-tab}
@@ -79,7 +79,7 @@ module _ (w s : List ℕ) (c : ℕ) (few : c < connectionLimit) where
       let x : homeIn i 2 ≡ homeIn i 1 = sym ((shows w i c 2 (omega arith) few e) .home) ∙ (shows w i c 1 (omega arith) few q) .home in
       omega arith
 
-  has : (i f : ℕ) → i < sessionLimit → 0 < f → f < 3 → fieldOf w i f ≡ c → onConnection c (at es i) ≡ true
+  has : (i f : ℕ) → i < sessionLimit → 0 < f → f < 3 → fieldOf w i f ≡ c → isOnConnection c (at es i) ≡ true
   has i zero h o l e = absurd (let z : ⊥ = omega arith in z)
   has i (suc zero) h o l e = on-synchronous c (at es i) (lives-at i 1 h (omega arith) e) (synchronous-at w s i h ∙ e)
   has i (suc (suc zero)) h o l e =
@@ -87,10 +87,10 @@ module _ (w s : List ℕ) (c : ℕ) (few : c < connectionLimit) where
   has i (suc (suc (suc f))) h o l e = absurd (let z : ⊥ = omega arith in z)
 
   -- and back
-  within : (j : ℕ) → onConnection c (at es j) ≡ true → j < sessionLimit
-  within j e = omega (arith, inside (onConnection c) es j refl e, slots)
+  within : (j : ℕ) → isOnConnection c (at es j) ≡ true → j < sessionLimit
+  within j e = omega (arith, inside (isOnConnection c) es j refl e, slots)
 
-  shown-by : (j : ℕ) → onConnection c (at es j) ≡ true → (fieldOf w j 1 ≡ c) ⊎ (fieldOf w j 2 ≡ c)
+  shown-by : (j : ℕ) → isOnConnection c (at es j) ≡ true → (fieldOf w j 1 ≡ c) ⊎ (fieldOf w j 2 ≡ c)
   shown-by j e =
       let x : Entry = at es j in
       let h : j < sessionLimit = within j e in
@@ -99,7 +99,7 @@ module _ (w s : List ℕ) (c : ℕ) (few : c < connectionLimit) where
       (λ (q : eqb (x .asynchronous) c ≡ true). inr (sym (asynchronous-at w s j h) ∙ eqb-true (x .asynchronous) c q))
       (either (eqb (x .synchronous) c) (eqb (x .asynchronous) c) (and-r (live x) (eqb (x .synchronous) c || eqb (x .asynchronous) c) e))
 
-  home-of : (j : ℕ) → onConnection c (at es j) ≡ true → (homeOf w c ≡ homeIn j 1) ⊎ (homeOf w c ≡ homeIn j 2)
+  home-of : (j : ℕ) → isOnConnection c (at es j) ≡ true → (homeOf w c ≡ homeIn j 1) ⊎ (homeOf w c ≡ homeIn j 2)
   home-of j e =
       ⊎-elim
       (λ (q : fieldOf w j 1 ≡ c). inl ((shows w j c 1 (omega arith) few q) .home))
@@ -107,7 +107,7 @@ module _ (w s : List ℕ) (c : ℕ) (few : c < connectionLimit) where
       (shown-by j e)
 
   -- in any memory, no connection is in two sessions
-  pub one-session : Sole (onConnection c) es
+  pub one-session : Sole (isOnConnection c) es
   one-session i j e q =
       let x = home-of i e in
       let y = home-of j q in
@@ -123,7 +123,7 @@ module _ (w s : List ℕ) (c : ℕ) (few : c < connectionLimit) where
   pub place-none : Unshown w c → slotIn es c ≡ sessionLimit
   place-none lone =
       place-slot w s c
-      ∙ pos-past (onConnection c) es (λ j e. ⊎-elim (λ (q : fieldOf w j 1 ≡ c). lone j 0 (within j e) (lit< tt) q) (λ (q : fieldOf w j 2 ≡ c). lone j 1 (within j e) (lit< tt) q) (shown-by j e))
+      ∙ pos-past (isOnConnection c) es (λ j e. ⊎-elim (λ (q : fieldOf w j 1 ≡ c). lone j 0 (within j e) (lit< tt) q) (λ (q : fieldOf w j 2 ≡ c). lone j 1 (within j e) (lit< tt) q) (shown-by j e))
       ∙ slots
 
   pub role-nowhere : Unshown w c → roleNumber (roleOf es c) ≡ 0
@@ -168,9 +168,9 @@ module _ (w : List ℕ) (c : ℕ) (few : c < connectionLimit) where
 -- Q-2's theorem: in any memory, of every connection. No two sessions have it; the session found is the one that has it; none is found exactly
 -- where none has it.
 pub record OneLook (w s : List ℕ) (c : ℕ) : Type 0 where
-  pub in-one-session : (i j : ℕ) → onConnection c (at (locksOf w s .entries) i) ≡ true → onConnection c (at (locksOf w s .entries) j) ≡ true → i ≡ j
-  pub finds-it : (i : ℕ) → onConnection c (at (locksOf w s .entries) i) ≡ true → slotIn (locksOf w s .entries) c ≡ i
-  pub or-none : (roleOf (locksOf w s .entries) c ≡ r-none) ↔ ((j : ℕ) → onConnection c (at (locksOf w s .entries) j) ≡ true → ⊥)
+  pub in-one-session : (i j : ℕ) → isOnConnection c (at (locksOf w s .entries) i) ≡ true → isOnConnection c (at (locksOf w s .entries) j) ≡ true → i ≡ j
+  pub finds-it : (i : ℕ) → isOnConnection c (at (locksOf w s .entries) i) ≡ true → slotIn (locksOf w s .entries) c ≡ i
+  pub or-none : (roleOf (locksOf w s .entries) c ≡ r-none) ↔ ((j : ℕ) → isOnConnection c (at (locksOf w s .entries) j) ≡ true → ⊥)
 
 pub one-look : (w s : List ℕ) (c : ℕ) → c < connectionLimit → OneLook w s c
 one-look w s c few =

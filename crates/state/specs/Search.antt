@@ -11,7 +11,7 @@ use lib.ListN.{length, List·getD-eq-default}
 use Rattle.model.specs.Sizes.{sessionLimit, noConnection}
 use Rattle.model.specs.Lists.{position}
 use Rattle.model.specs.State.{Entry, at, blank, live, slotOfNumber}
-use Rattle.model.specs.Place.{Role, Role.r-none, Role.r-halfOpen, Role.r-synchronous, Role.r-asynchronous, roleBy, roleIn, onConnection, Place, placeOf}
+use Rattle.model.specs.Place.{Role, Role.r-none, Role.r-halfOpen, Role.r-synchronous, Role.r-asynchronous, roleBy, roleIn, isOnConnection, Place, placeOf}
 use Rattle.state.specs.Table.{tab, length-tab}
 use Rattle.state.specs.View.{word, keyOf, entryAt, entriesOf, locksOf}
 use Rattle.state.specs.Change.{entryWith, entry-at}
@@ -68,7 +68,7 @@ module _ (w s : List ℕ) (p : Entry → Bool) where
       omega arith
 
 -- the slot of a connection is where the search ends
-pub place-slot : (w s : List ℕ) (c : ℕ) → (placeOf (locksOf w s .entries) c) .slot ≡ position (onConnection c) (locksOf w s .entries)
+pub place-slot : (w s : List ℕ) (c : ℕ) → (placeOf (locksOf w s .entries) c) .slot ≡ position (isOnConnection c) (locksOf w s .entries)
 unfolding placeOf
 place-slot w s c = refl
 
@@ -85,10 +85,10 @@ module _ (e : Entry) (r : ℕ) where
 
 -- a live slot has the synchronous connection, or the asynchronous one; and the role of each
 module _ (c : ℕ) (e : Entry) where
-  pub on-synchronous : (e .number ≡ 0 → ⊥) → e .synchronous ≡ c → onConnection c e ≡ true
+  pub on-synchronous : (e .number ≡ 0 → ⊥) → e .synchronous ≡ c → isOnConnection c e ≡ true
   on-synchronous p q = rw (ne-eqb (e .number) 0 p, eq-eqb (e .synchronous) c q)
 
-  pub on-asynchronous : (e .number ≡ 0 → ⊥) → (e .synchronous ≡ c → ⊥) → onConnection c e ≡ eqb (e .asynchronous) c
+  pub on-asynchronous : (e .number ≡ 0 → ⊥) → (e .synchronous ≡ c → ⊥) → isOnConnection c e ≡ eqb (e .asynchronous) c
   on-asynchronous p q = rw (ne-eqb (e .number) 0 p, ne-eqb (e .synchronous) c q)
 
   pub role-half-open : (e .number ≡ 0 → ⊥) → e .asynchronous ≡ noConnection → roleNumber (roleIn c e) ≡ 1

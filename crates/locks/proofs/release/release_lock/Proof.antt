@@ -7,7 +7,7 @@ use Rattle.wire.specs.Frame.{frameBytes}
 use Rattle.wire.specs.Splice.{splice}
 use Rattle.model.specs.State.{at}
 use Rattle.locks.specs.Asking.{met-none}
-use Rattle.locks.specs.Outcome.{answerFrame, met-is, met-one}
+use Rattle.locks.specs.Outcome.{lockAnswerFrame, met-is, met-one}
 use Rattle.locks.specs.Release.{release-invalid, release-now, release-stands, ruled-invalid, ruled-now, ruled-stands, standing-stored}
 use Rattle.locks.specs.Settled.{met-pass}
 use Rattle.locks.specs.Standing.{kindOf}
@@ -34,7 +34,7 @@ returns-2 c = let a = c .before .before .before .before .before .before .before 
     (sym (release-now (locksOf (a .w .now) s) (a .i) (a .n) k (c .before .before .before .before .before .before .before .before .before .before .before .before .before .before .before .before .before .before .freed-kind .ensures .1 s (a .n) ∙ ruled-now (c .before .before .before .before .before .before .before .before .before .before .before .before .before .before .before .before .before .before .freed-kind .result) _ (c .before .before .before .before .before .before .before .before .before .before .before .before .before .before .before .before .before .if1 .left) (c .before .before .before .before .before .before .before .before .before .before .before .before .before .before .before .is-last .ensures s ∙ c .before .before .before .before .before .before .before .before .before .before .before .before .before .before .if2 .taken))))
     (met-pass _ _ _ _ _ _ _ _ _ _ (omega (arith, p .0))
     (met-one _ _ _ _ _ _ _ _ _ refl (c .before .before .before .before .before .before .free-lock .ensures .0)
-    (p .1 s ∙ ap (λ (x : ℕ). splice (a .out .now) (a .at) (frameBytes (answerFrame (locksOf (a .w .now) s .entries) (a .i) x))) (sym (c .before .before .before .before .before .before .before .before .before .before .before .before .before .before .before .before .before .before .freed-kind .ensures .0 (c .before .before .before .before .before .before .before .before .before .before .before .before .before .before .before .before .before .if1 .left)))) (p .0) (search needs) (c .before .before .before .before .before .before .free-lock .ensures .1))
+    (p .1 s ∙ ap (λ (x : ℕ). splice (a .out .now) (a .at) (frameBytes (lockAnswerFrame (locksOf (a .w .now) s .entries) (a .i) x))) (sym (c .before .before .before .before .before .before .before .before .before .before .before .before .before .before .before .before .before .before .freed-kind .ensures .0 (c .before .before .before .before .before .before .before .before .before .before .before .before .before .before .before .before .before .if1 .left)))) (p .0) (search needs) (c .before .before .before .before .before .before .free-lock .ensures .1))
     (c .before .before .grant-waiting .ensures))
 
 returns-3 : tie.Need-returns-3
