@@ -1,16 +1,15 @@
 -- Bytes fed to the register: in parts, a turn of each loop, and the register's width. Assumes nothing.
 use mathlib.Core.Path.{_≡_, refl, ap, _∙_}
-use mathlib.Core.Logic.{⊎-elim}
 use mathlib.Core.List.{List, [], _∷_, _++_}
-use Prim.Native.Nat.{ℕ, zero, suc, _+_, _-_, _/_, _%_, _^_, _≤_, _<_}
+use Prim.Native.Nat.{ℕ, zero, suc, _+_, _*_, _-_, _/_, _^_, _≤_, _<_}
 use native.Mathlib.Numerals.{add-one}
 use native.Mathlib.Omega.{arith}
 use lib.Bits.{bitXor, xor-lt}
 use lib.Dec.{lit<}
 use lib.ListN.{length, getD, take, drop, length-drop, drop-of-length-le}
 use lib.Seq.{drop-cons, take-all}
-use Rattle.crc.specs.Crc.{polynomial, bitStep, steps, byteStep, feedOf, crcOf}
-use Rattle.crc.specs.Steps.{bit, bit-zero, bit-one}
+use Rattle.crc_table.specs.Width.{steps-lt}
+use Rattle.crc.specs.Crc.{steps, byteStep, feedOf, crcOf}
 
 -- a run in parts
 pub feed-append : (c : ℕ) (a b : List ℕ) → feedOf c (a ++ b) ≡ feedOf (feedOf c a) b
@@ -27,8 +26,8 @@ pub feed-last : (x : ℕ) (bs : List ℕ) (i : ℕ) → length bs ≤ i → feed
 unfolding feedOf
 feed-last x bs i h = rw (drop-of-length-le bs h)
 
--- a turn of the loop
-pub feed-four : (x : ℕ) (bs : List ℕ) (i : ℕ) → i + 4 ≤ length bs
+-- a turn of the loop of eight bytes
+feed-four : (x : ℕ) (bs : List ℕ) (i : ℕ) → i + 4 ≤ length bs
     → feedOf x (drop i bs) ≡ feedOf (byteStep (byteStep (byteStep (byteStep x (getD bs i 0)) (getD bs (i + 1) 0)) (getD bs (i + 2) 0)) (getD bs (i + 3) 0)) (drop (i + 4) bs)
 feed-four x bs i h =
     let e : i + 1 + 1 ≡ i + 2 = omega arith in
@@ -42,23 +41,30 @@ feed-four x bs i h =
     ∙ feed-next (byteStep (byteStep (byteStep x (getD bs i 0)) (getD bs (i + 1) 0)) (getD bs (i + 2) 0)) bs (i + 3) (omega arith)
     ∙ ap (λ (k : ℕ). feedOf (byteStep (byteStep (byteStep (byteStep x (getD bs i 0)) (getD bs (i + 1) 0)) (getD bs (i + 2) 0)) (getD bs (i + 3) 0)) (drop k bs)) g
 
+pub feed-eight : (x : ℕ) (bs : List ℕ) (i : ℕ) → i + 8 ≤ length bs
+    → feedOf x (drop i bs)
+    ≡ feedOf
+    (byteStep (byteStep (byteStep (byteStep (byteStep (byteStep (byteStep (byteStep x (getD bs i 0)) (getD bs (i + 1) 0)) (getD bs (i + 2) 0)) (getD bs (i + 3) 0)) (getD bs (i + 4) 0)) (getD bs (i + 5) 0)) (getD bs (i + 6) 0)) (getD bs (i + 7) 0))
+    (drop (i + 8) bs)
+feed-eight x bs i h =
+    let y : ℕ = byteStep (byteStep (byteStep (byteStep x (getD bs i 0)) (getD bs (i + 1) 0)) (getD bs (i + 2) 0)) (getD bs (i + 3) 0) in
+    let e5 : i + 4 + 1 ≡ i + 5 = omega arith in
+    let e6 : i + 4 + 2 ≡ i + 6 = omega arith in
+    let e7 : i + 4 + 3 ≡ i + 7 = omega arith in
+    let e8 : i + 4 + 4 ≡ i + 8 = omega arith in
+    feed-four x bs i (omega arith)
+    ∙ feed-four y bs (i + 4) (omega arith)
+    ∙ (λ k. feedOf (byteStep (byteStep (byteStep (byteStep y (getD bs (i + 4) 0)) (getD bs (e5 k) 0)) (getD bs (e6 k) 0)) (getD bs (e7 k) 0)) (drop (e8 k) bs))
+
 -- a part up to the end
 pub up-to-end : (bs : List ℕ) (i : ℕ) → take (length bs - i) (drop i bs) ≡ drop i bs
 up-to-end bs i = take-all (length bs - i) (drop i bs) (simp length-drop (omega arith))
 
+-- after the last whole eight there are at most seven
+pub left-over : (bs : List ℕ) (i : ℕ) → length bs / 8 * 8 ≤ i → length (take (length bs - i) (drop i bs)) ≤ 7
+left-over bs i h = let e : length (drop i bs) ≤ 7 = simp length-drop (omega arith) in rw (up-to-end bs i) e
+
 -- the register has 32 bits
-step-lt : (c : ℕ) → c < 2 ^ 32 → bitStep c < 2 ^ 32
-step-lt c h =
-    ⊎-elim
-    (λ (e : c % 2 ≡ 0). rw (bit-zero c e) (omega arith))
-    (λ (e : c % 2 ≡ 1). rw (bit-one c e) (xor-lt 32 (c / 2) polynomial (omega arith) (lit< tt)))
-    (bit c)
-
-steps-lt : (n c : ℕ) → c < 2 ^ 32 → steps n c < 2 ^ 32
-unfolding steps
-steps-lt zero c h = h
-steps-lt (suc n) c h = steps-lt n (bitStep c) (step-lt c h)
-
 pub feed-lt : (c : ℕ) (bs : List ℕ) → c < 2 ^ 32 → ((i : ℕ) → getD bs i 0 < 256) → feedOf c bs < 2 ^ 32
 unfolding feedOf byteStep
 feed-lt c [] h w = h

@@ -1,6 +1,6 @@
 pub mod Crc
 pub mod Feed
+pub mod Looks
 pub mod Steps
-pub mod Table
 pub mod Vectors
 pub mod Xor

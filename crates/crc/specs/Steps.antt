@@ -1,31 +1,16 @@
 -- The laws of the steps: what stands above the bits that go out is only moved, the steps are linear, and so four bytes in a row
--- are 32 steps of the register with all four in it. Assumes nothing.
+-- are 32 steps of the register with all four in it, and eight are twice that. Assumes nothing.
 use mathlib.Core.Path.{_≡_, refl, sym, ap, ap₂, _∙_}
-use mathlib.Core.Logic.{_⊎_, inl, inr, ⊎-elim}
+use mathlib.Core.Logic.{⊎-elim}
 use Prim.Native.Nat.{ℕ, zero, suc, _+_, _*_, _/_, _%_, _^_, _<_}
 use native.Mathlib.Nat.{pow-suc, zero-add, suc-add, add-zero, mul-one, mod-lt}
 use native.Mathlib.Omega.{arith}
 use lib.Arith.{lt-one}
 use lib.Bits.{bitXor, block-half, block-odd, xor-block, xor-lt, xor-zero-r, xor-comm, xor-shr, xor-mod, xor-self, xor-shifted}
 use lib.Pow.{split, pow-pos}
+use Rattle.crc_table.specs.Width.{bit, bit-zero, bit-one}
 use Rattle.crc.specs.Crc.{polynomial, bitStep, steps, byteStep}
 use Rattle.crc.specs.Xor.{xor-assoc}
-
-pub bit-zero : (c : ℕ) → c % 2 ≡ 0 → bitStep c ≡ c / 2
-unfolding bitStep
-bit-zero c e = rw e
-
-pub bit-one : (c : ℕ) → c % 2 ≡ 1 → bitStep c ≡ bitXor (c / 2) polynomial
-unfolding bitStep
-bit-one c e = rw e
-
-pub bit : (c : ℕ) → (c % 2 ≡ 0) ⊎ (c % 2 ≡ 1)
-bit c = go (c % 2) (omega arith)
-  where
-    go : (x : ℕ) → x < 2 → (x ≡ 0) ⊎ (x ≡ 1)
-    go zero h = inl refl
-    go (suc zero) h = inr refl
-    go (suc (suc x)) h = absurd (omega arith)
 
 half-lt : (n r : ℕ) → r < 2 ^ suc n → r / 2 < 2 ^ n
 half-lt n r h = let p : r < 2 ^ n * 2 = rw pow-suc at h in omega arith
@@ -145,7 +130,7 @@ together c b0 b1 b2 b3 h0 h1 h2 =
     ∙ ap (bitXor c) e3
 
 -- so four bytes are 32 steps
-pub four-bytes : (c b0 b1 b2 b3 : ℕ) → b0 < 256 → b1 < 256 → b2 < 256
+four-bytes : (c b0 b1 b2 b3 : ℕ) → b0 < 256 → b1 < 256 → b2 < 256
     → byteStep (byteStep (byteStep (byteStep c b0) b1) b2) b3 ≡ steps 32 (bitXor c (b3 * 16777216 + (b2 * 65536 + (b1 * 256 + b0))))
 unfolding byteStep
 four-bytes c b0 b1 b2 b3 h0 h1 h2 =
@@ -154,11 +139,22 @@ four-bytes c b0 b1 b2 b3 h0 h1 h2 =
     ∙ later 24 (bitXor (bitXor (bitXor c b0) (b1 * 2 ^ 8)) (b2 * 2 ^ 16)) b3
     ∙ ap (steps 32) (together c b0 b1 b2 b3 h0 h1 h2)
 
--- four bits by a table: they are looked up, the rest moves down
-pub half-step : (x : ℕ) → bitXor (steps 4 (x % 16)) (x / 16) ≡ steps 4 x
-half-step x = sym (ap (steps 4) (sym (split x 4)) ∙ steps-split 4 (x / 16) (x % 16) (omega arith) ∙ xor-comm (x / 16) (steps 4 (x % 16)))
+-- and eight are 64 steps of the first four with the register, and 32 of the others
+module _ (c b0 b1 b2 b3 b4 b5 b6 b7 : ℕ) (h0 : b0 < 256) (h1 : b1 < 256) (h2 : b2 < 256) (h4 : b4 < 256) (h5 : b5 < 256) (h6 : b6 < 256) where
+  pub eight-bytes :
+      byteStep (byteStep (byteStep (byteStep (byteStep (byteStep (byteStep (byteStep c b0) b1) b2) b3) b4) b5) b6) b7
+      ≡ bitXor (steps 64 (bitXor c (b3 * 16777216 + (b2 * 65536 + (b1 * 256 + b0))))) (steps 32 (b7 * 16777216 + (b6 * 65536 + (b5 * 256 + b4))))
+  eight-bytes =
+      let x : ℕ = bitXor c (b3 * 16777216 + (b2 * 65536 + (b1 * 256 + b0))) in
+      let w : ℕ = b7 * 16777216 + (b6 * 65536 + (b5 * 256 + b4)) in
+      ap (λ (z : ℕ). byteStep (byteStep (byteStep (byteStep z b4) b5) b6) b7) (four-bytes c b0 b1 b2 b3 h0 h1 h2)
+      ∙ four-bytes (steps 32 x) b4 b5 b6 b7 h4 h5 h6
+      ∙ steps-xor 32 (steps 32 x) w
+      ∙ ap (λ (z : ℕ). bitXor z (steps 32 w)) (sym (steps-add 32 32 x))
 
--- two halves are a byte
-pub two-halves : (c b : ℕ) → steps 4 (steps 4 (bitXor c b)) ≡ byteStep c b
+-- one byte by the table: the low byte of the register is looked up, the rest moves down
+pub byte-step : (c b : ℕ) → byteStep c b ≡ bitXor (steps 8 (bitXor c b % 256)) (bitXor c b / 256)
 unfolding byteStep
-two-halves c b = sym (steps-add 4 4 (bitXor c b))
+byte-step c b =
+    let x : ℕ = bitXor c b in
+    ap (steps 8) (sym (split x 8)) ∙ steps-split 8 (x / 256) (x % 256) (omega arith) ∙ xor-comm (x / 256) (steps 8 (x % 256))

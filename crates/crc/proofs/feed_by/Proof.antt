@@ -1,29 +1,34 @@
 -- `crc::feed_by` meets its contract. The invariant: what is left, fed to the register as it is, gives what the whole gives.
 use mathlib.Core.Path.{_≡_, refl, sym, ap, _∙_}
-use Prim.Native.Nat.{_≤_, _-_}
+use Prim.Native.Nat.{_≤_, _-_, _*_, _/_, _%_}
 use native.Mathlib.Omega.{arith}
 use lib.ListN.{length, drop}
 use Rattle.crc.specs.Crc.{feedOf}
-use Rattle.crc.specs.Feed.{feed-four, up-to-end}
+use Rattle.crc.specs.Feed.{feed-eight, up-to-end, left-over}
 use borrow.Author.Needs.{needs}
 use Rattle.crc.proofs.feed_by.Statement.{statement}
 use Rattle.crc.proofs.feed_by.Tie as tie
 
 abbrev Inv-loop : tie.InvT-loop
-Inv-loop c bytes x₀ i₀ x i = (i ≤ length bytes) × (feedOf x (drop i bytes) ≡ feedOf c bytes)
+Inv-loop c bytes x₀ i₀ m x i = (i % 8 ≡ 0) × (i ≤ length bytes) × (m ≡ length bytes / 8 * 8) × (feedOf x (drop i bytes) ≡ feedOf c bytes)
 
 abbrev μ-loop : tie.MeasureT-loop
-μ-loop c bytes x₀ i₀ x i = length bytes - i
+μ-loop c bytes x₀ i₀ m x i = length bytes - i
 
 loop-again : tie.Need-loop-again Inv-loop μ-loop
-loop-again c = let l = c .before .before .before .before .before .before in
+loop-again c = let l = c .before .before .before .before .before .before .before .before .before .before in
     let a = l .before .before .args in
-    (search needs, rw (c .step4 .ensures) (sym (feed-four (l .loop .x) (a .bytes .now) (l .loop .i) (omega arith))) ∙ l .loop .inv .1)
+    (omega arith, omega arith, l .loop .inv .2, rw (c .step8 .ensures) (sym (feed-eight (l .loop .x) (a .bytes .now) (l .loop .i) (omega arith))) ∙ l .loop .inv .3)
+
+feed-ones-requires : tie.Need-feed-ones-requires Inv-loop μ-loop
+feed-ones-requires c κs = let l = c .before .before in
+    let a = l .before .before .args in
+    left-over (a .bytes .now) (l .loop .i) (omega arith)
 
 returns : tie.Need-returns Inv-loop μ-loop
 returns c = let l = c .before .before .before in
     let a = l .before .before .args in
-    c .feed-ones .ensures ∙ ap (feedOf (l .loop .x)) (up-to-end (a .bytes .now) (l .loop .i)) ∙ l .loop .inv .1
+    c .feed-ones .ensures ∙ ap (feedOf (l .loop .x)) (up-to-end (a .bytes .now) (l .loop .i)) ∙ l .loop .inv .3
 
 pub feed-by-spec : {M : Type 1} → statement M
 feed-by-spec =
@@ -31,7 +36,15 @@ feed-by-spec =
     (tie.spec
     Inv-loop
     μ-loop
-    (λ c. (search needs, refl))
+    (λ c. search needs)
+    (λ c. (refl, search needs, refl, refl))
+    (λ c. search needs)
+    (λ c. search needs)
+    (λ c. search needs)
+    (λ c. search needs)
+    (λ c. search needs)
+    (λ c. search needs)
+    (λ c. search needs)
     (λ c. search needs)
     (λ c. search needs)
     (λ c. search needs)
@@ -47,5 +60,5 @@ feed-by-spec =
     (λ c. search needs)
     (λ c. search needs)
     (λ c. search needs)
-    (λ c κs. search needs)
+    feed-ones-requires
     returns)

@@ -13,16 +13,24 @@ abbrev Inv-loop : tie.InvT-loop
 Inv-loop c bytes x₀ i₀ x i = (i ≤ length bytes) × (feedOf x (drop i bytes) ≡ feedOf c bytes)
 
 abbrev μ-loop : tie.MeasureT-loop
-μ-loop c bytes x₀ i₀ x i = length bytes - i
+μ-loop c bytes x₀ i₀ x i = 7 - i
+
+-- the bytes end before the seventh
+returns : tie.Need-returns Inv-loop μ-loop
+returns c = let l = c .before .before in
+    let a = l .before .before .args in
+    sym (feed-last (l .loop .x) (a .bytes .now) (l .loop .i) (omega arith)) ∙ l .loop .inv .1
 
 loop-again : tie.Need-loop-again Inv-loop μ-loop
-loop-again c = let l = c .before .before .before in
+loop-again c = let l = c .before .before .before .before in
     let a = l .before .before .args in
     (search needs, rw (c .step .ensures) (sym (feed-next (l .loop .x) (a .bytes .now) (l .loop .i) (omega arith))) ∙ l .loop .inv .1)
 
-returns : tie.Need-returns Inv-loop μ-loop
-returns c = let a = c .before .before .before .args in
-    sym (feed-last (c .before .loop .x) (a .bytes .now) (c .before .loop .i) (omega arith)) ∙ c .before .loop .inv .1
+-- there are seven
+returns-2 : tie.Need-returns-2 Inv-loop μ-loop
+returns-2 c = let l = c .before in
+    let a = l .before .before .args in
+    sym (feed-last (l .loop .x) (a .bytes .now) (l .loop .i) (omega arith)) ∙ l .loop .inv .1
 
 pub feed-ones-spec : {M : Type 1} → statement M
 feed-ones-spec =
@@ -31,9 +39,10 @@ feed-ones-spec =
     Inv-loop
     μ-loop
     (λ c. (search needs, refl))
+    returns
     (λ c. search needs)
     (λ c κs. search needs)
     (λ c. search needs)
     (λ c. search needs)
     loop-again
-    returns)
+    returns-2)

@@ -1,0 +1,3 @@
+pub mod Polynomial
+pub mod Table
+pub mod Width
