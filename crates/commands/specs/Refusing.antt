@@ -250,6 +250,12 @@ module _ (s c : List ℕ) where
       let e : 0 + lineLength s ≡ lineLength s = omega arith in
       first-passed (0 + lineLength (drop 0 s)) refl (λ m. n (line-fits s c (subst (λ (x : ℕ). Matches (take x s) c) e m) .0 ∙ sym ef))
 
+  -- or its second byte is another capital
+  pub first-second : (g : ℕ) → g ≡ upper (getD c 1 0) → Capital (getD s 1 0) → (getD s 1 0 ≡ g → ⊥) → Allows (linesOf s) c ↔ Allows (behind s) c
+  first-second g eg k n =
+      let e : 0 + lineLength s ≡ lineLength s = omega arith in
+      first-passed (0 + lineLength (drop 0 s)) refl (λ m. n (line-fits s c (subst (λ (x : ℕ). Matches (take x s) c) e m) .1 k ∙ sym eg))
+
 module _ (s c : List ℕ) (f g : ℕ) (ef : f ≡ upper (getD c 0 0)) (eg : g ≡ upper (getD c 1 0)) where
   -- a line that place i does not open matches nothing
   refused : (i : ℕ) → getD s i 0 ≡ 10 → opens s i f g ≡ false → Matches (take (lineLength (drop (i + 1) s)) (drop (i + 1) s)) c → ⊥

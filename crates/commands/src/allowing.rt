@@ -7,7 +7,7 @@ ghost use Prim.Native.Nat.{ℕ, _+_, _≤_, _<_};
 ghost use Rattle.commands.specs.Lists.{Allows, commandOf, linesOf};
 ghost use Rattle.commands.specs.Refusing.{begins, behind, opens, Shut};
 ghost use Rattle.scpi.specs.Answers.{Says};
-ghost use Rattle.scpi.specs.Bytes.{upper};
+ghost use Rattle.scpi.specs.Bytes.{Capital, upper};
 ghost use lib.ListN.{getD, length, take};
 ghost use mathlib.Core.Bool.{false, true};
 ghost use mathlib.Core.Logic.{_↔_, _⊎_};
@@ -152,15 +152,31 @@ fn next_opening(text: &[u8], at: usize, f: u8, g: u8) -> usize
     opening_from(text, at, f, g)
 }
 
-// Does the first line match the command? It begins with the command's first byte, f, or it does not.
-fn first_matches(text: &[u8], c: &[u8], f: u8) -> bool
-    requires { ⌜ f ≡ upper (getD (now c) 0 0) ⌝ }
+// Is the text's second byte a capital, and another than g?
+fn second_differs(text: &[u8], g: u8) -> bool
+    ensures { λ r. ⌜ (r ≡ true → Capital (getD (now (text .entry)) 1 0) × (getD (now (text .entry)) 1 0 ≡ g → ⊥)) ⌝ }
+{
+    if text.len() < 2 {
+        return false;
+    }
+    if text[1] == g {
+        return false;
+    }
+    is_between(65, 90, text[1])
+}
+
+// Does the first line match the command? By its first two bytes most do not: f and g are the command's.
+fn first_matches(text: &[u8], c: &[u8], f: u8, g: u8) -> bool
+    requires { ⌜ (f ≡ upper (getD (now c) 0 0)) × (g ≡ upper (getD (now c) 1 0)) ⌝ }
     ensures { λ r. ⌜ (r ≡ true → Allows (linesOf (now (text .entry))) (now (c .entry))) × (r ≡ false → Allows (linesOf (now (text .entry))) (now (c .entry)) ↔ Allows (behind (now (text .entry))) (now (c .entry))) ⌝ }
 {
     if text.len() == 0 {
         return false;
     }
     if text[0] != f {
+        return false;
+    }
+    if second_differs(text, g) {
         return false;
     }
     let e = line_end(text, 0);
@@ -173,7 +189,7 @@ fn any_matches(text: &[u8], c: &[u8]) -> bool
 {
     let f = raised_at(c, 0);
     let g = raised_at(c, 1);
-    if first_matches(text, c, f) {
+    if first_matches(text, c, f, g) {
         return true;
     }
     let mut at = opening_from(text, 0, f, g);

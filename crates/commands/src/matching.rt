@@ -5,10 +5,11 @@ use scpi::bytes::run_end;
 use scpi::checking::check;
 ghost use mathlib.Core.Path.{_≡_};
 ghost use mathlib.Core.Logic.{_⊎_, _↔_};
-ghost use mathlib.Core.Bool.{true};
+ghost use mathlib.Core.Bool.{false, true};
+ghost use lib.Dec.{eqb};
 ghost use Prim.Native.Nat.{ℕ, _+_, _-_, _^_, _≤_, _<_};
 ghost use lib.ListN.{drop, getD, length};
-ghost use Rattle.scpi.specs.Bytes.{caseless};
+ghost use Rattle.scpi.specs.Bytes.{caseless, upper};
 ghost use Rattle.scpi.specs.Grammar.{GoodPattern};
 ghost use Rattle.commands.specs.Spelling.{Spells, Matches};
 ghost use Rattle.commands.specs.Whole.{PathSays};
@@ -121,12 +122,28 @@ fn spread_on(t: [u64; 3], p: &[u8], a: usize, m: usize, e: usize, c: &[u8], i: u
     with(u, i + (e - a))
 }
 
+// Is y another byte than x, which is a colon or another sign before the letters? Most places of a set are no colon's.
+fn differs(x: u8, y: u8) -> bool
+    ensures { λ r. ⌜ (r ≡ true → eqb (upper x) (upper y) ≡ false) ⌝ }
+{
+    if x >= 65 {
+        return false;
+    }
+    if x == y {
+        return false;
+    }
+    true
+}
+
 // The same where the short form may be another.
 fn spread(t: [u64; 3], p: &[u8], a: usize, m: usize, e: usize, c: &[u8], i: usize) -> [u64; 3]
     requires { ⌜ (a < m) × (m ≤ e) × (e ≤ length (now p)) × (length (now c) ≤ 128) ⌝ }
     ensures { λ r. ⌜ Spread (part a m (now (p .entry))) (part a e (now (p .entry))) (now (c .entry)) i t r ⌝ }
 {
-    if i > c.len() {
+    if i >= c.len() {
+        return t;
+    }
+    if differs(p[a], c[i]) {
         return t;
     }
     if !goes_on(p, a, m, c, i) {

@@ -78,4 +78,4 @@ returns-3 c =
     (λ t. untrue t, λ x. absurd (behind-end (a .text .now) (a .c .now) (l .at) (search needs) (l .inv .2 .0 x)))
 
 pub any-matches-spec : {M : Type 1} → statement M
-any-matches-spec = tie.close (tie.spec Inv-loop μ-loop (λ c κs. search needs) (λ c κs. search needs) (λ c κs. c .before .raised-at .ensures) returns (λ c κs. search needs) loop-holds (λ c. search needs) (λ c. search needs) (λ c κs. search needs) (λ c. search needs) (λ c. search needs) (λ c. search needs) (λ c κs. search needs) returns-2 next-opening-requires loop-less loop-again returns-3)
+any-matches-spec = tie.close (tie.spec Inv-loop μ-loop (λ c κs. search needs) (λ c κs. search needs) (λ c κs. (c .before .raised-at .ensures, c .raised-at2 .ensures)) returns (λ c κs. search needs) loop-holds (λ c. search needs) (λ c. search needs) (λ c κs. search needs) (λ c. search needs) (λ c. search needs) (λ c. search needs) (λ c κs. search needs) returns-2 next-opening-requires loop-less loop-again returns-3)

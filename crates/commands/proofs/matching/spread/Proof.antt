@@ -5,7 +5,7 @@ use mathlib.Core.Bool.{false}
 use lib.ListN.{drop}
 use borrow.Author.Tests.{not-true, not-false}
 use Rattle.scpi.specs.Answers.{untrue}
-use Rattle.scpi.specs.Words.{starts, part}
+use Rattle.scpi.specs.Words.{starts, part, starts-stop}
 use Rattle.commands.specs.Sets.{On}
 use Rattle.commands.specs.Landing.{From, long-not, from-behind}
 use borrow.Author.Needs.{needs}
@@ -19,13 +19,20 @@ returns c =
 
 returns-2 : tie.Need-returns-2
 returns-2 c =
-    let a = c .before .before .before .before .before .args in
-    let n : starts (part (a .a) (a .m) (a .p .now)) (drop (a .i) (a .c .now)) ≡ false = sym (c .before .goes-on .ensures) ∙ not-true _ (c .if2 .taken) in
+    let a = c .before .before .before .before .before .before .before .args in
+    let n : starts (part (a .a) (a .m) (a .p .now)) (drop (a .i) (a .c .now)) ≡ false = starts-stop (a .p .now) (a .c .now) (a .a) (a .m) (a .i) (search needs) (search needs) (search needs) (c .before .differs .ensures (c .if2 .taken)) in
+    let o : starts (part (a .a) (a .e) (a .p .now)) (drop (a .i) (a .c .now)) ≡ false = long-not (a .p .now) (a .c .now) (a .a) (a .m) (a .e) (a .i) (search needs) (search needs) (search needs) n in
+    λ k. (λ h. inl h, λ h. ⊎-elim (λ (x : On (a .t) k). x) (λ y. absurd (⊎-elim (λ (x : From (part (a .a) (a .m) (a .p .now)) (a .c .now) (a .i) k). untrue (sym n ∙ x .1)) (λ (x : From (part (a .a) (a .e) (a .p .now)) (a .c .now) (a .i) k). untrue (sym o ∙ x .1)) y)) h)
+
+returns-3 : tie.Need-returns-3
+returns-3 c =
+    let a = c .before .before .before .before .before .before .before .before .before .args in
+    let n : starts (part (a .a) (a .m) (a .p .now)) (drop (a .i) (a .c .now)) ≡ false = sym (c .before .goes-on .ensures) ∙ not-true _ (c .if3 .taken) in
     let o : starts (part (a .a) (a .e) (a .p .now)) (drop (a .i) (a .c .now)) ≡ false = long-not (a .p .now) (a .c .now) (a .a) (a .m) (a .e) (a .i) (search needs) (search needs) (search needs) n in
     λ k. (λ h. inl h, λ h. ⊎-elim (λ (x : On (a .t) k). x) (λ y. absurd (⊎-elim (λ (x : From (part (a .a) (a .m) (a .p .now)) (a .c .now) (a .i) k). untrue (sym n ∙ x .1)) (λ (x : From (part (a .a) (a .e) (a .p .now)) (a .c .now) (a .i) k). untrue (sym o ∙ x .1)) y)) h)
 
 spread-on-requires : tie.Need-spread-on-requires
-spread-on-requires c κs = (search needs, search needs, search needs, search needs, search needs, sym (c .before .goes-on .ensures) ∙ not-false _ (c .if2 .left))
+spread-on-requires c κs = (search needs, search needs, search needs, search needs, search needs, sym (c .before .goes-on .ensures) ∙ not-false _ (c .if3 .left))
 
 pub spread-spec : {M : Type 1} → statement M
-spread-spec = tie.close (tie.spec returns (λ c κs. search needs) returns-2 spread-on-requires (λ c. c .spread-on .ensures))
+spread-spec = tie.close (tie.spec returns (λ c. search needs) (λ c. search needs) (λ c κs. search needs) returns-2 (λ c κs. search needs) returns-3 spread-on-requires (λ c. c .spread-on .ensures))
