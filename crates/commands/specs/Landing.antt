@@ -8,8 +8,9 @@ use native.Mathlib.Omega.{arith}
 use lib.Dec.{eqb}
 use lib.ListN.{length, take, drop, length-drop}
 use lib.Seq.{drop-drop, take-add}
-use Rattle.scpi.specs.Bytes.{upper}
-use Rattle.scpi.specs.Words.{starts, part, length-part, Begins, begins-starts, starts-begins, like-length}
+use borrow.Author.Tests.{ne-eqb}
+use Rattle.scpi.specs.Bytes.{between, upper}
+use Rattle.scpi.specs.Words.{between-true, between-no, starts, part, length-part, Begins, begins-starts, starts-begins, like-length}
 use Rattle.commands.specs.Places.{none, none-on, origin, origin-with}
 use Rattle.commands.specs.Sets.{On, Lands}
 
@@ -27,6 +28,20 @@ starts-length (x ∷ xs) (y ∷ ys) e = go (eqb (upper x) (upper y)) e (starts-l
     go : (t : Bool) → cond t (starts xs ys) false ≡ true → (starts xs ys ≡ true → length xs ≤ length ys) → length (x ∷ xs) ≤ length (y ∷ ys)
     go true f g = omega (arith, g f)
     go false f g = absurd (let z : _≡_ {A = ℕ} 0 1 = cc in omega arith)
+
+-- a sign before the letters is like no other byte
+pub sign-differs : (x y : ℕ) → x < 65 → (x ≡ y → ⊥) → eqb (upper x) (upper y) ≡ false
+sign-differs x y l n = go (between 97 122 y) refl
+  where
+    own : upper x ≡ x
+    own = ap (λ (t : Bool). cond t (x - 32) x) (between-no 97 122 x (λ z. omega (arith, z .0)))
+
+    go : (t : Bool) → between 97 122 y ≡ t → eqb (upper x) (upper y) ≡ false
+    go true e =
+        let b = between-true 97 122 y e in
+        let u : upper y ≡ y - 32 = rw e in
+        ne-eqb _ _ (λ q. let k : x ≡ y - 32 = sym own ∙ q ∙ u in omega (arith, b .0))
+    go false e = let u : upper y ≡ y = rw e in ne-eqb _ _ (λ q. n (sym own ∙ q ∙ u))
 
 -- x and then y
 starts-append : (x y l : List ℕ) → starts (x ++ y) l ≡ cond (starts x l) (starts y (drop (length x) l)) false
@@ -58,7 +73,7 @@ module _ (p c : List ℕ) (a m e i : ℕ) (l : a ≤ m) (k : m ≤ e) (n : e ≤
   long-not h = long-starts ∙ rw h
 
   -- nothing begins behind the end
-  pub from-behind : length c < i → a < m → (j : ℕ) → From (part a m p) c i j → ⊥
+  pub from-behind : length c ≤ i → a < m → (j : ℕ) → From (part a m p) c i j → ⊥
   from-behind b h j f =
       let d : length (drop i c) ≡ length c - i = length-drop i c in
       omega (arith, starts-length (part a m p) (drop i c) (f .1), length-part a m p (omega arith))

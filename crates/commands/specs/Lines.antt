@@ -1,7 +1,7 @@
 -- The lines of a text one after the other, a text made of lines, and how long a text that is taken can be. Assumes nothing.
 use mathlib.Core.Path.{_≡_, refl, sym, ap, subst, _∙_}
 use mathlib.Core.Logic.{_⊎_, inr, ⊎-elim, _↔_}
-use mathlib.Core.Bool.{Bool, true, false, cond}
+use mathlib.Core.Bool.{Bool, true, false, cond, _||_}
 use mathlib.Core.List.{List, [], _∷_, _++_, append-assoc, append-nil}
 use Prim.Native.Nat.{ℕ, suc, _+_, _-_, _*_, _≤_, _<_}
 use native.Mathlib.Nat.{not-suc-le-zero}
@@ -11,6 +11,7 @@ use lib.Dec.{eqb}
 use lib.ListN.{length, getD, take, drop, drop-of-length-le}
 use lib.Seq.{drop-cons, drop-drop, take-suc}
 use borrow.Author.Tests.{eq-eqb, ne-eqb}
+use Rattle.scpi.specs.Answers.{untrue}
 use Rattle.scpi.specs.Bytes.{All}
 use Rattle.commands.specs.Spelling.{Matches}
 use Rattle.scpi.specs.Words.{part}
@@ -102,6 +103,13 @@ module _ (s : List ℕ) (i : ℕ) where
   line-out l = let d : drop i s ≡ [] = drop-of-length-le s l in rw d (let e : i ≡ i + 0 = omega arith in e)
 
 -- a line, and the lines behind it
+-- nothing was found, and nothing is
+pub line-clear : (s : List ℕ) (a n : ℕ) (t : Bool) → a + n < length s → (t || eqb (getD s (a + n) 0) 10) ≡ false → (t ≡ false → a + lineLength (drop a s) ≡ a + n + lineLength (drop (a + n) s)) → a + lineLength (drop a s) ≡ a + (n + 1) + lineLength (drop (a + (n + 1)) s)
+line-clear s a n true l e h = untrue (sym e)
+line-clear s a n false l e h =
+    let q : a + n + 1 ≡ a + (n + 1) = omega arith in
+    h refl ∙ line-more s (a + n) l (λ b. untrue (sym e ∙ eq-eqb _ _ b)) ∙ ap (λ (i : ℕ). i + lineLength (drop i s)) q
+
 lines-step : (s : List ℕ) → 0 < length s → linesOf s ≡ take (lineLength s) s ∷ linesOf (drop (suc (lineLength s)) s)
 unfolding linesOf lineLength
 lines-step [] h = absurd (not-suc-le-zero h)

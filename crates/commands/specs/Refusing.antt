@@ -20,7 +20,11 @@ use Rattle.commands.specs.Lists.{linesOf, lineLength, Allows}
 use Rattle.commands.specs.Whole.{says-empty}
 use Rattle.commands.specs.Lines.{lines-next, lines-end, allows-rest}
 
--- there is a newline at i, the byte behind it is f, and the one behind that g or no capital
+-- there is a newline at i, and the byte behind it is f
+unfoldable pub begins : List ℕ → ℕ → ℕ → Bool
+begins s i f = eqb (getD s i 0) 10 && eqb (getD s (i + 1) 0) f
+
+-- and the one behind that is g or no capital
 unfoldable pub opens : List ℕ → ℕ → ℕ → ℕ → Bool
 opens s i f g = (eqb (getD s i 0) 10 && eqb (getD s (i + 1) 0) f) && (eqb (getD s (i + 2) 0) g || not (between 65 90 (getD s (i + 2) 0)))
 
@@ -71,6 +75,15 @@ shut-join s f g a b e h j k l m = ⊎-elim (λ (x : k < b). h k l x) (λ (x : b 
 pub shut-more : (s : List ℕ) (f g a n : ℕ) (t : Bool) → (t || opens s (a + n) f g) ≡ false → (t ≡ false → Shut s f g a (a + n)) → Shut s f g a (a + (n + 1))
 shut-more s f g a n true e h = untrue (sym e)
 shut-more s f g a n false e h = let q : a + n + 1 ≡ a + (n + 1) = omega arith in subst (λ (i : ℕ). Shut s f g a i) q (shut-one s f g a (a + n) (h refl) e)
+
+-- the same, by the first byte alone
+begins-not : (s : List ℕ) (i f g : ℕ) → begins s i f ≡ false → opens s i f g ≡ false
+unfolding opens begins
+begins-not s i f g e = rw e
+
+pub bare-more : (s : List ℕ) (f a n : ℕ) (t : Bool) → (t || begins s (a + n) f) ≡ false → (t ≡ false → (g : ℕ) → Shut s f g a (a + n)) → (g : ℕ) → Shut s f g a (a + (n + 1))
+bare-more s f a n true e h g = untrue (sym e)
+bare-more s f a n false e h g = let q : a + n + 1 ≡ a + (n + 1) = omega arith in subst (λ (i : ℕ). Shut s f g a i) q (shut-one s f g a (a + n) (h refl g) (begins-not s (a + n) f g e))
 
 -- the lines behind the first newline
 abbrev pub behind : List ℕ → List (List ℕ)
@@ -218,8 +231,30 @@ module _ (s c : List ℕ) where
         (λ (l : length s ≤ 0). let n : length (take e s) ≡ 0 = let d : length (take e s) ≡ min e (length s) = length-take e s in omega arith in absurd (says-empty (take e s) c n (m .good) (m .spells)))
         (lt-or-ge 0 (length s))
 
-    pub first-refused : (Matches (take e s) c → ⊥) → Allows (linesOf s) c ↔ Allows (behind (drop e s)) c
+    first-refused : (Matches (take e s) c → ⊥) → Allows (linesOf s) c ↔ Allows (behind (drop e s)) c
     first-refused n = line-refused 0 e ends (λ m. n (subst (λ (x : ℕ). Matches (take x s) c) (sub-zero e) m))
+
+    pub first-passed : (Matches (take e s) c → ⊥) → Allows (linesOf s) c ↔ Allows (behind s) c
+    first-passed n = Iff·trans (first-refused n) (same-allows _ _ (same-behind 0 e ends))
+
+  pub first-empty : length s ≡ 0 → Allows (linesOf s) c ↔ Allows (behind s) c
+  first-empty z =
+      let n : ℕ = 0 + lineLength (drop 0 s) in
+      let d : length (take n s) ≡ min n (length s) = length-take n s in
+      let y : length (take n s) ≡ 0 = omega arith in
+      first-passed n refl (λ m. says-empty (take n s) c y (m .good) (m .spells))
+
+  -- it begins with another byte
+  pub first-other : (f : ℕ) → f ≡ upper (getD c 0 0) → (getD s 0 0 ≡ f → ⊥) → Allows (linesOf s) c ↔ Allows (behind s) c
+  first-other f ef n =
+      let e : 0 + lineLength s ≡ lineLength s = omega arith in
+      first-passed (0 + lineLength (drop 0 s)) refl (λ m. n (line-fits s c (subst (λ (x : ℕ). Matches (take x s) c) e m) .0 ∙ sym ef))
+
+  -- or its second byte is another capital
+  pub first-second : (g : ℕ) → g ≡ upper (getD c 1 0) → Capital (getD s 1 0) → (getD s 1 0 ≡ g → ⊥) → Allows (linesOf s) c ↔ Allows (behind s) c
+  first-second g eg k n =
+      let e : 0 + lineLength s ≡ lineLength s = omega arith in
+      first-passed (0 + lineLength (drop 0 s)) refl (λ m. n (line-fits s c (subst (λ (x : ℕ). Matches (take x s) c) e m) .1 k ∙ sym eg))
 
 module _ (s c : List ℕ) (f g : ℕ) (ef : f ≡ upper (getD c 0 0)) (eg : g ≡ upper (getD c 1 0)) where
   -- a line that place i does not open matches nothing

@@ -3,11 +3,26 @@
 use super::Judged;
 use scpi::Checked;
 use scpi::checking::check;
-ghost use Prim.Native.Nat.{_+_, _≤_};
+ghost use Prim.Native.Nat.{_+_, _≤_, _<_};
 ghost use Rattle.commands.specs.Lists.{lineLength, linesOf};
 ghost use Rattle.commands.specs.Rulings.{Ruled, judgedFrom};
 ghost use lib.ListN.{drop, length};
+ghost use mathlib.Core.Bool.{true};
 ghost use mathlib.Core.Path.{_≡_};
+
+// Is there no newline at the 8 places from `at` on? Without a way out of their middle, so that they are asked at once.
+fn no_newline(s: &[u8], at: usize) -> bool
+    requires { ⌜ at + 7 < length (now s) ⌝ }
+    ensures { λ r. ⌜ (r ≡ true → at + lineLength (drop at (now (s .entry))) ≡ at + 8 + lineLength (drop (at + 8) (now (s .entry)))) ⌝ }
+{
+    let mut found = false;
+    let mut k = 0;
+    while k < 8 {
+        found = found | (s[at + k] == 10);
+        k += 1;
+    }
+    !found
+}
 
 // Where the line from `at` on ends: at its newline, or with the text.
 pub fn line_end(s: &[u8], at: usize) -> usize
@@ -15,6 +30,9 @@ pub fn line_end(s: &[u8], at: usize) -> usize
     ensures { λ r. ⌜ (r ≡ at + lineLength (drop at (now (s .entry)))) × (r ≤ length (now (s .entry))) ⌝ }
 {
     let mut i = at;
+    while i + 7 < s.len() && no_newline(s, i) {
+        i += 8;
+    }
     while i < s.len() {
         if s[i] == 10 {
             return i;

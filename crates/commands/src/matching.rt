@@ -5,14 +5,15 @@ use scpi::bytes::run_end;
 use scpi::checking::check;
 ghost use mathlib.Core.Path.{_≡_};
 ghost use mathlib.Core.Logic.{_⊎_, _↔_};
-ghost use mathlib.Core.Bool.{true};
+ghost use mathlib.Core.Bool.{false, true};
+ghost use lib.Dec.{eqb};
 ghost use Prim.Native.Nat.{ℕ, _+_, _-_, _^_, _≤_, _<_};
-ghost use lib.ListN.{length, getD};
-ghost use Rattle.scpi.specs.Bytes.{caseless};
+ghost use lib.ListN.{drop, getD, length};
+ghost use Rattle.scpi.specs.Bytes.{caseless, upper};
 ghost use Rattle.scpi.specs.Grammar.{GoodPattern};
 ghost use Rattle.commands.specs.Spelling.{Spells, Matches};
 ghost use Rattle.commands.specs.Whole.{PathSays};
-ghost use Rattle.scpi.specs.Words.{part};
+ghost use Rattle.scpi.specs.Words.{part, starts};
 ghost use Rattle.commands.specs.Bits.{bit};
 ghost use Rattle.commands.specs.Landing.{Spread};
 ghost use Rattle.commands.specs.Places.{Member, weight};
@@ -106,22 +107,49 @@ fn union(a: &[u64; 3], b: &[u64; 3]) -> [u64; 3]
     [a[0] | b[0], a[1] | b[1], a[2] | b[2]]
 }
 
-// The set t, and where spellings that begin at i end: behind the bytes from a up to m, the short form, or up to e, the long one.
+// The set t, and where spellings end that begin at i, where the short form, the bytes from a up to m, is there: behind it, or behind the long form, the bytes up to e.
+fn spread_on(t: [u64; 3], p: &[u8], a: usize, m: usize, e: usize, c: &[u8], i: usize) -> [u64; 3]
+    requires { ⌜ (a < m) × (m ≤ e) × (e ≤ length (now p)) × (length (now c) ≤ 128) × (i ≤ length (now c)) × (starts (part a m (now p)) (drop i (now c)) ≡ true) ⌝ }
+    ensures { λ r. ⌜ Spread (part a m (now (p .entry))) (part a e (now (p .entry))) (now (c .entry)) i t r ⌝ }
+{
+    let u = with(t, i + (m - a));
+    if m == e {
+        return u;
+    }
+    if !goes_on(p, m, e, c, i + (m - a)) {
+        return u;
+    }
+    with(u, i + (e - a))
+}
+
+// Is y another byte than x, which is a colon or another sign before the letters? Most places of a set are no colon's.
+fn differs(x: u8, y: u8) -> bool
+    ensures { λ r. ⌜ (r ≡ true → eqb (upper x) (upper y) ≡ false) ⌝ }
+{
+    if x >= 65 {
+        return false;
+    }
+    if x == y {
+        return false;
+    }
+    true
+}
+
+// The same where the short form may be another.
 fn spread(t: [u64; 3], p: &[u8], a: usize, m: usize, e: usize, c: &[u8], i: usize) -> [u64; 3]
     requires { ⌜ (a < m) × (m ≤ e) × (e ≤ length (now p)) × (length (now c) ≤ 128) ⌝ }
     ensures { λ r. ⌜ Spread (part a m (now (p .entry))) (part a e (now (p .entry))) (now (c .entry)) i t r ⌝ }
 {
-    if i > c.len() {
+    if i >= c.len() {
+        return t;
+    }
+    if differs(p[a], c[i]) {
         return t;
     }
     if !goes_on(p, a, m, c, i) {
         return t;
     }
-    let u = with(t, i + (m - a));
-    if !goes_on(p, m, e, c, i + (m - a)) {
-        return u;
-    }
-    with(u, i + (e - a))
+    spread_on(t, p, a, m, e, c, i)
 }
 
 // Where a step came to: the places that are left, where spellings from the others end, and the next place.
@@ -275,7 +303,7 @@ fn match_whole(p: &[u8], c: &[u8]) -> bool
         return false;
     }
     let e = run_end(p, m, 97, 122);
-    let t = spread([0u64; 3], p, 0, m, e, c, 0);
+    let t = spread_on([0u64; 3], p, 0, m, e, c, 0);
     let w = match_path(p, e, 8, c, t);
     let i = w.at;
     let u = w.on;

@@ -53,12 +53,12 @@ pub fn goes_on(p: &[u8], a: usize, e: usize, c: &[u8], i: usize) -> bool
     requires { ⌜ (a ≤ e) × (e ≤ length (now p)) × (i ≤ length (now c)) ⌝ }
     ensures { λ r. ⌜ r ≡ starts (part a e (now (p .entry))) (drop i (now (c .entry))) ⌝ }
 {
+    if e - a > c.len() - i {
+        return false;
+    }
     let mut k = a;
     let mut j = i;
     while k < e {
-        if j >= c.len() {
-            return false;
-        }
         if !alike(p[k], c[j]) {
             return false;
         }

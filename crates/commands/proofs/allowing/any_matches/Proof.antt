@@ -6,77 +6,62 @@ use mathlib.Core.Logic.{_↔_, Iff·trans}
 use Prim.Native.Nat.{ℕ, _+_, _-_, _≤_, _<_}
 use native.Mathlib.Omega.{arith}
 use lib.ListN.{length, drop}
-use lib.Seq.{length-take-le}
 use Rattle.scpi.specs.Answers.{untrue}
 use Rattle.commands.specs.Lists.{Allows, linesOf}
-use Rattle.commands.specs.Refusing.{opens, opens-newline, behind, behind-newline, behind-end, same-allows, first-matched, first-refused, line-matched, line-refused, moved}
+use Rattle.commands.specs.Refusing.{opens, opens-newline, behind, behind-newline, behind-end, same-allows, line-matched, line-refused, moved}
 use borrow.Author.Needs.{needs}
 use Rattle.commands.proofs.allowing.any_matches.Statement.{statement}
 use Rattle.commands.proofs.allowing.any_matches.Tie as tie
 
 abbrev Inv-loop : tie.InvT-loop
-Inv-loop text c f g first at₀ at = (at ≤ length text) × (at + 1 < length text → opens text at f g ≡ true) × (Allows (linesOf text) c ↔ Allows (behind (drop at text)) c)
+Inv-loop text c f g at₀ at = (at ≤ length text) × (at + 1 < length text → opens text at f g ≡ true) × (Allows (linesOf text) c ↔ Allows (behind (drop at text)) c)
 
 abbrev μ-loop : tie.MeasureT-loop
-μ-loop text c f g first at₀ at = length text - at
-
-slice-aggregate-matches : tie.Need-slice-aggregate-matches Inv-loop μ-loop
-slice-aggregate-matches c = sym (length-take-le (c .before .line-end .result) _ (c .before .line-end .ensures .1))
+μ-loop text c f g at₀ at = length text - at
 
 returns : tie.Need-returns Inv-loop μ-loop
-returns c =
+returns c = (λ t. c .before .first-matches .ensures .0 (c .if1 .taken), λ x. refl)
+
+loop-holds : tie.Need-loop-holds Inv-loop μ-loop
+loop-holds c =
+    let n = c .opening-from in
+    let m = c .before .before .first-matches in
+    let g = c .before .before .before .raised-at2 in
+    let f = c .before .before .before .before .raised-at in
+    let a = c .before .before .before .before .before .before .before .args in
+    (n .ensures .1, n .ensures .3, Iff·trans (m .ensures .1 (c .before .if1 .left)) (moved (a .text .now) (a .c .now) (f .result) (g .result) (f .ensures) (g .ensures) 0 (n .result) (n .ensures .0) (n .ensures .1) (n .ensures .2)))
+
+returns-2 : tie.Need-returns-2 Inv-loop μ-loop
+returns-2 c =
+    let m = c .before .matches in
     let e = c .before .before .before .line-end in
-    let a = c .before .before .before .before .before .before .before .before .args in
-    (λ t. first-matched (a .text .now) (a .c .now) (e .result) (e .ensures .0) (c .before .matches .ensures .0 (c .if1 .taken)), λ x. refl)
+    let t = c .before .before .before .before .loop-test in
+    let l = c .before .before .before .before .before .loop in
+    let g = c .before .before .before .before .before .before .before .before .before .raised-at2 in
+    let f = c .before .before .before .before .before .before .before .before .before .before .raised-at in
+    let a = c .before .before .before .before .before .before .before .before .before .before .before .before .before .args in
+    let b = behind-newline (a .text .now) (a .c .now) (l .at) (search needs) (opens-newline (a .text .now) (l .at) (f .result) (g .result) (l .inv .1 (t .taken))) in
+    (λ x. l .inv .2 .1 (subst (λ (y : List (List ℕ)). Allows y (a .c .now)) (sym b) (line-matched (a .text .now) (a .c .now) (l .at + 1) (e .result) (e .ensures .0) (t .taken) (m .ensures .0 (c .if2 .taken)))), λ x. refl)
 
 next-opening-requires : tie.Need-next-opening-requires Inv-loop μ-loop
 next-opening-requires c κs = c .before .before .before .line-end .ensures .1
 
-loop-holds : tie.Need-loop-holds Inv-loop μ-loop
-loop-holds c =
-    let n = c .next-opening in
-    let m = c .before .before .matches in
-    let e = c .before .before .before .before .line-end in
-    let g = c .before .before .before .before .before .raised-at2 in
-    let f = c .before .before .before .before .before .before .raised-at in
-    let a = c .before .before .before .before .before .before .before .before .before .args in (
-      n .ensures .1,
-      n .ensures .3,
-      Iff·trans (first-refused (a .text .now) (a .c .now) (e .result) (e .ensures .0) (λ x. untrue (sym (c .before .if1 .left) ∙ m .ensures .1 x)))
-          (moved (a .text .now) (a .c .now) (f .result) (g .result) (f .ensures) (g .ensures) (e .result) (n .result) (n .ensures .0) (n .ensures .1) (n .ensures .2)),
-    )
-
-returns-2 : tie.Need-returns-2 Inv-loop μ-loop
-returns-2 c =
-    let m = c .before .matches2 in
-    let e = c .before .before .before .line-end2 in
-    let t = c .before .before .before .before .loop-test in
-    let l = c .before .before .before .before .before .loop in
-    let g = c .before .before .before .before .before .before .before .before .before .before .before .raised-at2 in
-    let f = c .before .before .before .before .before .before .before .before .before .before .before .before .raised-at in
-    let a = c .before .before .before .before .before .before .before .before .before .before .before .before .before .before .before .args in
-    let b = behind-newline (a .text .now) (a .c .now) (l .at) (search needs) (opens-newline (a .text .now) (l .at) (f .result) (g .result) (l .inv .1 (t .taken))) in
-    (λ x. l .inv .2 .1 (subst (λ (y : List (List ℕ)). Allows y (a .c .now)) (sym b) (line-matched (a .text .now) (a .c .now) (l .at + 1) (e .result) (e .ensures .0) (t .taken) (m .ensures .0 (c .if2 .taken)))), λ x. refl)
-
-next-opening-requires-2 : tie.Need-next-opening-requires-2 Inv-loop μ-loop
-next-opening-requires-2 c κs = c .before .before .before .line-end2 .ensures .1
-
 loop-less : tie.Need-loop-less Inv-loop μ-loop
 loop-less c =
-    let e = c .before .before .before .before .line-end2 in
+    let e = c .before .before .before .before .line-end in
     let l = c .before .before .before .before .before .before .loop in
-    omega (arith, e .ensures .0, c .next-opening2 .ensures .0, c .before .before .before .before .before .loop-test .taken)
+    omega (arith, e .ensures .0, c .next-opening .ensures .0, c .before .before .before .before .before .loop-test .taken)
 
 loop-again : tie.Need-loop-again Inv-loop μ-loop
 loop-again c =
-    let n = c .next-opening2 in
-    let m = c .before .before .matches2 in
-    let e = c .before .before .before .before .line-end2 in
+    let n = c .next-opening in
+    let m = c .before .before .matches in
+    let e = c .before .before .before .before .line-end in
     let t = c .before .before .before .before .before .loop-test in
     let l = c .before .before .before .before .before .before .loop in
-    let g = c .before .before .before .before .before .before .before .before .before .before .before .before .raised-at2 in
-    let f = c .before .before .before .before .before .before .before .before .before .before .before .before .before .raised-at in
-    let a = c .before .before .before .before .before .before .before .before .before .before .before .before .before .before .before .before .args in
+    let g = c .before .before .before .before .before .before .before .before .before .before .raised-at2 in
+    let f = c .before .before .before .before .before .before .before .before .before .before .before .raised-at in
+    let a = c .before .before .before .before .before .before .before .before .before .before .before .before .before .before .args in
     let b = behind-newline (a .text .now) (a .c .now) (l .at) (search needs) (opens-newline (a .text .now) (l .at) (f .result) (g .result) (l .inv .1 (t .taken))) in (
       n .ensures .1,
       n .ensures .3,
@@ -89,8 +74,8 @@ loop-again c =
 returns-3 : tie.Need-returns-3 Inv-loop μ-loop
 returns-3 c =
     let l = c .before .loop in
-    let a = c .before .before .before .before .before .before .before .before .before .before .before .args in
+    let a = c .before .before .before .before .before .before .before .before .before .args in
     (λ t. untrue t, λ x. absurd (behind-end (a .text .now) (a .c .now) (l .at) (search needs) (l .inv .2 .0 x)))
 
 pub any-matches-spec : {M : Type 1} → statement M
-any-matches-spec = tie.close (tie.spec Inv-loop μ-loop (λ c κs. search needs) (λ c κs. search needs) (λ c κs. search needs) slice-aggregate-matches (λ c κs. search needs) returns next-opening-requires loop-holds (λ c. search needs) (λ c. search needs) (λ c κs. search needs) (λ c. search needs) (λ c. search needs) (λ c. search needs) (λ c κs. search needs) returns-2 next-opening-requires-2 loop-less loop-again returns-3)
+any-matches-spec = tie.close (tie.spec Inv-loop μ-loop (λ c κs. search needs) (λ c κs. search needs) (λ c κs. (c .before .raised-at .ensures, c .raised-at2 .ensures)) returns (λ c κs. search needs) loop-holds (λ c. search needs) (λ c. search needs) (λ c κs. search needs) (λ c. search needs) (λ c. search needs) (λ c. search needs) (λ c κs. search needs) returns-2 next-opening-requires loop-less loop-again returns-3)

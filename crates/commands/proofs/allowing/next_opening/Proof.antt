@@ -1,54 +1,19 @@
--- `allowing::next_opening` meets its contract. The invariant of both loops: no place that was passed opens a line.
-use mathlib.Core.Path.{_≡_, sym, _∙_}
-use mathlib.Core.Bool.{true}
-use Prim.Native.Nat.{_+_, _-_, _≤_}
-use native.Mathlib.Omega.{arith}
-use lib.ListN.{length}
-use borrow.Author.Tests.{not-true}
-use Rattle.commands.specs.Refusing.{Shut, shut-nothing, shut-one, shut-join}
+-- `allowing::next_opening` meets its contract.
+use mathlib.Core.Path.{sym, _∙_}
+use Rattle.commands.specs.Refusing.{shut-nothing}
 use borrow.Author.Needs.{needs}
 use Rattle.commands.proofs.allowing.next_opening.Statement.{statement}
 use Rattle.commands.proofs.allowing.next_opening.Tie as tie
 
-abbrev Inv-loop : tie.InvT-loop
-Inv-loop text at f g i₀ i = (at ≤ i) × (i ≤ length text) × Shut text f g at i
-
-abbrev μ-loop : tie.MeasureT-loop
-μ-loop text at f g i₀ i = length text - i
-
-abbrev Inv-loop2 : tie.InvT-loop2
-Inv-loop2 text at f g i₀ i = (at ≤ i) × (i ≤ length text) × Shut text f g at i
-
-abbrev μ-loop2 : tie.MeasureT-loop2
-μ-loop2 text at f g i₀ i = length text - i
-
-loop-holds : tie.Need-loop-holds Inv-loop μ-loop Inv-loop2 μ-loop2
-loop-holds c = let a = c .before .args in (search needs, search needs, shut-nothing (a .text .now) (a .f) (a .g) (a .at))
-
-loop-again : tie.Need-loop-again Inv-loop μ-loop Inv-loop2 μ-loop2
-loop-again c =
-    let a = c .before .before .before .before .before .args in
-    let l = c .before .before .before .loop in
-    (search needs, search needs, shut-join (a .text .now) (a .f) (a .g) (a .at) (l .i) _ (l .inv .2) (c .before .window-is-shut .ensures (c .if1 .taken)))
-
-loop2-holds : tie.Need-loop2-holds Inv-loop μ-loop Inv-loop2 μ-loop2
-loop2-holds c = c .before .loop .inv
-
-returns : tie.Need-returns Inv-loop μ-loop Inv-loop2 μ-loop2
+returns : tie.Need-returns
 returns c =
-    let l = c .before .before .before .loop2 in
-    (l .inv .0, l .inv .1, l .inv .2, λ h. sym (c .before .opens-at .ensures) ∙ c .if2 .taken)
+    let a = c .before .before .args in
+    (search needs, search needs, shut-nothing (a .text .now) (a .f) (a .g) (a .at), λ h. absurd (search needs))
 
-loop2-again : tie.Need-loop2-again Inv-loop μ-loop Inv-loop2 μ-loop2
-loop2-again c =
-    let a = c .before .before .before .before .before .before .before .args in
-    let l = c .before .before .before .loop2 in
-    (search needs, search needs, shut-one (a .text .now) (a .f) (a .g) (a .at) (l .i) (l .inv .2) (sym (c .before .opens-at .ensures) ∙ c .if2 .left))
-
-returns-2 : tie.Need-returns-2 Inv-loop μ-loop Inv-loop2 μ-loop2
+returns-2 : tie.Need-returns-2
 returns-2 c =
-    let l = c .before .loop2 in
-    (l .inv .0, l .inv .1, l .inv .2, λ h. absurd (search needs))
+    let a = c .before .before .before .before .args in
+    (search needs, search needs, shut-nothing (a .text .now) (a .f) (a .g) (a .at), λ h. sym (c .before .opens-at .ensures) ∙ c .if2 .taken)
 
 pub next-opening-spec : {M : Type 1} → statement M
-next-opening-spec = tie.close (tie.spec Inv-loop μ-loop Inv-loop2 μ-loop2 loop-holds (λ c. search needs) (λ c κs. search needs) (λ c. search needs) (λ c. search needs) loop-again loop2-holds (λ c. search needs) (λ c κs. search needs) returns (λ c. search needs) (λ c. search needs) loop2-again returns-2)
+next-opening-spec = tie.close (tie.spec (λ c. search needs) returns (λ c κs. search needs) returns-2 (λ c κs. search needs) (λ c. c .opening-from .ensures))

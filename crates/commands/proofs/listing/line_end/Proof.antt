@@ -1,4 +1,4 @@
--- `listing::line_end` meets its contract. The invariant: what is left of the line, from i on, ends where the whole line does.
+-- `listing::line_end` meets its contract. The invariant of both loops: what is left of the line, from i on, ends where the whole line does.
 use mathlib.Core.Path.{_≡_, refl, sym, _∙_}
 use Prim.Native.Nat.{_+_, _-_, _≤_}
 use lib.ListN.{length, drop}
@@ -14,25 +14,39 @@ Inv-loop s at i₀ i = (i ≤ length s) × (i + lineLength (drop i s) ≡ at + l
 abbrev μ-loop : tie.MeasureT-loop
 μ-loop s at i₀ i = length s - i
 
-loop-holds : tie.Need-loop-holds Inv-loop μ-loop
+abbrev Inv-loop2 : tie.InvT-loop2
+Inv-loop2 s at i₀ i = (i ≤ length s) × (i + lineLength (drop i s) ≡ at + lineLength (drop at s))
+
+abbrev μ-loop2 : tie.MeasureT-loop2
+μ-loop2 s at i₀ i = length s - i
+
+loop-holds : tie.Need-loop-holds Inv-loop μ-loop Inv-loop2 μ-loop2
 loop-holds c = (search needs, refl)
 
-returns : tie.Need-returns Inv-loop μ-loop
-returns c =
-    let l = c .before .before .before in
-    let a = l .before .args in
-    (line-stop (a .s .now) (l .loop .i) (search needs) (c .if1 .taken) ∙ l .loop .inv .1, search needs)
-
-loop-again : tie.Need-loop-again Inv-loop μ-loop
+loop-again : tie.Need-loop-again Inv-loop μ-loop Inv-loop2 μ-loop2
 loop-again c =
-    let l = c .before .before .before in
-    let a = l .before .args in
-    (search needs, sym (line-more (a .s .now) (l .loop .i) (search needs) (c .if1 .left)) ∙ l .loop .inv .1)
+    let l = c .before .before .before .loop in
+    (search needs, sym (c .before .no-newline .ensures (c .if1 .taken)) ∙ l .inv .1)
 
-returns-2 : tie.Need-returns-2 Inv-loop μ-loop
+loop2-holds : tie.Need-loop2-holds Inv-loop μ-loop Inv-loop2 μ-loop2
+loop2-holds c = c .before .loop .inv
+
+returns : tie.Need-returns Inv-loop μ-loop Inv-loop2 μ-loop2
+returns c =
+    let l = c .before .before .before .loop2 in
+    let a = c .before .before .before .before .before .before .before .args in
+    (line-stop (a .s .now) (l .i) (search needs) (c .if2 .taken) ∙ l .inv .1, search needs)
+
+loop2-again : tie.Need-loop2-again Inv-loop μ-loop Inv-loop2 μ-loop2
+loop2-again c =
+    let l = c .before .before .before .loop2 in
+    let a = c .before .before .before .before .before .before .before .args in
+    (search needs, sym (line-more (a .s .now) (l .i) (search needs) (c .if2 .left)) ∙ l .inv .1)
+
+returns-2 : tie.Need-returns-2 Inv-loop μ-loop Inv-loop2 μ-loop2
 returns-2 c =
-    let l = c .before .loop in
-    let a = c .before .before .args in
+    let l = c .before .loop2 in
+    let a = c .before .before .before .before .before .args in
     (line-out (a .s .now) (l .i) (search needs) ∙ l .inv .1, search needs)
 
 pub line-end-spec : {M : Type 1} → statement M
@@ -41,10 +55,18 @@ line-end-spec =
     (tie.spec
     Inv-loop
     μ-loop
+    Inv-loop2
+    μ-loop2
     loop-holds
+    (λ c. search needs)
+    (λ c κs. search needs)
+    (λ c. search needs)
+    (λ c. search needs)
+    loop-again
+    loop2-holds
     (λ c. search needs)
     returns
     (λ c. search needs)
     (λ c. search needs)
-    loop-again
+    loop2-again
     returns-2)
