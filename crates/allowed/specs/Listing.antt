@@ -16,7 +16,8 @@ use Rattle.model.specs.State.{Allowed, Allowed.any-command, Allowed.only, Rest,
 use Rattle.model.specs.Allowing.{admits}
 use Rattle.state.specs.Table.{below}
 use Rattle.state.specs.Grid.{part}
-use Rattle.state.specs.Layout.{LOCKS, CLOCK, HOLDER, SHARERS, KEY, COUNT, ENTRIES, ENTRY, ORDERS, ORDER, EXCHANGES, EXCHANGE, CONNECTIONS, CONNECTION, HOME, SENSINGS, SENSING, LISTED, REQUESTS, REQUEST, QUEUE, WORDS, LIST, STRINGS}
+use Rattle.state.specs.Layout.{LOCKS, CLOCK, HOLDER, SHARERS, KEY, COUNT, ENTRIES, ENTRY, ORDERS, ORDER, EXCHANGES, EXCHANGE, CONNECTIONS, CONNECTION, HOME}
+use Rattle.state.specs.Layout.{SENSINGS, SENSING, LISTED, REQUESTS, REQUEST, QUEUE, WORDS, LIST, STRINGS}
 use Rattle.state.specs.View.{memory, word, homeAt, keyOf, entriesOf, waitingOf, locksOf, restOf, allowedFrom, allowedOf, view}
 use Rattle.state.specs.Change.{onRest, off, here, locks-off, rest-words}
 use Rattle.queue.specs.Requests.{take-here, waiting-strings}
@@ -127,13 +128,17 @@ module _ (w s s₁ text : List ℕ) (small : length text ≤ listLimit) (long : 
         values = kept-values (Counted w) w listed s laid t (λ p h. same p (omega arith));
         exchanges = kept-range (Counted w) w listed s laid t ExchangeRange EXCHANGES EXCHANGE EXCHANGE sessionLimit (λ i f h l. same (EXCHANGES + i * EXCHANGE + f) (omega arith)) (t .exchanges);
         sensings = kept-range (Counted w) w listed s laid t SensingRange SENSINGS SENSING SENSING sessionLimit (λ i f h l. same (SENSINGS + i * SENSING + f) (omega arith)) (t .sensings);
-        connections = kept-range (Counted w) w listed s laid t ConnectionRange CONNECTIONS CONNECTION HOME connectionLimit (λ i f h l. same (CONNECTIONS + i * CONNECTION + f) (omega arith)) (t .connections);
+        connections = kept-range (Counted w) w listed s laid t ConnectionRange CONNECTIONS CONNECTION HOME connectionLimit
+            (λ i f h l. same (CONNECTIONS + i * CONNECTION + f) (omega arith)) (t .connections);
         orders = kept-range (Counted w) w listed s laid t OrderRange ORDERS ORDER ORDER sessionLimit (λ i f h l. same (ORDERS + i * ORDER + f) (omega arith)) (t .orders);
-        singles = kept-singles (Counted w) w listed s laid t (same CLOCK (omega arith)) (same HOLDER (omega arith)) (subst (λ (y : ℕ). y < 2 ^ sessionLimit) (sym sharers) (t .singles .sharers)) (subst (λ (y : ℕ). y ≤ sessionLimit) (sym count) (t .singles .count));
+        singles = kept-singles (Counted w) w listed s laid t (same CLOCK (omega arith)) (same HOLDER (omega arith))
+            (subst (λ (y : ℕ). y < 2 ^ sessionLimit) (sym sharers) (t .singles .sharers))
+            (subst (λ (y : ℕ). y ≤ sessionLimit) (sym count) (t .singles .count));
         rows = kept-rows (Counted w) w listed s laid t (λ i f h l. same (ENTRIES + i * ENTRY + f) (omega arith)) (λ c h. same (homeAt c) (omega arith));
         homes = kept-homes (Counted w) w listed s laid t (λ i f h l. same (ENTRIES + i * ENTRY + f) (omega arith)) (λ c h. same (homeAt c) (omega arith));
         requests = λ i h.
-            kept-request (Counted w) w listed s laid t (Counted listed) i h (λ f l. same (REQUESTS + i * REQUEST + f) (omega arith)) (λ j l. before-list (stringLimit + i * stringLimit + j) (omega arith))
+            kept-request (Counted w) w listed s laid t (Counted listed) i h (λ f l. same (REQUESTS + i * REQUEST + f) (omega arith))
+            (λ j l. before-list (stringLimit + i * stringLimit + j) (omega arith))
             (kept-away (Counted w) w listed s laid t (Counted listed) i queue (count-to w listed count));
         queue = kept-queue (Counted w) w listed s laid t (Counted listed) queue (count-from w listed count) (count-to w listed count);
         key = kept-key (Counted w) w listed s laid t (same KEY (omega arith)) (λ z. sym sharers ∙ z) (λ j l. before-list j (omega arith));

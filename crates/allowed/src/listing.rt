@@ -60,7 +60,9 @@ pub fn is_allowed(w: &Words, strings: &Strings, payload: &[u8]) -> bool
 
 fn put_list_in(w: &mut [u64], strings: &mut [u8], text: &[u8])
     requires { ⌜ (length (now text) ≤ listLimit) × (length (now w) ≡ WORDS) × (length (now strings) ≡ STRINGS) ⌝ }
-    ensures { λ _. ⌜ (view (memory (now (w .exit)) (now (strings .exit))) ≡ onRest (view (memory (now (w .entry)) (now (strings .entry)))) (λ r. withAllowed r (only (now (text .entry))))) × (Tidy (memory (now (w .entry)) (now (strings .entry))) → Tidy (memory (now (w .exit)) (now (strings .exit)))) ⌝ }
+    ensures { λ _. ⌜ (view (memory (now (w .exit)) (now (strings .exit))) ≡ onRest (view (memory (now (w .entry)) (now (strings .entry))))
+        (λ r. withAllowed r (only (now (text .entry))))) × (Tidy (memory (now (w .entry)) (now (strings .entry))) →
+        Tidy (memory (now (w .exit)) (now (strings .exit)))) ⌝ }
 {
     let n = least(w[LISTED], LIST_LIMIT);
     wipe(strings, LIST, n);
@@ -71,7 +73,9 @@ fn put_list_in(w: &mut [u64], strings: &mut [u8], text: &[u8])
 // A list in the place of the one before, of which nothing stays.
 pub fn put_list(w: &mut Words, strings: &mut Strings, text: &[u8])
     requires { ⌜ length (now text) ≤ listLimit ⌝ }
-    ensures { λ _. ⌜ (view (memory (now (w .exit)) (now (strings .exit))) ≡ onRest (view (memory (now (w .entry)) (now (strings .entry)))) (λ r. withAllowed r (only (now (text .entry))))) × (Tidy (memory (now (w .entry)) (now (strings .entry))) → Tidy (memory (now (w .exit)) (now (strings .exit)))) ⌝ }
+    ensures { λ _. ⌜ (view (memory (now (w .exit)) (now (strings .exit))) ≡ onRest (view (memory (now (w .entry)) (now (strings .entry))))
+        (λ r. withAllowed r (only (now (text .entry))))) × (Tidy (memory (now (w .entry)) (now (strings .entry))) →
+        Tidy (memory (now (w .exit)) (now (strings .exit)))) ⌝ }
 {
     put_list_in(w, strings, text);
 }

@@ -78,7 +78,8 @@ module _ (kind code len : ℕ) where
   unfolding payloadWrong
   payload-size e = rw e
 
-  pub payload-any : (kind ≡ AsyncLock → ⊥) → (kind ≡ AsyncRemoteLocalControl → ⊥) → (kind ≡ AsyncMaximumMessageSize → ⊥) → (kind ≡ AsyncDeviceClear → ⊥) → (kind ≡ AsyncStatusQuery → ⊥) → (kind ≡ AsyncLockInfo → ⊥)
+  pub payload-any : (kind ≡ AsyncLock → ⊥) → (kind ≡ AsyncRemoteLocalControl → ⊥) → (kind ≡ AsyncMaximumMessageSize → ⊥) → (kind ≡ AsyncDeviceClear → ⊥) →
+      (kind ≡ AsyncStatusQuery → ⊥) → (kind ≡ AsyncLockInfo → ⊥)
       → false ≡ payloadWrong kind code len
   unfolding payloadWrong
   payload-any a b c d e f = rw (ne-eqb kind 4 a, ne-eqb kind 10 b, ne-eqb kind 15 c, ne-eqb kind 19 d, ne-eqb kind 21 e, ne-eqb kind 24 f)

@@ -12,7 +12,8 @@ use Rattle.model.specs.Lists.{all}
 use Rattle.model.specs.State.{Server, Exchange, exchangeAt, Allowed.any-command, withAllowed}
 use Rattle.model.specs.Allowing.{admits}
 use Rattle.model.specs.Locks.{access}
-use Rattle.model.specs.Checks.{Verdict, Verdict.v-more, Verdict.v-skipped, Verdict.v-held, Verdict.v-ignored, Verdict.v-closed, Verdict.v-acts, Verdict.v-error, Verdict.v-fatal, Rule, first, isVendor, isUnrecognised, synchronousRules}
+use Rattle.model.specs.Checks.{Verdict, Verdict.v-more, Verdict.v-skipped, Verdict.v-held, Verdict.v-ignored, Verdict.v-closed, Verdict.v-acts}
+use Rattle.model.specs.Checks.{Verdict.v-error, Verdict.v-fatal, Rule, first, isVendor, isUnrecognised, synchronousRules}
 use Rattle.state.specs.Change.{exchangeWith}
 use Rattle.checks.specs.Numbers.{message}
 use Rattle.checks.specs.Classes.{acts-on}

@@ -128,7 +128,8 @@ pub fn listed_verdict(
     payload: &[u8],
 ) -> u8
     requires { ⌜ i < sessionLimit ⌝ }
-    ensures { λ r. ⌜ ((s : List ℕ) → allowedOf (now (w .entry)) s ≡ allowedOf (now (w .entry)) (now (strings .entry)) → Numbered (first (synchronousRules (view (memory (now (w .entry)) s)) i (message kind code param len) (now (payload .entry)))) r) ⌝ }
+    ensures { λ r. ⌜ ((s : List ℕ) → allowedOf (now (w .entry)) s ≡ allowedOf (now (w .entry)) (now (strings .entry)) →
+        Numbered (first (synchronousRules (view (memory (now (w .entry)) s)) i (message kind code param len) (now (payload .entry)))) r) ⌝ }
 {
     let v = synchronous_verdict(w, i, kind, code, param, len);
     if v != ACTS {

@@ -63,7 +63,9 @@ pub fn whole_verdict(
     payload: &[u8],
 ) -> u8
     requires { ⌜ (role ≡ 2 → i < sessionLimit) ⌝ }
-    ensures { λ r. ⌜ ((s : List ℕ) (ro : Role) → roleNumber ro ≡ role → (role ≡ 2 → allowedOf (now (w .entry)) s ≡ allowedOf (now (w .entry)) (now (strings .entry))) → Numbered (judged ro (view (memory (now (w .entry)) s)) i (message kind code param len) (now (payload .entry))) r) ⌝ }
+    ensures { λ r. ⌜ ((s : List ℕ) (ro : Role) → roleNumber ro ≡ role →
+        (role ≡ 2 → allowedOf (now (w .entry)) s ≡ allowedOf (now (w .entry)) (now (strings .entry))) →
+        Numbered (judged ro (view (memory (now (w .entry)) s)) i (message kind code param len) (now (payload .entry))) r) ⌝ }
 {
     match role {
         NO_ROLE => opening::opening_verdict(w, kind, param, len, payload),

@@ -18,7 +18,8 @@ use Rattle.model.specs.Interface.{Event.delivery, Outcome.held, Outcome.acted, 
 use Rattle.model.specs.Scan.{Scan, Scan.empty, Scan.few, Scan.wrong, Scan.skipping, Scan.long, Scan.part, Scan.whole, sorted, freshScan, scan, size}
 use Rattle.model.specs.Place.{slotOf, entryOf, Role, Role.r-none, Role.r-halfOpen, Role.r-synchronous, Role.r-asynchronous, roleBy, roleOf}
 use Rattle.model.specs.Checks
-use Rattle.model.specs.Checks.{Verdict, Verdict.v-more, Verdict.v-skipped, Verdict.v-held, Verdict.v-ignored, Verdict.v-closed, Verdict.v-acts, Verdict.v-error, Verdict.v-fatal, Rule, first, verdict, judged, either}
+use Rattle.model.specs.Checks.{Verdict, Verdict.v-more, Verdict.v-skipped, Verdict.v-held, Verdict.v-ignored, Verdict.v-closed, Verdict.v-acts}
+use Rattle.model.specs.Checks.{Verdict.v-error, Verdict.v-fatal, Rule, first, verdict, judged, either}
 use Rattle.model.specs.Acts
 use Rattle.model.specs.Refusals.{refusal}
 use Rattle.model.specs.Step.{Result, effect, received, plan, answered, finish, step}
@@ -132,12 +133,14 @@ module _ (d : Server) (c : ℕ) where
   judged-held r-synchronous h p e = (refl, sync-held d c h p e)
   judged-held r-asynchronous h p e = absurd (never isHeld refl (Checks.asynchronousRules h p) refl (ap isHeld e))
 
-  pub made : (bs : List ℕ) (h : Header) (p : List ℕ) → scan ((connectionAt (d .rest) c) .remainder) bs ≡ Scan.whole h p → roleOf (d .locks .entries) c ≡ r-synchronous → (exchangeAt (d .rest) (slotOf d c)) .inClear ≡ false → one-of commands (h .kind) ≡ true → Command d c bs
+  pub made : (bs : List ℕ) (h : Header) (p : List ℕ) → scan ((connectionAt (d .rest) c) .remainder) bs ≡ Scan.whole h p →
+      roleOf (d .locks .entries) c ≡ r-synchronous → (exchangeAt (d .rest) (slotOf d c)) .inClear ≡ false → one-of commands (h .kind) ≡ true → Command d c bs
   made bs h p es er n o =
       let w = whole-read _ bs h p es in
       record { on-synchronous = sync-role d c er; not-in-clear = n; message = w .0; of-type = rw (w .1) o }
 
-  verdict-held : (bs : List ℕ) (s : Scan) → scan ((connectionAt (d .rest) c) .remainder) bs ≡ s → verdict (roleOf (d .locks .entries) c) d (slotOf d c) s ≡ v-held → Command d c bs × (accessOf d c ≡ false)
+  verdict-held : (bs : List ℕ) (s : Scan) → scan ((connectionAt (d .rest) c) .remainder) bs ≡ s →
+      verdict (roleOf (d .locks .entries) c) d (slotOf d c) s ≡ v-held → Command d c bs × (accessOf d c ≡ false)
   unfolding verdict
   verdict-held bs empty es e = absurd (let z : _≡_ {A = ℕ} 0 1 = cc in omega arith)
   verdict-held bs few es e = absurd (let z : _≡_ {A = ℕ} 0 1 = cc in omega arith)
@@ -166,7 +169,8 @@ module _ (d : Server) (c : ℕ) where
       (made bs h p es (j .0) (j .1 .0) (j .1 .1), j .1 .2)
 
   -- what acts
-  acts-with : (r : Role) (k n : ℕ) (bs : List ℕ) (h : Header) (p : List ℕ) → scan ((connectionAt (d .rest) c) .remainder) bs ≡ Scan.whole h p → roleOf (d .locks .entries) c ≡ r → judged r d (slotOf d c) h p ≡ v-acts
+  acts-with : (r : Role) (k n : ℕ) (bs : List ℕ) (h : Header) (p : List ℕ) → scan ((connectionAt (d .rest) c) .remainder) bs ≡ Scan.whole h p →
+      roleOf (d .locks .entries) c ≡ r → judged r d (slotOf d c) h p ≡ v-acts
       → one-of commands (h .kind) ≡ true → (Acts.acts r d (slotOf d c) c h p) .reply ≡ took acted k n → Command d c bs × (accessOf d c ≡ true) × (n ≡ (entryOf d c) .number)
   unfolding Acts.acts
   acts-with r-none k n bs h p es er q o e = absurd (true≢false (sym (not-off (either 0 17 (h .kind)) ((opening-passed d h p q) .0)) ∙ not-opening (h .kind) o))

@@ -91,7 +91,8 @@ plan-no d (cut c room) = refl
 plan-no d (clock t room) = refl
 plan-no d (answer n p end sh room) =
     let i = slotOfNumber (d .locks .entries) n in
-    go (withholds d n end sh) end (at (d .locks .entries) i) ((header sh) .param) (answerNumber (exchangeAt (d .rest) i)) _ (request-no (tripsFirst p (sensingAt (d .rest) i)) (at (d .locks .entries) i) (d .rest .status))
+    go (withholds d n end sh) end (at (d .locks .entries) i) ((header sh) .param) (answerNumber (exchangeAt (d .rest) i)) _
+    (request-no (tripsFirst p (sensingAt (d .rest) i)) (at (d .locks .entries) i) (d .rest .status))
   where
     go : (w end : Bool) (e : Entry) (x k : ℕ) (fs : List Frame) → keep isLock fs ≡ [] → keep isLock (cond w (Acts.interruptions e x) (frameOf (e .synchronous) (answerType end) 0 k p ∷ fs)) ≡ []
     go true end e x k fs n = refl

@@ -24,7 +24,8 @@ use Rattle.model.specs.Locks.{Answer, access, change, frees, settle}
 use Rattle.model.specs.Exchange.{stepped, outOfTurn, answerNumber}
 use Rattle.model.specs.Sensing.{requested, tripsFirst, serviceAfter}
 use Rattle.model.specs.Checks
-use Rattle.model.specs.Checks.{Verdict, Verdict.v-more, Verdict.v-skipped, Verdict.v-held, Verdict.v-ignored, Verdict.v-closed, Verdict.v-acts, Verdict.v-error, Verdict.v-fatal, Rule, first, verdict, judged, either}
+use Rattle.model.specs.Checks.{Verdict, Verdict.v-more, Verdict.v-skipped, Verdict.v-held, Verdict.v-ignored, Verdict.v-closed, Verdict.v-acts}
+use Rattle.model.specs.Checks.{Verdict.v-error, Verdict.v-fatal, Rule, first, verdict, judged, either}
 use Rattle.model.specs.Acts
 use Rattle.model.specs.Refusals.{refusal}
 use Rattle.model.specs.Step.{Result, answerType, withholds, counted, effect, received, plan, answered, finish, step, lockFrame, channels}
@@ -118,12 +119,26 @@ module _ (d : Server) (c : ℕ) (bs : List ℕ) (room : ℕ) where
   abbrev left : List Exchange → List Connection → Result
   left xs ks =
       record {
-        server = record { locks = d .locks; rest = record { exchanges = xs; sensings = d .rest .sensings; connections = ks; lastIssued = d .rest .lastIssued; made = d .rest .made; status = d .rest .status; remoteLocal = d .rest .remoteLocal; allowed = d .rest .allowed } };
+        server = record {
+          locks = d .locks;
+          rest = record {
+            exchanges = xs;
+            sensings = d .rest .sensings;
+            connections = ks;
+            lastIssued = d .rest .lastIssued;
+            made = d .rest .made;
+            status = d .rest .status;
+            remoteLocal = d .rest .remoteLocal;
+            allowed = d .rest .allowed;
+          };
+        };
         reply = took error-sent (16 + (header bs) .len) 0;
         frames = frameOf c Error 128 0 [] ∷ [];
       }
 
-  errs : finish d (effect (v-error 128) (Scan.whole (header bs) p₀) r-synchronous d i₀ c) ≡ left (set (d .rest .exchanges) i₀ (counted r-synchronous (Scan.whole (header bs) p₀) x₀)) ((effect (v-error 128) (Scan.whole (header bs) p₀) r-synchronous d i₀ c) .rest .connections)
+  errs : finish d (effect (v-error 128) (Scan.whole (header bs) p₀) r-synchronous d i₀ c) ≡ left
+      (set (d .rest .exchanges) i₀ (counted r-synchronous (Scan.whole (header bs) p₀) x₀))
+      ((effect (v-error 128) (Scan.whole (header bs) p₀) r-synchronous d i₀ c) .rest .connections)
   unfolding finish effect change
   errs = refl
 
@@ -134,7 +149,9 @@ module _ (d : Server) (c : ℕ) (bs : List ℕ) (room : ℕ) where
       let s : counted r-synchronous (Scan.whole (header bs) p₀) x₀ ≡ stepped x₀ = rw (w .command .not-in-clear, w .command .of-type, m) in
       let t : header bs ≡ typed DataEND (header bs) = λ j. record { kind = w .data-end j; code = (header bs) .code; param = (header bs) .param; len = (header bs) .len } in
       whole-step d c bs room z (w .command .message) r-synchronous (role-sync d c (w .command .on-synchronous))
-      ∙ ap (λ v. finish d (effect v (Scan.whole (header bs) p₀) r-synchronous d i₀ c)) (ap (λ (h : Header). first (Checks.synchronousRules d i₀ h p₀)) t ∙ listed-128 d i₀ p₀ (w .command .not-in-clear) (w .has-access) (header bs) m k (not-admitted n))
+      ∙ ap (λ v. finish d (effect v (Scan.whole (header bs) p₀) r-synchronous d i₀ c))
+      (ap (λ (h : Header). first (Checks.synchronousRules d i₀ h p₀)) t
+      ∙ listed-128 d i₀ p₀ (w .command .not-in-clear) (w .has-access) (header bs) m k (not-admitted n))
       ∙ errs
       ∙ ap₂ left (ap (set (d .rest .exchanges) i₀) s) (connections-kept d c bs room 128 z (w .command .message .no-remainder))
 
@@ -356,6 +373,11 @@ only-128 d e = record { only = λ q. go (refusal d e) e q }
     go zero (clock t room) q = absurd (finish-silent d _ (record { first = refl; said = refl }) q)
     go zero (answer n p end sh room) q =
         let i = slotOfNumber (d .locks .entries) n in
-        absurd (finish-silent d _ (record { first = refl; said = answer-silent (withholds d n end sh) end (at (d .locks .entries) i) ((header sh) .param) (answerNumber (exchangeAt (d .rest) i)) p (serviceAfter d n p) (service-silent (tripsFirst p (sensingAt (d .rest) i)) (at (d .locks .entries) i) (d .rest .status)) }) q)
+        absurd (finish-silent d _
+        (record {
+          first = refl;
+          said = answer-silent (withholds d n end sh) end (at (d .locks .entries) i) ((header sh) .param) (answerNumber (exchangeAt (d .rest) i)) p
+              (serviceAfter d n p) (service-silent (tripsFirst p (sensingAt (d .rest) i)) (at (d .locks .entries) i) (d .rest .status));
+        }) q)
     go zero (status b) q = absurd (finish-silent d _ (record { first = refl; said = refl }) q)
     go zero (setting s) q = absurd (finish-silent d _ (record { first = refl; said = refl }) q)

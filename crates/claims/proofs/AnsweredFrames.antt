@@ -14,7 +14,9 @@ use Rattle.readings.specs.Request.{requestCode}
 use Rattle.model.specs.Lists.{all, keep}
 use Rattle.model.specs.State.{Server, Entry, Waiting, Standing, Standing.no-release, Standing.release-of, Kind.exclusive-lock, Kind.shared-lock, at, slotOfNumber, exchangeAt, sensingAt, Sensing}
 use Rattle.model.specs.Step.{Result}
-use Rattle.model.specs.Happening.{Heard, Heard.silence, Heard.with-code, Action, Happening, Happening.unmoved, Happening.connected, Happening.disconnected, Happening.skipped-over, Happening.errored, Happening.message-acted, Happening.clock-read, Happening.status-set, Happening.setting-made, Happening.answer-sent, Happening.answer-withheld, heard}
+use Rattle.model.specs.Happening.{Heard, Heard.silence, Heard.with-code, Action, Happening, Happening.unmoved, Happening.connected, Happening.disconnected}
+use Rattle.model.specs.Happening.{Happening.skipped-over, Happening.errored, Happening.message-acted, Happening.clock-read, Happening.status-set}
+use Rattle.model.specs.Happening.{Happening.setting-made, Happening.answer-sent, Happening.answer-withheld, heard}
 use Rattle.model.specs.LocalityRows.{kindOf, slotActed, isCode, codeWhere, endedWith, interruptedBy, requestsOf, reachedBy, looksAfter, tripsBy}
 use Rattle.model.specs.LocalityReplies.{preferred, numberSent, plainTo, ReplyTo, replyIn, replies, saidTo, fatalTo, pairTo, saidFirst, direct, answeredFirst, waitingAnswer, serviceTo}
 use Rattle.model.specs.Locality.{Local}
@@ -42,7 +44,8 @@ lock-said (with-code k) t (c ∷ cs) e = rw e (lock-said (with-code k) t cs e)
 
 lock-in : (rs : List ReplyTo) (t : ℕ) → all (λ r. not (eqb (r .reply .message .kind) 5)) rs ≡ true → lockOnly (replyIn rs t) ≡ []
 lock-in [] t a = refl
-lock-in (r ∷ rs) t a = go (eqb t (r .type)) (eqb (r .reply .message .kind) 5) refl (lock-in rs t (and-r (not (eqb (r .reply .message .kind) 5)) _ a)) (and-l (not (eqb (r .reply .message .kind) 5)) _ a)
+lock-in (r ∷ rs) t a = go (eqb t (r .type)) (eqb (r .reply .message .kind) 5) refl (lock-in rs t (and-r (not (eqb (r .reply .message .kind) 5)) _ a))
+    (and-l (not (eqb (r .reply .message .kind) 5)) _ a)
   where
     go : (b x : Bool) → eqb (r .reply .message .kind) 5 ≡ x → lockOnly (replyIn rs t) ≡ [] → not x ≡ true → lockOnly (cond b (r .reply ∷ []) (replyIn rs t)) ≡ []
     go true true e h n = absurd (true≢false (sym n))
@@ -182,7 +185,10 @@ module _ (d : Server) where
         ∙ ap (λ us. zeros ++ us) (clear-ended (e₀ .standing) (e₀ .asynchronous) _ ∙ lock-to 1 due gs)
       where
         quiet : saidFirst d (message-acted a) ≡ []
-        quiet = ap (λ (b : Bool). cond (b && (not ((exchangeAt (d .rest) (slotActed es a)) .overlap) && cond (eqb (a .message .code) 1) (not ((exchangeAt (d .rest) (slotActed es a)) .rmtExpected)) ((exchangeAt (d .rest) (slotActed es a)) .rmtExpected))) (pairTo (at es (slotActed es a)) (a .message .param)) []) (ap (one-of (6 ∷ 7 ∷ 12 ∷ [])) q)
+        quiet = ap (λ (b : Bool). cond
+            (b && (not ((exchangeAt (d .rest) (slotActed es a)) .overlap) && cond (eqb (a .message .code) 1)
+            (not ((exchangeAt (d .rest) (slotActed es a)) .rmtExpected)) ((exchangeAt (d .rest) (slotActed es a)) .rmtExpected)))
+            (pairTo (at es (slotActed es a)) (a .message .param)) []) (ap (one-of (6 ∷ 7 ∷ 12 ∷ [])) q)
 
         over : endedWith a (e₀ .standing) ≡ codeWhere (λ n. true) (e₀ .standing)
         over = ap (λ (t : ℕ). cond (one-of (6 ∷ 7 ∷ 12 ∷ []) t) (codeWhere (λ n. eqb n (a .message .param)) (e₀ .standing)) (cond (eqb t 19) (codeWhere (λ n. true) (e₀ .standing)) silence)) q
@@ -193,7 +199,8 @@ module _ (d : Server) where
         ack : direct d (message-acted a) ≡ plainTo (a .connection) 23 (preferred d) 0 ∷ []
         ack = ap (replyIn (replies d a)) q
 
-        parts : saidFirst d (message-acted a) ++ (answeredFirst d (message-acted a) ++ (direct d (message-acted a) ++ G)) ≡ (zeros ++ saidTo (codeWhere (λ n. true) (e₀ .standing)) 5 (e₀ .asynchronous ∷ [])) ++ (plainTo (a .connection) 23 (preferred d) 0 ∷ G)
+        parts : saidFirst d (message-acted a) ++ (answeredFirst d (message-acted a) ++ (direct d (message-acted a) ++ G)) ≡
+            (zeros ++ saidTo (codeWhere (λ n. true) (e₀ .standing)) 5 (e₀ .asynchronous ∷ [])) ++ (plainTo (a .connection) 23 (preferred d) 0 ∷ G)
         parts = ap₂ _++_ quiet (ap₂ _++_ before (ap (λ zs. zs ++ G) ack))
 
     -- any other
@@ -219,20 +226,25 @@ module _ (d : Server) where
 pub record Told (d : Server) (h : Happening) (fs : List Frame) : Type 0 where
   pub own : (a : Action) → h ≡ message-acted a → a .told ≡ heard 5 fs
 
-pub frames-told : (d : Server) (h : Happening) (r : Result) (l : Local d h r) → Told d h (r .frames) → toWaiting h (r .frames) ≡ map (waitingAnswer 0 (d .locks .entries)) (taken d h) ++ map (waitingAnswer 1 (l .due)) (l .granted)
+pub frames-told : (d : Server) (h : Happening) (r : Result) (l : Local d h r) → Told d h (r .frames) →
+    toWaiting h (r .frames) ≡ map (waitingAnswer 0 (d .locks .entries)) (taken d h) ++ map (waitingAnswer 1 (l .due)) (l .granted)
 frames-told d unmoved r l t = ap lockOnly (l .frames) ∙ lock-to 1 (l .due) (l .granted)
 frames-told d (connected c) r l t = ap lockOnly (l .frames) ∙ lock-to 1 (l .due) (l .granted)
-frames-told d (disconnected c k) r l t = ap lockOnly (l .frames) ∙ lock-append (saidTo k 2 (fatalTo (d .locks .entries) c)) _ ∙ ap₂ _++_ (lock-said k 2 (fatalTo (d .locks .entries) c) refl) (lock-to 1 (l .due) (l .granted))
+frames-told d (disconnected c k) r l t = ap lockOnly (l .frames) ∙ lock-append (saidTo k 2 (fatalTo (d .locks .entries) c)) _
+    ∙ ap₂ _++_ (lock-said k 2 (fatalTo (d .locks .entries) c) refl) (lock-to 1 (l .due) (l .granted))
 frames-told d (skipped-over c k) r l t = ap lockOnly (l .frames) ∙ lock-to 1 (l .due) (l .granted)
 frames-told d (errored c h k) r l t = ap lockOnly (l .frames) ∙ lock-append (saidTo k 3 (c ∷ [])) _ ∙ ap₂ _++_ (lock-said k 3 (c ∷ []) refl) (lock-to 1 (l .due) (l .granted))
 frames-told d (message-acted a) r l t = acted-frames d a (r .frames) (l .due) (l .granted) (t .own a refl) (l .frames) nobody
   where
     nobody : looksAfter (d .locks .entries) (message-acted a) ≡ false → l .granted ≡ []
     nobody e = (rw e at (l .waiting)) .2
-frames-told d (clock-read u) r l t = ap lockOnly (l .frames) ∙ lock-append (map (waitingAnswer 0 (d .locks .entries)) (keep (reachedBy u) (d .locks .waiting))) _ ∙ ap₂ _++_ (lock-to 0 (d .locks .entries) (keep (reachedBy u) (d .locks .waiting))) (lock-to 1 (l .due) (l .granted))
+frames-told d (clock-read u) r l t = ap lockOnly (l .frames)
+    ∙ lock-append (map (waitingAnswer 0 (d .locks .entries)) (keep (reachedBy u) (d .locks .waiting))) _
+    ∙ ap₂ _++_ (lock-to 0 (d .locks .entries) (keep (reachedBy u) (d .locks .waiting))) (lock-to 1 (l .due) (l .granted))
 frames-told d (status-set b) r l t = ap lockOnly (l .frames) ∙ lock-to 1 (l .due) (l .granted)
 frames-told d (setting-made s) r l t = ap lockOnly (l .frames) ∙ lock-to 1 (l .due) (l .granted)
-frames-told d (answer-sent n p end) r l t = ap lockOnly (l .frames) ∙ lock-append (f ∷ fs) (map (waitingAnswer 1 (l .due)) (l .granted)) ∙ ap₂ _++_ (go end (lockOnly fs) (none-served (not (s .tripped) && tripsBy p s))) (lock-to 1 (l .due) (l .granted))
+frames-told d (answer-sent n p end) r l t = ap lockOnly (l .frames) ∙ lock-append (f ∷ fs) (map (waitingAnswer 1 (l .due)) (l .granted))
+    ∙ ap₂ _++_ (go end (lockOnly fs) (none-served (not (s .tripped) && tripsBy p s))) (lock-to 1 (l .due) (l .granted))
   where
     f : Frame
     f = frameOf ((at (d .locks .entries) (slotOfNumber (d .locks .entries) n)) .synchronous) (cond end 7 6) 0 (numberSent (exchangeAt (d .rest) (slotOfNumber (d .locks .entries) n))) p

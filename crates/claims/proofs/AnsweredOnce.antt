@@ -18,12 +18,15 @@ use Rattle.model.specs.Interface.{Event, Event.delivery, Event.clock, Outcome.a
 use Rattle.model.specs.Place.{isOnConnection, slotIn, slotOf, entryOf, Role.r-asynchronous, roleOf}
 use Rattle.model.specs.Locks.{Answer, LockEvent.request, elsewhere, noPlace, holds, mayGrant, stands, ruling, respond, change}
 use Rattle.model.specs.Step.{Result, finish, lockFrame, step, final, log}
-use Rattle.model.specs.Happening.{Heard, Action, Happening, Happening.unmoved, Happening.connected, Happening.disconnected, Happening.skipped-over, Happening.errored, Happening.message-acted, Happening.clock-read, Happening.status-set, Happening.setting-made, Happening.answer-sent, Happening.answer-withheld, heard, happened}
+use Rattle.model.specs.Happening.{Heard, Action, Happening, Happening.unmoved, Happening.connected, Happening.disconnected, Happening.skipped-over}
+use Rattle.model.specs.Happening.{Happening.errored, Happening.message-acted, Happening.clock-read, Happening.status-set, Happening.setting-made}
+use Rattle.model.specs.Happening.{Happening.answer-sent, Happening.answer-withheld, heard, happened}
 use Rattle.model.specs.LocalityRows.{kindOf, slotActed, inSlot, asynchronous-row, synchronous-row, number-row, isSilence, endedWith, waits, requestsOf, reachedBy, requestsLeft, looksAfter}
 use Rattle.model.specs.LocalityReplies.{waitingAnswer}
 use Rattle.model.specs.Locality.{atCall, Local}
 use Rattle.model.specs.NextQuestion.{synchronousOf}
-use Rattle.model.specs.AnsweredOnce.{codesTo, Release, Release.none-stands, answeredTo, releaseAfter, Call, Call.closes, Call.expires, Call.clears, Call.other, callOf, takesConnection, NoMore, Meets, Once, clockIn, AnsweredOnce}
+use Rattle.model.specs.AnsweredOnce.{codesTo, Release, Release.none-stands, answeredTo, releaseAfter, Call, Call.closes, Call.expires, Call.clears, Call.other}
+use Rattle.model.specs.AnsweredOnce.{callOf, takesConnection, NoMore, Meets, Once, clockIn, AnsweredOnce}
 use Rattle.model.proofs.Basics.{and-l, and-r, both, or-of, or-r, or→, not-of, inside, all-keep}
 use Rattle.claims.proofs.Invariant.{Inv, Good}
 use Rattle.model.proofs.Place.{place-sound, place-unique, async-live}
@@ -111,7 +114,8 @@ module _ (c : ℕ) (real : c ≡ noConnection → ⊥) (s t j : ℕ) (p : Releas
 
     -- the session stays
     abbrev Same : Type 0
-    Same = ((at (r .server .locks .entries) j) .number ≡ (at E j) .number) × ((at (r .server .locks .entries) j) .synchronous ≡ (at E j) .synchronous) × ((at (r .server .locks .entries) j) .asynchronous ≡ (at E j) .asynchronous) × ((at (l .due) j) .asynchronous ≡ (at E j) .asynchronous)
+    Same = ((at (r .server .locks .entries) j) .number ≡ (at E j) .number) × ((at (r .server .locks .entries) j) .synchronous ≡ (at E j) .synchronous)
+        × ((at (r .server .locks .entries) j) .asynchronous ≡ (at E j) .asynchronous) × ((at (l .due) j) .asynchronous ≡ (at E j) .asynchronous)
 
     abbrev On : Type 0
     On = ((A ≡ []) × (One j t (r .server .locks .waiting))) ⊎ ((A ≡ 1 ∷ []) × Quieted)
@@ -134,18 +138,26 @@ module _ (c : ℕ) (real : c ≡ noConnection → ⊥) (s t j : ℕ) (p : Releas
 
         go : (One j t (r .server .locks .waiting) × None j (l .granted)) ⊎ (None j (r .server .locks .waiting) × One j t (l .granted)) → On
         go (inl x) =
-            inl (A-is ∙ ap₂ _++_ none-taken (codes-none c 1 (l .due) (l .granted) (all-imp (away c 0 E) (away c 1 (l .due)) (λ w e. ap not (away-due c real d h r l f (k .inv) v′ n (w .slot) (not-of _ e))) (l .granted) (away-of (l .granted) (q .1) (x .1)))), x .0)
+            inl (
+              A-is ∙ ap₂ _++_ none-taken (codes-none c 1 (l .due) (l .granted)
+                  (all-imp (away c 0 E) (away c 1 (l .due)) (λ w e. ap not (away-due c real d h r l f (k .inv) v′ n (w .slot) (not-of _ e))) (l .granted)
+                  (away-of (l .granted) (q .1) (x .1)))),
+              x .0,
+            )
         go (inr x) =
             inr (
-              A-is ∙ ap₂ _++_ none-taken (codes-one c 1 (l .due) j t (m .3 ∙ k .second) (l .granted) (all-imp apart-from (λ w. eqb (w .slot) j || away c 1 (l .due) w) due-apart (l .granted) (q .1)) (x .1)),
-              all-imp (away c 0 E) (away c 0 (r .server .locks .entries)) (λ w e. ap not (away-after c real d h r l f (k .inv) v′ n (w .slot) (not-of _ e))) (r .server .locks .waiting) (away-of (r .server .locks .waiting) (q .0) (x .0)),
+              A-is ∙ ap₂ _++_ none-taken (codes-one c 1 (l .due) j t (m .3 ∙ k .second) (l .granted)
+                  (all-imp apart-from (λ w. eqb (w .slot) j || away c 1 (l .due) w) due-apart (l .granted) (q .1)) (x .1)),
+              all-imp (away c 0 E) (away c 0 (r .server .locks .entries)) (λ w e. ap not (away-after c real d h r l f (k .inv) v′ n (w .slot) (not-of _ e)))
+                  (r .server .locks .waiting) (away-of (r .server .locks .waiting) (q .0) (x .0)),
             )
 
     -- slot j, by the rows
     within : j < length E
     within = inside live E j refl (k .alive)
 
-    rows : inSlot number-row E j h ((at E j) .number) ≡ (at E j) .number → inSlot synchronous-row E j h ((at E j) .synchronous) ≡ (at E j) .synchronous → inSlot asynchronous-row E j h ((at E j) .asynchronous) ≡ (at E j) .asynchronous → Same
+    rows : inSlot number-row E j h ((at E j) .number) ≡ (at E j) .number → inSlot synchronous-row E j h ((at E j) .synchronous) ≡ (at E j) .synchronous →
+        inSlot asynchronous-row E j h ((at E j) .asynchronous) ≡ (at E j) .asynchronous → Same
     rows n s a = (l .number j within ∙ n, l .synchronous j within ∙ s, l .asynchronous j within ∙ a, ap (λ (x : Entry). x .asynchronous) (l .due-is j within) ∙ a)
 
     -- nothing of the session or the requests is touched
@@ -161,8 +173,10 @@ module _ (c : ℕ) (real : c ≡ noConnection → ⊥) (s t j : ℕ) (p : Releas
   Met h r expires = (codesTo c (toWaiting h (r .frames)) ≡ 0 ∷ []) × (all (away c 0 (r .server .locks .entries)) (r .server .locks .waiting) ≡ true)
   Met h r clears = (codesTo c (toWaiting h (r .frames)) ≡ 0 ∷ []) × (all (away c 0 (r .server .locks .entries)) (r .server .locks .waiting) ≡ true)
   Met h r other =
-      (((codesTo c (toWaiting h (r .frames)) ≡ []) × One j t (r .server .locks .waiting)) ⊎ ((codesTo c (toWaiting h (r .frames)) ≡ 1 ∷ []) × (all (away c 0 (r .server .locks .entries)) (r .server .locks .waiting) ≡ true)))
-      × ((at (r .server .locks .entries) j) .number ≡ (at E j) .number) × ((at (r .server .locks .entries) j) .synchronous ≡ (at E j) .synchronous) × ((at (r .server .locks .entries) j) .asynchronous ≡ (at E j) .asynchronous) × Unit {0}
+      (((codesTo c (toWaiting h (r .frames)) ≡ []) × One j t (r .server .locks .waiting)) ⊎
+      ((codesTo c (toWaiting h (r .frames)) ≡ 1 ∷ []) × (all (away c 0 (r .server .locks .entries)) (r .server .locks .waiting) ≡ true)))
+      × ((at (r .server .locks .entries) j) .number ≡ (at E j) .number) × ((at (r .server .locks .entries) j) .synchronous ≡ (at E j) .synchronous)
+      × ((at (r .server .locks .entries) j) .asynchronous ≡ (at E j) .asynchronous) × Unit {0}
 
   abbrev Meeting : Happening → Type 0
   Meeting h = (r : Result) → Local d h r → Facts d h (r .frames) → Inv (r .server .locks) → Met h r (callOf c s t h)
@@ -203,8 +217,11 @@ module _ (c : ℕ) (real : c ≡ noConnection → ⊥) (s t j : ℕ) (p : Releas
       go false e =
           let far : eqb j (slotIn E x) ≡ false = ne-eqb _ _ (λ z. not-its-slot x e (sym z)) in
           let m : Same (disconnected x q) r l f v′ = rows (disconnected x q) r l f v′ (rw far) (rw far) (rw far) in
-          plainly (disconnected x q) r l f v′
-          (looked (disconnected x q) r l f v′ refl refl (all-keep apart-from (λ w. not (requestsOf (slotIn E x) w)) W all-others) (keep-one j t (λ w. not (requestsOf (slotIn E x) w)) (λ w z y. ap not (ap (λ (i : ℕ). eqb i (slotIn E x)) z ∙ far)) W (k .one)) m, m)
+          plainly (disconnected x q) r l f v′ (
+            looked (disconnected x q) r l f v′ refl refl (all-keep apart-from (λ w. not (requestsOf (slotIn E x) w)) W all-others)
+                (keep-one j t (λ w. not (requestsOf (slotIn E x) w)) (λ w z y. ap not (ap (λ (i : ℕ). eqb i (slotIn E x)) z ∙ far)) W (k .one)) m,
+            m,
+          )
 
   -- a clock reading
   reading-met : (u : ℕ) → Meeting (clock-read u)
@@ -219,7 +236,8 @@ module _ (c : ℕ) (real : c ≡ noConnection → ⊥) (s t j : ℕ) (p : Releas
       go false e =
           let m : Same (clock-read u) r l f v′ = rows (clock-read u) r l f v′ refl refl refl in
           plainly (clock-read u) r l f v′ (
-            looked (clock-read u) r l f v′ refl (away-of (keep (reachedBy u) W) (all-keep apart-from (reachedBy u) W all-others) (keep-gone j t (reachedBy u) (λ w z y. ap (λ (i : ℕ). leb i u) y ∙ e) W (k .one)))
+            looked (clock-read u) r l f v′ refl (away-of (keep (reachedBy u) W) (all-keep apart-from (reachedBy u) W all-others)
+                (keep-gone j t (reachedBy u) (λ w z y. ap (λ (i : ℕ). leb i u) y ∙ e) W (k .one)))
                 (all-keep apart-from (λ w. not (reachedBy u w)) W all-others)
                 (keep-one j t (λ w. not (reachedBy u w)) (λ w z y. ap not (ap (λ (i : ℕ). leb i u) y ∙ e)) W (k .one))
                 m,
@@ -240,7 +258,8 @@ module _ (c : ℕ) (real : c ≡ noConnection → ⊥) (s t j : ℕ) (p : Releas
         go false y ex ey = refl
 
     msame : Same (message-acted a) r l f v′
-    msame = rows (message-acted a) r l f v′ (by (eqb j s₀) refl ((at E j) .number) (a .session) (a .session)) (by (eqb j s₀) refl ((at E j) .synchronous) (a .connection) (a .connection)) (second-row (eqb j s₀) refl)
+    msame = rows (message-acted a) r l f v′ (by (eqb j s₀) refl ((at E j) .number) (a .session) (a .session))
+        (by (eqb j s₀) refl ((at E j) .synchronous) (a .connection) (a .connection)) (second-row (eqb j s₀) refl)
       where
         not-0 : eqb j s₀ ≡ true → eqb (kindOf a) 0 ≡ false
         not-0 e = ne-eqb _ _ (λ q. true≢false (sym (k .alive) ∙ ap (λ (i : ℕ). live (at E i)) (eqb-true _ _ e) ∙ f .vacant q))
@@ -252,14 +271,24 @@ module _ (c : ℕ) (real : c ≡ noConnection → ⊥) (s t j : ℕ) (p : Releas
         by true e x y z = ap (λ (u : Bool). cond u y x) (not-0 e)
         by false e x y z = refl
 
-        second-row : (b : Bool) → eqb j s₀ ≡ b → cond b (cond (eqb (kindOf a) 17) (a .connection) (cond (eqb (kindOf a) 0) noConnection ((at E j) .asynchronous))) ((at E j) .asynchronous) ≡ (at E j) .asynchronous
+        second-row : (b : Bool) → eqb j s₀ ≡ b → cond b (cond (eqb (kindOf a) 17) (a .connection)
+            (cond (eqb (kindOf a) 0) noConnection ((at E j) .asynchronous))) ((at E j) .asynchronous) ≡ (at E j) .asynchronous
         second-row true e = ap₂ (λ (u v : Bool). cond u (a .connection) (cond v noConnection ((at E j) .asynchronous))) (not-17 e) (not-0 e)
         second-row false e = refl
 
     -- another session's request comes to wait
     new-comes : waits a ≡ true → Met (message-acted a) r other
-    new-comes w =
-        (inl (A-is (message-acted a) r l f v′ ∙ rw ((lefts d a r l f w) .1) (ap (λ xs. xs ++ []) (none-taken)), subst (One j t) (sym (comes d a r l f w)) (snoc-one j t (newest d a r l f w) elsewhere-new W (k .one))), msame .0, msame .1, msame .2, tt)
+    new-comes w = (
+      inl (
+        A-is (message-acted a) r l f v′ ∙ rw ((lefts d a r l f w) .1) (ap (λ xs. xs ++ []) (none-taken)),
+        subst (One j t) (sym (comes d a r l f w))
+            (snoc-one j t (newest d a r l f w) elsewhere-new W (k .one)),
+      ),
+      msame .0,
+      msame .1,
+      msame .2,
+      tt,
+    )
       where
         not-own : s₀ ≡ j → ⊥
         not-own e = one-none j t W (k .one) (good-none (r .server .locks .entries) j (newest d a r l f w) e W (subst (Good (r .server .locks .entries)) (comes d a r l f w) (v′ .sound .good)))
@@ -276,7 +305,9 @@ module _ (c : ℕ) (real : c ≡ noConnection → ⊥) (s t j : ℕ) (p : Releas
       clear-slot = ap (λ (i : ℕ). cond (eqb i 0) (slotOfNumber E 0) (cond (eqb i 17) (slotOfNumber E (a .message .param)) (slotIn E (a .connection)))) q
 
       clear-left : requestsLeft E (d .locks .clock) (message-acted a) W ≡ keep (λ w. not (requestsOf s₀ w)) W
-      clear-left = ap (λ (i : ℕ). cond (eqb i 4 && (not (eqb (a .message .code) 0) && isSilence (a .told))) (W ++ record { slot = s₀; deadline = d .locks .clock + a .message .param; string = a .message .payload } ∷ []) (cond (eqb i 19) (keep (λ w. not (requestsOf s₀ w)) W) W)) q
+      clear-left = ap (λ (i : ℕ). cond (eqb i 4 && (not (eqb (a .message .code) 0) && isSilence (a .told)))
+          (W ++ record { slot = s₀; deadline = d .locks .clock + a .message .param; string = a .message .payload } ∷ [])
+          (cond (eqb i 19) (keep (λ w. not (requestsOf s₀ w)) W) W)) q
 
       clear-taken : taken d (message-acted a) ≡ keep (requestsOf s₀) W
       clear-taken = ap (λ (i : ℕ). cond (eqb i 19) (keep (requestsOf s₀) W) []) q
@@ -285,7 +316,9 @@ module _ (c : ℕ) (real : c ≡ noConnection → ⊥) (s t j : ℕ) (p : Releas
       own-clear e =
           let mine : s₀ ≡ j = clear-slot ∙ ap (slotIn E) e ∙ sym (place-unique E c j (k .inv .sound .firm .connections c real) own-connection) in
           dropped (message-acted a) r l f v′ (0 ∷ []) no-join
-          (ap (λ (ws : List Waiting). codesTo c (map (waitingAnswer 0 E) ws)) clear-taken ∙ codes-one c 0 E j t (k .second) (keep (requestsOf s₀) W) (all-keep apart-from (requestsOf s₀) W all-others) (keep-one j t (requestsOf s₀) (λ w z y. eq-eqb _ _ (z ∙ sym mine)) W (k .one)))
+          (ap (λ (ws : List Waiting). codesTo c (map (waitingAnswer 0 E) ws)) clear-taken
+          ∙ codes-one c 0 E j t (k .second) (keep (requestsOf s₀) W) (all-keep apart-from (requestsOf s₀) W all-others)
+          (keep-one j t (requestsOf s₀) (λ w z y. eq-eqb _ _ (z ∙ sym mine)) W (k .one)))
           (rw clear-left (all-keep apart-from (λ w. not (requestsOf s₀ w)) W all-others))
           (rw clear-left (keep-gone j t (λ w. not (requestsOf s₀ w)) (λ w z y. ap not (eq-eqb _ _ (z ∙ sym mine))) W (k .one)))
 
@@ -294,7 +327,9 @@ module _ (c : ℕ) (real : c ≡ noConnection → ⊥) (s t j : ℕ) (p : Releas
           let second-own : (at E s₀) .asynchronous ≡ a .connection = f .second (ap (one-of (4 ∷ 19 ∷ [])) q) in
           let far : (w : Waiting) → w .slot ≡ j → requestsOf s₀ w ≡ false = λ w z. ne-eqb (w .slot) s₀ (λ e. n (sym second-own ∙ ap (λ (i : ℕ). (at E i) .asynchronous) (sym e ∙ z) ∙ k .second)) in
           plainly (message-acted a) r l f v′ (
-            looked (message-acted a) r l f v′ no-join (rw clear-taken (away-of (keep (requestsOf s₀) W) (all-keep apart-from (requestsOf s₀) W all-others) (keep-gone j t (requestsOf s₀) (λ w z y. far w z) W (k .one))))
+            looked (message-acted a) r l f v′ no-join (rw clear-taken
+                (away-of (keep (requestsOf s₀) W) (all-keep apart-from (requestsOf s₀) W all-others)
+                (keep-gone j t (requestsOf s₀) (λ w z y. far w z) W (k .one))))
                 (rw clear-left (all-keep apart-from (λ w. not (requestsOf s₀ w)) W all-others))
                 (rw clear-left (keep-one j t (λ w. not (requestsOf s₀ w)) (λ w z y. ap not (far w z)) W (k .one)))
                 msame,
@@ -315,13 +350,19 @@ module _ (c : ℕ) (real : c ≡ noConnection → ⊥) (s t j : ℕ) (p : Releas
   met (connected x) r l f v′ = plainly (connected x) r l f v′ (calm (connected x) r l f v′ refl refl refl (rows (connected x) r l f v′ refl refl refl))
   met (disconnected x q) r l f v′ = closing-met x q r l f v′
   met (skipped-over x q) r l f v′ = plainly (skipped-over x q) r l f v′ (calm (skipped-over x q) r l f v′ refl refl refl (rows (skipped-over x q) r l f v′ refl refl refl))
-  met (errored x g q) r l f v′ = let b = eqb j (slotIn E x) && eqb ((at E j) .synchronous) x in plainly (errored x g q) r l f v′ (calm (errored x g q) r l f v′ refl refl refl (rows (errored x g q) r l f v′ (same-both₀ b ((at E j) .number)) (same-both₀ b ((at E j) .synchronous)) (same-both₀ b ((at E j) .asynchronous))))
+  met (errored x g q) r l f v′ = let b = eqb j (slotIn E x) && eqb ((at E j) .synchronous) x in
+      plainly (errored x g q) r l f v′ (calm (errored x g q) r l f v′ refl refl refl
+      (rows (errored x g q) r l f v′ (same-both₀ b ((at E j) .number)) (same-both₀ b ((at E j) .synchronous)) (same-both₀ b ((at E j) .asynchronous))))
   met (message-acted a) r l f v′ = message-met a r l f v′
   met (clock-read u) r l f v′ = reading-met u r l f v′
   met (status-set b) r l f v′ = plainly (status-set b) r l f v′ (calm (status-set b) r l f v′ refl refl refl (rows (status-set b) r l f v′ refl refl refl))
   met (setting-made s) r l f v′ = plainly (setting-made s) r l f v′ (calm (setting-made s) r l f v′ refl refl refl (rows (setting-made s) r l f v′ refl refl refl))
-  met (answer-sent m p end) r l f v′ = let b = eqb j (slotOfNumber E m) in plainly (answer-sent m p end) r l f v′ (calm (answer-sent m p end) r l f v′ refl refl refl (rows (answer-sent m p end) r l f v′ (same-both₀ b ((at E j) .number)) (same-both₀ b ((at E j) .synchronous)) (same-both₀ b ((at E j) .asynchronous))))
-  met (answer-withheld m q) r l f v′ = let b = eqb j (slotOfNumber E m) in plainly (answer-withheld m q) r l f v′ (calm (answer-withheld m q) r l f v′ refl refl refl (rows (answer-withheld m q) r l f v′ (same-both₀ b ((at E j) .number)) (same-both₀ b ((at E j) .synchronous)) (same-both₀ b ((at E j) .asynchronous))))
+  met (answer-sent m p end) r l f v′ = let b = eqb j (slotOfNumber E m) in
+      plainly (answer-sent m p end) r l f v′ (calm (answer-sent m p end) r l f v′ refl refl refl
+      (rows (answer-sent m p end) r l f v′ (same-both₀ b ((at E j) .number)) (same-both₀ b ((at E j) .synchronous)) (same-both₀ b ((at E j) .asynchronous))))
+  met (answer-withheld m q) r l f v′ = let b = eqb j (slotOfNumber E m) in
+      plainly (answer-withheld m q) r l f v′ (calm (answer-withheld m q) r l f v′ refl refl refl
+      (rows (answer-withheld m q) r l f v′ (same-both₀ b ((at E j) .number)) (same-both₀ b ((at E j) .synchronous)) (same-both₀ b ((at E j) .asynchronous))))
 
   -- no other session takes the connection, and none has the other one
   unjoined : (h : Happening) (r : Result) → Local d h r → Facts d h (r .frames) → Inv (r .server .locks) → takesConnection c h ≡ false
@@ -381,16 +422,31 @@ once-list c real s t j p (e ∷ es) d k = go (callOf c s t h₀) (met c real s t
     no-more : all (away c 0 ((step d e) .server .locks .entries)) ((step d e) .server .locks .waiting) ≡ true → NoMore c s q (log ((step d e) .server) es)
     no-more a = quiet-list c real s q es ((step d e) .server) record { inv = v′; sized = z′; none = a; second = seconds′ } known′
 
-    go : (x : Call) → Met c real s t j p d k h₀ (step d e) x → (Waits c s t j q ((step d e) .server) → Once c s t q (log ((step d e) .server) es)) → Meets x A (Once c s t q (log ((step d e) .server) es)) (NoMore c s q (log ((step d e) .server) es))
+    go : (x : Call) → Met c real s t j p d k h₀ (step d e) x → (Waits c s t j q ((step d e) .server) → Once c s t q (log ((step d e) .server) es)) →
+        Meets x A (Once c s t q (log ((step d e) .server) es)) (NoMore c s q (log ((step d e) .server) es))
     go closes m rest = (read ∙ m .0, no-more (m .1))
     go expires m rest = (read ∙ m .0, no-more (m .1))
     go clears m rest = (read ∙ m .0, no-more (m .1))
     go other m rest = by (m .0)
       where
-        by : ((codesTo c (toWaiting h₀ ((step d e) .frames)) ≡ []) × One j t ((step d e) .server .locks .waiting)) ⊎ ((codesTo c (toWaiting h₀ ((step d e) .frames)) ≡ 1 ∷ []) × (all (away c 0 ((step d e) .server .locks .entries)) ((step d e) .server .locks .waiting) ≡ true))
+        by : ((codesTo c (toWaiting h₀ ((step d e) .frames)) ≡ []) × One j t ((step d e) .server .locks .waiting)) ⊎
+            ((codesTo c (toWaiting h₀ ((step d e) .frames)) ≡ 1 ∷ [])
+            × (all (away c 0 ((step d e) .server .locks .entries)) ((step d e) .server .locks .waiting) ≡ true))
             → ((A ≡ []) × Once c s t q (log ((step d e) .server) es)) ⊎ ((A ≡ 1 ∷ []) × NoMore c s q (log ((step d e) .server) es))
         by (inl x) =
-            inl (read ∙ x .0, rest record { inv = v′; sized = z′; alive = ap (λ (i : ℕ). not (eqb i 0)) (m .1) ∙ k .alive; second = m .3 ∙ k .second; first = m .2 ∙ k .first; one = x .1; known = known′; seconds = seconds′ })
+            inl (
+              read ∙ x .0,
+              rest record {
+                inv = v′;
+                sized = z′;
+                alive = ap (λ (i : ℕ). not (eqb i 0)) (m .1) ∙ k .alive;
+                second = m .3 ∙ k .second;
+                first = m .2 ∙ k .first;
+                one = x .1;
+                known = known′;
+                seconds = seconds′;
+              },
+            )
         by (inr x) = inr (read ∙ x .0, no-more (x .1))
 
 -- a request that is not answered: no release of its session stands
@@ -407,7 +463,8 @@ unstood l i t k e =
     go false true false (release-of y n) m z e = absurd (let y : _≡_ {A = ℕ} 0 1 = cc in omega arith)
 
 -- it begins
-module _ (v : Making) (es : List Event) (c : ℕ) (bs : List ℕ) (room k n : ℕ) (e : (step (final (fresh v) es) (delivery c bs room)) .reply ≡ took acted k n) (q : (header bs) .kind ≡ AsyncLock) (o : (header bs) .code ≡ 1)
+module _ (v : Making) (es : List Event) (c : ℕ) (bs : List ℕ) (room k n : ℕ) (e : (step (final (fresh v) es) (delivery c bs room)) .reply ≡ took acted k n)
+    (q : (header bs) .kind ≡ AsyncLock) (o : (header bs) .code ≡ 1)
     (nothing : (step (final (fresh v) es) (delivery c bs room)) .frames ≡ []) where
   abbrev D : Server
   D = final (fresh v) es
@@ -490,7 +547,9 @@ module _ (v : Making) (es : List Event) (c : ℕ) (bs : List ℕ) (room k n : �
         alive = alive-now;
         second = second-now;
         first = first-now;
-        one = subst (One (slotOf D c) (clockIn (log (fresh v) es) + (header bs) .param)) (sym (comes D act R local₀ facts₀ waits₀)) (new-one (slotOf D c) (clockIn (log (fresh v) es) + (header bs) .param) (newest D act R local₀ facts₀ waits₀) slot₀ (ap (λ (i : ℕ). i + (header bs) .param) ((local-run (fresh v) es) .clock)) (D .locks .waiting) none-before);
+        one = subst (One (slotOf D c) (clockIn (log (fresh v) es) + (header bs) .param)) (sym (comes D act R local₀ facts₀ waits₀))
+            (new-one (slotOf D c) (clockIn (log (fresh v) es) + (header bs) .param) (newest D act R local₀ facts₀ waits₀) slot₀
+            (ap (λ (i : ℕ). i + (header bs) .param) ((local-run (fresh v) es) .clock)) (D .locks .waiting) none-before);
         known = known-now;
         seconds = second-call D (delivery c bs room) inv₀ sized₀ (second-run v es);
       }
@@ -499,7 +558,8 @@ module _ (v : Making) (es : List Event) (c : ℕ) (bs : List ℕ) (room k n : �
       kept true z x y e = ap (λ (u : Bool). cond u x y) e
       kept false z x y e = refl
 
-      kept-second : (b : Bool) → cond b (cond (eqb ((header bs) .kind) 17) c (cond (eqb ((header bs) .kind) 0) noConnection ((entryOf D c) .asynchronous))) ((entryOf D c) .asynchronous) ≡ (entryOf D c) .asynchronous
+      kept-second : (b : Bool) → cond b (cond (eqb ((header bs) .kind) 17) c (cond (eqb ((header bs) .kind) 0) noConnection ((entryOf D c) .asynchronous)))
+          ((entryOf D c) .asynchronous) ≡ (entryOf D c) .asynchronous
       kept-second true = ap₂ (λ (u w : Bool). cond u c (cond w noConnection ((entryOf D c) .asynchronous))) kind₁ kind₀
       kept-second false = refl
 
@@ -513,14 +573,16 @@ module _ (v : Making) (es : List Event) (c : ℕ) (bs : List ℕ) (room k n : �
       first-now = local₀ .synchronous (slotOf D c) within₀ ∙ kept (eqb (slotOf D c) (slotActed (D .locks .entries) act)) (eqb ((header bs) .kind) 0) c ((entryOf D c) .synchronous) kind₀ ∙ first₀
 
       alive-now : live now ≡ true
-      alive-now = ap (λ (i : ℕ). not (eqb i 0)) (local₀ .number (slotOf D c) within₀ ∙ kept (eqb (slotOf D c) (slotActed (D .locks .entries) act)) (eqb ((header bs) .kind) 0) n ((entryOf D c) .number) kind₀) ∙ alive₀
+      alive-now = ap (λ (i : ℕ). not (eqb i 0)) (local₀ .number (slotOf D c) within₀
+          ∙ kept (eqb (slotOf D c) (slotActed (D .locks .entries) act)) (eqb ((header bs) .kind) 0) n ((entryOf D c) .number) kind₀) ∙ alive₀
 
       -- no release stands: the request would have been answered 3
       standing-now : now .standing ≡ no-release
       standing-now =
           let x = entryOf D c in
           local₀ .standing (slotOf D c) within₀
-          ∙ row-is (eqb (slotOf D c) (slotActed (D .locks .entries) act)) ((eqb ((header bs) .kind) 4 && eqb ((header bs) .code) 0) && isSilence (act .told)) (eqb ((header bs) .kind) 0 || not (isSilence (endedWith act (x .standing))))
+          ∙ row-is (eqb (slotOf D c) (slotActed (D .locks .entries) act)) ((eqb ((header bs) .kind) 4 && eqb ((header bs) .code) 0) && isSilence (act .told))
+          (eqb ((header bs) .kind) 0 || not (isSilence (endedWith act (x .standing))))
           (release-of (cond (x .exclusive) exclusive-lock shared-lock) ((header bs) .param)) (x .standing) no-release-asked unstood₀
         where
           no-release-asked : ((eqb ((header bs) .kind) 4 && eqb ((header bs) .code) 0) && isSilence (act .told)) ≡ false
@@ -534,11 +596,15 @@ module _ (v : Making) (es : List Event) (c : ℕ) (bs : List ℕ) (room k n : �
 
       known-now : Known c (synchronousOf v es n) none-stands (R .server .locks .entries)
       known-now i a e =
-          let here : i ≡ slotOf D c = v₀ .sound .firm .connections c real₀ i (slotOf D c) (both _ _ a (or-r (eqb ((at (R .server .locks .entries) i) .synchronous) c) _ (eq-eqb _ _ e))) (both _ _ alive-now (or-r (eqb (now .synchronous) c) _ (eq-eqb _ _ second-now))) in
-          subst (λ (j : ℕ). ((at (R .server .locks .entries) j) .synchronous ≡ synchronousOf v es n) × (releaseOf ((at (R .server .locks .entries) j) .standing) ≡ none-stands)) (sym here) (first-now, ap releaseOf standing-now)
+          let here : i ≡ slotOf D c = v₀ .sound .firm .connections c real₀ i (slotOf D c)
+          (both _ _ a (or-r (eqb ((at (R .server .locks .entries) i) .synchronous) c) _ (eq-eqb _ _ e)))
+          (both _ _ alive-now (or-r (eqb (now .synchronous) c) _ (eq-eqb _ _ second-now))) in
+          subst (λ (j : ℕ). ((at (R .server .locks .entries) j) .synchronous ≡ synchronousOf v es n)
+          × (releaseOf ((at (R .server .locks .entries) j) .standing) ≡ none-stands)) (sym here) (first-now, ap releaseOf standing-now)
 
       none-before : None (slotOf D c) (D .locks .waiting)
-      none-before = good-none (R .server .locks .entries) (slotOf D c) (newest D act R local₀ facts₀ waits₀) slot₀ (D .locks .waiting) (subst (Good (R .server .locks .entries)) (comes D act R local₀ facts₀ waits₀) (v₀ .sound .good))
+      none-before = good-none (R .server .locks .entries) (slotOf D c) (newest D act R local₀ facts₀ waits₀) slot₀ (D .locks .waiting)
+          (subst (Good (R .server .locks .entries)) (comes D act R local₀ facts₀ waits₀) (v₀ .sound .good))
 
   once-after : (fs : List Event) → Once c (synchronousOf v es n) (clockIn (log (fresh v) es) + (header bs) .param) none-stands (log (R .server) fs)
   once-after fs = once-list c real₀ (synchronousOf v es n) (clockIn (log (fresh v) es) + (header bs) .param) (slotOf D c) none-stands fs (R .server) waits-now

@@ -14,11 +14,15 @@ use Rattle.wire.specs.Frame.{Frame}
 use Rattle.model.specs.Sizes.{noConnection}
 use Rattle.model.specs.Lists.{all, keep}
 use Rattle.model.specs.State.{Server, Entry, Waiting, Making, at, live, blank, slotOfNumber, fresh}
-use Rattle.model.specs.Interface.{Event, Event.opening, Event.delivery, Event.cut, Event.clock, Event.answer, Event.status, Event.setting, Outcome, Outcome.more-needed, Outcome.skipped, Outcome.held, Outcome.ignored, Outcome.error-sent, Outcome.closed, Outcome.acted, Reply, Reply.refused, Reply.done, Reply.withheld, Reply.took}
+use Rattle.model.specs.Interface.{Event, Event.opening, Event.delivery, Event.cut, Event.clock, Event.answer, Event.status, Event.setting, Outcome}
+use Rattle.model.specs.Interface.{Outcome.more-needed, Outcome.skipped, Outcome.held, Outcome.ignored, Outcome.error-sent, Outcome.closed, Outcome.acted}
+use Rattle.model.specs.Interface.{Reply, Reply.refused, Reply.done, Reply.withheld, Reply.took}
 use Rattle.model.specs.Place.{slotIn, slotOf, Role.r-synchronous, Role.r-asynchronous, roleBy, roleOf}
 use Rattle.model.specs.Refusals.{refusal}
 use Rattle.model.specs.Step.{Result, answered, step, final}
-use Rattle.model.specs.Happening.{Heard, Heard.silence, Action, Happening, Happening.unmoved, Happening.connected, Happening.disconnected, Happening.skipped-over, Happening.errored, Happening.message-acted, Happening.clock-read, Happening.status-set, Happening.setting-made, Happening.answer-sent, Happening.answer-withheld, heard, happened}
+use Rattle.model.specs.Happening.{Heard, Heard.silence, Action, Happening, Happening.unmoved, Happening.connected, Happening.disconnected}
+use Rattle.model.specs.Happening.{Happening.skipped-over, Happening.errored, Happening.message-acted, Happening.clock-read, Happening.status-set}
+use Rattle.model.specs.Happening.{Happening.setting-made, Happening.answer-sent, Happening.answer-withheld, heard, happened}
 use Rattle.model.specs.LocalityRows.{kindOf, slotActed, inSlot, asynchronous-row, isSilence, waits, requestsOf, reachedBy, requestsLeft, looksAfter}
 use Rattle.model.specs.LocalityReplies.{waitingAnswer}
 use Rattle.model.specs.Locality.{atCall, Local}
@@ -81,7 +85,8 @@ done-accepted d e q = go (refusal d e) q
     go zero q = refl
     go (suc z) q = absurd (let y : _≡_ {A = ℕ} 0 1 = cc in omega arith)
 
-module _ (d : Server) (i : Inv (d .locks)) (z : length (d .rest .exchanges) ≡ length (d .locks .entries)) (c : ℕ) (bs : List ℕ) (room k n : ℕ) (e : (step d (delivery c bs room)) .reply ≡ took acted k n) where
+module _ (d : Server) (i : Inv (d .locks)) (z : length (d .rest .exchanges) ≡ length (d .locks .entries)) (c : ℕ) (bs : List ℕ) (room k n : ℕ)
+    (e : (step d (delivery c bs room)) .reply ≡ took acted k n) where
   abbrev t₁ : ℕ
   t₁ = (header bs) .kind
 
@@ -115,12 +120,21 @@ module _ (d : Server) (i : Inv (d .locks)) (z : length (d .rest .exchanges) ≡ 
       both-of : roleOf (d .locks .entries) c ≡ r-synchronous → (live (at (d .locks .entries) (slotOf d c)) ≡ true) × ((at (d .locks .entries) (slotOf d c)) .synchronous ≡ c)
       both-of r = (sync-live (d .locks .entries) c r, sync-own (d .locks .entries) c r)
 
-  pub acted-facts : ActedFacts d (record { connection = c; message = messageOf (header bs) bs; session = n; told = heard 5 ((step d (delivery c bs room)) .frames) }) ((step d (delivery c bs room)) .frames)
+  pub acted-facts : ActedFacts d (record {
+    connection = c;
+    message = messageOf (header bs) bs;
+    session = n;
+    told = heard 5 ((step d (delivery c bs room)) .frames);
+  }) ((step d (delivery c bs room)) .frames)
   acted-facts =
       record {
         told = refl;
-        vacant = λ q. subst (λ (t : ℕ). live (at (d .locks .entries) (cond (eqb t 0) (slotOfNumber (d .locks .entries) 0) (cond (eqb t 17) (slotOfNumber (d .locks .entries) ((header bs) .param)) (slotOf d c)))) ≡ false) (sym q) ((entering d i (d .rest .made) refl z c bs room k n e q) .vacant);
-        pairs = λ q. subst (λ (t : ℕ). Pairs (d .locks .entries) (cond (eqb t 0) (slotOfNumber (d .locks .entries) 0) (cond (eqb t 17) (slotOfNumber (d .locks .entries) ((header bs) .param)) (slotOf d c))) c) (sym q) (pairing d i (d .rest .made) refl z c bs room k n e q);
+        vacant = λ q. subst (λ (t : ℕ). live (at (d .locks .entries)
+            (cond (eqb t 0) (slotOfNumber (d .locks .entries) 0) (cond (eqb t 17) (slotOfNumber (d .locks .entries) ((header bs) .param)) (slotOf d c)))) ≡
+            false) (sym q) ((entering d i (d .rest .made) refl z c bs room k n e q) .vacant);
+        pairs = λ q. subst (λ (t : ℕ). Pairs (d .locks .entries)
+            (cond (eqb t 0) (slotOfNumber (d .locks .entries) 0) (cond (eqb t 17) (slotOfNumber (d .locks .entries) ((header bs) .param)) (slotOf d c))) c)
+            (sym q) (pairing d i (d .rest .made) refl z c bs room k n e q);
         second = λ o. (async-second t₁ o refl) .1;
         second-live = λ o. (async-second t₁ o refl) .0;
         first = λ o. (sync-first t₁ o refl) .1;
@@ -128,7 +142,8 @@ module _ (d : Server) (i : Inv (d .locks)) (z : length (d .rest .exchanges) ≡ 
         real = real-delivery d c bs room (accepted d (delivery c bs room) acted k n e);
       }
 
-delivered : (d : Server) → Inv (d .locks) → length (d .rest .exchanges) ≡ length (d .locks .entries) → (c : ℕ) (bs : List ℕ) (room : ℕ) (o : Outcome) (k n : ℕ) → (step d (delivery c bs room)) .reply ≡ took o k n
+delivered : (d : Server) → Inv (d .locks) → length (d .rest .exchanges) ≡ length (d .locks .entries) → (c : ℕ) (bs : List ℕ) (room : ℕ) (o : Outcome) (k n : ℕ)
+    → (step d (delivery c bs room)) .reply ≡ took o k n
     → Facts d (happened (delivery c bs room) (took o k n) ((step d (delivery c bs room)) .frames)) ((step d (delivery c bs room)) .frames)
 delivered d i z c bs room more-needed k n e = tt
 delivered d i z c bs room skipped k n e = tt
@@ -138,7 +153,8 @@ delivered d i z c bs room error-sent k n e = tt
 delivered d i z c bs room closed k n e = real-delivery d c bs room (accepted d (delivery c bs room) closed k n e)
 delivered d i z c bs room acted k n e = acted-facts d i z c bs room k n e
 
-pub facts : (d : Server) → Inv (d .locks) → length (d .rest .exchanges) ≡ length (d .locks .entries) → (e : Event) (r : Reply) → (step d e) .reply ≡ r → Facts d (happened e r ((step d e) .frames)) ((step d e) .frames)
+pub facts : (d : Server) → Inv (d .locks) → length (d .rest .exchanges) ≡ length (d .locks .entries) → (e : Event) (r : Reply) → (step d e) .reply ≡ r →
+    Facts d (happened e r ((step d e) .frames)) ((step d e) .frames)
 facts d i z (delivery c bs room) (refused n) q = tt
 facts d i z (delivery c bs room) done q = tt
 facts d i z (delivery c bs room) withheld q = tt
@@ -303,7 +319,12 @@ module _ (d : Server) (a : Action) (r : Result) (l : Local d (message-acted a) r
   newest = record { slot = slotActed (d .locks .entries) a; deadline = d .locks .clock + a .message .param; string = a .message .payload }
 
   pub comes : r .server .locks .waiting ≡ d .locks .waiting ++ newest ∷ []
-  comes = lefts .0 ∙ ap (λ (b : Bool). cond b (d .locks .waiting ++ record { slot = slotActed (d .locks .entries) a; deadline = d .locks .clock + a .message .param; string = a .message .payload } ∷ []) (cond (eqb (kindOf a) 19) (keep (λ w. not (requestsOf (slotActed (d .locks .entries) a) w)) (d .locks .waiting)) (d .locks .waiting))) w
+  comes = lefts .0 ∙ ap (λ (b : Bool). cond b (d .locks .waiting ++ record {
+    slot = slotActed (d .locks .entries) a;
+    deadline = d .locks .clock + a .message .param;
+    string = a .message .payload;
+  } ∷ [])
+      (cond (eqb (kindOf a) 19) (keep (λ w. not (requestsOf (slotActed (d .locks .entries) a) w)) (d .locks .waiting)) (d .locks .waiting))) w
 
 -- no request waits on connection c: one call
 module _ (c : ℕ) (real : c ≡ noConnection → ⊥) (d : Server) (q : Quiet c d) where
@@ -311,7 +332,8 @@ module _ (c : ℕ) (real : c ≡ noConnection → ⊥) (d : Server) (q : Quiet c
   Stays h r = (codesTo c (toWaiting h (r .frames)) ≡ []) × (all (away c 0 (r .server .locks .entries)) (r .server .locks .waiting) ≡ true)
 
   module _ (h : Happening) (r : Result) (l : Local d h r) (f : Facts d h (r .frames)) (v′ : Inv (r .server .locks)) where
-    stays : takesConnection c h ≡ false → all (away c 0 (d .locks .entries)) (taken d h) ≡ true → all (away c 0 (d .locks .entries)) (requestsLeft (d .locks .entries) (d .locks .clock) h (d .locks .waiting)) ≡ true → Stays h r
+    stays : takesConnection c h ≡ false → all (away c 0 (d .locks .entries)) (taken d h) ≡ true →
+        all (away c 0 (d .locks .entries)) (requestsLeft (d .locks .entries) (d .locks .clock) h (d .locks .waiting)) ≡ true → Stays h r
     stays n a b =
         let x = quiet-after c real d h r l f (q .inv) v′ n b in
         (codes c real d h r l f (q .inv) v′ ∙ ap₂ _++_ (codes-none c 0 (d .locks .entries) (taken d h) a) (x .0), x .1)
@@ -319,7 +341,8 @@ module _ (c : ℕ) (real : c ≡ noConnection → ⊥) (d : Server) (q : Quiet c
   kept : (p : Waiting → Bool) → all (away c 0 (d .locks .entries)) (keep p (d .locks .waiting)) ≡ true
   kept p = all-keep (away c 0 (d .locks .entries)) p (d .locks .waiting) (q .none)
 
-  acted-quiet : (a : Action) (r : Result) (l : Local d (message-acted a) r) (f : ActedFacts d a (r .frames)) → Inv (r .server .locks) → beginsToWait c (message-acted a) (r .frames) ≡ false → takesConnection c (message-acted a) ≡ false → Stays (message-acted a) r
+  acted-quiet : (a : Action) (r : Result) (l : Local d (message-acted a) r) (f : ActedFacts d a (r .frames)) → Inv (r .server .locks) →
+      beginsToWait c (message-acted a) (r .frames) ≡ false → takesConnection c (message-acted a) ≡ false → Stays (message-acted a) r
   acted-quiet a r l f v′ n not-join = stays (message-acted a) r l f v′ not-join (taken-away (eqb (kindOf a) 19)) (left-away (waits a) refl (eqb (kindOf a) 19))
     where
       taken-away : (b : Bool) → all (away c 0 (d .locks .entries)) (cond b (keep (requestsOf (slotActed (d .locks .entries) a)) (d .locks .waiting)) []) ≡ true
@@ -329,13 +352,21 @@ module _ (c : ℕ) (real : c ≡ noConnection → ⊥) (d : Server) (q : Quiet c
       elsewhere-asked : waits a ≡ true → eqb ((at (d .locks .entries) (slotActed (d .locks .entries) a)) .asynchronous) c ≡ false
       elsewhere-asked w =
           ap (λ (x : ℕ). eqb x c) (f .second (ap (one-of (4 ∷ 19 ∷ [])) (is-lock d a r l f w)))
-          ∙ go (eqb (a .connection) c) (ap₂ (λ (x : ℕ) (fs : List Frame). (eqb (a .connection) c && eqb x 4) && (not (eqb (a .message .code) 0) && nothingSent fs)) (sym (is-lock d a r l f w)) (sym (says-nothing d a r l f w)) ∙ n)
+          ∙ go (eqb (a .connection) c)
+          (ap₂ (λ (x : ℕ) (fs : List Frame). (eqb (a .connection) c && eqb x 4) && (not (eqb (a .message .code) 0) && nothingSent fs))
+          (sym (is-lock d a r l f w)) (sym (says-nothing d a r l f w)) ∙ n)
         where
           go : (b : Bool) → ((b && true) && (not (eqb (a .message .code) 0) && true)) ≡ false → b ≡ false
           go true e = absurd (true≢false (ap (λ (x : Bool). not x && true) (sym (asks d a r l f w)) ∙ e))
           go false e = refl
 
-      left-away : (b : Bool) → waits a ≡ b → (y : Bool) → all (away c 0 (d .locks .entries)) (cond b (d .locks .waiting ++ record { slot = slotActed (d .locks .entries) a; deadline = d .locks .clock + a .message .param; string = a .message .payload } ∷ []) (cond y (keep (λ w. not (requestsOf (slotActed (d .locks .entries) a) w)) (d .locks .waiting)) (d .locks .waiting))) ≡ true
+      left-away : (b : Bool) → waits a ≡ b → (y : Bool) → all (away c 0 (d .locks .entries))
+          (cond b (d .locks .waiting ++ record {
+            slot = slotActed (d .locks .entries) a;
+            deadline = d .locks .clock + a .message .param;
+            string = a .message .payload;
+          } ∷ []) (cond y (keep (λ w. not (requestsOf (slotActed (d .locks .entries) a) w)) (d .locks .waiting))
+          (d .locks .waiting))) ≡ true
       left-away true w y = all-snoc (away c 0 (d .locks .entries)) (d .locks .waiting) _ (q .none) (ap not (elsewhere-asked w))
       left-away false w true = kept (λ w. not (requestsOf (slotActed (d .locks .entries) a) w))
       left-away false w false = q .none
@@ -379,7 +410,8 @@ module _ (d : Server) (h : Happening) (r : Result) (l : Local d h r) (f : Facts 
       ap (λ (x : ℕ). not (eqb x noConnection)) (l .asynchronous (w .slot) within ∙ e) ∙ and-r (live (at es₂ (w .slot))) _ b
 
   looked-second : all (away noConnection 0 es₃) (requestsLeft es₂ (d .locks .clock) h (d .locks .waiting)) ≡ true → all (away noConnection 0 es₃) (r .server .locks .waiting) ≡ true
-  looked-second a = (look-all (d .locks .clock) (away noConnection 0 es₃) (looksAfter es₂ h) (l .due) (requestsLeft es₂ (d .locks .clock) h (d .locks .waiting)) es₃ (r .server .locks .waiting) (l .granted) (l .waiting) a) .0
+  looked-second a = (look-all (d .locks .clock) (away noConnection 0 es₃) (looksAfter es₂ h) (l .due) (requestsLeft es₂ (d .locks .clock) h (d .locks .waiting))
+      es₃ (r .server .locks .waiting) (l .granted) (l .waiting) a) .0
 
 pub all-kept : (p : Waiting → Bool) (ws : List Waiting) → all p (keep p ws) ≡ true
 all-kept p [] = refl
@@ -404,7 +436,9 @@ module _ (d : Server) (v : Inv (d .locks)) (s : all (away noConnection 0 (d .loc
 
   calm-second : (h : Happening) → requestsLeft E₂ (d .locks .clock) h W₂ ≡ W₂ → ((i : ℕ) → inSlot asynchronous-row E₂ i h ((at E₂ i) .asynchronous) ≡ (at E₂ i) .asynchronous) → Seconded h
   calm-second h left same r l f =
-      looked-second d h r l f v (rw left (all-imp held₂ (away noConnection 0 (r .server .locks .entries)) (λ w b. kept-row d h r l f v w b (same (w .slot))) W₂ (goods d h r l f v W₂ (v .sound .good) s)))
+      looked-second d h r l f v
+      (rw left (all-imp held₂ (away noConnection 0 (r .server .locks .entries)) (λ w b. kept-row d h r l f v w b (same (w .slot))) W₂
+      (goods d h r l f v W₂ (v .sound .good) s)))
 
   same-both₂ : (b : Bool) (x : ℕ) → cond b x x ≡ x
   same-both₂ true x = refl
@@ -441,12 +475,15 @@ module _ (d : Server) (v : Inv (d .locks)) (s : all (away noConnection 0 (d .loc
           within : w .slot < length E₂
           within = inside live E₂ (w .slot) refl alive
 
-          own : (y z : Bool) → eqb (kindOf a) 17 ≡ y → eqb (kindOf a) 0 ≡ z → w .slot ≡ j → not (eqb (cond y (a .connection) (cond z noConnection ((at E₂ (w .slot)) .asynchronous))) noConnection) ≡ true
+          own : (y z : Bool) → eqb (kindOf a) 17 ≡ y → eqb (kindOf a) 0 ≡ z → w .slot ≡ j →
+              not (eqb (cond y (a .connection) (cond z noConnection ((at E₂ (w .slot)) .asynchronous))) noConnection) ≡ true
           own true z ey ez n = ap not (ne-eqb (a .connection) noConnection (f .real))
           own false true ey ez n = absurd (true≢false (sym alive ∙ ap (λ (i : ℕ). live (at E₂ i)) n ∙ f .vacant (eqb-true _ _ ez)))
           own false false ey ez n = and-r (live (at E₂ (w .slot))) _ b
 
-          cell : (x : Bool) → eqb (w .slot) j ≡ x → not (eqb (cond x (cond (eqb (kindOf a) 17) (a .connection) (cond (eqb (kindOf a) 0) noConnection ((at E₂ (w .slot)) .asynchronous))) ((at E₂ (w .slot)) .asynchronous)) noConnection) ≡ true
+          cell : (x : Bool) → eqb (w .slot) j ≡ x →
+              not (eqb (cond x (cond (eqb (kindOf a) 17) (a .connection) (cond (eqb (kindOf a) 0) noConnection ((at E₂ (w .slot)) .asynchronous)))
+              ((at E₂ (w .slot)) .asynchronous)) noConnection) ≡ true
           cell true n = own (eqb (kindOf a) 17) (eqb (kindOf a) 0) refl refl (eqb-true _ _ n)
           cell false n = and-r (live (at E₂ (w .slot))) _ b
 
@@ -458,8 +495,12 @@ module _ (d : Server) (v : Inv (d .locks)) (s : all (away noConnection 0 (d .loc
           let o : one-of (4 ∷ 19 ∷ []) (kindOf a) ≡ true = ap (one-of (4 ∷ 19 ∷ [])) (is-lock d a r l f w) in
           both _ _ (f .second-live o) (ap (λ (x : ℕ). not (eqb x noConnection)) (f .second o) ∙ ap not (ne-eqb _ _ (f .real)))
 
-      go : (b : Bool) → waits a ≡ b → (y : Bool) → all (away noConnection 0 es′) (cond b (W₂ ++ record { slot = j; deadline = d .locks .clock + a .message .param; string = a .message .payload } ∷ []) (cond y (keep (λ w. not (requestsOf j w)) W₂) W₂)) ≡ true
-      go true w y = all-imp held₂ (away noConnection 0 es′) row (W₂ ++ record { slot = j; deadline = d .locks .clock + a .message .param; string = a .message .payload } ∷ []) (all-snoc held₂ W₂ _ all-held (newcomer w))
+      go : (b : Bool) → waits a ≡ b → (y : Bool) → all (away noConnection 0 es′)
+          (cond b (W₂ ++ record { slot = j; deadline = d .locks .clock + a .message .param; string = a .message .payload } ∷ [])
+          (cond y (keep (λ w. not (requestsOf j w)) W₂) W₂)) ≡ true
+      go true w y = all-imp held₂ (away noConnection 0 es′) row
+          (W₂ ++ record { slot = j; deadline = d .locks .clock + a .message .param; string = a .message .payload } ∷ [])
+          (all-snoc held₂ W₂ _ all-held (newcomer w))
       go false w true = all-imp held₂ (away noConnection 0 es′) row (keep (λ w. not (requestsOf j w)) W₂) (all-keep held₂ (λ w. not (requestsOf j w)) W₂ all-held)
       go false w false = all-imp held₂ (away noConnection 0 es′) row W₂ all-held
 

@@ -17,11 +17,15 @@ use Rattle.model.specs.Interface.{Event}
 use Rattle.model.specs.Locks.{withRow, withOrder}
 use Rattle.model.specs.Place.{isOnConnection, slotIn}
 use Rattle.model.specs.Step.{Result, step, log}
-use Rattle.model.specs.Happening.{Heard, Heard.silence, Heard.with-code, Action, Happening, Happening.unmoved, Happening.connected, Happening.disconnected, Happening.skipped-over, Happening.errored, Happening.message-acted, Happening.clock-read, Happening.status-set, Happening.setting-made, Happening.answer-sent, Happening.answer-withheld}
+use Rattle.model.specs.Happening.{Heard, Heard.silence, Heard.with-code, Action, Happening, Happening.unmoved, Happening.connected, Happening.disconnected}
+use Rattle.model.specs.Happening.{Happening.skipped-over, Happening.errored, Happening.message-acted, Happening.clock-read, Happening.status-set}
+use Rattle.model.specs.Happening.{Happening.setting-made, Happening.answer-sent, Happening.answer-withheld}
 use Rattle.model.specs.LocalityRows.{kindOf, slotActed, inSlot, number-row, synchronous-row, asynchronous-row, standing-row, isSilence, codeWhere, endedWith, requestsOf, looksAfter}
 use Rattle.model.specs.LocalityReplies.{saidTo, waitingAnswer}
 use Rattle.model.specs.Locality.{atCall, Local}
-use Rattle.model.specs.AnsweredOnce.{lockOnly, codesTo, Release, Release.none-stands, Release.stands-for, isStanding, waitsFor, asksLock, clearsAll, endsRelease, releaseAfter, lessRelease, lessOwn, beginsToWait, takesConnection, lessAny, NoneWaits, NoneWaits.last, NoneWaits.own-request, NoneWaits.still, NoMore, NoMore.ended, NoMore.anew, NoMore.taken-over, NoMore.silent}
+use Rattle.model.specs.AnsweredOnce.{lockOnly, codesTo, Release, Release.none-stands, Release.stands-for, isStanding, waitsFor, asksLock, clearsAll}
+use Rattle.model.specs.AnsweredOnce.{endsRelease, releaseAfter, lessRelease, lessOwn, beginsToWait, takesConnection, lessAny, NoneWaits, NoneWaits.last}
+use Rattle.model.specs.AnsweredOnce.{NoneWaits.own-request, NoneWaits.still, NoMore, NoMore.ended, NoMore.anew, NoMore.taken-over, NoMore.silent}
 use Rattle.model.proofs.Basics.{and-l, and-r, both, or-of, or-r, or→}
 use Rattle.claims.proofs.Invariant.{Inv}
 use Rattle.model.proofs.Place.{place-unique}
@@ -59,12 +63,14 @@ said-away c silence x e = refl
 said-away c (with-code k) x e = rw e
 
 -- a release's code behind zeros
-less-zeros : (c k : ℕ) (es : List Entry) (ws : List Waiting) (ys : List ℕ) → eqb k 0 ≡ false → lessRelease (codesTo c (map (waitingAnswer 0 es) ws) ++ k ∷ ys) ≡ codesTo c (map (waitingAnswer 0 es) ws) ++ ys
+less-zeros : (c k : ℕ) (es : List Entry) (ws : List Waiting) (ys : List ℕ) → eqb k 0 ≡ false →
+    lessRelease (codesTo c (map (waitingAnswer 0 es) ws) ++ k ∷ ys) ≡ codesTo c (map (waitingAnswer 0 es) ws) ++ ys
 less-zeros c k es [] ys e = rw e
 less-zeros c k es (w ∷ ws) ys e = go (eqb ((at es (w .slot)) .asynchronous) c) (less-zeros c k es ws ys e)
   where
     go : (b : Bool) → lessRelease (codesTo c (map (waitingAnswer 0 es) ws) ++ k ∷ ys) ≡ codesTo c (map (waitingAnswer 0 es) ws) ++ ys
-        → lessRelease (cond b (0 ∷ codesTo c (map (waitingAnswer 0 es) ws)) (codesTo c (map (waitingAnswer 0 es) ws)) ++ k ∷ ys) ≡ cond b (0 ∷ codesTo c (map (waitingAnswer 0 es) ws)) (codesTo c (map (waitingAnswer 0 es) ws)) ++ ys
+        → lessRelease (cond b (0 ∷ codesTo c (map (waitingAnswer 0 es) ws)) (codesTo c (map (waitingAnswer 0 es) ws)) ++ k ∷ ys) ≡ cond b
+        (0 ∷ codesTo c (map (waitingAnswer 0 es) ws)) (codesTo c (map (waitingAnswer 0 es) ws)) ++ ys
     go true h = ap (λ zs. 0 ∷ zs) h
     go false h = h
 
@@ -135,7 +141,8 @@ module _ (c s : ℕ) (p : Release) (d : Server) (a : Action) (r : Result) (l : L
 
     lock-codes : xs ≡ codesTo c (saidTo (a .told) 5 (a .connection ∷ [])) ++ g
     lock-codes =
-        ap (codesTo c) (first-is d a (r .frames) (l .due) (l .granted) (f .told) (l .frames) nobody true false (eq-eqb _ _ q) lock-not-clear ∙ ap (λ (fs : List Frame). fs ++ gs) (lock-own (a .told) (a .connection)))
+        ap (codesTo c) (first-is d a (r .frames) (l .due) (l .granted) (f .told) (l .frames) nobody true false (eq-eqb _ _ q) lock-not-clear
+        ∙ ap (λ (fs : List Frame). fs ++ gs) (lock-own (a .told) (a .connection)))
         ∙ codes-append c (saidTo (a .told) 5 (a .connection ∷ [])) gs
 
     lock-own-read : eqb (a .connection) c ≡ true → (y z : Bool) → Reads true y z
@@ -147,13 +154,15 @@ module _ (c s : ℕ) (p : Release) (d : Server) (a : Action) (r : Result) (l : L
             let same : xs ≡ g = lock-codes ∙ ap (λ (h : Heard). codesTo c (saidTo h 5 (a .connection ∷ [])) ++ g) t in
             ap (drop 1) none ∙ sym none ∙ same ∙ sym (waiting-grants lock-not-clear)
         go (with-code m) t =
-            ap (drop 1) (lock-codes ∙ ap (λ (h : Heard). codesTo c (saidTo h 5 (a .connection ∷ [])) ++ g) t ∙ ap (λ ys. ys ++ g) (said-here c (with-code m) (a .connection) e)) ∙ sym (waiting-grants lock-not-clear)
+            ap (drop 1) (lock-codes ∙ ap (λ (h : Heard). codesTo c (saidTo h 5 (a .connection ∷ [])) ++ g) t
+            ∙ ap (λ ys. ys ++ g) (said-here c (with-code m) (a .connection) e)) ∙ sym (waiting-grants lock-not-clear)
 
     lock-other-read : eqb (a .connection) c ≡ false → Reads false false false
     lock-other-read e = lock-codes ∙ ap (λ ys. ys ++ g) (said-away c (a .told) (a .connection) e) ∙ sym (waiting-grants lock-not-clear)
 
   -- what a release that ends is answered
-  ended-codes : eqb t₀ 4 ≡ false → (y : Bool) → eqb t₀ 19 ≡ y → xs ≡ (codesTo c (cond y (map (waitingAnswer 0 es) ws₀) []) ++ codesTo c (saidTo (endedWith a (e₀ .standing)) 5 (e₀ .asynchronous ∷ []))) ++ g
+  ended-codes : eqb t₀ 4 ≡ false → (y : Bool) → eqb t₀ 19 ≡ y →
+      xs ≡ (codesTo c (cond y (map (waitingAnswer 0 es) ws₀) []) ++ codesTo c (saidTo (endedWith a (e₀ .standing)) 5 (e₀ .asynchronous ∷ []))) ++ g
   ended-codes e y z =
       ap (codesTo c) (first-is d a (r .frames) (l .due) (l .granted) (f .told) (l .frames) nobody false y e z ∙ ap (λ (fs : List Frame). fs ++ gs) (locks y))
       ∙ codes-append c (cond y (map (waitingAnswer 0 es) ws₀) [] ++ said) gs
@@ -176,7 +185,8 @@ module _ (c s : ℕ) (p : Release) (d : Server) (a : Action) (r : Result) (l : L
         (f .second (ap (one-of (4 ∷ 19 ∷ [])) q))
 
     clear-own-read : Knows → eqb (a .connection) c ≡ true → Reads false false true
-    clear-own-read k e = rw clear-codes (ap (λ ys. cond (isStanding p) (lessRelease ((zs ++ ys) ++ g)) ((zs ++ ys) ++ g)) (said-here c (codeWhere (λ n. true) (e₀ .standing)) (a .connection) e) ∙ by (e₀ .standing) known) ∙ sym (waiting-clear (eq-eqb _ _ q))
+    clear-own-read k e = rw clear-codes (ap (λ ys. cond (isStanding p) (lessRelease ((zs ++ ys) ++ g)) ((zs ++ ys) ++ g))
+        (said-here c (codeWhere (λ n. true) (e₀ .standing)) (a .connection) e) ∙ by (e₀ .standing) known) ∙ sym (waiting-clear (eq-eqb _ _ q))
       where
         known : releaseOf (e₀ .standing) ≡ p
         known = (k s₀ (f .second-live (ap (one-of (4 ∷ 19 ∷ [])) q)) (f .second (ap (one-of (4 ∷ 19 ∷ [])) q) ∙ eqb-true _ _ e)) .1
@@ -216,7 +226,8 @@ module _ (c s : ℕ) (p : Release) (d : Server) (a : Action) (r : Result) (l : L
     hit x = codeWhere (λ n. eqb n (a .message .param)) x
 
     command-codes : xs ≡ codesTo c (saidTo (hit (e₀ .standing)) 5 (e₀ .asynchronous ∷ [])) ++ g
-    command-codes = ended-codes q4 false q19 ∙ ap (λ (b : Bool). codesTo c (saidTo (cond b (hit (e₀ .standing)) (cond (eqb t₀ 19) (codeWhere (λ n. true) (e₀ .standing)) silence)) 5 (e₀ .asynchronous ∷ [])) ++ g) o
+    command-codes = ended-codes q4 false q19 ∙ ap (λ (b : Bool). codesTo c
+        (saidTo (cond b (hit (e₀ .standing)) (cond (eqb t₀ 19) (codeWhere (λ n. true) (e₀ .standing)) silence)) 5 (e₀ .asynchronous ∷ [])) ++ g) o
 
     abbrev ends : Bool
     ends = eqb (a .connection) s && (true && waitsFor p (a .message .param))
@@ -308,27 +319,33 @@ module _ (c s : ℕ) (p : Release) (d : Server) (a : Action) (r : Result) (l : L
           ∙ lock-own-read q eb (eqb (a .connection) s && (one-of (6 ∷ 7 ∷ 12 ∷ []) t₀ && waitsFor p (a .message .param))) (eqb (a .connection) c && eqb t₀ 19)
       go true y z false ex ey ez eb =
           let q : t₀ ≡ 4 = eqb-true _ _ ex in
-          let no : (eqb (a .connection) s && (one-of (6 ∷ 7 ∷ 12 ∷ []) t₀ && waitsFor p (a .message .param))) ≡ false = and-false (eqb (a .connection) s) _ (ap (λ (t : ℕ). one-of (6 ∷ 7 ∷ 12 ∷ []) t && waitsFor p (a .message .param)) q) in
+          let no : (eqb (a .connection) s && (one-of (6 ∷ 7 ∷ 12 ∷ []) t₀ && waitsFor p (a .message .param))) ≡ false =
+          and-false (eqb (a .connection) s) _ (ap (λ (t : ℕ). one-of (6 ∷ 7 ∷ 12 ∷ []) t && waitsFor p (a .message .param)) q) in
           ap₂ (λ (u v : Bool). less (u && eqb t₀ 4) v (u && eqb t₀ 19) (isStanding p) xs) eb no ∙ lock-other-read q eb
       go false true z true ex ey ez eb =
           let q : t₀ ≡ 19 = eqb-true _ _ ey in
-          let no : (eqb (a .connection) s && (one-of (6 ∷ 7 ∷ 12 ∷ []) t₀ && waitsFor p (a .message .param))) ≡ false = and-false (eqb (a .connection) s) _ (ap (λ (t : ℕ). one-of (6 ∷ 7 ∷ 12 ∷ []) t && waitsFor p (a .message .param)) q) in
+          let no : (eqb (a .connection) s && (one-of (6 ∷ 7 ∷ 12 ∷ []) t₀ && waitsFor p (a .message .param))) ≡ false =
+          and-false (eqb (a .connection) s) _ (ap (λ (t : ℕ). one-of (6 ∷ 7 ∷ 12 ∷ []) t && waitsFor p (a .message .param)) q) in
           ap₂ (λ (u v : Bool). less (u && eqb t₀ 4) v (u && eqb t₀ 19) (isStanding p) xs) eb no ∙ ap₂ (λ (u v : Bool). less u false v (isStanding p) xs) ex ey ∙ clear-own-read q k eb
       go false true z false ex ey ez eb =
           let q : t₀ ≡ 19 = eqb-true _ _ ey in
-          let no : (eqb (a .connection) s && (one-of (6 ∷ 7 ∷ 12 ∷ []) t₀ && waitsFor p (a .message .param))) ≡ false = and-false (eqb (a .connection) s) _ (ap (λ (t : ℕ). one-of (6 ∷ 7 ∷ 12 ∷ []) t && waitsFor p (a .message .param)) q) in
+          let no : (eqb (a .connection) s && (one-of (6 ∷ 7 ∷ 12 ∷ []) t₀ && waitsFor p (a .message .param))) ≡ false =
+          and-false (eqb (a .connection) s) _ (ap (λ (t : ℕ). one-of (6 ∷ 7 ∷ 12 ∷ []) t && waitsFor p (a .message .param)) q) in
           ap₂ (λ (u v : Bool). less (u && eqb t₀ 4) v (u && eqb t₀ 19) (isStanding p) xs) eb no ∙ clear-other-read q eb
       go false false true b ex ey ez eb =
-          ap₂ (λ (u v : Bool). less u (eqb (a .connection) s && (one-of (6 ∷ 7 ∷ 12 ∷ []) t₀ && waitsFor p (a .message .param))) v (isStanding p) xs) (and-false (eqb (a .connection) c) _ ex) (and-false (eqb (a .connection) c) _ ey)
+          ap₂ (λ (u v : Bool). less u (eqb (a .connection) s && (one-of (6 ∷ 7 ∷ 12 ∷ []) t₀ && waitsFor p (a .message .param))) v (isStanding p) xs)
+          (and-false (eqb (a .connection) c) _ ex) (and-false (eqb (a .connection) c) _ ey)
           ∙ ap (λ (u : Bool). less false (eqb (a .connection) s && (u && waitsFor p (a .message .param))) false (isStanding p) xs) ez
           ∙ command-read ex ey ez k alone (eqb (e₀ .asynchronous) c) refl
       go false false false b ex ey ez eb =
-          ap₂ (λ (u v : Bool). less u (eqb (a .connection) s && (one-of (6 ∷ 7 ∷ 12 ∷ []) t₀ && waitsFor p (a .message .param))) v (isStanding p) xs) (and-false (eqb (a .connection) c) _ ex) (and-false (eqb (a .connection) c) _ ey)
+          ap₂ (λ (u v : Bool). less u (eqb (a .connection) s && (one-of (6 ∷ 7 ∷ 12 ∷ []) t₀ && waitsFor p (a .message .param))) v (isStanding p) xs)
+          (and-false (eqb (a .connection) c) _ ex) (and-false (eqb (a .connection) c) _ ey)
           ∙ ap (λ (u : Bool). less false u false (isStanding p) xs) (and-false (eqb (a .connection) s) _ (ap (λ (u : Bool). u && waitsFor p (a .message .param)) ez))
           ∙ other-read ex ey ez
 
 pub codes-read : (c s : ℕ) (p : Release) (d : Server) (h : Happening) (r : Result) → Local d h r → Facts d h (r .frames) → Known c s p (d .locks .entries)
-    → ((i : ℕ) → (s ≡ noConnection → ⊥) → live (at (d .locks .entries) i) ≡ true → (at (d .locks .entries) i) .synchronous ≡ s → eqb ((at (d .locks .entries) i) .asynchronous) c ≡ false → codesTo c (toWaiting h (r .frames)) ≡ [])
+    → ((i : ℕ) → (s ≡ noConnection → ⊥) → live (at (d .locks .entries) i) ≡ true → (at (d .locks .entries) i) .synchronous ≡ s →
+    eqb ((at (d .locks .entries) i) .asynchronous) c ≡ false → codesTo c (toWaiting h (r .frames)) ≡ [])
     → lessOwn c s p h (codesTo c (lockOnly (r .frames))) ≡ codesTo c (toWaiting h (r .frames))
 codes-read c s p d (message-acted a) r l f k alone = acted-read c s p d a r l f k alone
 codes-read c s p d unmoved r l f k alone = refl
@@ -377,7 +394,9 @@ module _ (c : ℕ) (real : c ≡ noConnection → ⊥) (s : ℕ) (p : Release) (
   closed-row x q r i = go (eqb i (slotIn E x)) refl
     where
       apart : eqb i (slotIn E x) ≡ false → live (at E i) ≡ true → (at E i) .asynchronous ≡ c → (at E i) .synchronous ≡ s → (u w : Bool) → eqb x c ≡ u → eqb x s ≡ w → cond (u || w) none-stands p ≡ p
-      apart n alive e z true w eu ew = absurd (eqb-false _ _ n (place-unique E x i (v .sound .firm .connections x r) (subst (λ (y : ℕ). isOnConnection y (at E i) ≡ true) (sym (eqb-true _ _ eu)) (on-second i alive e))))
+      apart n alive e z true w eu ew = absurd (eqb-false _ _ n
+          (place-unique E x i (v .sound .firm .connections x r)
+          (subst (λ (y : ℕ). isOnConnection y (at E i) ≡ true) (sym (eqb-true _ _ eu)) (on-second i alive e))))
       apart n alive e z false true eu ew = absurd (eqb-false _ _ n (place-unique E x i (v .sound .firm .connections x r) (on-first x i alive (z ∙ sym (eqb-true _ _ ew)))))
       apart n alive e z false false eu ew = refl
 
@@ -403,7 +422,8 @@ module _ (c : ℕ) (real : c ≡ noConnection → ⊥) (s : ℕ) (p : Release) (
     abbrev stood : Bool → Bool → Heard → Entry → Standing
     stood b z h x = cond b (release-of (cond (x .exclusive) exclusive-lock shared-lock) (a .message .param)) (cond (z || not (isSilence h)) no-release (x .standing))
 
-    named : (b : Bool) (x : Entry) (y : Standing) → releaseOf (cond b (release-of (cond (x .exclusive) exclusive-lock shared-lock) (a .message .param)) y) ≡ cond b (stands-for (a .message .param)) (releaseOf y)
+    named : (b : Bool) (x : Entry) (y : Standing) → releaseOf (cond b (release-of (cond (x .exclusive) exclusive-lock shared-lock) (a .message .param)) y) ≡
+        cond b (stands-for (a .message .param)) (releaseOf y)
     named true x y = refl
     named false x y = refl
 
@@ -426,25 +446,32 @@ module _ (c : ℕ) (real : c ≡ noConnection → ⊥) (s : ℕ) (p : Release) (
         cleared (release-of exclusive-lock n) = refl
         cleared (release-of shared-lock n) = refl
 
-        tested : (b : Bool) (m n : ℕ) (y : Standing) → releaseOf y ≡ stands-for n → releaseOf (cond (false || not (isSilence (cond b (with-code m) silence))) no-release y) ≡ cond b none-stands (stands-for n)
+        tested : (b : Bool) (m n : ℕ) (y : Standing) → releaseOf y ≡ stands-for n →
+            releaseOf (cond (false || not (isSilence (cond b (with-code m) silence))) no-release y) ≡ cond b none-stands (stands-for n)
         tested true m n y e = refl
         tested false m n y e = e
 
-        ended : (y : Standing) → releaseOf (cond (false || not (isSilence (codeWhere (λ n. eqb n (a .message .param)) y))) no-release y) ≡ cond (waitsFor (releaseOf y) (a .message .param)) none-stands (releaseOf y)
+        ended : (y : Standing) → releaseOf (cond (false || not (isSilence (codeWhere (λ n. eqb n (a .message .param)) y))) no-release y) ≡ cond
+            (waitsFor (releaseOf y) (a .message .param)) none-stands (releaseOf y)
         ended no-release = refl
         ended (release-of exclusive-lock n) = tested (eqb n (a .message .param)) 1 n (release-of exclusive-lock n) refl
         ended (release-of shared-lock n) = tested (eqb n (a .message .param)) 2 n (release-of shared-lock n) refl
 
-        heard-by : (o w : Bool) → one-of (6 ∷ 7 ∷ 12 ∷ []) u₀ ≡ o → eqb u₀ 19 ≡ w → endedWith a (x .standing) ≡ cond o (codeWhere (λ n. eqb n (a .message .param)) (x .standing)) (cond w (codeWhere (λ n. true) (x .standing)) silence)
+        heard-by : (o w : Bool) → one-of (6 ∷ 7 ∷ 12 ∷ []) u₀ ≡ o → eqb u₀ 19 ≡ w →
+            endedWith a (x .standing) ≡ cond o (codeWhere (λ n. eqb n (a .message .param)) (x .standing))
+            (cond w (codeWhere (λ n. true) (x .standing)) silence)
         heard-by o w eo ew = ap₂ (λ (u v : Bool). cond u (codeWhere (λ n. eqb n (a .message .param)) (x .standing)) (cond v (codeWhere (λ n. true) (x .standing)) silence)) eo ew
 
         stood-by : (q : Bool) (h : Heard) → eqb u₀ 4 ≡ q → endedWith a (x .standing) ≡ h
-            → releaseOf (stood ((eqb u₀ 4 && eqb (a .message .code) 0) && isSilence (a .told)) (eqb u₀ 0) (endedWith a (x .standing)) x) ≡ releaseOf (stood ((q && eqb (a .message .code) 0) && isSilence (a .told)) false h x)
-        stood-by q h eq eh = ap₂ (λ (u : Bool) (y : Heard). releaseOf (stood ((u && eqb (a .message .code) 0) && isSilence (a .told)) (eqb u₀ 0) y x)) eq eh ∙ ap (λ (u : Bool). releaseOf (stood ((q && eqb (a .message .code) 0) && isSilence (a .told)) u h x)) z
+            → releaseOf (stood ((eqb u₀ 4 && eqb (a .message .code) 0) && isSilence (a .told)) (eqb u₀ 0) (endedWith a (x .standing)) x) ≡ releaseOf
+            (stood ((q && eqb (a .message .code) 0) && isSilence (a .told)) false h x)
+        stood-by q h eq eh = ap₂ (λ (u : Bool) (y : Heard). releaseOf (stood ((u && eqb (a .message .code) 0) && isSilence (a .told)) (eqb u₀ 0) y x)) eq eh
+            ∙ ap (λ (u : Bool). releaseOf (stood ((q && eqb (a .message .code) 0) && isSilence (a .told)) u h x)) z
 
         next-by : (asks clears ends : Bool) → (eqb (a .connection) c && eqb u₀ 4) ≡ asks → (eqb (a .connection) c && eqb u₀ 19) ≡ clears
             → (eqb (a .connection) s && (one-of (6 ∷ 7 ∷ 12 ∷ []) u₀ && waitsFor p (a .message .param))) ≡ ends → p′ ≡ next asks (eqb (a .message .code) 0 && isSilence (a .told)) clears ends
-        next-by asks clears ends ea ec ee = ap₂ (λ (u v : Bool). next u (eqb (a .message .code) 0 && isSilence (a .told)) v (eqb (a .connection) s && (one-of (6 ∷ 7 ∷ 12 ∷ []) u₀ && waitsFor p (a .message .param)))) ea ec
+        next-by asks clears ends ea ec ee = ap₂ (λ (u v : Bool). next u (eqb (a .message .code) 0 && isSilence (a .told)) v
+            (eqb (a .connection) s && (one-of (6 ∷ 7 ∷ 12 ∷ []) u₀ && waitsFor p (a .message .param)))) ea ec
             ∙ ap (λ (u : Bool). next asks (eqb (a .message .code) 0 && isSilence (a .told)) clears u) ee
 
         go : (q w o : Bool) → eqb u₀ 4 ≡ q → eqb u₀ 19 ≡ w → one-of (6 ∷ 7 ∷ 12 ∷ []) u₀ ≡ o
@@ -466,7 +493,8 @@ module _ (c : ℕ) (real : c ≡ noConnection → ⊥) (s : ℕ) (p : Release) (
             ∙ sym (next-by false true (eqb (a .connection) s && (one-of (6 ∷ 7 ∷ 12 ∷ []) u₀ && waitsFor p (a .message .param))) (and-false (eqb (a .connection) c) _ eq) clears refl)
         go false false true eq ew eo =
             let heard : endedWith a (x .standing) ≡ codeWhere (λ n. eqb n (a .message .param)) (x .standing) = heard-by true false eo ew in
-            let ends : (eqb (a .connection) s && (one-of (6 ∷ 7 ∷ 12 ∷ []) u₀ && waitsFor p (a .message .param))) ≡ waitsFor p (a .message .param) = ap₂ (λ (u v : Bool). u && (v && waitsFor p (a .message .param))) (on-s eo) eo in
+            let ends : (eqb (a .connection) s && (one-of (6 ∷ 7 ∷ 12 ∷ []) u₀ && waitsFor p (a .message .param))) ≡ waitsFor p (a .message .param) =
+            ap₂ (λ (u v : Bool). u && (v && waitsFor p (a .message .param))) (on-s eo) eo in
             stood-by false (codeWhere (λ n. eqb n (a .message .param)) (x .standing)) eq heard
             ∙ ended (x .standing)
             ∙ ap (λ (y : Release). cond (waitsFor y (a .message .param)) none-stands y) (known .1)
@@ -474,7 +502,8 @@ module _ (c : ℕ) (real : c ≡ noConnection → ⊥) (s : ℕ) (p : Release) (
         go false false false eq ew eo =
             stood-by false silence eq (heard-by false false eo ew)
             ∙ known .1
-            ∙ sym (next-by false false false (and-false (eqb (a .connection) c) _ eq) (and-false (eqb (a .connection) c) _ ew) (and-false (eqb (a .connection) s) _ (ap (λ (u : Bool). u && waitsFor p (a .message .param)) eo)))
+            ∙ sym (next-by false false false (and-false (eqb (a .connection) c) _ eq) (and-false (eqb (a .connection) c) _ ew)
+            (and-false (eqb (a .connection) s) _ (ap (λ (u : Bool). u && waitsFor p (a .message .param)) eo)))
 
     -- another's message
     others-row : (i : ℕ) → eqb i j₀ ≡ false → live (at E i) ≡ true → (at E i) .asynchronous ≡ c → p ≡ p′
@@ -486,14 +515,16 @@ module _ (c : ℕ) (real : c ≡ noConnection → ⊥) (s : ℕ) (p : Release) (
         not-s : one-of (6 ∷ 7 ∷ 12 ∷ []) u₀ ≡ true → eqb (a .connection) s ≡ true → ⊥
         not-s o x =
             let w = k i alive e in
-            eqb-false _ _ n (v .sound .firm .connections (a .connection) (f .real) i j₀ (on-first (a .connection) i alive (w .0 ∙ sym (eqb-true _ _ x))) (on-first (a .connection) j₀ (f .first-live o) (f .first o)))
+            eqb-false _ _ n (v .sound .firm .connections (a .connection) (f .real) i j₀ (on-first (a .connection) i alive (w .0 ∙ sym (eqb-true _ _ x)))
+            (on-first (a .connection) j₀ (f .first-live o) (f .first o)))
 
         go : (x y z : Bool) → asksLock c a ≡ x → clearsAll c a ≡ y → endsRelease s p a ≡ z → p ≡ p′
         go true y z ex ey ez = absurd (not-c (ap (one-of (4 ∷ 19 ∷ [])) (eqb-true u₀ 4 (and-r (eqb (a .connection) c) _ ex))) (and-l (eqb (a .connection) c) _ ex))
         go false true z ex ey ez = absurd (not-c (ap (one-of (4 ∷ 19 ∷ [])) (eqb-true u₀ 19 (and-r (eqb (a .connection) c) _ ey))) (and-l (eqb (a .connection) c) _ ey))
         go false false true ex ey ez = absurd (not-s (and-l (one-of (6 ∷ 7 ∷ 12 ∷ []) u₀) _ (and-r (eqb (a .connection) s) _ ez)) (and-l (eqb (a .connection) s) _ ez))
         go false false false ex ey ez =
-            sym (ap₂ (λ (x y : Bool). next x (eqb (a .message .code) 0 && isSilence (a .told)) y (endsRelease s p a)) ex ey ∙ ap (λ (z : Bool). next false (eqb (a .message .code) 0 && isSilence (a .told)) false z) ez)
+            sym (ap₂ (λ (x y : Bool). next x (eqb (a .message .code) 0 && isSilence (a .told)) y (endsRelease s p a)) ex ey
+            ∙ ap (λ (z : Bool). next false (eqb (a .message .code) 0 && isSilence (a .told)) false z) ez)
 
     acted-row : (i : ℕ) → Holds p′ (rowed (message-acted a) i)
     acted-row i = go (eqb i j₀) refl
@@ -528,10 +559,12 @@ module _ (c : ℕ) (real : c ≡ noConnection → ⊥) (s : ℕ) (p : Release) (
   row-known (setting-made s) fs f n i = k i
   row-known (answer-sent m x end) fs f n i =
       let b = eqb i (slotOfNumber E m) in
-      built p (at E i) (rowed (answer-sent m x end) i) (same-both b ((at E i) .number)) (same-both b ((at E i) .synchronous)) (same-both b ((at E i) .asynchronous)) (same-both b ((at E i) .standing)) (k i)
+      built p (at E i) (rowed (answer-sent m x end) i) (same-both b ((at E i) .number)) (same-both b ((at E i) .synchronous))
+      (same-both b ((at E i) .asynchronous)) (same-both b ((at E i) .standing)) (k i)
   row-known (answer-withheld m q) fs f n i =
       let b = eqb i (slotOfNumber E m) in
-      built p (at E i) (rowed (answer-withheld m q) i) (same-both b ((at E i) .number)) (same-both b ((at E i) .synchronous)) (same-both b ((at E i) .asynchronous)) (same-both b ((at E i) .standing)) (k i)
+      built p (at E i) (rowed (answer-withheld m q) i) (same-both b ((at E i) .number)) (same-both b ((at E i) .synchronous))
+      (same-both b ((at E i) .asynchronous)) (same-both b ((at E i) .standing)) (k i)
 
   pub known-after : (h : Happening) (r : Result) (l : Local d h r) → Facts d h (r .frames) → takesConnection c h ≡ false → Known c s (releaseAfter c s h p) (r .server .locks .entries)
   known-after h r l f n i = go (ltb i (length E)) refl
@@ -562,7 +595,12 @@ module _ (c : ℕ) (d : Server) (q : Quiet c d) where
   Taken h r = (codesTo c (lockOnly (r .frames)) ≡ []) × (lessAny c h (codesTo c (lockOnly (r .frames))) ≡ []) × (all (away c 0 (r .server .locks .entries)) (r .server .locks .waiting) ≡ true)
 
   acted-joins : (a : Action) (r : Result) → Local d (message-acted a) r → ActedFacts d a (r .frames) → takesConnection c (message-acted a) ≡ true → Taken (message-acted a) r
-  acted-joins a r l f n = (no-codes, any-read c d (message-acted a) r l f (waiting-grants c 0 none-stands d a r l f (rw t) ∙ no-grants), rw waiting-same (free (d .locks .waiting) (q .none) (q .second)))
+  acted-joins a r l f n = (
+    no-codes,
+    any-read c d (message-acted a) r l f (waiting-grants c 0 none-stands d a r l f (rw t) ∙ no-grants),
+    rw waiting-same
+        (free (d .locks .waiting) (q .none) (q .second)),
+  )
     where
       E₀ : List Entry
       E₀ = d .locks .entries
@@ -597,7 +635,9 @@ module _ (c : ℕ) (d : Server) (q : Quiet c d) where
 
           go : (b : Bool) → ltb (w .slot) (length E₀) ≡ b → not (eqb ((at (r .server .locks .entries) (w .slot)) .asynchronous) c) ≡ true
           go true z =
-              ap (λ (i : ℕ). not (eqb i c)) (l .asynchronous (w .slot) (ltb-true _ _ z) ∙ ap (λ (b : Bool). cond b (cond (eqb (kindOf a) 17) (a .connection) (cond (eqb (kindOf a) 0) noConnection ((at E₀ (w .slot)) .asynchronous))) ((at E₀ (w .slot)) .asynchronous)) far)
+              ap (λ (i : ℕ). not (eqb i c)) (l .asynchronous (w .slot) (ltb-true _ _ z)
+              ∙ ap (λ (b : Bool). cond b (cond (eqb (kindOf a) 17) (a .connection)
+              (cond (eqb (kindOf a) 0) noConnection ((at E₀ (w .slot)) .asynchronous))) ((at E₀ (w .slot)) .asynchronous)) far)
               ∙ x
           go false z =
               let out : at E₀ (w .slot) ≡ blank = past E₀ (w .slot) (omega (arith, ltb-false (w .slot) (length E₀) z)) in
@@ -634,7 +674,8 @@ module _ (c : ℕ) (real : c ≡ noConnection → ⊥) (e : Event) (d : Server) 
   next-quiet : all (away c 0 ((step d e) .server .locks .entries)) ((step d e) .server .locks .waiting) ≡ true → Quiet c ((step d e) .server)
   next-quiet a = record { inv = inv-call d e (q .inv); sized = sized-call d e (q .sized); none = a; second = second-call d e (q .inv) (q .sized) (q .second) }
 
-  still-quiet : beginsToWait c now ((step d e) .frames) ≡ false → (b : Bool) → takesConnection c now ≡ b → (lessAny c now (codesTo c (lockOnly ((step d e) .frames))) ≡ []) × Quiet c ((step d e) .server)
+  still-quiet : beginsToWait c now ((step d e) .frames) ≡ false → (b : Bool) → takesConnection c now ≡ b →
+      (lessAny c now (codesTo c (lockOnly ((step d e) .frames))) ≡ []) × Quiet c ((step d e) .server)
   still-quiet w true j = let x = joins-at c d q now (step d e) here known-of j in (x .1, next-quiet (x .2))
   still-quiet w false j =
       let x = quiet-at c real d q now (step d e) here known-of (inv-call d e (q .inv)) w j in
@@ -645,7 +686,8 @@ unfolding log
 none-list c real [] d q = NoneWaits.last
 none-list c real (e ∷ es) d q = go (beginsToWait c (atCall d e) ((step d e) .frames)) refl (λ z. none-list c real es ((step d e) .server) z)
   where
-    go : (b : Bool) → beginsToWait c (atCall d e) ((step d e) .frames) ≡ b → (Quiet c ((step d e) .server) → NoneWaits c (log ((step d e) .server) es)) → NoneWaits c (record { event = e; reply = (step d e) .reply; frames = (step d e) .frames } ∷ log ((step d e) .server) es)
+    go : (b : Bool) → beginsToWait c (atCall d e) ((step d e) .frames) ≡ b → (Quiet c ((step d e) .server) → NoneWaits c (log ((step d e) .server) es)) →
+        NoneWaits c (record { event = e; reply = (step d e) .reply; frames = (step d e) .frames } ∷ log ((step d e) .server) es)
     go true w rest = NoneWaits.own-request _ _ w
     go false w rest = let x = still-quiet c real e d q w (takesConnection c (atCall d e)) refl in NoneWaits.still _ _ (x .0) (rest (x .1))
 
@@ -663,7 +705,9 @@ quiet-list c real s p (e ∷ es) d q k = go (beginsToWait c h₀ ((step d e) .fr
     f₀ : Facts d h₀ ((step d e) .frames)
     f₀ = facts d (q .inv) (q .sized) e ((step d e) .reply) refl
 
-    go : (b j : Bool) → beginsToWait c h₀ ((step d e) .frames) ≡ b → takesConnection c h₀ ≡ j → (Quiet c ((step d e) .server) → Known c s (releaseAfter c s h₀ p) ((step d e) .server .locks .entries) → NoMore c s (releaseAfter c s h₀ p) (log ((step d e) .server) es))
+    go : (b j : Bool) → beginsToWait c h₀ ((step d e) .frames) ≡ b → takesConnection c h₀ ≡ j →
+        (Quiet c ((step d e) .server) → Known c s (releaseAfter c s h₀ p) ((step d e) .server .locks .entries) →
+        NoMore c s (releaseAfter c s h₀ p) (log ((step d e) .server) es))
         → NoMore c s p (record { event = e; reply = (step d e) .reply; frames = (step d e) .frames } ∷ log ((step d e) .server) es)
     go true j w n rest = NoMore.anew p _ _ w
     go false true w n rest =

@@ -124,7 +124,8 @@ module _ (l : Locks) (v : Inv l) (j : ℕ) (aw : awaitsExclusive l j ≡ true) (
   other-spare i q u n = both _ _ (ap not (ne-eqb ((at (l .entries) i) .asynchronous) x (λ e. n (sole i u e)))) refl
 
   -- the event itself sends it no answer 1
-  ask-spare : (i t : ℕ) (k : List ℕ) (h a s m z : Bool) → all (elsewhere i) (l .waiting) ≡ a → live (at (l .entries) i) ≡ true → all (spare x) ((Locks.respond (Locks.ruling h a s m z) l i t k) .answers) ≡ true
+  ask-spare : (i t : ℕ) (k : List ℕ) (h a s m z : Bool) → all (elsewhere i) (l .waiting) ≡ a → live (at (l .entries) i) ≡ true →
+      all (spare x) ((Locks.respond (Locks.ruling h a s m z) l i t k) .answers) ≡ true
   ask-spare i t k true a s m z ea u = refl
   ask-spare i t k false false s m z ea u = refl
   ask-spare i t k false true true m z ea u = refl
@@ -141,7 +142,8 @@ module _ (l : Locks) (v : Inv l) (j : ℕ) (aw : awaitsExclusive l j ≡ true) (
   free-spare i n false false false false ee u = refl
   free-spare i n false false true b ee u = refl
 
-  complete-spare : (ws : List Waiting) (i n : ℕ) (u : Locks.Due) → Owed u (at (l .entries) i) → live (at (l .entries) i) ≡ true → all (spare x) ((Locks.completed u (Locks.withWaiting l ws) i n) .answers) ≡ true
+  complete-spare : (ws : List Waiting) (i n : ℕ) (u : Locks.Due) → Owed u (at (l .entries) i) → live (at (l .entries) i) ≡ true →
+      all (spare x) ((Locks.completed u (Locks.withWaiting l ws) i n) .answers) ≡ true
   complete-spare ws i n Locks.not-due o u = refl
   complete-spare ws i n (Locks.due-now exclusive-lock) o u = other-spare i false u (λ q. true≢false (sym o ∙ ap (λ z. (at (l .entries) z) .exclusive) q ∙ lacks))
   complete-spare ws i n (Locks.due-now shared-lock) o u = refl
@@ -163,12 +165,16 @@ module _ (l : Locks) (v : Inv l) (j : ℕ) (aw : awaitsExclusive l j ≡ true) (
   change-spare Locks.nothing f = refl
   change-spare (Locks.enter i n c) f = refl
   change-spare (Locks.join i c) f = refl
-  change-spare (Locks.request i t k) f = ask-spare i t k (holds k (at (l .entries) i)) (all (elsewhere i) (l .waiting)) (Locks.invalidBy k (at (l .entries) i)) (mayGrant (l .entries) i k) (eqb t 0 || noPlace (l .waiting)) refl f
-  change-spare (Locks.release i n) f = free-spare i n (Locks.stands ((at (l .entries) i) .standing)) ((at (l .entries) i) .exclusive) (noShared (at (l .entries) i)) (eqb ((at (l .entries) i) .last) n) refl f
-  change-spare (Locks.command i n) f = complete-spare (l .waiting) i n (Locks.dueAt n ((at (l .entries) i) .standing)) (owed-at n ((at (l .entries) i) .standing) (at (l .entries) i) (backed-at (l .entries) i (v .sound .firm))) f
+  change-spare (Locks.request i t k) f = ask-spare i t k (holds k (at (l .entries) i)) (all (elsewhere i) (l .waiting)) (Locks.invalidBy k (at (l .entries) i))
+      (mayGrant (l .entries) i k) (eqb t 0 || noPlace (l .waiting)) refl f
+  change-spare (Locks.release i n) f = free-spare i n (Locks.stands ((at (l .entries) i) .standing)) ((at (l .entries) i) .exclusive)
+      (noShared (at (l .entries) i)) (eqb ((at (l .entries) i) .last) n) refl f
+  change-spare (Locks.command i n) f = complete-spare (l .waiting) i n (Locks.dueAt n ((at (l .entries) i) .standing))
+      (owed-at n ((at (l .entries) i) .standing) (at (l .entries) i) (backed-at (l .entries) i (v .sound .firm))) f
   change-spare (Locks.clear i) f =
       both-spare (refuse (l .entries) (elsewhere i) (l .waiting)) _ (refuse-spare (elsewhere i) (l .waiting))
-      (complete-spare (keep (elsewhere i) (l .waiting)) i beforeFirst (Locks.dueAny ((at (l .entries) i) .standing)) (owed-any ((at (l .entries) i) .standing) (at (l .entries) i) (backed-at (l .entries) i (v .sound .firm))) f)
+      (complete-spare (keep (elsewhere i) (l .waiting)) i beforeFirst (Locks.dueAny ((at (l .entries) i) .standing))
+      (owed-any ((at (l .entries) i) .standing) (at (l .entries) i) (backed-at (l .entries) i (v .sound .firm))) f)
   change-spare (Locks.close i) f = refl
   change-spare (Locks.reading t) f = refuse-spare (unexpired t) (l .waiting)
 
@@ -179,7 +185,8 @@ module _ (l : Locks) (v : Inv l) (j : ℕ) (aw : awaitsExclusive l j ≡ true) (
   abbrev Unmoved : List Entry → Waiting → Type 0
   Unmoved es₁ w = ((at es₁ (w .slot)) .asynchronous ≡ (at (l .entries) (w .slot)) .asynchronous) × ((at es₁ (w .slot)) .number ≡ (at (l .entries) (w .slot)) .number)
 
-  granted-got : (now : ℕ) (es₁ es′ : List Entry) (gs : List Waiting) → Each (λ w. at es′ (w .slot) ≡ giveAt now (w .string) (at es₁ (w .slot))) gs → Each (λ w. live (at (l .entries) (w .slot)) ≡ true) gs
+  granted-got : (now : ℕ) (es₁ es′ : List Entry) (gs : List Waiting) → Each (λ w. at es′ (w .slot) ≡ giveAt now (w .string) (at es₁ (w .slot))) gs →
+      Each (λ w. live (at (l .entries) (w .slot)) ≡ true) gs
       → Each (Unmoved es₁) gs → all mine gs ≡ true → all (spare x) (map (told es₁) gs) ≡ false → Got es′
   granted-got now es₁ es′ [] g u m a n = absurd (true≢false n)
   granted-got now es₁ es′ (w ∷ gs) g u m a n = go (eqb ((at es₁ (w .slot)) .asynchronous) x) refl n (granted-got now es₁ es′ gs (g .1) (u .1) (m .1) (and-r (mine w) _ a))
@@ -198,13 +205,20 @@ module _ (l : Locks) (v : Inv l) (j : ℕ) (aw : awaitsExclusive l j ≡ true) (
       → all (spare x) ((passOver now ws₁ es₁) .answers) ≡ false → Got ((passOver now ws₁ es₁) .entries)
   pass-got now es₁ ws₁ g u m a n =
       let f = pass-looks now ws₁ es₁ in
-      granted-got now es₁ ((passOver now ws₁ es₁) .entries) (f .grants) (looked-get (f .looked) g) (looked-each (λ w. live (at (l .entries) (w .slot)) ≡ true) (f .looked) u) (looked-each (Unmoved es₁) (f .looked) m) ((looked-both mine (f .looked) a) .1) (ap (all (spare x)) (sym (f .answers)) ∙ n)
+      granted-got now es₁ ((passOver now ws₁ es₁) .entries) (f .grants) (looked-get (f .looked) g)
+      (looked-each (λ w. live (at (l .entries) (w .slot)) ≡ true) (f .looked) u) (looked-each (Unmoved es₁) (f .looked) m)
+      ((looked-both mine (f .looked) a) .1) (ap (all (spare x)) (sym (f .answers)) ∙ n)
 
   kept-who : (i : ℕ) (y : Entry) → y .asynchronous ≡ (at (l .entries) i) .asynchronous → y .number ≡ (at (l .entries) i) .number → (w : Waiting) → Unmoved (set (l .entries) i y) w
   kept-who i y ea en w = go (at-set (l .entries) i y (w .slot))
     where
       go : ((w .slot ≡ i) × (at (set (l .entries) i y) (w .slot) ≡ y)) ⊎ (at (set (l .entries) i y) (w .slot) ≡ at (l .entries) (w .slot)) → Unmoved (set (l .entries) i y) w
-      go (inl q) = (ap (λ (z : Entry). z .asynchronous) (q .1) ∙ ea ∙ ap (λ z. (at (l .entries) z) .asynchronous) (sym (q .0)), ap (λ (z : Entry). z .number) (q .1) ∙ en ∙ ap (λ z. (at (l .entries) z) .number) (sym (q .0)))
+      go (inl q) = (
+        ap (λ (z : Entry). z .asynchronous) (q .1) ∙ ea
+            ∙ ap (λ z. (at (l .entries) z) .asynchronous) (sym (q .0)),
+        ap (λ (z : Entry). z .number) (q .1) ∙ en
+            ∙ ap (λ z. (at (l .entries) z) .number) (sym (q .0)),
+      )
       go (inr q) = (ap (λ (z : Entry). z .asynchronous) q, ap (λ (z : Entry). z .number) q)
 
   always : (ws : List Waiting) → all (λ w. true) ws ≡ true
@@ -217,9 +231,12 @@ module _ (l : Locks) (v : Inv l) (j : ℕ) (aw : awaitsExclusive l j ≡ true) (
   unfolding grantPass
   stores-got ws i r s g₀ g a n =
       rw (s .locks)
-      (pass-got (l .clock) (set (l .entries) i (s .entry)) ws (rw (s .locks) at g) (good-live (l .entries) ws g₀) (each-all (Unmoved (set (l .entries) i (s .entry))) (λ w. true) ws (always ws) (λ w t. kept-who i (s .entry) (s .lesser .asynchronous) (s .lesser .number) w)) a (rw (s .locks) at n))
+      (pass-got (l .clock) (set (l .entries) i (s .entry)) ws (rw (s .locks) at g) (good-live (l .entries) ws g₀)
+      (each-all (Unmoved (set (l .entries) i (s .entry))) (λ w. true) ws (always ws)
+      (λ w t. kept-who i (s .entry) (s .lesser .asynchronous) (s .lesser .number) w)) a (rw (s .locks) at n))
 
-  settled-got : (b : Bool) (ws : List Waiting) (i : ℕ) (r : Locks.LockResult) → Stores (Locks.withWaiting l ws) i r → Good (l .entries) ws → Good (r .locks .entries) (r .locks .waiting) → all mine ws ≡ true
+  settled-got : (b : Bool) (ws : List Waiting) (i : ℕ) (r : Locks.LockResult) → Stores (Locks.withWaiting l ws) i r → Good (l .entries) ws →
+      Good (r .locks .entries) (r .locks .waiting) → all mine ws ≡ true
       → all (spare x) ((settle b (r .locks)) .answers) ≡ false → Got ((settle b (r .locks)) .locks .entries)
   settled-got true ws i r s g₀ g a n = stores-got ws i r s g₀ g a n
   settled-got false ws i r s g₀ g a n = absurd (true≢false n)
@@ -230,17 +247,23 @@ module _ (l : Locks) (v : Inv l) (j : ℕ) (aw : awaitsExclusive l j ≡ true) (
   event-got (Locks.enter i m c) f n = absurd (true≢false n)
   event-got (Locks.join i c) f n = absurd (true≢false n)
   event-got (Locks.request i t k) f n = absurd (true≢false n)
-  event-got (Locks.release i m) f n = settled-got (frees l (LockEvent.release i m)) (l .waiting) i _ (release-stores l i m (v .sound .firm)) (v .sound .good) ((change-sound l (v .sound .good) (v .sound .firm) (LockEvent.release i m) f) .good) (have .1) n
-  event-got (Locks.command i m) f n = settled-got (frees l (LockEvent.command i m)) (l .waiting) i _ (complete-stores l i m (v .sound .firm) (Locks.dueAt m ((at (l .entries) i) .standing))) (v .sound .good) ((change-sound l (v .sound .good) (v .sound .firm) (LockEvent.command i m) f) .good) (have .1) n
+  event-got (Locks.release i m) f n = settled-got (frees l (LockEvent.release i m)) (l .waiting) i _ (release-stores l i m (v .sound .firm)) (v .sound .good)
+      ((change-sound l (v .sound .good) (v .sound .firm) (LockEvent.release i m) f) .good) (have .1) n
+  event-got (Locks.command i m) f n = settled-got (frees l (LockEvent.command i m)) (l .waiting) i _
+      (complete-stores l i m (v .sound .firm) (Locks.dueAt m ((at (l .entries) i) .standing))) (v .sound .good)
+      ((change-sound l (v .sound .good) (v .sound .firm) (LockEvent.command i m) f) .good) (have .1) n
   event-got (Locks.clear i) f n =
       let ks = keep (elsewhere i) (l .waiting) in
-      settled-got (frees l (LockEvent.clear i)) ks i _ (complete-stores (Locks.withWaiting l ks) i beforeFirst (v .sound .firm) (Locks.dueAny ((at (l .entries) i) .standing))) (good-keep (l .entries) (elsewhere i) (l .waiting) (v .sound .good))
+      settled-got (frees l (LockEvent.clear i)) ks i _ (complete-stores (Locks.withWaiting l ks) i beforeFirst (v .sound .firm)
+      (Locks.dueAny ((at (l .entries) i) .standing))) (good-keep (l .entries) (elsewhere i) (l .waiting) (v .sound .good))
       ((change-sound l (v .sound .good) (v .sound .firm) (LockEvent.clear i) f) .good) (all-keep mine (elsewhere i) (l .waiting) (have .1)) n
   event-got (Locks.close i) f n =
       let ks = keep (elsewhere i) (l .waiting) in
       pass-got (l .clock) (set (l .entries) i blank) ks ((change-sound l (v .sound .good) (v .sound .firm) (LockEvent.close i) tt) .good)
       (good-live (l .entries) ks (good-keep (l .entries) (elsewhere i) (l .waiting) (v .sound .good)))
-      (each-all (Unmoved (set (l .entries) i blank)) (elsewhere i) ks (all-kept (elsewhere i) (l .waiting)) (λ w a. let q = getD-set-other (l .entries) i (w .slot) blank blank (apart i w a) in (ap (λ (z : Entry). z .asynchronous) q, ap (λ (z : Entry). z .number) q)))
+      (each-all (Unmoved (set (l .entries) i blank)) (elsewhere i) ks (all-kept (elsewhere i) (l .waiting))
+      (λ w a. let q = getD-set-other (l .entries) i (w .slot) blank blank (apart i w a) in
+      (ap (λ (z : Entry). z .asynchronous) q, ap (λ (z : Entry). z .number) q)))
       (all-keep mine (elsewhere i) (l .waiting) (have .1))
       n
   event-got (Locks.reading t) f n = absurd (true≢false n)
@@ -262,17 +285,21 @@ later-holds d v j e aw real a = go (refusal d e) refl a
         let c = change (d .locks) ev in
         let s = settle (frees (d .locks) ev) (c .locks) in
         let none : (all (spare y) (c .answers) && all (spare y) (s .answers)) ≡ false =
-        sym (ap₂ _&&_ (all-answers y (c .answers)) (all-answers y (s .answers))) ∙ sym (all-append (free y) (map lockFrame (c .answers)) (map lockFrame (s .answers))) ∙ ap (all (free y)) (sym (frames-locks d e (c .answers) (s .answers)))
+        sym (ap₂ _&&_ (all-answers y (c .answers)) (all-answers y (s .answers)))
+        ∙ sym (all-append (free y) (map lockFrame (c .answers)) (map lockFrame (s .answers)))
+        ∙ ap (all (free y)) (sym (frames-locks d e (c .answers) (s .answers)))
         ∙ sym (all-locks y ((plan d e) .first ++ (map lockFrame (c .answers) ++ ((plan d e) .said ++ map lockFrame (s .answers))))) ∙ not-of _ a in
         let r = event-got (d .locks) v j aw real ev f (ap (λ (b : Bool). b && all (spare y) (s .answers)) (sym (change-spare (d .locks) v j aw real ev f)) ∙ none) in
         record { number = r .0; exclusive = r .1 }
 
 -- at once
-ask-yes : (l : Locks) (i t : ℕ) (k : List ℕ) → any answers1 (map lockFrame ((change l (LockEvent.request i t k)) .answers)) ≡ true → (change l (LockEvent.request i t k)) .locks .entries ≡ grant (l .clock) (l .entries) i k
+ask-yes : (l : Locks) (i t : ℕ) (k : List ℕ) → any answers1 (map lockFrame ((change l (LockEvent.request i t k)) .answers)) ≡ true →
+    (change l (LockEvent.request i t k)) .locks .entries ≡ grant (l .clock) (l .entries) i k
 unfolding change
 ask-yes l i t k a = go (holds k (at (l .entries) i)) (all (elsewhere i) (l .waiting)) (Locks.invalidBy k (at (l .entries) i)) (mayGrant (l .entries) i k) (eqb t 0 || noPlace (l .waiting)) a
   where
-    go : (h a s m z : Bool) → any answers1 (map lockFrame ((Locks.respond (Locks.ruling h a s m z) l i t k) .answers)) ≡ true → (Locks.respond (Locks.ruling h a s m z) l i t k) .locks .entries ≡ grant (l .clock) (l .entries) i k
+    go : (h a s m z : Bool) → any answers1 (map lockFrame ((Locks.respond (Locks.ruling h a s m z) l i t k) .answers)) ≡ true →
+        (Locks.respond (Locks.ruling h a s m z) l i t k) .locks .entries ≡ grant (l .clock) (l .entries) i k
     go true a s m z q = absurd (false≢true q)
     go false false s m z q = absurd (false≢true q)
     go false true true m z q = absurd (false≢true q)

@@ -87,13 +87,15 @@ ask-length Locks.granted l i t k = omega arith
 ask-length Locks.denied l i t k = omega arith
 ask-length Locks.queued l i t k = omega arith
 
-release-length : (u : Locks.Releasing) (l : Locks) (i n : ℕ) → length ((Locks.released u l i n) .answers) + length ((settle (Locks.freesNow u) ((Locks.released u l i n) .locks)) .answers) ≤ length (l .waiting) + 1
+release-length : (u : Locks.Releasing) (l : Locks) (i n : ℕ) →
+    length ((Locks.released u l i n) .answers) + length ((settle (Locks.freesNow u) ((Locks.released u l i n) .locks)) .answers) ≤ length (l .waiting) + 1
 unfolding grantPass
 release-length Locks.r-invalid l i n = omega arith
 release-length (Locks.r-now k) l i n = omega (arith, pass-length (l .clock) (l .waiting) ((Locks.released (Locks.r-now k) l i n) .locks .entries))
 release-length (Locks.r-stands k) l i n = omega arith
 
-complete-length : (u : Locks.Due) (l : Locks) (i n : ℕ) → length ((Locks.completed u l i n) .answers) + length ((settle (Locks.isDue u) ((Locks.completed u l i n) .locks)) .answers) ≤ length (l .waiting) + 1
+complete-length : (u : Locks.Due) (l : Locks) (i n : ℕ) →
+    length ((Locks.completed u l i n) .answers) + length ((settle (Locks.isDue u) ((Locks.completed u l i n) .locks)) .answers) ≤ length (l .waiting) + 1
 unfolding grantPass
 complete-length Locks.not-due l i n = omega arith
 complete-length (Locks.due-now k) l i n = omega (arith, pass-length (l .clock) (l .waiting) ((Locks.completed (Locks.due-now k) l i n) .locks .entries))
@@ -104,13 +106,18 @@ answers-bound l Locks.nothing = omega arith
 answers-bound l (Locks.enter i n c) = omega arith
 answers-bound l (Locks.join i c) = omega arith
 answers-bound l (Locks.request i t k) =
-    omega (arith, ask-length (Locks.ruling (holds k (at (l .entries) i)) (all (elsewhere i) (l .waiting)) (Locks.invalidBy k (at (l .entries) i)) (mayGrant (l .entries) i k) (eqb t 0 || noPlace (l .waiting))) l i t k)
+    omega (
+      arith,
+      ask-length (Locks.ruling (holds k (at (l .entries) i)) (all (elsewhere i) (l .waiting)) (Locks.invalidBy k (at (l .entries) i))
+          (mayGrant (l .entries) i k) (eqb t 0 || noPlace (l .waiting))) l i t k,
+    )
 answers-bound l (Locks.release i n) = release-length (Locks.releasingOf (at (l .entries) i) n) l i n
 answers-bound l (Locks.command i n) = complete-length (Locks.dueAt n ((at (l .entries) i) .standing)) l i n
 answers-bound l (Locks.clear i) =
     let u = Locks.dueAny ((at (l .entries) i) .standing) in
     let l′ = Locks.withWaiting l (keep (elsewhere i) (l .waiting)) in
-    simp (length-append (refuse (l .entries) (elsewhere i) (l .waiting)) ((Locks.completed u l′ i beforeFirst) .answers)) (omega (arith, refuse-rest (l .entries) (elsewhere i) (l .waiting), complete-length u l′ i beforeFirst))
+    simp (length-append (refuse (l .entries) (elsewhere i) (l .waiting)) ((Locks.completed u l′ i beforeFirst) .answers))
+    (omega (arith, refuse-rest (l .entries) (elsewhere i) (l .waiting), complete-length u l′ i beforeFirst))
 answers-bound l (Locks.close i) = omega (arith, pass-length (l .clock) (keep (elsewhere i) (l .waiting)) (set (l .entries) i blank), keep-length (elsewhere i) (l .waiting))
 answers-bound l (Locks.reading t) = omega (arith, refuse-length (l .entries) (unexpired t) (l .waiting))
 

@@ -28,7 +28,8 @@ use Rattle.model.specs.Standing.{isAnswerTo}
 use Rattle.claims.proofs.Scanning.{whole-scan}
 
 -- the type of a lock message
-lock-kind : (a b c e f : Bool) → cond a Acts.k-lock (cond b Acts.k-remoteLocal (cond c Acts.k-maximumSize (cond e Acts.k-deviceClear (cond f Acts.k-statusQuery Acts.k-lockInfo)))) ≡ Acts.k-lock → a ≡ true
+lock-kind : (a b c e f : Bool) → cond a Acts.k-lock (cond b Acts.k-remoteLocal
+    (cond c Acts.k-maximumSize (cond e Acts.k-deviceClear (cond f Acts.k-statusQuery Acts.k-lockInfo)))) ≡ Acts.k-lock → a ≡ true
 lock-kind true b c e f q = refl
 lock-kind false true c e f q = cc
 lock-kind false false true e f q = cc
@@ -39,7 +40,8 @@ lock-kind false false false false false q = cc
 is-lock : (t : ℕ) → Acts.asynchronousKind t ≡ Acts.k-lock → t ≡ 4
 is-lock t q = eqb-true t 4 (lock-kind (eqb t 4) (eqb t 10) (eqb t 15) (eqb t 19) (eqb t 21) q)
 
-clear-kind : (a b c e f : Bool) → cond a Acts.k-lock (cond b Acts.k-remoteLocal (cond c Acts.k-maximumSize (cond e Acts.k-deviceClear (cond f Acts.k-statusQuery Acts.k-lockInfo)))) ≡ Acts.k-deviceClear → e ≡ true
+clear-kind : (a b c e f : Bool) → cond a Acts.k-lock (cond b Acts.k-remoteLocal
+    (cond c Acts.k-maximumSize (cond e Acts.k-deviceClear (cond f Acts.k-statusQuery Acts.k-lockInfo)))) ≡ Acts.k-deviceClear → e ≡ true
 clear-kind true b c e f q = cc
 clear-kind false true c e f q = cc
 clear-kind false false true e f q = cc
@@ -100,7 +102,8 @@ sent-answer n x gs xs a fs et ec = ap not (behind gs)
     behind [] = none xs
     behind (g ∷ gs) = rw (behind gs) (and-false (not (isAnswerTo n x g)))
 
-pub acted-sends : {d : Server} {c : ℕ} {bs : List ℕ} {room : ℕ} {x : LockEvent} → Acted d c bs room x → (n y : ℕ) (xs : List Answer) (a : Answer) → (change (d .locks) x) .answers ≡ xs ++ a ∷ [] → a .to ≡ y → a .code ≡ n
+pub acted-sends : {d : Server} {c : ℕ} {bs : List ℕ} {room : ℕ} {x : LockEvent} → Acted d c bs room x → (n y : ℕ) (xs : List Answer) (a : Answer) →
+    (change (d .locks) x) .answers ≡ xs ++ a ∷ [] → a .to ≡ y → a .code ≡ n
     → any (isAnswerTo n y) ((step d (delivery c bs room)) .frames) ≡ true
 unfolding finish
 acted-sends {d = d} {x = x} m n y xs a q et ec =
@@ -112,9 +115,12 @@ module _
     (d : Server)
     (Q : Event → LockEvent → Type 0)
     (mild : (e : Event) (x : LockEvent) → Mild x → Q e x)
-    (on-release : (c : ℕ) (bs : List ℕ) (room : ℕ) (h : Header) → header bs ≡ h → h .kind ≡ AsyncLock → eqb (h .code) 0 ≡ true → Acted d c bs room (LockEvent.release (slotOf d c) (h .param)) → Q (delivery c bs room) (LockEvent.release (slotOf d c) (h .param)))
-    (on-command : (c : ℕ) (bs : List ℕ) (room : ℕ) (h : Header) → header bs ≡ h → one-of commands (h .kind) ≡ true → Acted d c bs room (LockEvent.command (slotOf d c) (h .param)) → Q (delivery c bs room) (LockEvent.command (slotOf d c) (h .param)))
-    (on-clear : (c : ℕ) (bs : List ℕ) (room : ℕ) (h : Header) → header bs ≡ h → eqb (h .kind) AsyncDeviceClear ≡ true → Acted d c bs room (LockEvent.clear (slotOf d c)) → Q (delivery c bs room) (LockEvent.clear (slotOf d c)))
+    (on-release : (c : ℕ) (bs : List ℕ) (room : ℕ) (h : Header) → header bs ≡ h → h .kind ≡ AsyncLock → eqb (h .code) 0 ≡ true →
+    Acted d c bs room (LockEvent.release (slotOf d c) (h .param)) → Q (delivery c bs room) (LockEvent.release (slotOf d c) (h .param)))
+    (on-command : (c : ℕ) (bs : List ℕ) (room : ℕ) (h : Header) → header bs ≡ h → one-of commands (h .kind) ≡ true →
+    Acted d c bs room (LockEvent.command (slotOf d c) (h .param)) → Q (delivery c bs room) (LockEvent.command (slotOf d c) (h .param)))
+    (on-clear : (c : ℕ) (bs : List ℕ) (room : ℕ) (h : Header) → header bs ≡ h → eqb (h .kind) AsyncDeviceClear ≡ true →
+    Acted d c bs room (LockEvent.clear (slotOf d c)) → Q (delivery c bs room) (LockEvent.clear (slotOf d c)))
     (on-closing : (e : Event) (c : ℕ) → Closes d e c → Q e (LockEvent.close (slotOf d c)))
   where
     opens-cause : (b : Bool) (c : ℕ) (h : Header) (e : Event) → Q e ((Acts.opens b d c h) .event)
@@ -125,11 +131,13 @@ module _
       abbrev e₀ : Event
       e₀ = delivery c bs room
 
-      lock-cause : (b : Bool) (h : Header) (p : List ℕ) → eqb (h .code) 0 ≡ b → header bs ≡ h → h .kind ≡ AsyncLock → Acted d c bs room (Acts.lockEvent b (slotOf d c) h p) → Q e₀ (Acts.lockEvent b (slotOf d c) h p)
+      lock-cause : (b : Bool) (h : Header) (p : List ℕ) → eqb (h .code) 0 ≡ b → header bs ≡ h → h .kind ≡ AsyncLock →
+          Acted d c bs room (Acts.lockEvent b (slotOf d c) h p) → Q e₀ (Acts.lockEvent b (slotOf d c) h p)
       lock-cause false h p eb eh t a = mild e₀ _ tt
       lock-cause true h p eb eh t a = on-release c bs room h eh t eb a
 
-      async-cause : (k : Acts.AsynchronousKind) (h : Header) (p : List ℕ) → Acts.asynchronousKind (h .kind) ≡ k → header bs ≡ h → Acted d c bs room (Acts.asynchronousEvent k (slotOf d c) h p) → Q e₀ (Acts.asynchronousEvent k (slotOf d c) h p)
+      async-cause : (k : Acts.AsynchronousKind) (h : Header) (p : List ℕ) → Acts.asynchronousKind (h .kind) ≡ k → header bs ≡ h →
+          Acted d c bs room (Acts.asynchronousEvent k (slotOf d c) h p) → Q e₀ (Acts.asynchronousEvent k (slotOf d c) h p)
       unfolding Acts.asynchronousEvent
       async-cause Acts.k-lock h p ek eh a = lock-cause (eqb (h .code) 0) h p refl eh (is-lock (h .kind) ek) a
       async-cause Acts.k-remoteLocal h p ek eh a = mild e₀ _ tt
@@ -138,7 +146,8 @@ module _
       async-cause Acts.k-statusQuery h p ek eh a = mild e₀ _ tt
       async-cause Acts.k-lockInfo h p ek eh a = mild e₀ _ tt
 
-      sync-cause : (k : Acts.SynchronousKind) (h : Header) → Acts.synchronousKind (h .kind) ≡ k → header bs ≡ h → Acted d c bs room (Acts.synchronousEvent k (slotOf d c) h) → Q e₀ (Acts.synchronousEvent k (slotOf d c) h)
+      sync-cause : (k : Acts.SynchronousKind) (h : Header) → Acts.synchronousKind (h .kind) ≡ k → header bs ≡ h →
+          Acted d c bs room (Acts.synchronousEvent k (slotOf d c) h) → Q e₀ (Acts.synchronousEvent k (slotOf d c) h)
       sync-cause Acts.k-data h ek eh a = on-command c bs room h eh (is-command (h .kind) (λ q. let z : _≡_ {A = ℕ} 0 1 = cc in omega arith)) a
       sync-cause Acts.k-dataEnd h ek eh a = on-command c bs room h eh (is-command (h .kind) (λ q. let z : _≡_ {A = ℕ} 0 1 = cc in omega arith)) a
       sync-cause Acts.k-trigger h ek eh a = on-command c bs room h eh (is-command (h .kind) (λ q. let z : _≡_ {A = ℕ} 0 1 = cc in omega arith)) a
@@ -151,7 +160,8 @@ module _
       acts-cause r-synchronous h p eh q = sync-cause (Acts.synchronousKind (h .kind)) h refl eh (record { rest = _; first = _; said = _; taken = _; number = _; does = q })
       acts-cause r-asynchronous h p eh q = async-cause (Acts.asynchronousKind (h .kind)) h p refl eh (record { rest = _; first = _; said = _; taken = _; number = _; does = q })
 
-      effect-cause : (v : Verdict) (s : Scan) (r : Role) → scan ((connectionAt (d .rest) c) .remainder) bs ≡ s → step d e₀ ≡ finish d (effect v s r d (slotOf d c) c) → Q e₀ ((effect v s r d (slotOf d c) c) .event)
+      effect-cause : (v : Verdict) (s : Scan) (r : Role) → scan ((connectionAt (d .rest) c) .remainder) bs ≡ s →
+          step d e₀ ≡ finish d (effect v s r d (slotOf d c) c) → Q e₀ ((effect v s r d (slotOf d c) c) .event)
       unfolding effect finish
       effect-cause v-more s r es q = mild e₀ _ tt
       effect-cause v-held s r es q = mild e₀ _ tt

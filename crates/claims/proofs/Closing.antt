@@ -19,7 +19,8 @@ use Rattle.model.specs.Acts
 use Rattle.model.specs.Refusals.{refusal}
 use Rattle.model.specs.Step.{plan, answered, finish, step, lockFrame}
 use Rattle.model.specs.Agreement.{isLock}
-use Rattle.model.specs.Closing.{Closes, Closes.by-cut, Closes.by-delivery, OldestFirst, OldestFirst.pass-end, OldestFirst.pass-grant, OldestFirst.pass-wait, Keeps, Each, grantFrame, Closed, EachCloses, Closings}
+use Rattle.model.specs.Closing.{Closes, Closes.by-cut, Closes.by-delivery, OldestFirst, OldestFirst.pass-end, OldestFirst.pass-grant, OldestFirst.pass-wait}
+use Rattle.model.specs.Closing.{Keeps, Each, grantFrame, Closed, EachCloses, Closings}
 use Rattle.model.proofs.Basics.{and-l, and-r, both, or-r, not-not, apart, inside, at-set, all-kept}
 use Rattle.claims.proofs.Invariant.{Inv, Good, Sound, good-apart, good-keep, pass-after, pass-still}
 use Rattle.claims.proofs.GrantingRule.{ready, nil→}
@@ -37,7 +38,13 @@ give-keeps now (x ∷ k) e r =
 
 keeps-same : (e e′ : Entry) → e′ ≡ e → Keeps e e′
 keeps-same e e′ q =
-    record { same-number = ap (λ (x : Entry). x .number) q; same-synchronous = ap (λ (x : Entry). x .synchronous) q; same-asynchronous = ap (λ (x : Entry). x .asynchronous) q; exclusive = λ h. ap (λ (x : Entry). x .exclusive) q ∙ h; shared = λ n. ap (λ (x : Entry). x .shared) q }
+    record {
+      same-number = ap (λ (x : Entry). x .number) q;
+      same-synchronous = ap (λ (x : Entry). x .synchronous) q;
+      same-asynchronous = ap (λ (x : Entry). x .asynchronous) q;
+      exclusive = λ h. ap (λ (x : Entry). x .exclusive) q ∙ h;
+      shared = λ n. ap (λ (x : Entry). x .shared) q;
+    }
 
 keeps-on : (e f g : Entry) → Keeps e f → Keeps f g → Keeps e g
 keeps-on e f g a b =
@@ -121,7 +128,8 @@ told-same es es′ h (w ∷ ws) = ap₂ (λ (c : ℕ) (l : List Answer). record 
 grant-async : (now : ℕ) (es : List Entry) (i : ℕ) (k : List ℕ) (j : ℕ) → (at (grant now es i k) j) .asynchronous ≡ (at es j) .asynchronous
 grant-async now es i k j = go (at-set es i (giveAt now k (at es i)) j)
   where
-    go : ((j ≡ i) × (at (set es i (giveAt now k (at es i))) j ≡ giveAt now k (at es i))) ⊎ (at (set es i (giveAt now k (at es i))) j ≡ at es j) → (at (grant now es i k) j) .asynchronous ≡ (at es j) .asynchronous
+    go : ((j ≡ i) × (at (set es i (giveAt now k (at es i))) j ≡ giveAt now k (at es i))) ⊎ (at (set es i (giveAt now k (at es i))) j ≡ at es j) →
+        (at (grant now es i k) j) .asynchronous ≡ (at es j) .asynchronous
     go (inl h) = ap (λ (x : Entry). x .asynchronous) (h .1) ∙ give-async k (at es i) ∙ ap (λ z. (at es z) .asynchronous) (sym (h .0))
     go (inr h) = ap (λ (x : Entry). x .asynchronous) h
 
@@ -176,21 +184,25 @@ module _ (l : Locks) (v : Inv l) (i : ℕ) where
   told-before : (ws : List Waiting) → all (elsewhere i) ws ≡ true → map (told es₀) ws ≡ map (told (l .entries)) ws
   told-before [] a = refl
   told-before (w ∷ ws) a =
-      ap₂ (λ (e : Entry) (xs : List Answer). record { to = e .asynchronous; code = 1; request = true } ∷ xs) (other (w .slot) (apart i w (and-l (elsewhere i w) _ a))) (told-before ws (and-r (elsewhere i w) _ a))
+      ap₂ (λ (e : Entry) (xs : List Answer). record { to = e .asynchronous; code = 1; request = true } ∷ xs)
+      (other (w .slot) (apart i w (and-l (elsewhere i w) _ a))) (told-before ws (and-r (elsewhere i w) _ a))
 
   frames-told : (ws : List Waiting) → map lockFrame (map (told (l .entries)) ws) ≡ map (grantFrame (l .entries)) ws
   frames-told [] = refl
   frames-told (w ∷ ws) = ap (λ xs. grantFrame (l .entries) w ∷ xs) (frames-told ws)
 
   -- a connection of slot i gets none of the answers
-  sent-elsewhere : (x : ℕ) → (x ≡ noConnection → ⊥) → isOnConnection x (at (l .entries) i) ≡ true → (ws : List Waiting) → all (elsewhere i) ws ≡ true → Each (λ w. live (at (l .entries) (w .slot)) ≡ true) ws
+  sent-elsewhere : (x : ℕ) → (x ≡ noConnection → ⊥) → isOnConnection x (at (l .entries) i) ≡ true → (ws : List Waiting) → all (elsewhere i) ws ≡ true →
+      Each (λ w. live (at (l .entries) (w .slot)) ≡ true) ws
       → all (λ f. not (eqb (f .to) x)) (map (grantFrame (l .entries)) ws) ≡ true
   sent-elsewhere x n o [] a h = refl
   sent-elsewhere x n o (w ∷ ws) a h =
       both
       _
       _
-      (ap not (ne-eqb ((at (l .entries) (w .slot)) .asynchronous) x (λ e. apart i w (and-l (elsewhere i w) _ a) (v .sound .firm .connections x n (w .slot) i (both _ _ (h .0) (or-r (eqb ((at (l .entries) (w .slot)) .synchronous) x) _ (eq-eqb _ _ e))) o))))
+      (ap not (ne-eqb ((at (l .entries) (w .slot)) .asynchronous) x
+      (λ e. apart i w (and-l (elsewhere i w) _ a) (v .sound .firm .connections x n (w .slot) i
+      (both _ _ (h .0) (or-r (eqb ((at (l .entries) (w .slot)) .synchronous) x) _ (eq-eqb _ _ e))) o))))
       (sent-elsewhere x n o ws (and-r (elsewhere i w) _ a) (h .1))
 
   -- nothing to close
@@ -216,7 +228,9 @@ module _ (d : Server) (e : Event) (c : ℕ) (v : Inv (d .locks)) (z : refusal d 
   unfolding step answered finish change grantPass
   sends =
       ap (λ n. keep isLock ((answered n d e) .frames)) z
-      ∙ ap (λ x. keep isLock ((plan d e) .first ++ (map lockFrame ((change (d .locks) x) .answers) ++ ((plan d e) .said ++ map lockFrame ((settle (frees (d .locks) x) ((change (d .locks) x) .locks)) .answers))))) p
+      ∙ ap (λ x. keep isLock
+      ((plan d e) .first ++ (map lockFrame ((change (d .locks) x) .answers)
+      ++ ((plan d e) .said ++ map lockFrame ((settle (frees (d .locks) x) ((change (d .locks) x) .locks)) .answers))))) p
       ∙ frames-locks d e [] (left .answers)
 
   -- without a session the pass has nothing to do
@@ -225,7 +239,11 @@ module _ (d : Server) (e : Event) (c : ℕ) (v : Inv (d .locks)) (z : refusal d 
   still n =
       let u = unmoved (d .locks) v (slotOf d c) (vacant (place-sound (d .locks .entries) c)) in
       let q = pass-still (d .locks) (v .quiet) in (
-        ap₂ (λ (ws : List Waiting) (es : List Entry). record { clock = d .locks .clock; entries = (passOver (d .locks .clock) ws es) .entries; waiting = (passOver (d .locks .clock) ws es) .waiting }) (u .1) (u .0) ∙ ap (λ (x : Locks.LockResult). x .locks) q,
+        ap₂ (λ (ws : List Waiting) (es : List Entry). record {
+          clock = d .locks .clock;
+          entries = (passOver (d .locks .clock) ws es) .entries;
+          waiting = (passOver (d .locks .clock) ws es) .waiting;
+        }) (u .1) (u .0) ∙ ap (λ (x : Locks.LockResult). x .locks) q,
         ap₂ (λ (ws : List Waiting) (es : List Entry). (passOver (d .locks .clock) ws es) .answers) (u .1) (u .0) ∙ ap (λ (x : Locks.LockResult). x .answers) q,
       )
     where
@@ -245,8 +263,12 @@ module _ (d : Server) (e : Event) (c : ℕ) (v : Inv (d .locks)) (z : refusal d 
       record {
         slot-free = ap (λ (l : Locks). at (l .entries) i) leaves ∙ looked-apart (f .looked) i (g .1) ∙ blank-set (d .locks) v i (d .locks .entries) i;
         request-gone = ap (λ (l : Locks). all (elsewhere i) (l .waiting)) leaves ∙ g .0;
-        unanswered = λ x n o. ap (all (λ f. not (eqb (f .to) x))) sent ∙ sent-elsewhere (d .locks) v i x n o (f .grants) (g .1) (looked-each (λ w. live (at (d .locks .entries) (w .slot)) ≡ true) (f .looked) (good-live (d .locks .entries) (ws₀ (d .locks) v i) (good-keep (d .locks .entries) (elsewhere i) (d .locks .waiting) (v .sound .good))));
-        others-keep = λ j n. rw leaves (keeps-on (at (d .locks .entries) j) (at (es₀ (d .locks) v i) j) (at (left .entries) j) (keeps-same _ _ (other (d .locks) v i j n)) (looked-keeps (f .looked) (s .good) j));
+        unanswered = λ x n o. ap (all (λ f. not (eqb (f .to) x))) sent
+            ∙ sent-elsewhere (d .locks) v i x n o (f .grants) (g .1)
+            (looked-each (λ w. live (at (d .locks .entries) (w .slot)) ≡ true) (f .looked)
+            (good-live (d .locks .entries) (ws₀ (d .locks) v i) (good-keep (d .locks .entries) (elsewhere i) (d .locks .waiting) (v .sound .good))));
+        others-keep = λ j n. rw leaves (keeps-on (at (d .locks .entries) j) (at (es₀ (d .locks) v i) j) (at (left .entries) j)
+            (keeps-same _ _ (other (d .locks) v i j n)) (looked-keeps (f .looked) (s .good) j));
         grants = f .grants;
         oldest-first = rw leaves (f .looked);
         granted-get =

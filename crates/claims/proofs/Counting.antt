@@ -126,7 +126,8 @@ free-even l i n false false false true v ex es = omega (arith, rw es at (held-se
 free-even l i n false false false false v ex es = omega (arith, held-same (l .entries) i (Locks.withOrder ((at (l .entries) i) .last) (release-of shared-lock n) (at (l .entries) i)) refl)
 free-even l i n false false true b v ex es = omega arith
 
-complete-even : (l : Locks) (i n : ℕ) (u : Locks.Due) → live (at (l .entries) i) ≡ true → Owed u (at (l .entries) i) → Even l ((Locks.completed u l i n) .locks .entries) ((Locks.completed u l i n) .answers) 0
+complete-even : (l : Locks) (i n : ℕ) (u : Locks.Due) → live (at (l .entries) i) ≡ true → Owed u (at (l .entries) i) →
+    Even l ((Locks.completed u l i n) .locks .entries) ((Locks.completed u l i n) .answers) 0
 unfolding count
 complete-even l i n Locks.not-due v o = omega (arith, held-same (l .entries) i (Locks.withOrder n ((at (l .entries) i) .standing) (at (l .entries) i)) refl)
 complete-even l i n (Locks.due-now exclusive-lock) v o = omega (arith, rw o at (held-set (l .entries) i (Locks.withOrder n no-release (Locks.without exclusive-lock (at (l .entries) i))) v))
@@ -156,14 +157,21 @@ module _ (l : Locks) (g : Good (l .entries) (l .waiting)) (f : Firm (l .entries)
   change-even (Locks.enter i n c) x = omega (arith, held-same (l .entries) i (Locks.opened n c) (sym (vacant-none (at (l .entries) i) (x .vacant) (all-at clean (l .entries) i refl (f .clean-all)))))
   change-even (Locks.join i c) x = omega (arith, held-same (l .entries) i (Locks.joined c (at (l .entries) i)) refl)
   change-even (Locks.request i t k) x = ask-even i t k (holds k (at (l .entries) i)) _ _ _ _ x refl
-  change-even (Locks.release i n) x = free-even l i n (Locks.stands ((at (l .entries) i) .standing)) ((at (l .entries) i) .exclusive) (noShared (at (l .entries) i)) (eqb ((at (l .entries) i) .last) n) x refl refl
+  change-even (Locks.release i n) x = free-even l i n (Locks.stands ((at (l .entries) i) .standing)) ((at (l .entries) i) .exclusive)
+      (noShared (at (l .entries) i)) (eqb ((at (l .entries) i) .last) n) x refl refl
   change-even (Locks.command i n) x = complete-even l i n (Locks.dueAt n ((at (l .entries) i) .standing)) x (owed-at n ((at (l .entries) i) .standing) (at (l .entries) i) (backed-at (l .entries) i f))
   change-even (Locks.clear i) x =
       let u = Locks.dueAny ((at (l .entries) i) .standing) in
       let l′ = Locks.withWaiting l (Rattle.model.specs.Lists.keep (elsewhere i) (l .waiting)) in
       let r = refuse-none (l .entries) (elsewhere i) (l .waiting) in
       let h = complete-even l′ i beforeFirst u x (owed-any ((at (l .entries) i) .standing) (at (l .entries) i) (backed-at (l .entries) i f)) in
-      rw (map-append (refuse (l .entries) (elsewhere i) (l .waiting)) ((Locks.completed u l′ i beforeFirst) .answers), count-append isGrant (map toldOf (refuse (l .entries) (elsewhere i) (l .waiting))), count-append tellsRelease (map toldOf (refuse (l .entries) (elsewhere i) (l .waiting)))) (omega arith)
+      rw (
+        map-append (refuse (l .entries) (elsewhere i) (l .waiting)) ((Locks.completed u l′ i beforeFirst) .answers),
+        count-append isGrant
+            (map toldOf (refuse (l .entries) (elsewhere i) (l .waiting))),
+        count-append tellsRelease
+            (map toldOf (refuse (l .entries) (elsewhere i) (l .waiting))),
+      ) (omega arith)
   change-even (Locks.close i) x = omega (arith, held-blank (l .entries) i)
   change-even (Locks.reading t) x = let r = refuse-none (l .entries) (Locks.unexpired t) (l .waiting) in omega arith
 
@@ -175,7 +183,12 @@ module _ (l : Locks) (g : Good (l .entries) (l .waiting)) (f : Firm (l .entries)
       let c = change l e in
       let h = change-even e x in
       let r = pass-count (c .locks .clock) (c .locks .waiting) (c .locks .entries) ((change-sound l g f e x) .good) in
-      rw (map-append (c .answers) ((passOver (c .locks .clock) (c .locks .waiting) (c .locks .entries)) .answers), count-append isGrant (map toldOf (c .answers)), count-append tellsRelease (map toldOf (c .answers))) (omega arith)
+      rw (
+        map-append (c .answers) ((passOver (c .locks .clock) (c .locks .waiting) (c .locks .entries)) .answers),
+        count-append isGrant
+            (map toldOf (c .answers)),
+        count-append tellsRelease (map toldOf (c .answers)),
+      ) (omega arith)
 
 -- the locks of a connection's session
 conn-own : (ss : List Session) (es : List Entry) → Same ss es → Firm es → (c : ℕ) → (c ≡ noConnection → ⊥) → (p : Session → Bool) → p (asSession blank) ≡ false
@@ -204,7 +217,9 @@ conn-own ss es s f c r p b = s (λ x. on c x && p x) ∙ tally-seen (λ x. on c 
     go : (isOnConnection c (at es i) ≡ true) ⊎ (at es i ≡ blank) → tally (lower (λ x. on c x && p x)) es ≡ one (p (asSession (at es i)))
     go (inl h) =
         tally-split (lower (λ x. on c x && p x)) es i (inside (isOnConnection c) es i refl h)
-        ∙ ap₂ (λ (x : Bool) (n : ℕ). one x + n) (ap₂ (λ (y z : Bool). y && (z && p (asSession (at es i)))) (and-l (live (at es i)) _ h) (on-seen c (at es i) r ∙ and-r (live (at es i)) _ h)) (tallyBut-cong _ (λ e. false) es i (λ j d. off j (λ h′. d (f .connections c r j i h′ h))) ∙ none-but es i)
+        ∙ ap₂ (λ (x : Bool) (n : ℕ). one x + n) (ap₂ (λ (y z : Bool). y && (z && p (asSession (at es i)))) (and-l (live (at es i)) _ h)
+        (on-seen c (at es i) r ∙ and-r (live (at es i)) _ h))
+        (tallyBut-cong _ (λ e. false) es i (λ j d. off j (λ h′. d (f .connections c r j i h′ h))) ∙ none-but es i)
         ∙ omega arith
     go (inr h) =
         tally-cong _ (λ e. false) es (λ j. off j (λ h′. true≢false (sym (place-complete es c j h′) ∙ ap (isOnConnection c) h)))
@@ -213,7 +228,11 @@ conn-own ss es s f c r p b = s (λ x. on c x && p x) ∙ tally-seen (λ x. on c 
 
 drops : (d : Server) (m : Model) → Agrees (d .locks) m → Inv (d .locks) → (c : ℕ) → (c ≡ noConnection → ⊥) → locksOn c (m .sessions) ≡ locksOf (at (d .locks .entries) (slotOf d c))
 drops d m a i c r =
-    rw (conn-own (m .sessions) (d .locks .entries) (a .sessions) (i .sound .firm) c r (λ s. s .exclusive) refl, conn-own (m .sessions) (d .locks .entries) (a .sessions) (i .sound .firm) c r (λ s. not (notShared s)) refl)
+    rw (
+      conn-own (m .sessions) (d .locks .entries) (a .sessions) (i .sound .firm) c r (λ s. s .exclusive) refl,
+      conn-own (m .sessions) (d .locks .entries)
+          (a .sessions) (i .sound .firm) c r (λ s. not (notShared s)) refl,
+    )
     (flip (noShared (at (d .locks .entries) (slotOf d c))))
   where
     flip : (b : Bool) → cond ((at (d .locks .entries) (slotOf d c)) .exclusive) 1 0 + cond (not b) 1 0 ≡ cond ((at (d .locks .entries) (slotOf d c)) .exclusive) 1 0 + cond b 0 1

@@ -215,12 +215,14 @@ module _ (d : Server) (m : Model) (a : Agrees (d .locks) m) (v : Inv (d .locks))
       let y = settle (frees (d .locks) (Locks.release i (h .param))) (x .locks) in
       keep-append (map lockFrame (x .answers)) (map lockFrame (y .answers)) ∙ ap₂ _++_ (keep-locks (x .answers)) (keep-locks (y .answers))
 
-  released-told : (n p : ℕ) → map toldFrame ((looked (LockModel.release m n p)) .told) ≡ map (lockAnswer (secondConnection n (m .sessions))) (releaseCodes m n p) ++ map toldFrame (grantsAfter (LockModel.release m n p))
+  released-told : (n p : ℕ) → map toldFrame ((looked (LockModel.release m n p)) .told) ≡ map (lockAnswer (secondConnection n (m .sessions)))
+      (releaseCodes m n p) ++ map toldFrame (grantsAfter (LockModel.release m n p))
   unfolding LockModel.release looked
   released-told n p = go (releasePends m n) (own n (λ s. s .exclusive) (m .sessions)) (own n (λ s. not (notShared s)) (m .sessions)) (own n (λ s. eqb (s .heard) p) (m .sessions))
     where
       go : (t x y z : Bool) → map toldFrame ((looked (LockModel.freed t x y z m n p)) .told)
-          ≡ map (lockAnswer (secondConnection n (m .sessions))) (cond t (3 ∷ []) (cond x (cond z (1 ∷ []) []) (cond y (cond z (2 ∷ []) []) (3 ∷ [])))) ++ map toldFrame (grantsAfter (LockModel.freed t x y z m n p))
+          ≡ map (lockAnswer (secondConnection n (m .sessions))) (cond t (3 ∷ []) (cond x (cond z (1 ∷ []) []) (cond y (cond z (2 ∷ []) []) (3 ∷ []))))
+          ++ map toldFrame (grantsAfter (LockModel.freed t x y z m n p))
       go true x y z = refl
       go false true y true = refl
       go false true y false = refl
@@ -248,7 +250,8 @@ module _ (d : Server) (m : Model) (a : Agrees (d .locks) m) (v : Inv (d .locks))
       ∙ ap (λ (y : Reply). map toldFrame ((modelStep m (feed (delivery c bs room) y)) .told)) e
       ∙ ap (λ (y : ModelResult). map toldFrame (y .told)) (sym acts-so)
       ∙ released-told n (h .param)
-      ∙ ap₂ (λ (y p : ℕ). map (lockAnswer y) (releaseCodes m n p) ++ map toldFrame (grantsAfter (LockModel.release m n p))) (ap (λ y. secondConnection y (m .sessions)) (sym n-is) ∙ second-is r) (sym p-is)
+      ∙ ap₂ (λ (y p : ℕ). map (lockAnswer y) (releaseCodes m n p) ++ map toldFrame (grantsAfter (LockModel.release m n p)))
+      (ap (λ y. secondConnection y (m .sessions)) (sym n-is) ∙ second-is r) (sym p-is)
 
   pub decides : Decides d m c bs room
   decides =

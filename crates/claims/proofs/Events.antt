@@ -16,7 +16,8 @@ use Rattle.model.specs.Locks
 use Rattle.model.specs.Locks.{elsewhere, holds, noExclusive, noShared, grant, mayGrant, change, settle, frees}
 use Rattle.model.proofs.Basics.{and-l, and-r, both, not-of, contra, or-of, or-r, or→, apart, all-set, all-snoc, all-keep, all-kept, all-at, sole-store, sole-same}
 use Rattle.claims.proofs.GrantingRule.{ready, may-back, may-same}
-use Rattle.claims.proofs.Invariant.{Good, clean, blocked, numbered, exclusive, Firm, Sound, Inv, backing, backed, backed-at, firm-give, firm-blank, good-apart, good-weaker, good-keep, good-snoc, pass-after, pass-still}
+use Rattle.claims.proofs.Invariant.{Good, clean, blocked, numbered, exclusive, Firm, Sound, Inv, backing, backed, backed-at, firm-give, firm-blank}
+use Rattle.claims.proofs.Invariant.{good-apart, good-weaker, good-keep, good-snoc, pass-after, pass-still}
 use Rattle.claims.proofs.Releasing.{release-stores, complete-stores, stores-sound}
 
 -- what the checks make sure of before an event
@@ -116,7 +117,8 @@ module _ (l : Locks) (g : Good (l .entries) (l .waiting)) (c : Firm (l .entries)
   change-sound (Locks.request i t k) x = ask-sound i t k (holds k (at (l .entries) i)) (all (elsewhere i) (l .waiting)) _ (mayGrant (l .entries) i k) _ x refl refl refl
   change-sound (Locks.release i n) x = stores-sound l i _ g c x (release-stores l i n c)
   change-sound (Locks.command i n) x = stores-sound l i _ g c x (complete-stores l i n c (Locks.dueAt n ((at (l .entries) i) .standing)))
-  change-sound (Locks.clear i) x = let l′ = Locks.withWaiting l (keep (elsewhere i) (l .waiting)) in stores-sound l′ i _ (good-keep (l .entries) _ (l .waiting) g) c x (complete-stores l′ i beforeFirst c (Locks.dueAny ((at (l .entries) i) .standing)))
+  change-sound (Locks.clear i) x = let l′ = Locks.withWaiting l (keep (elsewhere i) (l .waiting)) in
+      stores-sound l′ i _ (good-keep (l .entries) _ (l .waiting) g) c x (complete-stores l′ i beforeFirst c (Locks.dueAny ((at (l .entries) i) .standing)))
   change-sound (Locks.close i) x =
       record {
         good = good-apart (l .entries) i blank (keep (elsewhere i) (l .waiting)) (all-kept (elsewhere i) (l .waiting)) (good-keep (l .entries) (elsewhere i) (l .waiting) g);
@@ -129,7 +131,8 @@ blocked-same : (es es′ : List Entry) → ((j : ℕ) (k : List ℕ) → mayGran
 blocked-same es es′ h [] q = refl
 blocked-same es es′ h (w ∷ ws) q = both _ _ (ap not (h (w .slot) (w .string)) ∙ and-l (blocked es w) _ q) (blocked-same es es′ h ws (and-r (blocked es w) _ q))
 
-blocked-give : (now : ℕ) (es : List Entry) (i : ℕ) (m : List ℕ) → ready (at es i) m ≡ true → (ws : List Waiting) → all (elsewhere i) ws ≡ true → all (blocked es) ws ≡ true → all (blocked (grant now es i m)) ws ≡ true
+blocked-give : (now : ℕ) (es : List Entry) (i : ℕ) (m : List ℕ) → ready (at es i) m ≡ true → (ws : List Waiting) → all (elsewhere i) ws ≡ true →
+    all (blocked es) ws ≡ true → all (blocked (grant now es i m)) ws ≡ true
 blocked-give now es i m r [] a q = refl
 blocked-give now es i m r (w ∷ ws) a q =
     both

@@ -136,7 +136,8 @@ module _ (l : Locks) (v : Inv l) (j : ℕ) (h : (at (l .entries) j) .exclusive �
   change-holds Locks.nothing f n = (refl, h)
   change-holds (Locks.enter i m c) f n = store i (Locks.opened m c) (λ q. absurd (true≢false (sym alive ∙ ap (λ z. live (at (l .entries) z)) q ∙ f .vacant)))
   change-holds (Locks.join i c) f n = store i (Locks.joined c (at (l .entries) i)) (λ q. (refl, there i q))
-  change-holds (Locks.request i t k) f n = asked-holds (Locks.ruling (holds k (at (l .entries) i)) (all (elsewhere i) (l .waiting)) (Locks.invalidBy k (at (l .entries) i)) (mayGrant (l .entries) i k) (eqb t 0 || noPlace (l .waiting))) i t k
+  change-holds (Locks.request i t k) f n = asked-holds (Locks.ruling (holds k (at (l .entries) i)) (all (elsewhere i) (l .waiting))
+      (Locks.invalidBy k (at (l .entries) i)) (mayGrant (l .entries) i k) (eqb t 0 || noPlace (l .waiting))) i t k
   change-holds (Locks.release i m) f n = freed-holds (Locks.releasingOf (at (l .entries) i) m) i m n
   change-holds (Locks.command i m) f n = completed-holds (Locks.dueAt m ((at (l .entries) i) .standing)) (l .waiting) i m n
   change-holds (Locks.clear i) f n = completed-holds (Locks.dueAny ((at (l .entries) i) .standing)) (keep (elsewhere i) (l .waiting)) i beforeFirst n
@@ -226,7 +227,8 @@ module _ (d : Server) (j : ℕ) where
         taking (takesDue u)
         (λ f q.
         released-later (h .param) (ap (λ (y : Entry). y .standing) (its q) ∙ due-of (h .param) s f)
-        (by-message c bs room (a .taken) (a .number) (sym q) (acted-reply a) (ap (λ (y : Header). one-of commands (y .kind)) eh ∙ t) (ap (λ (y : Header). y .param) eh) (told-1 [] a (due-one (h .param) (d .locks .waiting) u f) q)))
+        (by-message c bs room (a .taken) (a .number) (sym q) (acted-reply a) (ap (λ (y : Header). one-of commands (y .kind)) eh ∙ t)
+        (ap (λ (y : Header). y .param) eh) (told-1 [] a (due-one (h .param) (d .locks .waiting) u f) q)))
 
     clear-or : (h : Header) → header bs ≡ h → eqb (h .kind) AsyncDeviceClear ≡ true → Acted d c bs room (LockEvent.clear i₀) → Or e₀ (LockEvent.clear i₀)
     unfolding change

@@ -21,7 +21,8 @@ use Rattle.model.specs.Place.{isOnConnection, slotOf, entryOf, Role, Role.r-non
 use Rattle.model.specs.Locks
 use Rattle.model.specs.Locks.{noExclusive, noShared, mayGrant, access, holds, elsewhere, change, noPlace}
 use Rattle.model.specs.Checks
-use Rattle.model.specs.Checks.{Verdict, Verdict.v-more, Verdict.v-skipped, Verdict.v-held, Verdict.v-ignored, Verdict.v-closed, Verdict.v-acts, Verdict.v-error, Verdict.v-fatal, first, verdict, judged, either, isVendor, isUnrecognised}
+use Rattle.model.specs.Checks.{Verdict, Verdict.v-more, Verdict.v-skipped, Verdict.v-held, Verdict.v-ignored, Verdict.v-closed, Verdict.v-acts}
+use Rattle.model.specs.Checks.{Verdict.v-error, Verdict.v-fatal, first, verdict, judged, either, isVendor, isUnrecognised}
 use Rattle.model.specs.Acts
 use Rattle.model.specs.Refusals.{refusal, causes}
 use Rattle.model.specs.Step.{Result, shutAll, closing, effect, received, plan, answered, finish, step, lockFrame}
@@ -86,7 +87,8 @@ module _ (i : ℕ) (es es′ : List Entry) (f : Fewer i es es′) where
       more a (inl s) = both _ _ (none-exclusive a) (or-of _ _ s)
       more a (inr s) = both _ _ (none-exclusive a) (or-r (not (noShared (at es i))) _ (none-shared s))
 
-      go : ((at es i) .exclusive ≡ true) ⊎ ((all noExclusive es && (not (noShared (at es i)) || all noShared es)) ≡ true) → ((at es i) .exclusive || (all noExclusive es′ && (not (noShared (at es i)) || all noShared es′))) ≡ true
+      go : ((at es i) .exclusive ≡ true) ⊎ ((all noExclusive es && (not (noShared (at es i)) || all noShared es)) ≡ true) →
+          ((at es i) .exclusive || (all noExclusive es′ && (not (noShared (at es i)) || all noShared es′))) ≡ true
       go (inl e) = or-of _ _ e
       go (inr e) = or-r ((at es i) .exclusive) _ (more (and-l (all noExclusive es) _ e) (or→ (not (noShared (at es i))) _ (and-r (all noExclusive es) _ e)))
 
@@ -112,7 +114,8 @@ module _ (l l′ : Locks) (i t : ℕ) (k : List ℕ) (f : Fewer i (l .entries) (
   asked-same false true false false false m′ e g = absurd (false≢true g)
 
   ask-same : any answers1 (map lockFrame ((change l (Locks.request i t k)) .answers)) ≡ true
-      → ((change l′ (Locks.request i t k)) .answers ≡ (change l (Locks.request i t k)) .answers) × (at ((change l′ (Locks.request i t k)) .locks .entries) i ≡ at ((change l (Locks.request i t k)) .locks .entries) i)
+      → ((change l′ (Locks.request i t k)) .answers ≡ (change l (Locks.request i t k)) .answers)
+      × (at ((change l′ (Locks.request i t k)) .locks .entries) i ≡ at ((change l (Locks.request i t k)) .locks .entries) i)
   unfolding change
   ask-same g =
       let h = holds k (at (l .entries) i) in
@@ -218,7 +221,9 @@ module _ (d d′ : Server) (c : ℕ) (f : FewerLocks (slotOf d c) d d′) (bs : 
       let i = slotOf d c in
       let one = request-step d c bs room r t o in
       let two : step d′ (delivery c bs room) ≡ finish d′ (asking d′ i h p) = request-step d′ c bs room (request-same r) t o ∙ ap (λ j. finish d′ (asking d′ j h p)) slot-same in
-      let a = ask-same (d .locks) (d′ .locks) i (h .param) p (f .fewer) (f .waiting) (f .clock) (ap (any answers1) (sym (append-nil (map lockFrame ((change (d .locks) (Locks.request i (h .param) p)) .answers)))) ∙ ap (λ (x : Result). any answers1 (x .frames)) (sym one) ∙ g) in (
+      let a = ask-same (d .locks) (d′ .locks) i (h .param) p (f .fewer) (f .waiting) (f .clock)
+      (ap (any answers1) (sym (append-nil (map lockFrame ((change (d .locks) (Locks.request i (h .param) p)) .answers))))
+      ∙ ap (λ (x : Result). any answers1 (x .frames)) (sym one) ∙ g) in (
         ap (λ (x : Result). x .reply) two ∙ ap (λ (x : Entry). took acted (16 + h .len) (x .number)) (f .fewer .own) ∙ ap (λ (x : Result). x .reply) (sym one) ∙ e,
         ap (λ (x : Result). x .frames) two ∙ ap (λ xs. map lockFrame xs ++ []) (a .0) ∙ ap (λ (x : Result). x .frames) (sym one),
         ap (λ (x : Result). at (x .server .locks .entries) i) two ∙ a .1 ∙ ap (λ (x : Result). at (x .server .locks .entries) i) (sym one),
@@ -230,7 +235,11 @@ module _ (d d′ : Server) (c : ℕ) (f : FewerLocks (slotOf d c) d d′) (bs : 
       let m = h .0 in
       let before : Command d c bs =
       record {
-        on-synchronous = record { alive = ap live (sym entry-same) ∙ m .on-synchronous .alive; established = λ z. m .on-synchronous .established (ap (λ (x : Entry). x .asynchronous) entry-same ∙ z); synchronous-one = ap (λ (x : Entry). x .synchronous) (sym entry-same) ∙ m .on-synchronous .synchronous-one };
+        on-synchronous = record {
+          alive = ap live (sym entry-same) ∙ m .on-synchronous .alive;
+          established = λ z. m .on-synchronous .established (ap (λ (x : Entry). x .asynchronous) entry-same ∙ z);
+          synchronous-one = ap (λ (x : Entry). x .synchronous) (sym entry-same) ∙ m .on-synchronous .synchronous-one;
+        };
         not-in-clear = ap₂ (λ (r : Rest) (i : ℕ). (exchangeAt r i) .inClear) (sym (f .rest)) (sym slot-same) ∙ m .not-in-clear;
         message = subst (λ (r : Rest). WholeMessage ((connectionAt r c) .remainder) bs) (f .rest) (m .message);
         of-type = m .of-type;
@@ -312,7 +321,10 @@ module _ (d : Server) (l′ : Locks) (c : ℕ) (f : FewerLocks (slotOf d c) d re
 
   closing₁ : closing d₁ c ≡ closing d c
   closing₁ =
-      ap₂ (λ (e : Entry) (i : ℕ). withSensing (withExchange (withConnections (d .rest) (shutAll (d .rest .connections) (cond (live e) (e .synchronous ∷ cond (eqb (e .asynchronous) noConnection) [] (e .asynchronous ∷ [])) (c ∷ [])))) i freshExchange) i freshSensing) entry₁ slot₁
+      ap₂ (λ (e : Entry) (i : ℕ). withSensing
+      (withExchange (withConnections (d .rest) (shutAll (d .rest .connections)
+      (cond (live e) (e .synchronous ∷ cond (eqb (e .asynchronous) noConnection) [] (e .asynchronous ∷ [])) (c ∷ [])))) i freshExchange) i freshSensing)
+      entry₁ slot₁
 
   acts₁ : (r : Role) (h : Header) (p : List ℕ) → (r ≡ r-none → ⊥) → Alike (Acts.acts r d₁ i₀ c h p) (Acts.acts r d i₀ c h p)
   unfolding Acts.acts
@@ -383,7 +395,15 @@ alike-call : (d d′ : Server) (c : ℕ) → FewerLocks (slotOf d c) d d′ → 
 alike-call d d′ c f bs room alive n =
     subst (λ (y : Server). ((step y (delivery c bs room)) .reply ≡ (step d (delivery c bs room)) .reply) × ((step y (delivery c bs room)) .server .rest ≡ (step d (delivery c bs room)) .server .rest))
     (λ j. record { locks = d′ .locks; rest = sym (f .rest) j })
-    (taken-alike d (d′ .locks) c record { fewer = f .fewer; numbers = f .numbers; synchronous = f .synchronous; asynchronous = f .asynchronous; clock = f .clock; waiting = f .waiting; rest = refl } bs room alive n)
+    (taken-alike d (d′ .locks) c record {
+      fewer = f .fewer;
+      numbers = f .numbers;
+      synchronous = f .synchronous;
+      asynchronous = f .asynchronous;
+      clock = f .clock;
+      waiting = f .waiting;
+      rest = refl;
+    } bs room alive n)
 
 pub no-worse-call : (d d′ : Server) (c : ℕ) → FewerLocks (slotOf d c) d d′ → (bs : List ℕ) (room : ℕ) → NoWorseCall d d′ c bs room
 no-worse-call d d′ c f bs room = record { granted = granted-same d d′ c f bs room; held = held-same d d′ c f bs room; alike = alike-call d d′ c f bs room }

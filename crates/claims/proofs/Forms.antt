@@ -83,7 +83,8 @@ module _ (d : Server) (i : ℕ) (p : List ℕ) where
   abbrev pub Listed : Header → Type 0
   Listed h = h .kind ≡ DataEND → admits (d .rest .allowed) p ≡ true
 
-  pub command-passes : clearing ≡ false → access (d .locks .entries) i ≡ true → (h : Header) → h .param ≡ expecting → permits commandForms h ≡ true → Listed h → first (Checks.synchronousRules d i h p) ≡ v-acts
+  pub command-passes : clearing ≡ false → access (d .locks .entries) i ≡ true → (h : Header) → h .param ≡ expecting → permits commandForms h ≡ true → Listed h →
+      first (Checks.synchronousRules d i h p) ≡ v-acts
   unfolding classOf
   command-passes n a h e f g =
       form-of (λ h. eqb (h .param) expecting ≡ true → Listed h → first (Checks.synchronousRules d i h p) ≡ v-acts) commandForms
@@ -97,7 +98,8 @@ module _ (d : Server) (i : ℕ) (p : List ℕ) where
   clear-passes n = form-of (λ h. first (Checks.synchronousRules d i h p) ≡ v-acts) clearForms ((λ h t k l. rw (t, n, eqb-true (h .len) 0 l)), tt)
 
   abbrev pub Synchronous : Header → Type 0
-  Synchronous h = ((clearing ≡ false) × (access (d .locks .entries) i ≡ true) × (h .param ≡ expecting) × (permits commandForms h ≡ true) × Listed h) ⊎ ((clearing ≡ true) × (permits clearForms h ≡ true))
+  Synchronous h = ((clearing ≡ false) × (access (d .locks .entries) i ≡ true) × (h .param ≡ expecting) × (permits commandForms h ≡ true) × Listed h) ⊎
+      ((clearing ≡ true) × (permits clearForms h ≡ true))
 
   -- by type
   abbrev Lets : Header → ℕ → Type 0
@@ -110,10 +112,31 @@ module _ (d : Server) (i : ℕ) (p : List ℕ) where
       ((λ q. absurd (true≢false (q .1 .1 .1 .1 .1 .0)))
       also (λ q. absurd (true≢false (q .0)))
       also (λ q. absurd (true≢false (q .1 .0)))
-      also (λ q. inl (sym (and-true _) ∙ q .1 .1 .0, not-off _ (q .1 .1 .1 .1 .1 .1 .0), eqb-true _ _ (not-off _ (q .1 .1 .1 .1 .1 .1 .1 .0)), rw (below 1 (h .code) (q .1 .1 .1 .1 .1 .1 .1 .1 .0)), λ e. absurd (omega (arith, e))))
-      also (λ q. inl (sym (and-true _) ∙ q .1 .1 .0, not-off _ (q .1 .1 .1 .1 .1 .1 .0), eqb-true _ _ (not-off _ (q .1 .1 .1 .1 .1 .1 .1 .0)), rw (below 1 (h .code) (q .1 .1 .1 .1 .1 .1 .1 .1 .0)), λ e. not-off _ (q .1 .1 .1 .1 .1 .1 .1 .1 .1 .1 .1 .0)))
+      also (λ q. inl (
+        sym (and-true _) ∙ q .1 .1 .0,
+        not-off _ (q .1 .1 .1 .1 .1 .1 .0),
+        eqb-true _ _ (not-off _ (q .1 .1 .1 .1 .1 .1 .1 .0)),
+        rw
+            (below 1 (h .code) (q .1 .1 .1 .1 .1 .1 .1 .1 .0)),
+        λ e. absurd (omega (arith, e)),
+      ))
+      also (λ q. inl (
+        sym (and-true _) ∙ q .1 .1 .0,
+        not-off _ (q .1 .1 .1 .1 .1 .1 .0),
+        eqb-true _ _ (not-off _ (q .1 .1 .1 .1 .1 .1 .1 .0)),
+        rw
+            (below 1 (h .code) (q .1 .1 .1 .1 .1 .1 .1 .1 .0)),
+        λ e. not-off _ (q .1 .1 .1 .1 .1 .1 .1 .1 .1 .1 .1 .0),
+      ))
       also (λ q. inr (not-off _ (q .1 .1 .1 .1 .1 .1 .1 .1 .1 .1 .0), rw (empty (h .len) (q .1 .1 .1 .1 .1 .1 .1 .1 .1 .0))))
-      also (λ q. inl (sym (and-true _) ∙ q .1 .1 .0, not-off _ (q .1 .1 .1 .1 .1 .1 .0), eqb-true _ _ (not-off _ (q .1 .1 .1 .1 .1 .1 .1 .0)), rw (below 1 (h .code) (q .1 .1 .1 .1 .1 .1 .1 .1 .0), empty (h .len) (q .1 .1 .1 .1 .1 .1 .1 .1 .1 .0)), λ e. absurd (omega (arith, e))))
+      also (λ q. inl (
+        sym (and-true _) ∙ q .1 .1 .0,
+        not-off _ (q .1 .1 .1 .1 .1 .1 .0),
+        eqb-true _ _ (not-off _ (q .1 .1 .1 .1 .1 .1 .1 .0)),
+        rw
+            (below 1 (h .code) (q .1 .1 .1 .1 .1 .1 .1 .1 .0), empty (h .len) (q .1 .1 .1 .1 .1 .1 .1 .1 .1 .0)),
+        λ e. absurd (omega (arith, e)),
+      ))
       also tt)
 
   pub sync-permitted : (h : Header) → first (Checks.synchronousRules d i h p) ≡ v-acts → Synchronous h
@@ -184,8 +207,10 @@ module _ (d : Server) (p : List ℕ) where
   pub initialize-passes : SubAddress p → all live (d .locks .entries) ≡ false → (h : Header) → permits initializeForms h ≡ true → first (Checks.openingRules d h p) ≡ v-acts
   initialize-passes s a = form-of (λ h. first (Checks.openingRules d h p) ≡ v-acts) initializeForms ((λ h t k l. rw (t, sub-address s, a)), tt)
 
-  pub join-passes : (h : Header) → halfOpen (at (d .locks .entries) (slotOfNumber (d .locks .entries) (h .param))) ≡ true → permits asyncInitializeForms h ≡ true → first (Checks.openingRules d h p) ≡ v-acts
-  join-passes h o e = form-of (λ h. halfOpen (at (d .locks .entries) (slotOfNumber (d .locks .entries) (h .param))) ≡ true → first (Checks.openingRules d h p) ≡ v-acts) asyncInitializeForms ((λ h t k l o. rw (t, eqb-true (h .len) 0 l, o)), tt) h e o
+  pub join-passes : (h : Header) → halfOpen (at (d .locks .entries) (slotOfNumber (d .locks .entries) (h .param))) ≡ true →
+      permits asyncInitializeForms h ≡ true → first (Checks.openingRules d h p) ≡ v-acts
+  join-passes h o e = form-of (λ h. halfOpen (at (d .locks .entries) (slotOfNumber (d .locks .entries) (h .param))) ≡ true →
+      first (Checks.openingRules d h p) ≡ v-acts) asyncInitializeForms ((λ h t k l o. rw (t, eqb-true (h .len) 0 l, o)), tt) h e o
 
   abbrev pub Opens : Header → Type 0
   Opens h = (h .kind ≡ 0) × (permits initializeForms h ≡ true) × SubAddress p × (all live (d .locks .entries) ≡ false)

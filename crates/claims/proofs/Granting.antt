@@ -27,9 +27,11 @@ by-holders l m a i =
       grants = λ j v k. sym (allowed-seen (m .sessions) es (a .sessions) f j v k);
       gives-access =
           λ j v.
-          sym (ap₂ _||_ (own-seen (m .sessions) es (a .sessions) f j v (λ s. s .exclusive)) (ap₂ _&&_ exclusives (ap₂ _||_ (own-seen (m .sessions) es (a .sessions) f j v (λ s. not (notShared s))) shareds)));
+          sym (ap₂ _||_ (own-seen (m .sessions) es (a .sessions) f j v (λ s. s .exclusive))
+          (ap₂ _&&_ exclusives (ap₂ _||_ (own-seen (m .sessions) es (a .sessions) f j v (λ s. not (notShared s))) shareds)));
       info-code = sym exclusives;
-      info-count = sym (a .sessions (λ s. not (notExclusive s && notShared s)) ∙ tally-seen (λ s. not (notExclusive s && notShared s)) es ∙ tally-cong _ holder es (λ j. held-by (at es j) (all-at clean es j refl (f .clean-all))));
+      info-count = sym (a .sessions (λ s. not (notExclusive s && notShared s)) ∙ tally-seen (λ s. not (notExclusive s && notShared s)) es
+          ∙ tally-cong _ holder es (λ j. held-by (at es j) (all-at clean es j refl (f .clean-all))));
     }
   where
     es : List Entry
@@ -39,10 +41,14 @@ by-holders l m a i =
     f = i .sound .firm
 
     exclusives : all notExclusive (m .sessions) ≡ all noExclusive (l .entries)
-    exclusives = all-lift (m .sessions) (l .entries) (a .sessions) notExclusive ∙ all-cong (lift notExclusive) noExclusive (l .entries) (λ j. lift-excl (at (l .entries) j) (all-at clean (l .entries) j refl (i .sound .firm .clean-all)))
+    exclusives = all-lift (m .sessions) (l .entries) (a .sessions) notExclusive
+        ∙ all-cong (lift notExclusive) noExclusive (l .entries)
+        (λ j. lift-excl (at (l .entries) j) (all-at clean (l .entries) j refl (i .sound .firm .clean-all)))
 
     shareds : all notShared (m .sessions) ≡ all noShared (l .entries)
-    shareds = all-lift (m .sessions) (l .entries) (a .sessions) notShared ∙ all-cong (lift notShared) noShared (l .entries) (λ j. lift-shared (at (l .entries) j) (all-at clean (l .entries) j refl (i .sound .firm .clean-all)))
+    shareds = all-lift (m .sessions) (l .entries) (a .sessions) notShared
+        ∙ all-cong (lift notShared) noShared (l .entries) (λ j. lift-shared (at (l .entries) j)
+        (all-at clean (l .entries) j refl (i .sound .firm .clean-all)))
 
     held-by : (e : Entry) → clean e ≡ true → lower (λ s. not (notExclusive s && notShared s)) e ≡ holder e
     held-by e c = go (live e) refl

@@ -17,8 +17,11 @@ use Rattle.model.specs.State.{Server, Granted, Entry, Waiting, at, live, noGran
 use Rattle.model.specs.Interface.{Event}
 use Rattle.model.specs.Place.{isOnConnection, slotIn}
 use Rattle.model.specs.Step.{Result, step, final, log}
-use Rattle.model.specs.Happening.{Heard.silence, Action, Happening, Happening.unmoved, Happening.connected, Happening.disconnected, Happening.skipped-over, Happening.errored, Happening.message-acted, Happening.clock-read, Happening.status-set, Happening.setting-made, Happening.answer-sent, Happening.answer-withheld}
-use Rattle.model.specs.LocalityRows.{kindOf, slotActed, inSlot, isCode, codeWhere, obtains, waits, number-row, asynchronous-row, moreGranted, granted-row, requestsOf, requestsLeft, looksAfter, singly, clock-row}
+use Rattle.model.specs.Happening.{Heard.silence, Action, Happening, Happening.unmoved, Happening.connected, Happening.disconnected, Happening.skipped-over}
+use Rattle.model.specs.Happening.{Happening.errored, Happening.message-acted, Happening.clock-read, Happening.status-set, Happening.setting-made}
+use Rattle.model.specs.Happening.{Happening.answer-sent, Happening.answer-withheld}
+use Rattle.model.specs.LocalityRows.{kindOf, slotActed, inSlot, isCode, codeWhere, obtains, waits, number-row, asynchronous-row, moreGranted, granted-row}
+use Rattle.model.specs.LocalityRows.{requestsOf, requestsLeft, looksAfter, singly, clock-row}
 use Rattle.model.specs.LocalityReplies.{waitingAnswer}
 use Rattle.model.specs.Locality.{atCall, givenGrants, Local}
 use Rattle.model.specs.GrantsSeen.{toWaiting, Grants, noneYet, ownGrants, afterOwn, answersTo, grantsBy, grantsOf, grantsOfSession, atMost, lastReading, GrantsSeen}
@@ -93,7 +96,8 @@ pub record Counts (d : Server) (f : ℕ → Grants) : Type 0 where
   pub sized : length (d .rest .exchanges) ≡ length (d .locks .entries)
   pub both-connections : all (away noConnection 0 (d .locks .entries)) (d .locks .waiting) ≡ true
   pub knows : (i : ℕ) → live (at (d .locks .entries) i) ≡ true
-      → ((at (d .locks .entries) i) .asynchronous ≡ (f ((at (d .locks .entries) i) .number)) .second) × ((at (d .locks .entries) i) .locksGranted ≡ noted ((f ((at (d .locks .entries) i) .number)) .readings))
+      → ((at (d .locks .entries) i) .asynchronous ≡ (f ((at (d .locks .entries) i) .number)) .second)
+      × ((at (d .locks .entries) i) .locksGranted ≡ noted ((f ((at (d .locks .entries) i) .number)) .readings))
 
 module _ (d : Server) (f : ℕ → Grants) (g : Counts d f) (r : Result) where
   abbrev es : List Entry
@@ -173,7 +177,8 @@ module _ (d : Server) (f : ℕ → Grants) (g : Counts d f) (r : Result) where
         there x w false q u =
             let y : (at es s₀) .number ≡ (at es i) .number = sym (k .own-number q) ∙ u ∙ w in
             let l : live (at es s₀) ≡ true = ap (λ (n : ℕ). not (eqb n 0)) y ∙ lived i v w in
-            x (g .inv .sound .firm .numbers ((at es i) .number) i s₀ (both _ _ (lived i v w) (eq-eqb ((at es i) .number) ((at es i) .number) refl)) (both _ _ l (eq-eqb ((at es s₀) .number) ((at es i) .number) y)))
+            x (g .inv .sound .firm .numbers ((at es i) .number) i s₀ (both _ _ (lived i v w) (eq-eqb ((at es i) .number) ((at es i) .number) refl))
+            (both _ _ l (eq-eqb ((at es s₀) .number) ((at es i) .number) y)))
 
         go : (i ≡ s₀) ⊎ (i ≡ s₀ → ⊥) → eqb (a .session) (n′ i) ≡ eqb i s₀
         go (inl x) = eq-eqb _ _ (here x (eqb t₀ 0) refl (e ∙ ap (λ (b : Bool). numberOf b i) (eq-eqb i s₀ x))) ∙ sym (eq-eqb i s₀ x)
@@ -186,7 +191,8 @@ module _ (d : Server) (f : ℕ → Grants) (g : Counts d f) (r : Result) where
         → (cond y (a .connection) (cond z noConnection ((at es i) .asynchronous))
         ≡ (cond y (record { second = a .connection; readings = (p₀ i) .readings }) (cond z noneYet (cond o (record { second = (p₀ i) .second; readings = now ∷ (p₀ i) .readings }) (p₀ i)))) .second)
         × (cond z noGrants (cond o (moreGranted now ((at es i) .locksGranted)) ((at es i) .locksGranted))
-        ≡ noted ((cond y (record { second = a .connection; readings = (p₀ i) .readings }) (cond z noneYet (cond o (record { second = (p₀ i) .second; readings = now ∷ (p₀ i) .readings }) (p₀ i)))) .readings))
+        ≡ noted ((cond y (record { second = a .connection; readings = (p₀ i) .readings })
+        (cond z noneYet (cond o (record { second = (p₀ i) .second; readings = now ∷ (p₀ i) .readings }) (p₀ i)))) .readings))
     by-kind i v true true o ey ez eo e = absurd (let x : t₀ ≡ 17 = eqb-true _ _ ey in let w : t₀ ≡ 0 = eqb-true _ _ ez in omega arith)
     by-kind i v true false true ey ez eo e =
         absurd (let x : t₀ ≡ 17 = eqb-true _ _ ey in let w : t₀ ≡ 4 = eqb-true _ _ (and-l (eqb t₀ 4) _ eo) in omega arith)
@@ -198,7 +204,8 @@ module _ (d : Server) (f : ℕ → Grants) (g : Counts d f) (r : Result) where
     abbrev Acted : ℕ → Bool → Bool → Type 0
     Acted i b s =
         (cond b (cond (eqb t₀ 17) (a .connection) (cond (eqb t₀ 0) noConnection ((at es i) .asynchronous))) ((at es i) .asynchronous) ≡ (cond s (ownGrants now a (p₀ i)) (p₀ i)) .second)
-        × (cond b (cond (eqb t₀ 0) noGrants (cond (obtains a) (moreGranted now ((at es i) .locksGranted)) ((at es i) .locksGranted))) ((at es i) .locksGranted) ≡ noted ((cond s (ownGrants now a (p₀ i)) (p₀ i)) .readings))
+        × (cond b (cond (eqb t₀ 0) noGrants (cond (obtains a) (moreGranted now ((at es i) .locksGranted)) ((at es i) .locksGranted))) ((at es i) .locksGranted)
+        ≡ noted ((cond s (ownGrants now a (p₀ i)) (p₀ i)) .readings))
 
     acted-by : (i : ℕ) → Alive i → (b : Bool) → n′ i ≡ numberOf b i → Acted i b b
     acted-by i v true e = by-kind i v (eqb t₀ 17) (eqb t₀ 0) (obtains a) refl refl refl e
@@ -240,7 +247,8 @@ module _ (d : Server) (f : ℕ → Grants) (g : Counts d f) (r : Result) where
     abbrev lookBy : ℕ → Bool
     lookBy t =
         let s = (at es (slotActed es a)) .standing in
-        let x = cond (eqb t 4 && eqb (a .message .code) 0) (a .told) (cond (one-of (6 ∷ 7 ∷ 12 ∷ []) t) (codeWhere (λ n. eqb n (a .message .param)) s) (cond (eqb t 19) (codeWhere (λ n. true) s) silence)) in
+        let x = cond (eqb t 4 && eqb (a .message .code) 0) (a .told)
+        (cond (one-of (6 ∷ 7 ∷ 12 ∷ []) t) (codeWhere (λ n. eqb n (a .message .param)) s) (cond (eqb t 19) (codeWhere (λ n. true) s) silence)) in
         isCode 1 x || isCode 2 x
 
     no-opening : eqb (kindOf a) 0 ≡ false
@@ -300,7 +308,8 @@ module _ (d : Server) (f : ℕ → Grants) (g : Counts d f) (r : Result) where
       all-fixed = all-imp held (Left (message-acted a)) fixed ws held-all
 
       go : (b y : Bool) → b ≡ false
-          → all (Left (message-acted a)) (cond b (ws ++ record { slot = slotActed es a; deadline = now + a .message .param; string = a .message .payload } ∷ []) (cond y (keep (λ w. not (requestsOf (slotActed es a) w)) ws) ws)) ≡ true
+          → all (Left (message-acted a)) (cond b (ws ++ record { slot = slotActed es a; deadline = now + a .message .param; string = a .message .payload } ∷ [])
+          (cond y (keep (λ w. not (requestsOf (slotActed es a) w)) ws) ws)) ≡ true
       go true y e = absurd (true≢false e)
       go false true e = all-keep (Left (message-acted a)) (λ w. not (requestsOf (slotActed es a) w)) ws all-fixed
       go false false e = all-fixed
@@ -363,7 +372,9 @@ module _ (d : Server) (f : ℕ → Grants) (g : Counts d f) (r : Result) where
         go : (w .slot ≡ i) ⊎ (w .slot ≡ i → ⊥) → eqb ((at es (w .slot)) .asynchronous) ((at es i) .asynchronous) ≡ eqb (w .slot) i
         go (inl e) = eq-eqb _ _ (ap (λ (j : ℕ). (at es j) .asynchronous) e) ∙ sym (eq-eqb _ _ e)
         go (inr e) =
-            ne-eqb ((at es (w .slot)) .asynchronous) ((at es i) .asynchronous) (λ x. e (g .inv .sound .firm .connections ((at es (w .slot)) .asynchronous) real (w .slot) i (on (w .slot) alive refl) (on i (lived i v (goes .0)) (sym x))))
+            ne-eqb ((at es (w .slot)) .asynchronous) ((at es i) .asynchronous)
+            (λ x. e (g .inv .sound .firm .connections ((at es (w .slot)) .asynchronous) real (w .slot) i (on (w .slot) alive refl)
+            (on i (lived i v (goes .0)) (sym x))))
             ∙ sym (ne-eqb _ _ e)
 
     passed : noted (answersTo now (q₀ .second) (map (waitingAnswer 1 (l .due)) (l .granted)) (q₀ .readings)) ≡ givenGrants now (l .granted) i (noted (q₀ .readings))

@@ -40,7 +40,9 @@ tally-rows : (q : HolderRow → Bool) (es : List Entry) → tally q (holdersOf e
 tally-rows q [] = refl
 tally-rows q (e ∷ es) = go (holder e) (tally-rows q es)
   where
-    go : (b : Bool) → tally q (holdersOf es) ≡ tally (λ e. holder e && q (rowOf e)) es → tally q (cond b (putBy sessionOf (rowOf e) (holdersOf es)) (holdersOf es)) ≡ cond (b && q (rowOf e)) (suc (tally (λ e. holder e && q (rowOf e)) es)) (tally (λ e. holder e && q (rowOf e)) es)
+    go : (b : Bool) → tally q (holdersOf es) ≡ tally (λ e. holder e && q (rowOf e)) es →
+        tally q (cond b (putBy sessionOf (rowOf e) (holdersOf es)) (holdersOf es)) ≡ cond (b && q (rowOf e)) (suc (tally (λ e. holder e && q (rowOf e)) es))
+        (tally (λ e. holder e && q (rowOf e)) es)
     go true ih = tally-put q (rowOf e) (holdersOf es) ∙ ap (λ (n : ℕ). cond (q (rowOf e)) (suc n) n) ih
     go false ih = ih
 
@@ -57,7 +59,8 @@ module _ (p : ℕ → Bool → Bool → Bool) where
   tally-live (e ∷ es) c = go (live e) refl (tally-live es (and-r (clean e) _ c))
     where
       go : (b : Bool) → live e ≡ b → tally (λ e. holder e && ofRow (rowOf e)) es ≡ tally ofSession (asSessions es)
-          → cond (holder e && ofRow (rowOf e)) (suc (tally (λ e. holder e && ofRow (rowOf e)) es)) (tally (λ e. holder e && ofRow (rowOf e)) es) ≡ tally ofSession (cond b (asSession e ∷ asSessions es) (asSessions es))
+          → cond (holder e && ofRow (rowOf e)) (suc (tally (λ e. holder e && ofRow (rowOf e)) es)) (tally (λ e. holder e && ofRow (rowOf e)) es) ≡ tally
+          ofSession (cond b (asSession e ∷ asSessions es) (asSessions es))
       go true l h = ap (λ (n : ℕ). cond (holder e && ofRow (rowOf e)) (suc n) n) h
       go false l h =
           let z : (noExclusive e && noShared e) ≡ true = sym (ap (λ (b : Bool). b || (noExclusive e && noShared e)) l) ∙ and-l (clean e) _ c in
@@ -132,7 +135,8 @@ pub holders-shown : (v : Making) (es : List Event) → HoldersShown v es
 holders-shown v es =
     record {
       ascending = ascending-rows l distinct;
-      exactly = λ p. tally-rows (λ r. p (r .session) (r .exclusive) (r .shared)) l ∙ tally-live p l (firm .clean-all) ∙ sym ((agreement v es) .locks .sessions (λ s. holdsLock s && p (s .number) (s .exclusive) (not (notShared s))));
+      exactly = λ p. tally-rows (λ r. p (r .session) (r .exclusive) (r .shared)) l ∙ tally-live p l (firm .clean-all)
+          ∙ sym ((agreement v es) .locks .sessions (λ s. holdsLock s && p (s .number) (s .exclusive) (not (notShared s))));
     }
   where
     l : List Entry
@@ -150,4 +154,5 @@ holders-shown v es =
         by false e = absurd (true≢false (sym h ∙ ap not (sym (ap (λ (b : Bool). b || (noExclusive (at l i) && noShared (at l i))) e) ∙ all-at clean l i refl (firm .clean-all))))
 
     distinct : Distinct l
-    distinct i j p q n = firm .numbers ((at l i) .number) i j (both _ _ (lives i p) (eq-eqb ((at l i) .number) ((at l i) .number) refl)) (both _ _ (lives j q) (eq-eqb ((at l j) .number) ((at l i) .number) (sym n)))
+    distinct i j p q n = firm .numbers ((at l i) .number) i j (both _ _ (lives i p) (eq-eqb ((at l i) .number) ((at l i) .number) refl))
+        (both _ _ (lives j q) (eq-eqb ((at l j) .number) ((at l i) .number) (sym n)))

@@ -22,7 +22,8 @@ use Rattle.model.specs.Allowing.{admits, admits-is}
 use Rattle.model.specs.Locks.{access, change}
 use Rattle.model.specs.Exchange.{withNumber}
 use Rattle.model.specs.Checks
-use Rattle.model.specs.Checks.{Verdict, Verdict.v-more, Verdict.v-skipped, Verdict.v-held, Verdict.v-ignored, Verdict.v-closed, Verdict.v-acts, Verdict.v-error, Verdict.v-fatal, Rule, first, verdict, either}
+use Rattle.model.specs.Checks.{Verdict, Verdict.v-more, Verdict.v-skipped, Verdict.v-held, Verdict.v-ignored, Verdict.v-closed, Verdict.v-acts}
+use Rattle.model.specs.Checks.{Verdict.v-error, Verdict.v-fatal, Rule, first, verdict, either}
 use Rattle.model.specs.Acts
 use Rattle.model.specs.Refusals.{causes, refusal}
 use Rattle.model.specs.Step.{Result, counted, effect, finish, step, final, log}
@@ -180,7 +181,8 @@ module _ (d : Server) (c : ℕ) (bs : List ℕ) (room : ℕ) where
   open-now z = not-off _ ((uncaused (causes d (delivery c bs room)) refl z) .1 .1 .0)
 
   -- an Error to a message that is taken whole leaves the connections
-  pub connections-kept : (n : ℕ) → refusal d (delivery c bs room) ≡ 0 → y₁ .remainder ≡ 0 → (effect (v-error n) (Scan.whole (header bs) p₀) r-synchronous d i₀ c) .rest .connections ≡ d .rest .connections
+  pub connections-kept : (n : ℕ) → refusal d (delivery c bs room) ≡ 0 → y₁ .remainder ≡ 0 →
+      (effect (v-error n) (Scan.whole (header bs) p₀) r-synchronous d i₀ c) .rest .connections ≡ d .rest .connections
   unfolding effect
   connections-kept n z e = ap (set (d .rest .connections) c) (kept-open 0 y₁ (open-now z) ∙ ap (λ (r : ℕ). withRemainder r y₁) (sym e)) ∙ set-same (d .rest .connections) c closedConnection
 
@@ -188,13 +190,28 @@ module _ (d : Server) (c : ℕ) (bs : List ℕ) (room : ℕ) where
   told-so s = record { server = s; reply = took error-sent (16 + (header bs) .len) 0; frames = error-0 c }
 
   abbrev left : List Exchange → List Connection → Result
-  left ns ks = told-so record { locks = d .locks; rest = record { exchanges = ns; sensings = d .rest .sensings; connections = ks; lastIssued = d .rest .lastIssued; made = d .rest .made; status = d .rest .status; remoteLocal = d .rest .remoteLocal; allowed = d .rest .allowed } }
+  left ns ks = told-so record {
+    locks = d .locks;
+    rest = record {
+      exchanges = ns;
+      sensings = d .rest .sensings;
+      connections = ks;
+      lastIssued = d .rest .lastIssued;
+      made = d .rest .made;
+      status = d .rest .status;
+      remoteLocal = d .rest .remoteLocal;
+      allowed = d .rest .allowed;
+    };
+  }
 
-  errs : finish d (effect (v-error 0) (Scan.whole (header bs) p₀) r-synchronous d i₀ c) ≡ left (set (d .rest .exchanges) i₀ (counted r-synchronous (Scan.whole (header bs) p₀) x₁)) ((effect (v-error 0) (Scan.whole (header bs) p₀) r-synchronous d i₀ c) .rest .connections)
+  errs : finish d (effect (v-error 0) (Scan.whole (header bs) p₀) r-synchronous d i₀ c) ≡ left
+      (set (d .rest .exchanges) i₀ (counted r-synchronous (Scan.whole (header bs) p₀) x₁))
+      ((effect (v-error 0) (Scan.whole (header bs) p₀) r-synchronous d i₀ c) .rest .connections)
   unfolding finish effect change
   errs = refl
 
-  unmoved : eqb ((header bs) .param) (x₁ .numberExpected) ≡ false → (a b : Bool) → withNumber (cond (not a && (b && eqb ((header bs) .param) (x₁ .numberExpected))) (next (x₁ .numberExpected)) (x₁ .numberExpected)) x₁ ≡ x₁
+  unmoved : eqb ((header bs) .param) (x₁ .numberExpected) ≡ false → (a b : Bool) →
+      withNumber (cond (not a && (b && eqb ((header bs) .param) (x₁ .numberExpected))) (next (x₁ .numberExpected)) (x₁ .numberExpected)) x₁ ≡ x₁
   unmoved m true b = refl
   unmoved m false true = rw m
   unmoved m false false = refl
@@ -205,7 +222,8 @@ module _ (d : Server) (c : ℕ) (bs : List ℕ) (room : ℕ) where
       whole-step d c bs room z (w .message) r-synchronous (role-sync d c (w .on-synchronous))
       ∙ ap (λ v. finish d (effect v (Scan.whole (header bs) p₀) r-synchronous d i₀ c)) (out-of-step d i₀ p₀ (header bs) (w .not-in-clear) a m ((header bs) .kind) (w .of-type))
       ∙ errs
-      ∙ ap₂ left (ap (set (d .rest .exchanges) i₀) (unmoved m (x₁ .inClear) (one-of commands ((header bs) .kind))) ∙ set-same (d .rest .exchanges) i₀ freshExchange) (connections-kept 0 z (w .message .no-remainder))
+      ∙ ap₂ left (ap (set (d .rest .exchanges) i₀) (unmoved m (x₁ .inClear) (one-of commands ((header bs) .kind)))
+      ∙ set-same (d .rest .exchanges) i₀ freshExchange) (connections-kept 0 z (w .message .no-remainder))
 
   pub out : OutOfStep d c bs room
   out = record { answered = answered }
@@ -222,7 +240,8 @@ apart x y xs ys e = (cc, cc)
 
 module _ (d : Server) (f : ℕ → Numbering) (g : Reads d f) where
   -- a line of session n
-  line : (n : ℕ) (e : Event) → (noted-line record { event = e; reply = (step d e) .reply; frames = (step d e) .frames } n (f n)) .taken ≡ countUp (length ((noted-line record { event = e; reply = (step d e) .reply; frames = (step d e) .frames } n (f n)) .taken))
+  line : (n : ℕ) (e : Event) → (noted-line record { event = e; reply = (step d e) .reply; frames = (step d e) .frames } n (f n)) .taken ≡ countUp
+      (length ((noted-line record { event = e; reply = (step d e) .reply; frames = (step d e) .frames } n (f n)) .taken))
       → OnlyPayload record { event = e; reply = (step d e) .reply; frames = (step d e) .frames } (f n)
   line n e counts bs room k m ee er nc o ef =
       error-told d c bs room o k m (subst (λ (e : Event). (step d e) .reply ≡ took error-sent k m) ee er) (subst (λ (e : Event). (step d e) .frames ≡ error-0 c) ee ef) fits
@@ -278,7 +297,9 @@ in-steps v es =
       goes-on = λ c bs room k z w a f l t m.
           let s = w .on-synchronous in
           let e = m ∙ sym (counts-on k) ∙ ap expected (sym t) ∙ (g .knows (slotOf d c) (s .alive)) .number in
-          ap (λ (x : Result). x .reply) (whole-does d c bs room z (w .message) r-synchronous (role-sync d c s) (command-passes d (slotOf d c) (payloadOf (header bs) bs) (w .not-in-clear) a (header bs) e f (λ t. admits-is (d .rest .allowed) (payloadOf (header bs) bs) .1 (l t))));
+          ap (λ (x : Result). x .reply) (whole-does d c bs room z (w .message) r-synchronous (role-sync d c s)
+          (command-passes d (slotOf d c) (payloadOf (header bs) bs) (w .not-in-clear) a (header bs) e f
+          (λ t. admits-is (d .rest .allowed) (payloadOf (header bs) bs) .1 (l t))));
       never = λ n c. never-out es (fresh v) (λ n. firstNumbering noConnection) (fresh-reads v) n c;
     }
   where

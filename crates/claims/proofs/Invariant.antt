@@ -63,7 +63,8 @@ pub record Inv (l : Locks) : Type 0 where
   pub quiet : all (blocked (l .entries)) (l .waiting) ≡ true
 
 -- a store that keeps who the session is
-firm-same : (es : List Entry) (i : ℕ) (y : Entry) → clean y ≡ true → backed y ≡ true → y .number ≡ (at es i) .number → y .synchronous ≡ (at es i) .synchronous → y .asynchronous ≡ (at es i) .asynchronous → Sole exclusive (set es i y) → Firm es → Firm (set es i y)
+firm-same : (es : List Entry) (i : ℕ) (y : Entry) → clean y ≡ true → backed y ≡ true → y .number ≡ (at es i) .number → y .synchronous ≡ (at es i) .synchronous →
+    y .asynchronous ≡ (at es i) .asynchronous → Sole exclusive (set es i y) → Firm es → Firm (set es i y)
 firm-same es i y c b n s a x f =
     record {
       clean-all = all-set clean es i y c (f .clean-all);
@@ -110,7 +111,9 @@ backed-at es i f = all-at backed es i refl (f .backed-all)
 
 pub firm-give : (now : ℕ) (es : List Entry) (i : ℕ) (k : List ℕ) → ready (at es i) k ≡ true → mayGrant es i k ≡ true → Firm es → Firm (grant now es i k)
 firm-give now es i k r m f =
-    firm-same es i _ (clean-give k (at es i) r) (ap (λ s. backing s (giveAt now k (at es i))) (give-standing k (at es i)) ∙ backed-give now k ((at es i) .standing) (at es i) (backed-at es i f)) (give-num k _) (give-sync k _) (give-async k _) (one-give now es i k m (f .one-exclusive)) f
+    firm-same es i _ (clean-give k (at es i) r) (ap (λ s. backing s (giveAt now k (at es i))) (give-standing k (at es i))
+    ∙ backed-give now k ((at es i) .standing) (at es i) (backed-at es i f)) (give-num k _) (give-sync k _) (give-async k _)
+    (one-give now es i k m (f .one-exclusive)) f
 
 -- an entry of the same session with no lock that it did not have
 pub record Lesser (e y : Entry) : Type 0 where
@@ -175,8 +178,13 @@ good-keep es q (w ∷ ws) g = go (q w) (good-keep es q ws (g .2))
 pub good-snoc : (es : List Entry) (ws : List Waiting) (w : Waiting) → Good es ws → ready (at es (w .slot)) (w .string) ≡ true → all (elsewhere (w .slot)) ws ≡ true
     → Good es (ws ++ w ∷ [])
 good-snoc es [] w g r a = (r, refl, tt)
-good-snoc es (v ∷ ws) w g r a =
-    (g .0, all-snoc (elsewhere (v .slot)) ws w (g .1) (ap not (ne-eqb (w .slot) (v .slot) (λ e. apart (w .slot) v (and-l (elsewhere (w .slot) v) _ a) (sym e)))), good-snoc es ws w (g .2) r (and-r (elsewhere (w .slot) v) _ a))
+good-snoc es (v ∷ ws) w g r a = (
+  g .0,
+  all-snoc (elsewhere (v .slot)) ws w (g .1) (ap not
+      (ne-eqb (w .slot) (v .slot) (λ e. apart (w .slot) v (and-l (elsewhere (w .slot) v) _ a) (sym e)))),
+  good-snoc es ws w (g .2) r
+      (and-r (elsewhere (w .slot) v) _ a),
+)
 
 -- the pass
 pass-at : (now : ℕ) (ws : List Waiting) (es : List Entry) (j : ℕ) → all (elsewhere j) ws ≡ true → at ((passOver now ws es) .entries) j ≡ at es j

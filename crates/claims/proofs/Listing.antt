@@ -13,7 +13,10 @@ use Rattle.commands.specs.Lists.{linesOf, Listed, FirstBad, Ruling}
 use Rattle.commands.specs.Rulings.{judged, judged-is}
 use Rattle.model.specs.State.{Server, Making, Allowed, Allowed.any-command, Allowed.only, fresh, withAllowed}
 use Rattle.model.specs.Allowing.{Admits, isBad, isTooMany}
-use Rattle.model.specs.Interface.{Event, Event.opening, Event.delivery, Event.cut, Event.clock, Event.answer, Event.status, Event.setting, Setting, Setting.watch, Setting.patterns, Outcome, Outcome.more-needed, Outcome.skipped, Outcome.held, Outcome.ignored, Outcome.error-sent, Outcome.closed, Outcome.acted, Reply, Reply.refused, Reply.done, Reply.withheld, Reply.took, badPattern, tooManyPatterns}
+use Rattle.model.specs.Interface.{Event, Event.opening, Event.delivery, Event.cut, Event.clock, Event.answer, Event.status, Event.setting, Setting}
+use Rattle.model.specs.Interface.{Setting.watch, Setting.patterns, Outcome, Outcome.more-needed, Outcome.skipped, Outcome.held, Outcome.ignored}
+use Rattle.model.specs.Interface.{Outcome.error-sent, Outcome.closed, Outcome.acted, Reply, Reply.refused, Reply.done, Reply.withheld, Reply.took, badPattern}
+use Rattle.model.specs.Interface.{tooManyPatterns}
 use Rattle.model.specs.Locks.{change}
 use Rattle.model.specs.Refusals.{Cause, firstCause, causes, refusal}
 use Rattle.model.specs.Sensing.{settingSensings}

@@ -14,14 +14,16 @@ use Rattle.wire.specs.Frame.{Frame, frameOf}
 use Rattle.wire.specs.Class.{one-of, synchronous, asynchronous}
 use Rattle.model.specs.Sizes.{noConnection}
 use Rattle.model.specs.State.{Making, Server, Entry, at, live, halfOpen, blank, slotOfNumber, connectionAt, exchangeAt, Asked, Asked.none, Asked.some, Exchange, withExchange, sensingAt, withSensings}
-use Rattle.model.specs.Interface.{Event, Event.opening, Event.delivery, Event.cut, Event.clock, Event.answer, Event.status, Event.setting, Outcome.acted, Outcome.closed, Reply, Reply.done, Reply.withheld, Reply.took}
+use Rattle.model.specs.Interface.{Event, Event.opening, Event.delivery, Event.cut, Event.clock, Event.answer, Event.status, Event.setting, Outcome.acted}
+use Rattle.model.specs.Interface.{Outcome.closed, Reply, Reply.done, Reply.withheld, Reply.took}
 use Rattle.model.specs.Scan.{Scan, Scan.empty, Scan.few, Scan.wrong, Scan.skipping, Scan.long, Scan.part, Scan.whole, scan, size}
 use Rattle.model.specs.Place.{slotIn, slotOf, roleOf, roleBy, isOnConnection, entryOf, Role, Role.r-none, Role.r-halfOpen, Role.r-synchronous, Role.r-asynchronous}
 use Rattle.model.specs.Locks
 use Rattle.model.specs.Locks.{LockEvent, change, grantPass, passOver}
 use Rattle.model.specs.Exchange.{withNumber, answerNumberIn, answerNumber, numberAsked, answeredWith, interrupted}
 use Rattle.model.specs.Checks
-use Rattle.model.specs.Checks.{Verdict, Verdict.v-more, Verdict.v-skipped, Verdict.v-held, Verdict.v-ignored, Verdict.v-closed, Verdict.v-acts, Verdict.v-error, Verdict.v-fatal, verdict, judged, either}
+use Rattle.model.specs.Checks.{Verdict, Verdict.v-more, Verdict.v-skipped, Verdict.v-held, Verdict.v-ignored, Verdict.v-closed, Verdict.v-acts}
+use Rattle.model.specs.Checks.{Verdict.v-error, Verdict.v-fatal, verdict, judged, either}
 use Rattle.model.specs.Acts
 use Rattle.model.specs.Acts.{Plan}
 use Rattle.model.specs.Refusals.{causes, refusal}
@@ -40,8 +42,10 @@ use Rattle.claims.proofs.Fits.{Passes, uncaused, opening-passed, sync-p
 use Rattle.claims.proofs.Closing.{pass-looks}
 use Rattle.claims.proofs.LocalityLists.{withRemainder, kept-open}
 use Rattle.claims.proofs.LocalityParts.{assemble}
-use Rattle.claims.proofs.LocalityRest.{rest-unmoved, rest-clock, rest-status, rest-setting, service-due, rest-answer, rest-withheld, rest-opening, rest-skipped, rest-error, scan-error, rest-closing}
-use Rattle.claims.proofs.LocalityLocks.{locks-unmoved, locks-opening, locks-skipped, locks-error, locks-status, locks-setting, locks-answer, locks-withheld, locks-clock, locks-closing, freed, stay, pass-frames, refused-frames}
+use Rattle.claims.proofs.LocalityRest.{rest-unmoved, rest-clock, rest-status, rest-setting, service-due, rest-answer, rest-withheld, rest-opening}
+use Rattle.claims.proofs.LocalityRest.{rest-skipped, rest-error, scan-error, rest-closing}
+use Rattle.claims.proofs.LocalityLocks.{locks-unmoved, locks-opening, locks-skipped, locks-error, locks-status, locks-setting, locks-answer}
+use Rattle.claims.proofs.LocalityLocks.{locks-withheld, locks-clock, locks-closing, freed, stay, pass-frames, refused-frames}
 use Rattle.claims.proofs.LocalitySilence.{fatal-heard, none-heard, closes-silently}
 use Rattle.claims.proofs.LocalityMessages.{num, synchronously, asynchronously, local-synchronous, local-asynchronous, issuedNow, local-0, local-17}
 
@@ -89,7 +93,12 @@ local-closing d c real k reply s =
 -- a message that acted
 module _ (d : Server) (c : ℕ) (bs : List ℕ) (h : Header) (p : List ℕ) where
   abbrev Acted : Plan → ℕ → Type 0
-  Acted x n = Local d (message-acted record { connection = c; message = record { kind = h .kind; code = h .code; param = h .param; payload = p }; session = n; told = heard 5 ((finish d x) .frames) }) (finish d x)
+  Acted x n = Local d (message-acted record {
+    connection = c;
+    message = record { kind = h .kind; code = h .code; param = h .param; payload = p };
+    session = n;
+    told = heard 5 ((finish d x) .frames);
+  }) (finish d x)
 
   opens-local : (b : Bool) → eqb (h .kind) 0 ≡ b → Passes (Checks.openingRules d h p)
       → (n : ℕ) → (Acts.opens b d c h) .reply ≡ took acted (16 + h .len) n → Acted (Acts.opens b d c h) n
@@ -110,7 +119,8 @@ module _ (d : Server) (c : ℕ) (bs : List ℕ) (h : Header) (p : List ℕ) wher
   shown-acted : (x : Plan) (n : ℕ) → header bs ≡ h → take ((header bs) .len) (drop 16 bs) ≡ p → Acted x n
       → Local d (message-acted record { connection = c; message = messageOf (header bs) bs; session = n; told = heard 5 ((finish d x) .frames) }) (finish d x)
   shown-acted x n eh ep l =
-      subst (λ (m : Message). Local d (message-acted record { connection = c; message = m; session = n; told = heard 5 ((finish d x) .frames) }) (finish d x)) (sym (ap₂ (λ (k : Header) (y : List ℕ). record { kind = k .kind; code = k .code; param = k .param; payload = y }) eh ep)) l
+      subst (λ (m : Message). Local d (message-acted record { connection = c; message = m; session = n; told = heard 5 ((finish d x) .frames) }) (finish d x))
+      (sym (ap₂ (λ (k : Header) (y : List ℕ). record { kind = k .kind; code = k .code; param = k .param; payload = y }) eh ep)) l
 
   acts-local : (room : ℕ) → header bs ≡ h → take ((header bs) .len) (drop 16 bs) ≡ p → (r : Role) → roleOf (d .locks .entries) c ≡ r → judged r d (slotOf d c) h p ≡ v-acts
       → Local d (happened (delivery c bs room) ((Acts.acts r d (slotOf d c) c h p) .reply) ((finish d (Acts.acts r d (slotOf d c) c h p)) .frames)) (finish d (Acts.acts r d (slotOf d c) c h p))
@@ -170,7 +180,8 @@ module _ (d : Server) (c : ℕ) (bs : List ℕ) (real : c ≡ noConnection → �
   headed : (h : Header) (x : Exchange) → roleOf (d .locks .entries) c ≡ r-synchronous → header bs ≡ h → RowBy r-synchronous (Scan.long h) x
   headed h x er eh =
       ap (λ (k : Header). withNumber (numberBy k x) x) (sym eh)
-      ∙ sym (ap (λ b. cond b (withNumber (numberBy (header bs) x) x) x) (on-first (live e₀) (eqb (e₀ .asynchronous) noConnection) (eqb (e₀ .synchronous) c) (sym (place-role (d .locks .entries) c) ∙ er)))
+      ∙ sym (ap (λ b. cond b (withNumber (numberBy (header bs) x) x) x)
+      (on-first (live e₀) (eqb (e₀ .asynchronous) noConnection) (eqb (e₀ .synchronous) c) (sym (place-role (d .locks .entries) c) ∙ er)))
 
   no-session : roleOf (d .locks .entries) c ≡ r-none → eqb (e₀ .synchronous) c ≡ false
   no-session er = go (place-sound (d .locks .entries) c)
@@ -179,7 +190,8 @@ module _ (d : Server) (c : ℕ) (bs : List ℕ) (real : c ≡ noConnection → �
       go (inl h) = absurd (no-role (d .locks .entries) c er (slotOf d c) h)
       go (inr h) = ap (λ (e : Entry). eqb (e .synchronous) c) h ∙ ne-eqb noConnection c (λ z. real (sym z))
 
-  numbered-row : (n : ℕ) (r : Role) (s : Scan) (x : Exchange) → scan ((connectionAt (d .rest) c) .remainder) bs ≡ s → roleOf (d .locks .entries) c ≡ r → verdict r d (slotOf d c) s ≡ v-error n → RowBy r s x
+  numbered-row : (n : ℕ) (r : Role) (s : Scan) (x : Exchange) → scan ((connectionAt (d .rest) c) .remainder) bs ≡ s → roleOf (d .locks .entries) c ≡ r →
+      verdict r d (slotOf d c) s ≡ v-error n → RowBy r s x
   unfolding verdict
   numbered-row n r-synchronous (long h) x es er ev = headed h x er (long-scan _ bs h es)
   numbered-row n r-synchronous (whole h p) x es er ev = headed h x er ((whole-scan _ bs h p es) .0)
@@ -189,7 +201,8 @@ module _ (d : Server) (c : ℕ) (bs : List ℕ) (real : c ≡ noConnection → �
   numbered-row n r-synchronous (skipping k) x es er ev = absurd (let y : _≡_ {A = ℕ} 0 1 = cc in omega arith)
   numbered-row n r-synchronous (part h) x es er ev = absurd (let y : _≡_ {A = ℕ} 0 1 = cc in omega arith)
   numbered-row n r-asynchronous s x es er ev =
-      sym (ap (λ b. cond b (withNumber (numberBy (header bs) x) x) x) (not-first (live e₀) (eqb (e₀ .asynchronous) noConnection) (eqb (e₀ .synchronous) c) (sym (place-role (d .locks .entries) c) ∙ er)))
+      sym (ap (λ b. cond b (withNumber (numberBy (header bs) x) x) x)
+      (not-first (live e₀) (eqb (e₀ .asynchronous) noConnection) (eqb (e₀ .synchronous) c) (sym (place-role (d .locks .entries) c) ∙ er)))
   numbered-row n r-none s x es er ev = sym (ap (λ b. cond b (withNumber (numberBy (header bs) x) x) x) (no-session er))
   numbered-row n r-halfOpen empty x es er ev = absurd (let y : _≡_ {A = ℕ} 0 1 = cc in omega arith)
   numbered-row n r-halfOpen few x es er ev = absurd (let y : _≡_ {A = ℕ} 0 1 = cc in omega arith)
@@ -206,7 +219,8 @@ module _ (d : Server) (c : ℕ) (bs : List ℕ) (room : ℕ) (real : c ≡ noCon
   idle-local : (o : _) → Local d unmoved record { server = d; reply = took o 0 0; frames = [] }
   idle-local o = local-unmoved d (took o 0 0) (λ o k n e. cc)
 
-  effect-local : (v : Verdict) (s : Scan) (r : Role) → scan ((connectionAt (d .rest) c) .remainder) bs ≡ s → roleOf (d .locks .entries) c ≡ r → verdict r d (slotOf d c) s ≡ v → Does (effect v s r d (slotOf d c) c)
+  effect-local : (v : Verdict) (s : Scan) (r : Role) → scan ((connectionAt (d .rest) c) .remainder) bs ≡ s → roleOf (d .locks .entries) c ≡ r →
+      verdict r d (slotOf d c) s ≡ v → Does (effect v s r d (slotOf d c) c)
   unfolding effect verdict finish change grantPass
   effect-local v-more s r es er ev = idle-local _
   effect-local v-held s r es er ev = idle-local _
@@ -217,12 +231,16 @@ module _ (d : Server) (c : ℕ) (bs : List ℕ) (room : ℕ) (real : c ≡ noCon
       let z = error-scan r d (slotOf d c) s x ev in
       let y = exchangeAt (d .rest) (slotOf d c) in
       assemble d _ _ (d .locks .entries) []
-      (rest-error d c (header bs) _ (counted r s y) (with-code x) (kept-open _ (connectionAt (d .rest) c) opened ∙ ap (λ (k : ℕ). withRemainder k (connectionAt (d .rest) c)) (scan-error ((connectionAt (d .rest) c) .remainder) bs s es (z .0) (z .1))) (numbered-row d c bs real x r s y es er ev))
+      (rest-error d c (header bs) _ (counted r s y) (with-code x)
+      (kept-open _ (connectionAt (d .rest) c) opened ∙ ap (λ (k : ℕ). withRemainder k (connectionAt (d .rest) c))
+      (scan-error ((connectionAt (d .rest) c) .remainder) bs s es (z .0) (z .1))) (numbered-row d c bs real x r s y es er ev))
       (locks-error d c (header bs) (with-code x))
       refl
       (λ o k n e. cc)
   effect-local (v-fatal x) s r es er ev =
-      rw (fatal-heard x (live (entryOf d c)) ((entryOf d c) .synchronous) c (cond (eqb ((entryOf d c) .asynchronous) noConnection) [] ((entryOf d c) .asynchronous ∷ [])) _) (local-closing d c real (with-code x) _ (λ o k n e. cc))
+      rw (fatal-heard x (live (entryOf d c)) ((entryOf d c) .synchronous) c
+      (cond (eqb ((entryOf d c) .asynchronous) noConnection) [] ((entryOf d c) .asynchronous ∷ [])) _)
+      (local-closing d c real (with-code x) _ (λ o k n e. cc))
   effect-local v-closed s r es er ev = rw (none-heard ((passOver (d .locks .clock) (stay d c) (freed d c)) .answers)) (local-closing d c real silence _ (λ o k n e. cc))
   effect-local v-acts empty r es er ev = idle-local _
   effect-local v-acts few r es er ev = idle-local _
@@ -260,10 +278,13 @@ plan-local : (d : Server) (e : Event) → refusal d e ≡ 0 → Local d (happene
 unfolding plan received finish change grantPass answerNumber refusal causes
 plan-local d (opening c) q = assemble d _ _ (d .locks .entries) [] (rest-opening d c) (locks-opening d c) refl (λ o k n e. absurd (let y : _≡_ {A = ℕ} 0 1 = cc in omega arith))
 plan-local d (delivery c bs room) q =
-    effect-local d c bs room (real-delivery d c bs room q) (not-off _ ((uncaused (causes d (delivery c bs room)) refl q) .1 .1 .0)) _ (scan ((connectionAt (d .rest) c) .remainder) bs) (roleOf (d .locks .entries) c) refl refl refl
+    effect-local d c bs room (real-delivery d c bs room q) (not-off _ ((uncaused (causes d (delivery c bs room)) refl q) .1 .1 .0)) _
+    (scan ((connectionAt (d .rest) c) .remainder) bs) (roleOf (d .locks .entries) c) refl refl refl
 plan-local d (cut c room) q = local-closing d c (real-cut d c room q) silence done (λ o k n e. absurd (let y : _≡_ {A = ℕ} 0 1 = cc in omega arith))
 plan-local d (clock t room) q =
-    assemble d _ _ (d .locks .entries) [] (rest-clock d t) (locks-clock d t) (ap (λ (fs : List Frame). fs ++ []) (refused-frames (d .locks .entries) (λ w. lib.Dec.leb (w .deadline) t) (d .locks .waiting))) (λ o k n e. absurd (let y : _≡_ {A = ℕ} 0 1 = cc in omega arith))
+    assemble d _ _ (d .locks .entries) [] (rest-clock d t) (locks-clock d t)
+    (ap (λ (fs : List Frame). fs ++ []) (refused-frames (d .locks .entries) (λ w. lib.Dec.leb (w .deadline) t) (d .locks .waiting)))
+    (λ o k n e. absurd (let y : _≡_ {A = ℕ} 0 1 = cc in omega arith))
 plan-local d (answer n p end sh room) q = go (withholds d n end sh)
   where
     i : ℕ
@@ -273,9 +294,11 @@ plan-local d (answer n p end sh room) q = go (withholds d n end sh)
     by w =
         record {
           reply = cond w withheld done;
-          rest = withSensings (withExchange (d .rest) i (cond w (interrupted (exchangeAt (d .rest) i)) (answeredWith end (exchangeAt (d .rest) i)))) (cond w (d .rest .sensings) (set (d .rest .sensings) i (sensed p (sensingAt (d .rest) i))));
+          rest = withSensings (withExchange (d .rest) i (cond w (interrupted (exchangeAt (d .rest) i)) (answeredWith end (exchangeAt (d .rest) i))))
+              (cond w (d .rest .sensings) (set (d .rest .sensings) i (sensed p (sensingAt (d .rest) i))));
           first = [];
-          said = cond w (Acts.interruptions (at (d .locks .entries) i) ((header sh) .param)) (frameOf ((at (d .locks .entries) i) .synchronous) (answerType end) 0 (answerNumber (exchangeAt (d .rest) i)) p ∷ serviceAfter d n p);
+          said = cond w (Acts.interruptions (at (d .locks .entries) i) ((header sh) .param))
+              (frameOf ((at (d .locks .entries) i) .synchronous) (answerType end) 0 (answerNumber (exchangeAt (d .rest) i)) p ∷ serviceAfter d n p);
           event = LockEvent.nothing;
         }
 
@@ -302,7 +325,8 @@ pub locality : (d : Server) (e : Event) → Locality d e
 locality d e =
     record {
       local = local-call d e;
-      silent = λ c bs room k n q. subst (λ (x : Event). (step d x) .reply ≡ took closed k n → isSilence (heard 2 ((step d x) .frames)) ≡ clientsFatalError d c bs) (sym q) (closes-silently d c bs room k n);
+      silent = λ c bs room k n q. subst (λ (x : Event). (step d x) .reply ≡ took closed k n →
+          isSilence (heard 2 ((step d x) .frames)) ≡ clientsFatalError d c bs) (sym q) (closes-silently d c bs room k n);
     }
 
 -- each call of a list, and the single fields after it
@@ -310,7 +334,8 @@ each-local : (es : List Event) (d : Server) → EachLocal d es
 each-local [] d = tt
 each-local (e ∷ es) d = (locality d e, each-local es ((step d e) .server))
 
-read-off : {A : Type 0} (g : Server → A) (r : Single A) → ((d : Server) (e : Event) → g ((step d e) .server) ≡ singly r (atCall d e) (g d)) → (es : List Event) (d : Server) → g (final d es) ≡ overLog r (log d es) (g d)
+read-off : {A : Type 0} (g : Server → A) (r : Single A) → ((d : Server) (e : Event) → g ((step d e) .server) ≡ singly r (atCall d e) (g d)) →
+    (es : List Event) (d : Server) → g (final d es) ≡ overLog r (log d es) (g d)
 unfolding final log
 read-off g r f [] d = refl
 read-off g r f (e ∷ es) d = read-off g r f es ((step d e) .server) ∙ ap (overLog r (log ((step d e) .server) es)) (f d e)

@@ -14,8 +14,12 @@ use Rattle.model.specs.Place.{slotIn}
 use Rattle.model.specs.Locks.{withLocks, withGranted, giveAt}
 use Rattle.model.specs.Exchange
 use Rattle.model.specs.Closing.{OldestFirst, OldestFirst.pass-end, OldestFirst.pass-grant, OldestFirst.pass-wait}
-use Rattle.model.specs.Happening.{Action, Happening, Happening.unmoved, Happening.connected, Happening.disconnected, Happening.skipped-over, Happening.errored, Happening.message-acted, Happening.clock-read, Happening.status-set, Happening.setting-made, Happening.answer-sent, Happening.answer-withheld}
-use Rattle.model.specs.LocalityRows.{Row, inSlot, slotActed, concerns, Way, inPlace, remainder-row, clear-row, asked-row, available-row, size-row, mode-row, count-row, sent-row, expected-row, step-row, number-row, synchronous-row, asynchronous-row, exclusive-row, shared-row, last-row, standing-row, moreGranted, granted-row}
+use Rattle.model.specs.Happening.{Action, Happening, Happening.unmoved, Happening.connected, Happening.disconnected, Happening.skipped-over, Happening.errored}
+use Rattle.model.specs.Happening.{Happening.message-acted, Happening.clock-read, Happening.status-set, Happening.setting-made, Happening.answer-sent}
+use Rattle.model.specs.Happening.{Happening.answer-withheld}
+use Rattle.model.specs.LocalityRows.{Row, inSlot, slotActed, concerns, Way, inPlace, remainder-row, clear-row, asked-row, available-row, size-row, mode-row}
+use Rattle.model.specs.LocalityRows.{count-row, sent-row, expected-row, step-row, number-row, synchronous-row, asynchronous-row, exclusive-row, shared-row}
+use Rattle.model.specs.LocalityRows.{last-row, standing-row, moreGranted, granted-row}
 use Rattle.model.specs.Locality.{entryDue, givenExclusive, givenShared, givenGrants, Look}
 use Rattle.model.proofs.Basics.{same?}
 
@@ -56,8 +60,11 @@ module _ {A : Type 0} (z : A) (r : Row A) (es : List Entry) (xs : List A) where
   row-kept a f = record { size = refl; each = λ i l. sym (same-both (eqb i (slotActed es a)) (getD xs i z) (r .by-message a (getD xs i z)) (f (getD xs i z))) }
 
 -- a field of a row
-pub project : {X A : Type 0} (g : X → A) (r : Row X) (s : X → Row A) → ((a : Action) (x : X) → g (r .by-message a x) ≡ (s x) .by-message a (g x)) → ((b : Bool) (x : X) → g (r .by-answer b x) ≡ (s x) .by-answer b (g x))
-    → ((x : X) → g (r .when-withheld x) ≡ (s x) .when-withheld (g x)) → ((h : Header) (x : X) → g (r .by-error h x) ≡ (s x) .by-error h (g x)) → ((x : X) → g (r .once-closed) ≡ (s x) .once-closed) → (es : List Entry) (i : ℕ) (h : Happening) (x : X) → g (inSlot r es i h x) ≡ inSlot (s x) es i h (g x)
+pub project : {X A : Type 0} (g : X → A) (r : Row X) (s : X → Row A) → ((a : Action) (x : X) → g (r .by-message a x) ≡ (s x) .by-message a (g x)) →
+    ((b : Bool) (x : X) → g (r .by-answer b x) ≡ (s x) .by-answer b (g x))
+    → ((x : X) → g (r .when-withheld x) ≡ (s x) .when-withheld (g x)) → ((h : Header) (x : X) → g (r .by-error h x) ≡ (s x) .by-error h (g x)) →
+    ((x : X) → g (r .once-closed) ≡ (s x) .once-closed) → (es : List Entry) (i : ℕ) (h : Happening) (x : X) →
+    g (inSlot r es i h x) ≡ inSlot (s x) es i h (g x)
 project g r s m n w v q es i unmoved x = refl
 project g r s m n w v q es i (connected c) x = refl
 project g r s m n w v q es i (disconnected c k) x = push (eqb i _)
@@ -94,8 +101,20 @@ project g r s m n w v q es i (answer-withheld k p) x = push (eqb i _)
 abbrev pub exchangeRow : Bool → Row Exchange
 exchangeRow preferred =
     record {
-      by-message = λ a x. record { inClear = clear-row .by-message a (x .inClear); asked = (asked-row x) .by-message a (x .asked); messageAvailable = (available-row x) .by-message a (x .messageAvailable); clientSize = size-row .by-message a (x .clientSize); overlap = (mode-row preferred) .by-message a (x .overlap); count = count-row .by-message a (x .count); anySent = sent-row .by-message a (x .anySent); rmtExpected = expected-row .by-message a (x .rmtExpected); numberExpected = (step-row x) .by-message a (x .numberExpected) };
-      by-answer = λ b x. Exchange.withExpectation (expected-row .by-answer b (x .rmtExpected)) (Exchange.withCount (count-row .by-answer b (x .count)) (sent-row .by-answer b (x .anySent)) (Exchange.withAnswering ((asked-row x) .by-answer b (x .asked)) ((available-row x) .by-answer b (x .messageAvailable)) x));
+      by-message = λ a x. record {
+        inClear = clear-row .by-message a (x .inClear);
+        asked = (asked-row x) .by-message a (x .asked);
+        messageAvailable = (available-row x) .by-message a (x .messageAvailable);
+        clientSize = size-row .by-message a (x .clientSize);
+        overlap = (mode-row preferred) .by-message a (x .overlap);
+        count = count-row .by-message a (x .count);
+        anySent = sent-row .by-message a (x .anySent);
+        rmtExpected = expected-row .by-message a (x .rmtExpected);
+        numberExpected = (step-row x) .by-message a (x .numberExpected);
+      };
+      by-answer = λ b x. Exchange.withExpectation (expected-row .by-answer b (x .rmtExpected))
+          (Exchange.withCount (count-row .by-answer b (x .count)) (sent-row .by-answer b (x .anySent))
+          (Exchange.withAnswering ((asked-row x) .by-answer b (x .asked)) ((available-row x) .by-answer b (x .messageAvailable)) x));
       when-withheld = λ x. Exchange.withAnswering ((asked-row x) .when-withheld (x .asked)) ((available-row x) .when-withheld (x .messageAvailable)) x;
       by-error = λ h x. Exchange.withNumber ((step-row x) .by-error h (x .numberExpected)) x;
       once-closed = freshExchange;
@@ -164,7 +183,8 @@ connectionWay =
 pub kept-open : (n : ℕ) (y : Connection) → y .isOpen ≡ true → openConnection n ≡ withRemainder n y
 kept-open n y o = λ j. record { isOpen = sym o j; remainder = n }
 
-pub project-way : {X A : Type 0} (g : X → A) (r : Way X) (s : Way A) → g (r .once-open) ≡ s .once-open → g (r .once-closed) ≡ s .once-closed → ((k : ℕ) (y : X) → g (r .by-skip k y) ≡ s .by-skip k (g y)) → ((h : Header) (y : X) → g (r .by-error h y) ≡ s .by-error h (g y))
+pub project-way : {X A : Type 0} (g : X → A) (r : Way X) (s : Way A) → g (r .once-open) ≡ s .once-open → g (r .once-closed) ≡ s .once-closed →
+    ((k : ℕ) (y : X) → g (r .by-skip k y) ≡ s .by-skip k (g y)) → ((h : Header) (y : X) → g (r .by-error h y) ≡ s .by-error h (g y))
     → (es : List Entry) (x : ℕ) (h : Happening) (y : X) → g (inPlace r es x h y) ≡ inPlace s es x h (g y)
 project-way {X = X} {A = A} g r s o q m v es x h y = by h
   where
@@ -193,8 +213,11 @@ or-true : (a : Bool) → (a || true) ≡ true
 or-true true = refl
 or-true false = refl
 
-grant-look : (now : ℕ) (w : Waiting) (gs : List Waiting) (i : ℕ) (x : Entry) (b : Bool) (k : List ℕ) → eqb (w .slot) i ≡ b → w .string ≡ k → lookedAt now gs i (cond b (giveAt now k x) x) ≡ lookedAt now (w ∷ gs) i x
-grant-look now w gs i x true [] e q = rw (e, q) (ap (λ b. withGranted (givenGrants now gs i (moreGranted now (x .locksGranted))) (withLocks b (givenShared gs i (x .shared)) x)) (or-true (givenExclusive gs i)))
+grant-look : (now : ℕ) (w : Waiting) (gs : List Waiting) (i : ℕ) (x : Entry) (b : Bool) (k : List ℕ) → eqb (w .slot) i ≡ b → w .string ≡ k →
+    lookedAt now gs i (cond b (giveAt now k x) x) ≡ lookedAt now (w ∷ gs) i x
+grant-look now w gs i x true [] e q =
+    rw (e, q) (ap (λ b. withGranted (givenGrants now gs i (moreGranted now (x .locksGranted))) (withLocks b (givenShared gs i (x .shared)) x))
+    (or-true (givenExclusive gs i)))
 grant-look now w gs i x true (y ∷ k) e q = rw (e, q)
 grant-look now w gs i x false k e q = rw e
 

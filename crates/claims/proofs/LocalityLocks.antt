@@ -13,7 +13,9 @@ use Rattle.model.specs.Place.{slotOf}
 use Rattle.model.specs.Locks
 use Rattle.model.specs.Locks.{withLocks, withOrder, tell, refuse, unexpired, elsewhere, isDue, passOver, grantPass, settle}
 use Rattle.model.specs.Step.{lockFrame}
-use Rattle.model.specs.Happening.{Heard, Action, Happening.unmoved, Happening.connected, Happening.disconnected, Happening.skipped-over, Happening.errored, Happening.message-acted, Happening.clock-read, Happening.status-set, Happening.setting-made, Happening.answer-sent, Happening.answer-withheld}
+use Rattle.model.specs.Happening.{Heard, Action, Happening.unmoved, Happening.connected, Happening.disconnected, Happening.skipped-over, Happening.errored}
+use Rattle.model.specs.Happening.{Happening.message-acted, Happening.clock-read, Happening.status-set, Happening.setting-made, Happening.answer-sent}
+use Rattle.model.specs.Happening.{Happening.answer-withheld}
 use Rattle.model.specs.LocalityRows.{kindOf, slotActed, isCode, isSilence, codeWhere, requestsLeft, looksAfter}
 use Rattle.model.specs.LocalityReplies.{saidTo, waitingAnswer}
 use Rattle.model.specs.Locality.{Look}
@@ -68,7 +70,8 @@ module _ (d : Server) where
   locks-clock t = record { clock = refl; rows = record { size = refl; each = λ i l. refl }; look = (refl, refl, refl) }
 
   -- a message that is neither Initialize nor AsyncInitialize, AsyncLock, AsyncDeviceClear, Data, DataEND, Trigger
-  pub locks-kept : (a : Action) → eqb (kindOf a) 0 ≡ false → eqb (kindOf a) 4 ≡ false → eqb (kindOf a) 17 ≡ false → eqb (kindOf a) 19 ≡ false → eqb (kindOf a) 6 ≡ false → eqb (kindOf a) 7 ≡ false → eqb (kindOf a) 12 ≡ false
+  pub locks-kept : (a : Action) → eqb (kindOf a) 0 ≡ false → eqb (kindOf a) 4 ≡ false → eqb (kindOf a) 17 ≡ false → eqb (kindOf a) 19 ≡ false →
+      eqb (kindOf a) 6 ≡ false → eqb (kindOf a) 7 ≡ false → eqb (kindOf a) 12 ≡ false
       → LocksPart d (message-acted a) (d .locks) (d .locks .entries) []
   locks-kept a q0 q4 q17 q19 q6 q7 q12 =
       record {
@@ -103,7 +106,11 @@ module _ (d : Server) (c : ℕ) where
   stay = keep (elsewhere (slotOf d c)) (d .locks .waiting)
 
   pub locks-closing : (k : Heard)
-      → LocksPart d (disconnected c k) record { clock = d .locks .clock; entries = (passOver (d .locks .clock) stay freed) .entries; waiting = (passOver (d .locks .clock) stay freed) .waiting } freed ((pass-looks (d .locks .clock) stay freed) .grants)
+      → LocksPart d (disconnected c k) record {
+        clock = d .locks .clock;
+        entries = (passOver (d .locks .clock) stay freed) .entries;
+        waiting = (passOver (d .locks .clock) stay freed) .waiting;
+      } freed ((pass-looks (d .locks .clock) stay freed) .grants)
   locks-closing k =
       record {
         clock = refl;
@@ -113,7 +120,9 @@ module _ (d : Server) (c : ℕ) where
 
 -- a session begins, and gets its second connection
 pub locks-enter : (d : Server) (a : Action) → kindOf a ≡ 0
-    → LocksPart d (message-acted a) (Locks.withEntries (d .locks) (set (d .locks .entries) (slotOfNumber (d .locks .entries) 0) (Locks.opened (a .session) (a .connection)))) (set (d .locks .entries) (slotOfNumber (d .locks .entries) 0) (Locks.opened (a .session) (a .connection))) []
+    → LocksPart d (message-acted a) (Locks.withEntries (d .locks)
+    (set (d .locks .entries) (slotOfNumber (d .locks .entries) 0) (Locks.opened (a .session) (a .connection))))
+    (set (d .locks .entries) (slotOfNumber (d .locks .entries) 0) (Locks.opened (a .session) (a .connection))) []
 locks-enter d a e =
     record {
       clock = refl;
@@ -122,7 +131,9 @@ locks-enter d a e =
     }
 
 pub locks-join : (d : Server) (a : Action) → kindOf a ≡ 17
-    → LocksPart d (message-acted a) (Locks.withEntries (d .locks) (Locks.update (d .locks .entries) (slotOfNumber (d .locks .entries) (a .message .param)) (Locks.joined (a .connection)))) (Locks.update (d .locks .entries) (slotOfNumber (d .locks .entries) (a .message .param)) (Locks.joined (a .connection))) []
+    → LocksPart d (message-acted a) (Locks.withEntries (d .locks)
+    (Locks.update (d .locks .entries) (slotOfNumber (d .locks .entries) (a .message .param)) (Locks.joined (a .connection))))
+    (Locks.update (d .locks .entries) (slotOfNumber (d .locks .entries) (a .message .param)) (Locks.joined (a .connection))) []
 locks-join d a e =
     record {
       clock = refl;
@@ -182,7 +193,8 @@ module _ (l : Locks) (i n : ℕ) (t : ℕ → Bool) where
 
 -- the part of a message that is the last with number n
 pub locks-ended : (d : Server) (a : Action) (t : ℕ → Bool) (n : ℕ) (ws : List Waiting) (b : Bool)
-    → ((x : Entry) → (entryRow (d .locks .clock)) .by-message a x ≡ ended t n x) → looksAfter (d .locks .entries) (message-acted a) ≡ b → requestsLeft (d .locks .entries) (d .locks .clock) (message-acted a) (d .locks .waiting) ≡ ws
+    → ((x : Entry) → (entryRow (d .locks .clock)) .by-message a x ≡ ended t n x) → looksAfter (d .locks .entries) (message-acted a) ≡ b →
+    requestsLeft (d .locks .entries) (d .locks .clock) (message-acted a) (d .locks .waiting) ≡ ws
     → (i : ℕ) → i ≡ slotActed (d .locks .entries) a → (y : List Entry) → y ≡ set (d .locks .entries) i (ended t n (at (d .locks .entries) i))
     → LocksPart d (message-acted a) ((settle b (Locks.withEntries (Locks.withWaiting (d .locks) ws) y)) .locks) y (grantsBy (d .locks .clock) b ws y)
 locks-ended d a t n ws b row eb ew i ei y ey =

@@ -12,7 +12,8 @@ use Rattle.wire.specs.Frame.{Frame, frameOf}
 use Rattle.wire.specs.Class.{one-of}
 use Rattle.model.specs.Sizes.{sessionLimit, beforeFirst}
 use Rattle.model.specs.Lists.{isNil, all, keep, tally}
-use Rattle.model.specs.State.{Server, Rest, Entry, Waiting, Exchange, Kind, Kind.exclusive-lock, Kind.shared-lock, Standing.release-of, Asked, Asked.none, Asked.some, at, blank, exchangeAt, slotOfNumber, withExchange}
+use Rattle.model.specs.State.{Server, Rest, Entry, Waiting, Exchange, Kind, Kind.exclusive-lock, Kind.shared-lock, Standing.release-of, Asked, Asked.none}
+use Rattle.model.specs.State.{Asked.some, at, blank, exchangeAt, slotOfNumber, withExchange}
 use Rattle.model.specs.Interface.{Outcome.acted, Reply.took}
 use Rattle.model.specs.Place.{slotOf}
 use Rattle.model.specs.Locks
@@ -128,7 +129,8 @@ module _ (d : Server) (c : ℕ) (h : Header) (p : List ℕ) where
       → releasedWith (at (d .locks .entries) (slotActed (d .locks .entries) (action k num q))) (action k num q) ≡ codeWhere t ((at (d .locks .entries) (slotOf d c)) .standing)
       → requestsLeft (d .locks .entries) (d .locks .clock) (message-acted (action k num q)) (d .locks .waiting) ≡ ws
       → saidFirst d (message-acted (action k num q)) ≡ gs
-      → answeredFirst d (message-acted (action k num q)) ≡ map lockFrame zs ++ saidTo (codeWhere t ((at (d .locks .entries) (slotOf d c)) .standing)) 5 ((at (d .locks .entries) (slotOf d c)) .asynchronous ∷ [])
+      → answeredFirst d (message-acted (action k num q)) ≡ map lockFrame zs
+      ++ saidTo (codeWhere t ((at (d .locks .entries) (slotOf d c)) .standing)) 5 ((at (d .locks .entries) (slotOf d c)) .asynchronous ∷ [])
       → direct d (message-acted (action k num q)) ≡ said
       → ((o : _) (j m : ℕ) → took acted (16 + h .len) num ≡ took o j m → m ≡ sessionSaid d (message-acted (action k num q)) m)
       → Local d (message-acted (action k num q)) (endingBy gs (dueBy t ((at (d .locks .entries) (slotOf d c)) .standing)) ws n zs rest said)
@@ -156,7 +158,9 @@ module _ (d : Server) (c : ℕ) (h : Header) (p : List ℕ) where
   commands-local k q rest r e =
       rw (due-at (h .param) ((at (d .locks .entries) (slotOf d c)) .standing))
       (each-of
-      (λ k. RestPart d (message-acted (action k num q)) rest → Local d (message-acted (action k num q)) (endingBy saysFirst (dueBy (λ m. eqb m (h .param)) ((at (d .locks .entries) (slotOf d c)) .standing)) (d .locks .waiting) (h .param) [] rest []))
+      (λ k. RestPart d (message-acted (action k num q)) rest →
+      Local d (message-acted (action k num q)) (endingBy saysFirst (dueBy (λ m. eqb m (h .param)) ((at (d .locks .entries) (slotOf d c)) .standing))
+      (d .locks .waiting) (h .param) [] rest []))
       (6 ∷ 7 ∷ 12 ∷ []) (
         (λ r. ending-local saysFirst 6 q (λ m. eqb m (h .param)) (d .locks .waiting) (h .param) [] rest [] r (λ x. refl) refl refl refl refl refl refl (λ o j m e. cc)),
         (
@@ -170,15 +174,18 @@ module _ (d : Server) (c : ℕ) (h : Header) (p : List ℕ) where
 
   local-6 : LocalBy 6 num (synchronously 6)
   unfolding finish change Acts.synchronousExchange Acts.synchronousSaid
-  local-6 = commands-local 6 _ _ (rest-touched d (action 6 num _) refl refl refl (Acts.synchronousExchange (Acts.synchronousKind 6) h ours) (test-row (Exchange.outOfTurn (h .code) ours) (eqb (h .code) 1) ours (λ a. a))) refl
+  local-6 = commands-local 6 _ _ (rest-touched d (action 6 num _) refl refl refl (Acts.synchronousExchange (Acts.synchronousKind 6) h ours)
+      (test-row (Exchange.outOfTurn (h .code) ours) (eqb (h .code) 1) ours (λ a. a))) refl
 
   local-7 : LocalBy 7 num (synchronously 7)
   unfolding finish change Acts.synchronousExchange Acts.synchronousSaid
-  local-7 = commands-local 7 _ _ (rest-touched d (action 7 num _) refl refl refl (Acts.synchronousExchange (Acts.synchronousKind 7) h ours) (test-row (Exchange.outOfTurn (h .code) ours) (eqb (h .code) 1) ours (λ a. some (h .param)))) refl
+  local-7 = commands-local 7 _ _ (rest-touched d (action 7 num _) refl refl refl (Acts.synchronousExchange (Acts.synchronousKind 7) h ours)
+      (test-row (Exchange.outOfTurn (h .code) ours) (eqb (h .code) 1) ours (λ a. some (h .param)))) refl
 
   local-12 : LocalBy 12 num (synchronously 12)
   unfolding finish change Acts.synchronousExchange Acts.synchronousSaid
-  local-12 = commands-local 12 _ _ (rest-touched d (action 12 num _) refl refl refl (Acts.synchronousExchange (Acts.synchronousKind 12) h ours) (test-row (Exchange.outOfTurn (h .code) ours) (eqb (h .code) 1) ours (λ a. some (h .param)))) refl
+  local-12 = commands-local 12 _ _ (rest-touched d (action 12 num _) refl refl refl (Acts.synchronousExchange (Acts.synchronousKind 12) h ours)
+      (test-row (Exchange.outOfTurn (h .code) ours) (eqb (h .code) 1) ours (λ a. some (h .param)))) refl
 
   local-8 : LocalBy 8 num (synchronously 8)
   unfolding finish change Acts.synchronousExchange Acts.synchronousSaid
@@ -226,14 +233,16 @@ module _ (d : Server) (c : ℕ) (h : Header) (p : List ℕ) where
   local-19 =
       let i = slotOf d c in
       rw (due-any ((at (d .locks .entries) (slotOf d c)) .standing))
-      (ending-local [] 19 _ (λ m. true) (keep (Locks.elsewhere i) (d .locks .waiting)) beforeFirst (Locks.refuse (d .locks .entries) (Locks.elsewhere i) (d .locks .waiting)) _ (frameOf c 23 (Acts.preference d) 0 [] ∷ [])
+      (ending-local [] 19 _ (λ m. true) (keep (Locks.elsewhere i) (d .locks .waiting)) beforeFirst
+      (Locks.refuse (d .locks .entries) (Locks.elsewhere i) (d .locks .waiting)) _ (frameOf c 23 (Acts.preference d) 0 [] ∷ [])
       (rest-touched d (action 19 num _) refl refl refl (Exchange.enterClear ours) refl)
       (λ x. refl)
       refl
       refl
       refl
       refl
-      (ap (λ (fs : List Frame). fs ++ saidTo (codeWhere (λ m. true) ((at (d .locks .entries) i) .standing)) 5 ((at (d .locks .entries) i) .asynchronous ∷ [])) (sym (refused-frames (d .locks .entries) (λ w. eqb (w .slot) i) (d .locks .waiting))))
+      (ap (λ (fs : List Frame). fs ++ saidTo (codeWhere (λ m. true) ((at (d .locks .entries) i) .standing)) 5 ((at (d .locks .entries) i) .asynchronous ∷ []))
+      (sym (refused-frames (d .locks .entries) (λ w. eqb (w .slot) i) (d .locks .waiting))))
       refl
       (λ o j m e. cc))
 
@@ -243,7 +252,9 @@ module _ (d : Server) (c : ℕ) (h : Header) (p : List ℕ) where
       assemble d _ (finish d (asynchronously 21)) (d .locks .entries) []
       (rest-touched d (action 21 num _) refl refl refl (Exchange.queried (h .code) ours) rmt-row)
       (locks-kept d (action 21 num _) refl refl refl refl refl refl refl)
-      (ap (λ b. frameOf c 22 b 0 [] ∷ []) (ap (statusByte (d .rest .status)) (seen-row (ours .overlap)) ∙ status-same (d .rest .status) (cond (ours .overlap) (ours .anySent && not (eqb ((h .param + 2) % 2 ^ 32) (ours .count))) (cond (eqb (h .code) 1) false (ours .messageAvailable)))))
+      (ap (λ b. frameOf c 22 b 0 [] ∷ []) (ap (statusByte (d .rest .status)) (seen-row (ours .overlap))
+      ∙ status-same (d .rest .status) (cond (ours .overlap) (ours .anySent && not (eqb ((h .param + 2) % 2 ^ 32) (ours .count)))
+      (cond (eqb (h .code) 1) false (ours .messageAvailable)))))
       (λ o k n e. cc)
 
   local-24 : LocalBy 24 num (asynchronously 24)
@@ -353,7 +364,8 @@ module _ (d : Server) (c : ℕ) (h : Header) (p : List ℕ) where
         (rest-kept d (action 4 num (with-code 1)) refl refl (λ x. refl))
         record {
           clock = refl;
-          rows = row-message blank (entryRow (d .locks .clock)) es es (action 4 num (with-code 1)) (slotOf d c) _ refl (rw q (ap (Locks.noteGrant (d .locks .clock)) (give-row p (at es (slotOf d c)))));
+          rows = row-message blank (entryRow (d .locks .clock)) es es (action 4 num (with-code 1)) (slotOf d c) _ refl
+              (rw q (ap (Locks.noteGrant (d .locks .clock)) (give-row p (at es (slotOf d c)))));
           look = rw q (refl, refl, refl);
         }
         (ap (λ (a : ℕ). frameOf a 5 1 0 [] ∷ []) mine)
@@ -383,7 +395,8 @@ module _ (d : Server) (c : ℕ) (h : Header) (p : List ℕ) where
         go false q =
             requested-by
             q
-            (Locks.ruling (Locks.holds p (at es (slotOf d c))) (all (Locks.elsewhere (slotOf d c)) (d .locks .waiting)) (Locks.invalidBy p (at es (slotOf d c))) (Locks.mayGrant es (slotOf d c) p) (eqb (h .param) 0 || Locks.noPlace (d .locks .waiting)))
+            (Locks.ruling (Locks.holds p (at es (slotOf d c))) (all (Locks.elsewhere (slotOf d c)) (d .locks .waiting)) (Locks.invalidBy p (at es (slotOf d c)))
+            (Locks.mayGrant es (slotOf d c) p) (eqb (h .param) 0 || Locks.noPlace (d .locks .waiting)))
 
     pub local-asynchronous : (t : ℕ) → one-of (4 ∷ 10 ∷ 15 ∷ 19 ∷ 21 ∷ 24 ∷ []) t ≡ true → (eqb t 10 && ltb 6 (h .code)) ≡ false → LocalBy t num (asynchronously t)
     local-asynchronous t e =

@@ -3,11 +3,14 @@ use mathlib.Core.Path.{_≡_, refl, ap, _∙_}
 use mathlib.Core.List.{List, _++_, map}
 use Prim.Native.Nat.{ℕ, _<_}
 use lib.ListN.{getD, length}
-use Rattle.model.specs.State.{Making, Allowed, Server, Locks, Rest, Entry, Waiting, Exchange, Connection, RemoteLocal, at, blank, freshExchange, closedConnection, connectionAt, Sensing, freshSensing, sensingAt}
+use Rattle.model.specs.State.{Making, Allowed, Server, Locks, Rest, Entry, Waiting, Exchange, Connection, RemoteLocal, at, blank, freshExchange}
+use Rattle.model.specs.State.{closedConnection, connectionAt, Sensing, freshSensing, sensingAt}
 use Rattle.model.specs.Interface.{Outcome, Reply.took}
 use Rattle.model.specs.Step.{Result}
 use Rattle.model.specs.Happening.{Happening}
-use Rattle.model.specs.LocalityRows.{clear-row, asked-row, available-row, size-row, mode-row, count-row, sent-row, expected-row, step-row, requestsLeft, looksAfter, inPlace, open-row, remainder-row, singly, clock-row, status-row, made-row, allowed-row, issued-row, enable-row, lockout-row, remote-row, sensing-row}
+use Rattle.model.specs.LocalityRows.{clear-row, asked-row, available-row, size-row, mode-row, count-row, sent-row, expected-row, step-row, requestsLeft}
+use Rattle.model.specs.LocalityRows.{looksAfter, inPlace, open-row, remainder-row, singly, clock-row, status-row, made-row, allowed-row, issued-row}
+use Rattle.model.specs.LocalityRows.{enable-row, lockout-row, remote-row, sensing-row}
 use Rattle.model.specs.LocalityReplies.{saidFirst, direct, answeredFirst, waitingAnswer, sessionSaid}
 use Rattle.model.specs.Locality.{entryDue, Look, Local}
 use Rattle.claims.proofs.LocalityLists.{Rowed, project, project-way, connectionWay, exchangeRow, entryRow, due-entry, lookedAt, look-sized, look-each}
@@ -55,20 +58,40 @@ assemble d h r due granted p l f s =
       remote = p .singles .remote;
       allowed = p .singles .allowed;
       exchange-slots = p .exchanges .size;
-      in-clear = λ i q. ap (λ (x : Exchange). x .inClear) (p .exchanges .each i q) ∙ project (λ (x : Exchange). x .inClear) (exchangeRow (d .rest .made .prefersOverlap)) (λ x. clear-row) (λ a x. refl) (λ b x. refl) (λ x. refl) (λ k x. refl) (λ x. refl) es i h _;
-      asked = λ i q. ap (λ (x : Exchange). x .asked) (p .exchanges .each i q) ∙ project (λ (x : Exchange). x .asked) (exchangeRow (d .rest .made .prefersOverlap)) asked-row (λ a x. refl) (λ b x. refl) (λ x. refl) (λ k x. refl) (λ x. refl) es i h _;
-      message-available = λ i q. ap (λ (x : Exchange). x .messageAvailable) (p .exchanges .each i q) ∙ project (λ (x : Exchange). x .messageAvailable) (exchangeRow (d .rest .made .prefersOverlap)) available-row (λ a x. refl) (λ b x. refl) (λ x. refl) (λ k x. refl) (λ x. refl) es i h _;
-      client-size = λ i q. ap (λ (x : Exchange). x .clientSize) (p .exchanges .each i q) ∙ project (λ (x : Exchange). x .clientSize) (exchangeRow (d .rest .made .prefersOverlap)) (λ x. size-row) (λ a x. refl) (λ b x. refl) (λ x. refl) (λ k x. refl) (λ x. refl) es i h _;
-      mode = λ i q. ap (λ (x : Exchange). x .overlap) (p .exchanges .each i q) ∙ project (λ (x : Exchange). x .overlap) (exchangeRow (d .rest .made .prefersOverlap)) (λ x. mode-row (d .rest .made .prefersOverlap)) (λ a x. refl) (λ b x. refl) (λ x. refl) (λ k x. refl) (λ x. refl) es i h _;
-      count = λ i q. ap (λ (x : Exchange). x .count) (p .exchanges .each i q) ∙ project (λ (x : Exchange). x .count) (exchangeRow (d .rest .made .prefersOverlap)) (λ x. count-row) (λ a x. refl) (λ b x. refl) (λ x. refl) (λ k x. refl) (λ x. refl) es i h _;
-      any-sent = λ i q. ap (λ (x : Exchange). x .anySent) (p .exchanges .each i q) ∙ project (λ (x : Exchange). x .anySent) (exchangeRow (d .rest .made .prefersOverlap)) (λ x. sent-row) (λ a x. refl) (λ b x. refl) (λ x. refl) (λ k x. refl) (λ x. refl) es i h _;
-      rmt-expected = λ i q. ap (λ (x : Exchange). x .rmtExpected) (p .exchanges .each i q) ∙ project (λ (x : Exchange). x .rmtExpected) (exchangeRow (d .rest .made .prefersOverlap)) (λ x. expected-row) (λ a x. refl) (λ b x. refl) (λ x. refl) (λ k x. refl) (λ x. refl) es i h _;
-      number-expected = λ i q. ap (λ (x : Exchange). x .numberExpected) (p .exchanges .each i q) ∙ project (λ (x : Exchange). x .numberExpected) (exchangeRow (d .rest .made .prefersOverlap)) step-row (λ a x. refl) (λ b x. refl) (λ x. refl) (λ k x. refl) (λ x. refl) es i h _;
+      in-clear = λ i q. ap (λ (x : Exchange). x .inClear) (p .exchanges .each i q)
+          ∙ project (λ (x : Exchange). x .inClear) (exchangeRow (d .rest .made .prefersOverlap)) (λ x. clear-row) (λ a x. refl) (λ b x. refl) (λ x. refl)
+          (λ k x. refl) (λ x. refl) es i h _;
+      asked = λ i q. ap (λ (x : Exchange). x .asked) (p .exchanges .each i q)
+          ∙ project (λ (x : Exchange). x .asked) (exchangeRow (d .rest .made .prefersOverlap)) asked-row (λ a x. refl) (λ b x. refl) (λ x. refl) (λ k x. refl)
+          (λ x. refl) es i h _;
+      message-available = λ i q. ap (λ (x : Exchange). x .messageAvailable) (p .exchanges .each i q)
+          ∙ project (λ (x : Exchange). x .messageAvailable) (exchangeRow (d .rest .made .prefersOverlap)) available-row (λ a x. refl) (λ b x. refl)
+          (λ x. refl) (λ k x. refl) (λ x. refl) es i h _;
+      client-size = λ i q. ap (λ (x : Exchange). x .clientSize) (p .exchanges .each i q)
+          ∙ project (λ (x : Exchange). x .clientSize) (exchangeRow (d .rest .made .prefersOverlap)) (λ x. size-row) (λ a x. refl) (λ b x. refl) (λ x. refl)
+          (λ k x. refl) (λ x. refl) es i h _;
+      mode = λ i q. ap (λ (x : Exchange). x .overlap) (p .exchanges .each i q)
+          ∙ project (λ (x : Exchange). x .overlap) (exchangeRow (d .rest .made .prefersOverlap)) (λ x. mode-row (d .rest .made .prefersOverlap)) (λ a x. refl)
+          (λ b x. refl) (λ x. refl) (λ k x. refl) (λ x. refl) es i h _;
+      count = λ i q. ap (λ (x : Exchange). x .count) (p .exchanges .each i q)
+          ∙ project (λ (x : Exchange). x .count) (exchangeRow (d .rest .made .prefersOverlap)) (λ x. count-row) (λ a x. refl) (λ b x. refl) (λ x. refl)
+          (λ k x. refl) (λ x. refl) es i h _;
+      any-sent = λ i q. ap (λ (x : Exchange). x .anySent) (p .exchanges .each i q)
+          ∙ project (λ (x : Exchange). x .anySent) (exchangeRow (d .rest .made .prefersOverlap)) (λ x. sent-row) (λ a x. refl) (λ b x. refl) (λ x. refl)
+          (λ k x. refl) (λ x. refl) es i h _;
+      rmt-expected = λ i q. ap (λ (x : Exchange). x .rmtExpected) (p .exchanges .each i q)
+          ∙ project (λ (x : Exchange). x .rmtExpected) (exchangeRow (d .rest .made .prefersOverlap)) (λ x. expected-row) (λ a x. refl) (λ b x. refl)
+          (λ x. refl) (λ k x. refl) (λ x. refl) es i h _;
+      number-expected = λ i q. ap (λ (x : Exchange). x .numberExpected) (p .exchanges .each i q)
+          ∙ project (λ (x : Exchange). x .numberExpected) (exchangeRow (d .rest .made .prefersOverlap)) step-row (λ a x. refl) (λ b x. refl) (λ x. refl)
+          (λ k x. refl) (λ x. refl) es i h _;
       sensing-slots = p .sensings .size;
       sensing = λ i q. p .sensings .each i q;
       connection-places = p .connections .size;
-      is-open = λ x q. ap (λ (y : Connection). y .isOpen) (p .connections .each x q) ∙ project-way (λ (y : Connection). y .isOpen) connectionWay open-row refl refl (λ k y. refl) (λ k y. refl) es x h _;
-      remainder = λ x q. ap (λ (y : Connection). y .remainder) (p .connections .each x q) ∙ project-way (λ (y : Connection). y .remainder) connectionWay remainder-row refl refl (λ k y. refl) (λ k y. refl) es x h _;
+      is-open = λ x q. ap (λ (y : Connection). y .isOpen) (p .connections .each x q)
+          ∙ project-way (λ (y : Connection). y .isOpen) connectionWay open-row refl refl (λ k y. refl) (λ k y. refl) es x h _;
+      remainder = λ x q. ap (λ (y : Connection). y .remainder) (p .connections .each x q)
+          ∙ project-way (λ (y : Connection). y .remainder) connectionWay remainder-row refl refl (λ k y. refl) (λ k y. refl) es x h _;
       slots = look-sized (d .locks .clock) due (r .server .locks .entries) _ (r .server .locks .waiting) granted (looksAfter es h) (l .look) ∙ l .rows .size;
       number = λ i q. ap (λ (x : Entry). x .number) (ends i q);
       synchronous = λ i q. ap (λ (x : Entry). x .synchronous) (ends i q);
@@ -94,4 +117,5 @@ assemble d h r due granted p l f s =
     begins i q = l .rows .each i q ∙ due-entry (d .locks .clock) es i h (at es i)
 
     ends : (i : ℕ) → i < length es → at (r .server .locks .entries) i ≡ lookedAt (d .locks .clock) granted i (entryDue (d .locks .clock) es h i (at es i))
-    ends i q = look-each (d .locks .clock) due (r .server .locks .entries) _ (r .server .locks .waiting) granted (looksAfter es h) (l .look) i (rw (l .rows .size) q) ∙ ap (lookedAt (d .locks .clock) granted i) (begins i q)
+    ends i q = look-each (d .locks .clock) due (r .server .locks .entries) _ (r .server .locks .waiting) granted (looksAfter es h) (l .look) i
+        (rw (l .rows .size) q) ∙ ap (lookedAt (d .locks .clock) granted i) (begins i q)

@@ -16,13 +16,17 @@ use Rattle.readings.specs.Payload.{Noticed, noticed, watched, stepped, readings
 use Rattle.readings.specs.Some.{tripped-some}
 use Rattle.readings.specs.Request.{requestCode}
 use Rattle.model.specs.Sizes.{noConnection, payloadLimit}
-use Rattle.model.specs.State.{Server, Entry, Exchange, Connection, RemoteLocal, at, live, blank, freshExchange, openExchange, closedConnection, openConnection, exchangeAt, connectionAt, slotOfNumber, withConnection, withExchange, withRemoteLocal, withSession, withStatus, Sensing, freshSensing, sensingAt, withSensing}
+use Rattle.model.specs.State.{Server, Entry, Exchange, Connection, RemoteLocal, at, live, blank, freshExchange, openExchange, closedConnection, openConnection}
+use Rattle.model.specs.State.{exchangeAt, connectionAt, slotOfNumber, withConnection, withExchange, withRemoteLocal, withSession, withStatus, Sensing}
+use Rattle.model.specs.State.{freshSensing, sensingAt, withSensing}
 use Rattle.model.specs.Place.{slotOf, entryOf, isOnConnection}
 use Rattle.model.specs.Scan.{Scan, Scan.skipping, sorted, freshScan, scan, size, leftover}
 use Rattle.model.specs.Exchange
 use Rattle.model.specs.Exchange.{controlled}
 use Rattle.model.specs.Step.{channels, shutAll, closing}
-use Rattle.model.specs.Happening.{Heard, Action, Happening, Happening.unmoved, Happening.connected, Happening.disconnected, Happening.skipped-over, Happening.errored, Happening.message-acted, Happening.clock-read, Happening.status-set, Happening.answer-sent, Happening.answer-withheld, Happening.setting-made}
+use Rattle.model.specs.Happening.{Heard, Action, Happening, Happening.unmoved, Happening.connected, Happening.disconnected, Happening.skipped-over}
+use Rattle.model.specs.Happening.{Happening.errored, Happening.message-acted, Happening.clock-read, Happening.status-set, Happening.answer-sent}
+use Rattle.model.specs.Happening.{Happening.answer-withheld, Happening.setting-made}
 use Rattle.model.specs.LocalityRows.{kindOf, concerns, connectionsOf, Single, singly, status-row, made-row, allowed-row, issued-row, enable-row, lockout-row, remote-row, tripsBy, notedAll}
 use Rattle.model.specs.Sensing.{armed, sensed, requested, serviceAfter, settingSensings, settingRest}
 use Rattle.model.specs.LocalityReplies.{serviceTo}
@@ -115,19 +119,25 @@ noted-all l o (b ∷ bs) = noted-all l _ bs
 
 sensed-due : (p : List ℕ) (s : Sensing) → sensed p s ≡ sensedDue p s
 unfolding sensed
-sensed-due p s = λ j. record { watch = s .watch; tripped = tripped-some (s .watch) (noticed (s .recorded) (s .tripped)) (readingsOf p) j; recorded = noted-all (s .watch) (noticed (s .recorded) (s .tripped)) (readingsOf p) j }
+sensed-due p s = λ j. record {
+  watch = s .watch;
+  tripped = tripped-some (s .watch) (noticed (s .recorded) (s .tripped)) (readingsOf p) j;
+  recorded = noted-all (s .watch) (noticed (s .recorded) (s .tripped)) (readingsOf p) j;
+}
 
 -- the first trip since the watch was set
 first-trip : (t u : Bool) → (not t && (t || u)) ≡ (not t && u)
 first-trip true u = refl
 first-trip false u = refl
 
-pub service-due : (d : Server) (n : ℕ) (p : List ℕ) → serviceAfter d n p ≡ serviceTo (at (d .locks .entries) (slotOfNumber (d .locks .entries) n)) (sensingAt (d .rest) (slotOfNumber (d .locks .entries) n)) p (d .rest .status)
+pub service-due : (d : Server) (n : ℕ) (p : List ℕ) → serviceAfter d n p ≡ serviceTo (at (d .locks .entries) (slotOfNumber (d .locks .entries) n))
+    (sensingAt (d .rest) (slotOfNumber (d .locks .entries) n)) p (d .rest .status)
 unfolding requested
 service-due d n p =
     let i = slotOfNumber (d .locks .entries) n in
     let s = sensingAt (d .rest) i in
-    ap (λ (t : Bool). cond t (say ((at (d .locks .entries) i) .asynchronous) 20 (requestCode (d .rest .status)) 0) []) (ap (λ (x : Sensing). not (s .tripped) && x .tripped) (sensed-due p s) ∙ first-trip (s .tripped) (tripsBy p s))
+    ap (λ (t : Bool). cond t (say ((at (d .locks .entries) i) .asynchronous) 20 (requestCode (d .rest .status)) 0) [])
+    (ap (λ (x : Sensing). not (s .tripped) && x .tripped) (sensed-due p s) ∙ first-trip (s .tripped) (tripsBy p s))
 
 -- what the host sets
 pub rest-setting : (d : Server) (x : Setting) → RestPart d (setting-made x) (settingRest d x)
@@ -148,7 +158,11 @@ rest-setting d (patterns text) =
       connections = record { size = refl; each = λ x l. refl };
     }
 
-pub rest-answer : (d : Server) (n : ℕ) (p : List ℕ) (end : Bool) → RestPart d (answer-sent n p end) (withSensing (withExchange (d .rest) (slotOfNumber (d .locks .entries) n) (Exchange.answeredWith end (exchangeAt (d .rest) (slotOfNumber (d .locks .entries) n)))) (slotOfNumber (d .locks .entries) n) (sensed p (sensingAt (d .rest) (slotOfNumber (d .locks .entries) n))))
+pub rest-answer : (d : Server) (n : ℕ) (p : List ℕ) (end : Bool) →
+    RestPart d (answer-sent n p end)
+    (withSensing (withExchange (d .rest) (slotOfNumber (d .locks .entries) n)
+    (Exchange.answeredWith end (exchangeAt (d .rest) (slotOfNumber (d .locks .entries) n)))) (slotOfNumber (d .locks .entries) n)
+    (sensed p (sensingAt (d .rest) (slotOfNumber (d .locks .entries) n))))
 rest-answer d n p end =
     let i = slotOfNumber (d .locks .entries) n in
     record {
@@ -156,19 +170,24 @@ rest-answer d n p end =
       exchanges =
           record {
             size = length-set (d .rest .exchanges) i _;
-            each = λ j l. touch (d .rest .exchanges) i ((exchangeRow (d .rest .made .prefersOverlap)) .by-answer end) _ freshExchange j l (answered-row (d .rest .made .prefersOverlap) end (exchangeAt (d .rest) i));
+            each = λ j l. touch (d .rest .exchanges) i ((exchangeRow (d .rest .made .prefersOverlap)) .by-answer end) _ freshExchange j l
+                (answered-row (d .rest .made .prefersOverlap) end (exchangeAt (d .rest) i));
           };
       sensings = record { size = length-set (d .rest .sensings) i _; each = λ j l. touch (d .rest .sensings) i (sensedDue p) _ freshSensing j l (sensed-due p (sensingAt (d .rest) i)) };
       connections = record { size = refl; each = λ x l. refl };
     }
 
 -- 02, Q-5: one that is withheld
-pub rest-withheld : (d : Server) (n m : ℕ) → RestPart d (answer-withheld n m) (withExchange (d .rest) (slotOfNumber (d .locks .entries) n) (Exchange.interrupted (exchangeAt (d .rest) (slotOfNumber (d .locks .entries) n))))
+pub rest-withheld : (d : Server) (n m : ℕ) → RestPart d (answer-withheld n m)
+    (withExchange (d .rest) (slotOfNumber (d .locks .entries) n) (Exchange.interrupted (exchangeAt (d .rest) (slotOfNumber (d .locks .entries) n))))
 rest-withheld d n m =
     let i = slotOfNumber (d .locks .entries) n in
     record {
       singles = singles-still d (answer-withheld n m) tt;
-      exchanges = record { size = length-set (d .rest .exchanges) i _; each = λ j l. touch (d .rest .exchanges) i ((exchangeRow (d .rest .made .prefersOverlap)) .when-withheld) _ freshExchange j l refl };
+      exchanges = record {
+        size = length-set (d .rest .exchanges) i _;
+        each = λ j l. touch (d .rest .exchanges) i ((exchangeRow (d .rest .made .prefersOverlap)) .when-withheld) _ freshExchange j l refl;
+      };
       sensings = record { size = refl; each = λ i l. refl };
       connections = record { size = refl; each = λ x l. refl };
     }
@@ -276,8 +295,10 @@ module _ (d : Server) (c : ℕ) (real : c ≡ noConnection → ⊥) where
       second s false f = or-of (eqb x (e .asynchronous)) false (eq-eqb x (e .asynchronous) (eqb-true x c q ∙ sym s))
 
       on : (eqb (e .synchronous) c ≡ true) ⊎ (eqb (e .asynchronous) c ≡ true) → one-of (connectionsOf e) x ≡ true
-      on (inl s) = or-of (eqb x (e .synchronous)) (one-of (cond (eqb (e .asynchronous) noConnection) [] (e .asynchronous ∷ [])) x) (eq-eqb x (e .synchronous) (eqb-true x c q ∙ sym (eqb-true (e .synchronous) c s)))
-      on (inr s) = or-r (eqb x (e .synchronous)) (one-of (cond (eqb (e .asynchronous) noConnection) [] (e .asynchronous ∷ [])) x) (second (eqb-true (e .asynchronous) c s) (eqb (e .asynchronous) noConnection) refl)
+      on (inl s) = or-of (eqb x (e .synchronous)) (one-of (cond (eqb (e .asynchronous) noConnection) [] (e .asynchronous ∷ [])) x)
+          (eq-eqb x (e .synchronous) (eqb-true x c q ∙ sym (eqb-true (e .synchronous) c s)))
+      on (inr s) = or-r (eqb x (e .synchronous)) (one-of (cond (eqb (e .asynchronous) noConnection) [] (e .asynchronous ∷ [])) x)
+          (second (eqb-true (e .asynchronous) c s) (eqb (e .asynchronous) noConnection) refl)
 
       go : (isOnConnection c e ≡ true) ⊎ (e ≡ blank) → one-of (connectionsOf e) x ≡ true
       go (inl h) = on (or→ (eqb (e .synchronous) c) _ (rw v at h))
@@ -313,7 +334,8 @@ module _ (d : Server) (a : Action) (q0 : eqb (kindOf a) 0 ≡ false) where
   no-singles q = record { status = refl; made = refl; last-issued = rw q0; enable = rw q; lockout = rw q; remote = rw q; allowed = refl }
 
   -- one that changes its session's exchange
-  pub rest-touched : eqb (kindOf a) 17 ≡ false → eqb (kindOf a) 10 ≡ false → (y : Exchange) → y ≡ (exchangeRow (d .rest .made .prefersOverlap)) .by-message a (exchangeAt (d .rest) (slotOf d (a .connection)))
+  pub rest-touched : eqb (kindOf a) 17 ≡ false → eqb (kindOf a) 10 ≡ false → (y : Exchange) →
+      y ≡ (exchangeRow (d .rest .made .prefersOverlap)) .by-message a (exchangeAt (d .rest) (slotOf d (a .connection)))
       → RestPart d (message-acted a) (withExchange (d .rest) (slotOf d (a .connection)) y)
   rest-touched q17 q10 y e =
       record {
@@ -356,7 +378,8 @@ flags-due (suc (suc (suc (suc (suc zero))))) r l = refl
 flags-due (suc (suc (suc (suc (suc (suc zero)))))) r l = refl
 flags-due (suc (suc (suc (suc (suc (suc (suc k))))))) r l = absurd (omega arith)
 
-pub rest-flags : (d : Server) (a : Action) → kindOf a ≡ 10 → ltb 6 (a .message .code) ≡ false → RestPart d (message-acted a) (withRemoteLocal (d .rest) (controlled (a .message .code) (d .rest .remoteLocal)))
+pub rest-flags : (d : Server) (a : Action) → kindOf a ≡ 10 → ltb 6 (a .message .code) ≡ false →
+    RestPart d (message-acted a) (withRemoteLocal (d .rest) (controlled (a .message .code) (d .rest .remoteLocal)))
 rest-flags d a e l =
     let f = flags-due (a .message .code) (d .rest .remoteLocal) (ltb-false _ _ l) in
     record {
@@ -380,7 +403,8 @@ pub rest-enter : (d : Server) (a : Action) → kindOf a ≡ 0 → RestPart d (me
 rest-enter d a e =
     record {
       singles = record { status = refl; made = refl; last-issued = rw e; enable = rw e; lockout = rw e; remote = rw e; allowed = refl };
-      exchanges = row-message freshExchange (exchangeRow (d .rest .made .prefersOverlap)) (d .locks .entries) (d .rest .exchanges) a (slotOfNumber (d .locks .entries) 0) (openExchange (d .rest .made .prefersOverlap)) (rw e) (rw e);
+      exchanges = row-message freshExchange (exchangeRow (d .rest .made .prefersOverlap)) (d .locks .entries) (d .rest .exchanges) a
+          (slotOfNumber (d .locks .entries) 0) (openExchange (d .rest .made .prefersOverlap)) (rw e) (rw e);
       sensings = record { size = refl; each = λ i l. refl };
       connections = record { size = refl; each = λ x l. refl };
     }

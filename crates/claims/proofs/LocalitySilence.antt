@@ -18,7 +18,8 @@ use Rattle.model.specs.Scan.{Scan, Scan.empty, Scan.few, Scan.wrong, Scan.skipp
 use Rattle.model.specs.Place.{slotOf, roleOf, roleBy, entryOf, Role, Role.r-none, Role.r-halfOpen, Role.r-synchronous, Role.r-asynchronous}
 use Rattle.model.specs.Locks.{Answer, change, grantPass, passOver}
 use Rattle.model.specs.Checks
-use Rattle.model.specs.Checks.{Verdict, Verdict.v-more, Verdict.v-skipped, Verdict.v-held, Verdict.v-ignored, Verdict.v-closed, Verdict.v-acts, Verdict.v-error, Verdict.v-fatal, Rule, first, verdict, judged, either}
+use Rattle.model.specs.Checks.{Verdict, Verdict.v-more, Verdict.v-skipped, Verdict.v-held, Verdict.v-ignored, Verdict.v-closed, Verdict.v-acts}
+use Rattle.model.specs.Checks.{Verdict.v-error, Verdict.v-fatal, Rule, first, verdict, judged, either}
 use Rattle.model.specs.Acts
 use Rattle.model.specs.Refusals.{refusal}
 use Rattle.model.specs.Step.{effect, received, plan, answered, finish, step, lockFrame}
@@ -164,7 +165,8 @@ module _ (d : Server) (c : ℕ) (bs : List ℕ) (room : ℕ) where
 
   as-client : (r : Role) → roleOf (d .locks .entries) c ≡ r → (prologue bs && (eqb ((header bs) .kind) 2 && established r)) ≡ clientsFatalError d c bs
   as-client r er =
-      ap (λ b. prologue bs && (eqb ((header bs) .kind) 2 && b)) (ap established (sym er ∙ place-role (d .locks .entries) c) ∙ sym (by-role (live e) (eqb (e .asynchronous) noConnection) (eqb (e .synchronous) c)))
+      ap (λ b. prologue bs && (eqb ((header bs) .kind) 2 && b))
+      (ap established (sym er ∙ place-role (d .locks .entries) c) ∙ sym (by-role (live e) (eqb (e .asynchronous) noConnection) (eqb (e .synchronous) c)))
 
   acts-open : (r : Role) (h : Header) (p : List ℕ) (k n : ℕ) → (Acts.acts r d (slotOf d c) c h p) .reply ≡ took closed k n → ⊥
   unfolding Acts.acts

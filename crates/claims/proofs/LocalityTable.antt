@@ -29,13 +29,15 @@ picked : ℕ → List Waiting → List Entry → List Waiting
 picked now [] es = []
 picked now (w ∷ ws) es = let b = mayGrant es (w .slot) (w .string) in pick b w (picked now ws (after now b w es))
 
-pass-is : {now : ℕ} {es es′ : List Entry} {ws vs gs : List Waiting} → OldestFirst now es ws es′ vs gs → (es′ ≡ (passOver now ws es) .entries) × (vs ≡ (passOver now ws es) .waiting) × (gs ≡ picked now ws es)
+pass-is : {now : ℕ} {es es′ : List Entry} {ws vs gs : List Waiting} → OldestFirst now es ws es′ vs gs → (es′ ≡ (passOver now ws es) .entries)
+    × (vs ≡ (passOver now ws es) .waiting) × (gs ≡ picked now ws es)
 unfolding passOver picked
 pass-is pass-end = (refl, refl, refl)
 pass-is (pass-grant w m l) = let r = pass-is l in (rw m (r .0), rw m (r .1), rw m (ap (λ gs. w ∷ gs) (r .2)))
 pass-is (pass-wait w m l) = let r = pass-is l in (rw m (r .0), rw m (ap (λ vs. w ∷ vs) (r .1)), rw m (r .2))
 
-look-same : (now : ℕ) (b : Bool) (es : List Entry) (ws : List Waiting) (es′ es″ : List Entry) (vs vs′ gs gs′ : List Waiting) → Look now b es ws es′ vs gs → Look now b es ws es″ vs′ gs′ → (es′ ≡ es″) × (vs ≡ vs′) × (gs ≡ gs′)
+look-same : (now : ℕ) (b : Bool) (es : List Entry) (ws : List Waiting) (es′ es″ : List Entry) (vs vs′ gs gs′ : List Waiting) → Look now b es ws es′ vs gs →
+    Look now b es ws es″ vs′ gs′ → (es′ ≡ es″) × (vs ≡ vs′) × (gs ≡ gs′)
 look-same now true es ws es′ es″ vs vs′ gs gs′ p q = let x = pass-is p in let y = pass-is q in (x .0 ∙ sym (y .0), x .1 ∙ sym (y .1), x .2 ∙ sym (y .2))
 look-same now false es ws es′ es″ vs vs′ gs gs′ p q = (p .0 ∙ sym (q .0), p .1 ∙ sym (q .1), p .2 ∙ sym (q .2))
 
@@ -45,7 +47,8 @@ module _ (d : Server) (h : Happening) (r r′ : Result) (a : Local d h r) (b : L
 
   same-locks : (r .server .locks .entries ≡ r′ .server .locks .entries) × (r .server .locks .waiting ≡ r′ .server .locks .waiting) × (a .granted ≡ b .granted)
   same-locks =
-      look-same (d .locks .clock) (looksAfter (d .locks .entries) h) (b .due) (requestsLeft (d .locks .entries) (d .locks .clock) h (d .locks .waiting)) (r .server .locks .entries) (r′ .server .locks .entries) (r .server .locks .waiting) (r′ .server .locks .waiting) (a .granted) (b .granted)
+      look-same (d .locks .clock) (looksAfter (d .locks .entries) h) (b .due) (requestsLeft (d .locks .entries) (d .locks .clock) h (d .locks .waiting))
+      (r .server .locks .entries) (r′ .server .locks .entries) (r .server .locks .waiting) (r′ .server .locks .waiting) (a .granted) (b .granted)
       (rw same-due at (a .waiting))
       (b .waiting)
 
@@ -95,7 +98,8 @@ module _ (d : Server) (h : Happening) (r r′ : Result) (a : Local d h r) (b : L
       }
 
   same-frames : r .frames ≡ r′ .frames
-  same-frames = a .frames ∙ ap₂ (λ (es : List Entry) (gs : List Waiting). saidFirst d h ++ (answeredFirst d h ++ (direct d h ++ map (waitingAnswer 1 es) gs))) same-due (same-locks .2) ∙ sym (b .frames)
+  same-frames = a .frames ∙ ap₂ (λ (es : List Entry) (gs : List Waiting). saidFirst d h ++ (answeredFirst d h ++ (direct d h ++ map (waitingAnswer 1 es) gs)))
+      same-due (same-locks .2) ∙ sym (b .frames)
 
 pub nothing-free : NothingFree
 nothing-free = record { decides = λ d h r r′ a b. (same-server d h r r′ a b, same-frames d h r r′ a b) }

@@ -48,7 +48,9 @@ look-seen now (w ∷ ws) es ss s f g =
         let y = giveAt now (w .string) (at es (w .slot)) in
         let e′ = set es (w .slot) y in
         let same-requests : map (asRequest es) ws ≡ map (asRequest e′) ws = requests-same es e′ (λ j u. num-same es (w .slot) y (give-num (w .string) (at es (w .slot))) j) ws (g .2) in
-        let r = ih e′ (LockModel.alter ((at es (w .slot)) .number) (LockModel.withLock (w .string)) ss) (alter-seen ss es s f (w .slot) v (LockModel.withLock (w .string)) y (give-live (w .string) (at es (w .slot)) v) (give-seen (w .string) (at es (w .slot)))) (firm-give now es (w .slot) (w .string) (g .0) em f) (good-apart es (w .slot) y ws (g .1) (g .2)) in
+        let r = ih e′ (LockModel.alter ((at es (w .slot)) .number) (LockModel.withLock (w .string)) ss)
+        (alter-seen ss es s f (w .slot) v (LockModel.withLock (w .string)) y (give-live (w .string) (at es (w .slot)) v)
+        (give-seen (w .string) (at es (w .slot)))) (firm-give now es (w .slot) (w .string) (g .0) em f) (good-apart es (w .slot) y ws (g .1) (g .2)) in
         rw same-requests
         record {
           sessions = r .sessions;
@@ -64,7 +66,8 @@ look-seen now (w ∷ ws) es ss s f g =
         }
 
 -- whom a pass grants is whom the look grants
-pub grants-seen : (x : LockResult) (o : ModelResult) → Alike x o → Sound (x .locks .entries) (x .locks .waiting) → (look (o .model .waiting) (o .model .sessions)) .told ≡ map toldOf ((grantPass (x .locks)) .answers)
+pub grants-seen : (x : LockResult) (o : ModelResult) → Alike x o → Sound (x .locks .entries) (x .locks .waiting) →
+    (look (o .model .waiting) (o .model .sessions)) .told ≡ map toldOf ((grantPass (x .locks)) .answers)
 unfolding grantPass
 grants-seen x o a s = rw (a .agrees .waiting) ((look-seen (x .locks .clock) (x .locks .waiting) (x .locks .entries) (o .model .sessions) (a .agrees .sessions) (s .firm) (s .good)) .told)
 

@@ -43,7 +43,8 @@ exact true e = absurd (true≢false e)
 exact false e = refl
 
 -- a lock message: a release without payload, or a request
-lock-stages : (k l : ℕ) → ((eqb k 0 && eqb l 0) || ((eqb k 1 && true) || false)) ≡ false → cond (ltb 1 k) (v-error 2) (cond (eqb k 0 && ltb 0 l) (v-error 0) v-acts) ≡ v-error (cond (eqb k 0 || (eqb k 1 || false)) 0 2)
+lock-stages : (k l : ℕ) → ((eqb k 0 && eqb l 0) || ((eqb k 1 && true) || false)) ≡ false →
+    cond (ltb 1 k) (v-error 2) (cond (eqb k 0 && ltb 0 l) (v-error 0) v-acts) ≡ v-error (cond (eqb k 0 || (eqb k 1 || false)) 0 2)
 lock-stages zero l e = stages false (ltb 0 l) (rw (none l) at e)
 lock-stages (suc zero) l e = absurd (true≢false e)
 lock-stages (suc (suc k)) l e = rw (lt-ltb 1 (suc (suc k)) (omega arith), ne-eqb (suc (suc k)) 0 (λ q. omega arith), ne-eqb (suc (suc k)) 1 (λ q. omega arith))
@@ -55,7 +56,8 @@ module _ (d : Server) (i : ℕ) (p : List ℕ) (h : Header) where
   abbrev Errs : List Form → ℕ → Type 0
   Errs fs t = permits fs (typed t h) ≡ false → first (Checks.synchronousRules d i (typed t h) p) ≡ v-error (fault fs (typed t h))
 
-  command-errs : clearing ≡ false → access (d .locks .entries) i ≡ true → h .param ≡ (exchangeAt (d .rest) i) .numberExpected → (t : ℕ) → one-of (map (λ f. f .kind) commandForms) t ≡ true → Errs commandForms t
+  command-errs : clearing ≡ false → access (d .locks .entries) i ≡ true → h .param ≡ (exchangeAt (d .rest) i) .numberExpected → (t : ℕ) →
+      one-of (map (λ f. f .kind) commandForms) t ≡ true → Errs commandForms t
   unfolding classOf
   command-errs n a m =
       let m : eqb (h .param) ((exchangeAt (d .rest) i) .numberExpected) ≡ true = eq-eqb _ _ m in

@@ -14,10 +14,12 @@ use Rattle.wire.specs.declared.Header.{Header}
 use Rattle.wire.specs.Message.{header, prologue}
 use Rattle.model.specs.Sizes.{payloadLimit}
 use Rattle.model.specs.State.{Server, connectionAt}
-use Rattle.model.specs.Interface.{Event.delivery, Outcome.more-needed, Outcome.skipped, Outcome.held, Outcome.ignored, Outcome.error-sent, Outcome.closed, Outcome.acted, Reply, Reply.refused, Reply.done, Reply.withheld, Reply.took}
+use Rattle.model.specs.Interface.{Event.delivery, Outcome.more-needed, Outcome.skipped, Outcome.held, Outcome.ignored, Outcome.error-sent, Outcome.closed}
+use Rattle.model.specs.Interface.{Outcome.acted, Reply, Reply.refused, Reply.done, Reply.withheld, Reply.took}
 use Rattle.model.specs.Scan.{Scan, Scan.empty, Scan.few, Scan.wrong, Scan.skipping, Scan.long, Scan.part, Scan.whole, sorted, freshScan, scan}
 use Rattle.model.specs.Place.{slotOf, roleOf, Role, Role.r-none, Role.r-halfOpen, Role.r-synchronous, Role.r-asynchronous}
-use Rattle.model.specs.Checks.{Verdict, Verdict.v-more, Verdict.v-skipped, Verdict.v-held, Verdict.v-ignored, Verdict.v-closed, Verdict.v-acts, Verdict.v-error, Verdict.v-fatal, verdict, judged, either}
+use Rattle.model.specs.Checks.{Verdict, Verdict.v-more, Verdict.v-skipped, Verdict.v-held, Verdict.v-ignored, Verdict.v-closed, Verdict.v-acts}
+use Rattle.model.specs.Checks.{Verdict.v-error, Verdict.v-fatal, verdict, judged, either}
 use Rattle.model.specs.Checks
 use Rattle.model.specs.Acts
 use Rattle.model.specs.Refusals.{causes, refusal}
@@ -149,7 +151,8 @@ module _ (d : Server) (c : ℕ) (room : ℕ) where
       go zero e = effect-waits d (slotOf d c) c k n (scan ((connectionAt (d .rest) c) .remainder) bs) (roleOf (d .locks .entries) c) e
       go (suc z) e = never cc
 
-  skipped-so : (bs xs : List ℕ) → refusal d (delivery c bs room) ≡ 0 → scan ((connectionAt (d .rest) c) .remainder) xs ≡ Scan.skipping (length xs) → (step d (delivery c xs room)) .reply ≡ took skipped (length xs) 0
+  skipped-so : (bs xs : List ℕ) → refusal d (delivery c bs room) ≡ 0 → scan ((connectionAt (d .rest) c) .remainder) xs ≡ Scan.skipping (length xs) →
+      (step d (delivery c xs room)) .reply ≡ took skipped (length xs) 0
   unfolding step answered plan received finish effect verdict refusal causes
   skipped-so bs xs z e = ap (λ (n : ℕ). (answered n d (delivery c xs room)) .reply) z ∙ ap (λ (s : Scan). (received d c s) .reply) e
 

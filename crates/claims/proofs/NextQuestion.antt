@@ -12,7 +12,9 @@ use Rattle.wire.specs.Class.{one-of}
 use Rattle.model.specs.Sizes.{noConnection}
 use Rattle.model.specs.Lists.{all, any, keep}
 use Rattle.model.specs.State.{Server, Entry, Waiting, Connection, at, live, slotOfNumber, exchangeAt, connectionAt, closedConnection, fresh, Making}
-use Rattle.model.specs.Interface.{Event, Event.opening, Event.delivery, Event.cut, Event.clock, Event.answer, Event.status, Event.setting, Outcome.more-needed, Outcome.skipped, Outcome.held, Outcome.ignored, Outcome.error-sent, Outcome.closed, Outcome.acted, Reply, Reply.refused, Reply.done, Reply.withheld, Reply.took}
+use Rattle.model.specs.Interface.{Event, Event.opening, Event.delivery, Event.cut, Event.clock, Event.answer, Event.status, Event.setting, Outcome.more-needed}
+use Rattle.model.specs.Interface.{Outcome.skipped, Outcome.held, Outcome.ignored, Outcome.error-sent, Outcome.closed, Outcome.acted, Reply, Reply.refused}
+use Rattle.model.specs.Interface.{Reply.done, Reply.withheld, Reply.took}
 use Rattle.model.specs.Scan.{Scan, Scan.empty, Scan.few, Scan.wrong, Scan.skipping, Scan.long, Scan.part, Scan.whole}
 use Rattle.model.specs.Place.{Role}
 use Rattle.model.specs.Locks.{change}
@@ -28,7 +30,9 @@ use Rattle.model.specs.LockModel.{Session, own, secondConnection}
 use Rattle.model.specs.Agreement.{asSession}
 use Rattle.model.specs.Deciding.{modelAfter}
 use Rattle.model.specs.Tie.{Track, said}
-use Rattle.model.specs.Happening.{Heard, Heard.silence, Heard.with-code, Action, Happening, Happening.unmoved, Happening.connected, Happening.disconnected, Happening.skipped-over, Happening.errored, Happening.message-acted, Happening.clock-read, Happening.status-set, Happening.setting-made, Happening.answer-sent, Happening.answer-withheld, seenDelivery, happened}
+use Rattle.model.specs.Happening.{Heard, Heard.silence, Heard.with-code, Action, Happening, Happening.unmoved, Happening.connected, Happening.disconnected}
+use Rattle.model.specs.Happening.{Happening.skipped-over, Happening.errored, Happening.message-acted, Happening.clock-read, Happening.status-set}
+use Rattle.model.specs.Happening.{Happening.setting-made, Happening.answer-sent, Happening.answer-withheld, seenDelivery, happened}
 use Rattle.model.specs.LocalityRows.{kindOf, slotActed, endedWith, interruptedBy, requestsOf, reachedBy}
 use Rattle.model.specs.LocalityReplies.{plainTo, ReplyTo, replyIn, replies, saidTo, fatalTo, pairTo, saidFirst, direct, answeredFirst, waitingAnswer}
 use Rattle.model.specs.Locality.{atCall}
@@ -115,7 +119,8 @@ skips-none v es c p z = go ((connectionAt ((final (fresh v) es) .rest) c) .isOpe
     go false o = eqb-true _ 0 (rw o at (shut-at ((final (fresh v) es) .rest .connections) c (run-shut es (fresh v) refl)))
 
 -- the connections that the calls tell are the session's
-first-found : (ss : List Session) (n a : ℕ) → all (λ x. not (eqb (x .number) n && not (eqb (getD (x .connections) 0 noConnection) a))) ss ≡ true → all (λ x. not (eqb (x .number) n && true)) ss ≡ false → firstConnection n ss ≡ a
+first-found : (ss : List Session) (n a : ℕ) → all (λ x. not (eqb (x .number) n && not (eqb (getD (x .connections) 0 noConnection) a))) ss ≡ true →
+    all (λ x. not (eqb (x .number) n && true)) ss ≡ false → firstConnection n ss ≡ a
 first-found [] n a h k = absurd (false≢true (sym k))
 first-found (x ∷ ss) n a h k = go (eqb (x .number) n) h k (λ h k. first-found ss n a h k)
   where
@@ -131,7 +136,8 @@ module _ (v : Making) (es : List Event) (n : ℕ) (alive : live (sessionOf (fina
   e₁ = sessionOf (final (fresh v) es) n
 
   own-is : (p : Session → Bool) → own (e₁ .number) p ((modelAfter v es) .sessions) ≡ p (asSession e₁)
-  own-is p = own-seen ((modelAfter v es) .sessions) ((final (fresh v) es) .locks .entries) ((agreement v es) .locks .sessions) ((inv-run v es) .sound .firm) (slotOfNumber ((final (fresh v) es) .locks .entries) n) alive p
+  own-is p = own-seen ((modelAfter v es) .sessions) ((final (fresh v) es) .locks .entries) ((agreement v es) .locks .sessions) ((inv-run v es) .sound .firm)
+      (slotOfNumber ((final (fresh v) es) .locks .entries) n) alive p
 
   pub first-is : synchronousOf v es n ≡ e₁ .synchronous
   first-is =
@@ -143,7 +149,8 @@ module _ (v : Making) (es : List Event) (n : ℕ) (alive : live (sessionOf (fina
   pub second-is : asynchronousOf v es n ≡ e₁ .asynchronous
   second-is =
       ap (λ (m : ℕ). secondConnection m ((modelAfter v es) .sessions)) (sym (live-found ((final (fresh v) es) .locks .entries) n alive))
-      ∙ channel-seen ((modelAfter v es) .sessions) ((final (fresh v) es) .locks .entries) ((agreement v es) .locks .sessions) ((inv-run v es) .sound .firm) (slotOfNumber ((final (fresh v) es) .locks .entries) n) alive
+      ∙ channel-seen ((modelAfter v es) .sessions) ((final (fresh v) es) .locks .entries) ((agreement v es) .locks .sessions) ((inv-run v es) .sound .firm)
+      (slotOfNumber ((final (fresh v) es) .locks .entries) n) alive
 
   nothing-to-skip : AllPossible es → owes v es n ≡ 0 → toSkip (final (fresh v) es) n ≡ 0
   nothing-to-skip p z = skips-none v es (e₁ .synchronous) p (ap (owedIn (λ c. 0) (kept (log (fresh v) es))) (sym first-is) ∙ z)
@@ -161,7 +168,9 @@ module _ (d : Server) where
   unfolding step answered plan finish change
   sends n x end sh room a = go (refusal d (answer n x end sh room)) a
     where
-      by : (w : Bool) → any isAnswer (cond w (Acts.interruptions (sessionOf d n) ((header sh) .param)) (frameOf ((sessionOf d n) .synchronous) (answerType end) 0 (answerNumber (exchangeAt (d .rest) (slotOfNumber (d .locks .entries) n))) x ∷ serviceAfter d n x) ++ []) ≡ true
+      by : (w : Bool) → any isAnswer (cond w (Acts.interruptions (sessionOf d n) ((header sh) .param))
+          (frameOf ((sessionOf d n) .synchronous) (answerType end) 0 (answerNumber (exchangeAt (d .rest) (slotOfNumber (d .locks .entries) n))) x
+          ∷ serviceAfter d n x) ++ []) ≡ true
           → (cond w withheld done ≡ done) × (w ≡ false)
       by true a = absurd (false≢true a)
       by false a = (refl, refl)
@@ -228,7 +237,8 @@ module _ (v : Making) (es : List Event) where
   unfolding refusal causes
   alive-is n x end sh room q = not-off _ ((uncaused (causes d (answer n x end sh room)) refl q) .1 .0)
 
-  mode-is : (n : ℕ) (x : List ℕ) (end : Bool) (sh : List ℕ) (room : ℕ) → refusal d (answer n x end sh room) ≡ 0 → (exchangeAt (d .rest) (slotOfNumber (d .locks .entries) n)) .overlap ≡ (said v es n) .overlap
+  mode-is : (n : ℕ) (x : List ℕ) (end : Bool) (sh : List ℕ) (room : ℕ) → refusal d (answer n x end sh room) ≡ 0 →
+      (exchangeAt (d .rest) (slotOfNumber (d .locks .entries) n)) .overlap ≡ (said v es n) .overlap
   mode-is n x end sh room q = ap (λ (t : Track). t .overlap) (track-run v es n (alive-is n x end sh room q))
 
   -- what withholds it, in synchronized mode with nothing to skip
@@ -262,7 +272,9 @@ module _ (v : Making) (es : List Event) where
   withheld-so n x sh room q w = (
     ap (λ k. (answered k d (answer n x true sh room)) .reply) q ∙ ap (λ b. cond b withheld done) w,
     ap (λ k. (answered k d (answer n x true sh room)) .frames) q
-        ∙ ap (λ b. cond b (Acts.interruptions (sessionOf d n) ((header sh) .param)) (frameOf ((sessionOf d n) .synchronous) (answerType true) 0 (answerNumber (exchangeAt (d .rest) (slotOfNumber (d .locks .entries) n))) x ∷ serviceAfter d n x) ++ []) w,
+        ∙ ap (λ b. cond b (Acts.interruptions (sessionOf d n) ((header sh) .param))
+        (frameOf ((sessionOf d n) .synchronous) (answerType true) 0 (answerNumber (exchangeAt (d .rest) (slotOfNumber (d .locks .entries) n))) x
+        ∷ serviceAfter d n x) ++ []) w,
   )
 
   pub next-question : NextQuestion v es

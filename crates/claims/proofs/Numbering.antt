@@ -15,11 +15,15 @@ use Rattle.wire.specs.Class.{one-of}
 use Rattle.model.specs.Sizes.{noConnection, sessionLimit}
 use Rattle.model.specs.MessageTypes.{commands}
 use Rattle.model.specs.State.{Server, Entry, Exchange, at, live, slotOfNumber, exchangeAt, fresh, Making}
-use Rattle.model.specs.Interface.{Event, Event.opening, Event.delivery, Event.cut, Event.clock, Event.answer, Event.status, Event.setting, Outcome, Outcome.more-needed, Outcome.skipped, Outcome.held, Outcome.ignored, Outcome.error-sent, Outcome.closed, Outcome.acted, Reply, Reply.refused, Reply.done, Reply.withheld, Reply.took}
+use Rattle.model.specs.Interface.{Event, Event.opening, Event.delivery, Event.cut, Event.clock, Event.answer, Event.status, Event.setting, Outcome}
+use Rattle.model.specs.Interface.{Outcome.more-needed, Outcome.skipped, Outcome.held, Outcome.ignored, Outcome.error-sent, Outcome.closed, Outcome.acted}
+use Rattle.model.specs.Interface.{Reply, Reply.refused, Reply.done, Reply.withheld, Reply.took}
 use Rattle.model.specs.Place.{isOnConnection, slotIn, slotOf}
 use Rattle.model.specs.Checks.{judged}
 use Rattle.model.specs.Step.{Result, step, final, log}
-use Rattle.model.specs.Happening.{Heard, Action, Happening, Happening.unmoved, Happening.connected, Happening.disconnected, Happening.skipped-over, Happening.errored, Happening.message-acted, Happening.clock-read, Happening.status-set, Happening.setting-made, Happening.answer-sent, Happening.answer-withheld, happened}
+use Rattle.model.specs.Happening.{Heard, Action, Happening, Happening.unmoved, Happening.connected, Happening.disconnected, Happening.skipped-over}
+use Rattle.model.specs.Happening.{Happening.errored, Happening.message-acted, Happening.clock-read, Happening.status-set, Happening.setting-made}
+use Rattle.model.specs.Happening.{Happening.answer-sent, Happening.answer-withheld, happened}
 use Rattle.model.specs.LocalityRows.{kindOf, slotActed, inSlot, clear-row, step-row, number-row, synchronous-row}
 use Rattle.model.specs.LocalityReplies.{sessionSaid}
 use Rattle.model.specs.Locality.{atCall, Local}
@@ -43,7 +47,8 @@ pub record Reads (d : Server) (f : ℕ → Numbering) : Type 0 where
   pub sized : length (d .rest .exchanges) ≡ sessionLimit
   pub knows : (i : ℕ) → live (at (d .locks .entries) i) ≡ true → Knows (f ((at (d .locks .entries) i) .number)) (at (d .locks .entries) i) (exchangeAt (d .rest) i)
   -- no other session is numberingAfter with its connection
-  pub sole : (n i : ℕ) → live (at (d .locks .entries) i) ≡ true → ((f n) .connection ≡ noConnection → ⊥) → (f n) .connection ≡ (at (d .locks .entries) i) .synchronous → n ≡ (at (d .locks .entries) i) .number
+  pub sole : (n i : ℕ) → live (at (d .locks .entries) i) ≡ true → ((f n) .connection ≡ noConnection → ⊥) →
+      (f n) .connection ≡ (at (d .locks .entries) i) .synchronous → n ≡ (at (d .locks .entries) i) .number
 
 -- a command that acts carries the number expected
 pub carries-it : (d : Server) (c : ℕ) (bs : List ℕ) (room k n : ℕ) → (step d (delivery c bs room)) .reply ≡ took acted k n → one-of commands ((header bs) .kind) ≡ true
@@ -77,7 +82,8 @@ Facts d (answer-withheld n m) = Unit {0}
 command-slot : (t : ℕ) → one-of commands t ≡ true → (a b c : ℕ) → cond (eqb t 0) a (cond (eqb t 17) b c) ≡ c
 command-slot t o a b c = each-of (λ t. cond (eqb t 0) a (cond (eqb t 17) b c) ≡ c) commands (refl, (refl, (refl, tt))) t o
 
-delivered : (d : Server) → Inv (d .locks) → length (d .rest .exchanges) ≡ length (d .locks .entries) → (c : ℕ) (bs : List ℕ) (room : ℕ) (o : Outcome) (k n : ℕ) → (step d (delivery c bs room)) .reply ≡ took o k n → Facts d (happened (delivery c bs room) (took o k n) ((step d (delivery c bs room)) .frames))
+delivered : (d : Server) → Inv (d .locks) → length (d .rest .exchanges) ≡ length (d .locks .entries) → (c : ℕ) (bs : List ℕ) (room : ℕ) (o : Outcome) (k n : ℕ)
+    → (step d (delivery c bs room)) .reply ≡ took o k n → Facts d (happened (delivery c bs room) (took o k n) ((step d (delivery c bs room)) .frames))
 delivered d i z c bs room more-needed k n e = tt
 delivered d i z c bs room skipped k n e = tt
 delivered d i z c bs room held k n e = tt
@@ -88,7 +94,8 @@ delivered d i z c bs room acted k n e =
     record {
       enters = entering d i (d .rest .made) refl z c bs room k n e;
       own-number = λ t. said ∙ ap (λ (b : Bool). cond b n ((at es slot) .number)) t;
-      carries = λ o. carries-it d c bs room k n e o ∙ ap (λ (j : ℕ). (exchangeAt (d .rest) j) .numberExpected) (sym (command-slot ((header bs) .kind) o (slotOfNumber es 0) (slotOfNumber es ((header bs) .param)) (slotOf d c)));
+      carries = λ o. carries-it d c bs room k n e o ∙ ap (λ (j : ℕ). (exchangeAt (d .rest) j) .numberExpected)
+          (sym (command-slot ((header bs) .kind) o (slotOfNumber es 0) (slotOfNumber es ((header bs) .param)) (slotOf d c)));
     }
   where
     es : List Entry
@@ -165,7 +172,10 @@ module _ (c m : ℕ) (p : Numbering) where
   kept-connection : (t : ℕ) → eqb t 0 ≡ false → (actedFor c t m p) .connection ≡ p .connection
   kept-connection t q = go (one-of commands t) (eqb t 19) (eqb t 8)
     where
-      go : (x a b : Bool) → (cond x (took-one m p) (cond (eqb t 0) (firstNumbering c) (cond a (record { connection = p .connection; inClear = true; taken = [] }) (cond b (record { connection = p .connection; inClear = false; taken = p .taken }) p)))) .connection ≡ p .connection
+      go : (x a b : Bool) →
+          (cond x (took-one m p) (cond (eqb t 0) (firstNumbering c)
+          (cond a (record { connection = p .connection; inClear = true; taken = [] })
+          (cond b (record { connection = p .connection; inClear = false; taken = p .taken }) p)))) .connection ≡ p .connection
       go true a b = refl
       go false true b = rw q
       go false false true = rw q
@@ -203,7 +213,8 @@ module _ (d : Server) (f : ℕ → Numbering) (g : Reads d f) (r : Result) where
   Leaves i n c b m = ((at es′ i) .number ≡ n) × ((at es′ i) .synchronous ≡ c) × ((x′ i) .inClear ≡ b) × ((x′ i) .numberExpected ≡ m)
 
   abbrev ByTable : Happening → ℕ → Type 0
-  ByTable h i = Leaves i (inSlot number-row es i h ((at es i) .number)) (inSlot synchronous-row es i h ((at es i) .synchronous)) (inSlot clear-row es i h ((x i) .inClear)) (inSlot (step-row (x i)) es i h ((x i) .numberExpected))
+  ByTable h i = Leaves i (inSlot number-row es i h ((at es i) .number)) (inSlot synchronous-row es i h ((at es i) .synchronous))
+      (inSlot clear-row es i h ((x i) .inClear)) (inSlot (step-row (x i)) es i h ((x i) .numberExpected))
 
   table : (h : Happening) → Local d h r → (i : ℕ) → live (at es′ i) ≡ true → ByTable h i
   table h l i v =
@@ -216,7 +227,9 @@ module _ (d : Server) (f : ℕ → Numbering) (g : Reads d f) (r : Result) where
   Known i p = Knows p (at es′ i) (x′ i)
 
   abbrev Goal : Happening → ℕ → Type 0
-  Goal h i = Known i (numberingAfter h ((at es′ i) .number) (f ((at es′ i) .number))) × ((n : ℕ) → ((numberingAfter h n (f n)) .connection ≡ noConnection → ⊥) → (numberingAfter h n (f n)) .connection ≡ (at es′ i) .synchronous → n ≡ (at es′ i) .number)
+  Goal h i = Known i (numberingAfter h ((at es′ i) .number) (f ((at es′ i) .number)))
+      × ((n : ℕ) → ((numberingAfter h n (f n)) .connection ≡ noConnection → ⊥) → (numberingAfter h n (f n)) .connection ≡ (at es′ i) .synchronous →
+      n ≡ (at es′ i) .number)
 
   was-live : (i : ℕ) → live (at es′ i) ≡ true → (at es′ i) .number ≡ (at es i) .number → live (at es i) ≡ true
   was-live i v e = ap (λ n. not (eqb n 0)) (sym e) ∙ v
@@ -224,27 +237,37 @@ module _ (d : Server) (f : ℕ → Numbering) (g : Reads d f) (r : Result) where
   -- a slot that stays who it is
   stays : (h : Happening) (i : ℕ) → live (at es′ i) ≡ true → (b : Bool) (m : ℕ) → Leaves i ((at es i) .number) ((at es i) .synchronous) b m
       → Same (numberingAfter h ((at es i) .number) (f ((at es i) .number))) ((f ((at es i) .number)) .connection) b m
-      → ((n : ℕ) → ((numberingAfter h n (f n)) .connection ≡ noConnection → ⊥) → (numberingAfter h n (f n)) .connection ≡ (at es i) .synchronous → (f n) .connection ≡ (at es i) .synchronous) → Goal h i
+      → ((n : ℕ) → ((numberingAfter h n (f n)) .connection ≡ noConnection → ⊥) → (numberingAfter h n (f n)) .connection ≡ (at es i) .synchronous →
+      (f n) .connection ≡ (at es i) .synchronous) → Goal h i
   stays h i v b m t s o =
       let alive = was-live i v (t .0) in (
-        subst (λ (n : ℕ). Known i (numberingAfter h n (f n))) (sym (t .0)) record { connection = s .0 ∙ (g .knows i alive) .connection ∙ sym (t .1); in-clear = s .1 ∙ sym (t .2); number = s .2 ∙ sym (t .3) },
+        subst (λ (n : ℕ). Known i (numberingAfter h n (f n))) (sym (t .0)) record {
+          connection = s .0 ∙ (g .knows i alive) .connection ∙ sym (t .1);
+          in-clear = s .1 ∙ sym (t .2);
+          number = s .2 ∙ sym (t .3);
+        },
         λ n w e. let y = o n w (e ∙ t .1) in g .sole n i alive (λ z. w (e ∙ t .1 ∙ sym y ∙ z)) y ∙ sym (t .0),
       )
 
   -- nothing of the session is touched
-  untouched : (h : Happening) (i : ℕ) → live (at es′ i) ≡ true → Leaves i ((at es i) .number) ((at es i) .synchronous) ((x i) .inClear) ((x i) .numberExpected) → ((n : ℕ) → numberingAfter h n (f n) ≡ f n) → Goal h i
+  untouched : (h : Happening) (i : ℕ) → live (at es′ i) ≡ true → Leaves i ((at es i) .number) ((at es i) .synchronous) ((x i) .inClear) ((x i) .numberExpected)
+      → ((n : ℕ) → numberingAfter h n (f n) ≡ f n) → Goal h i
   untouched h i v t e =
       let n = (at es i) .number in
       let k = g .knows i (was-live i v (t .0)) in
       stays h i v ((x i) .inClear) ((x i) .numberExpected) t (rw (e n) (refl, k .in-clear, k .number)) (λ m w q. ap (λ (p : Numbering). p .connection) (sym (e m)) ∙ q)
 
-  closed-not : (h : Happening) (i : ℕ) → live (at es′ i) ≡ true → (b : Bool) → Leaves i (cond b 0 ((at es i) .number)) (cond b noConnection ((at es i) .synchronous)) (cond b false ((x i) .inClear)) (cond b 0xffffff00 ((x i) .numberExpected))
+  closed-not : (h : Happening) (i : ℕ) → live (at es′ i) ≡ true → (b : Bool) →
+      Leaves i (cond b 0 ((at es i) .number)) (cond b noConnection ((at es i) .synchronous)) (cond b false ((x i) .inClear))
+      (cond b 0xffffff00 ((x i) .numberExpected))
       → ((n : ℕ) → numberingAfter h n (f n) ≡ f n) → Goal h i
   closed-not h i v true t e = absurd (false≢true (ap (λ n. not (eqb n 0)) (sym (t .0)) ∙ v))
   closed-not h i v false t e = untouched h i v t e
 
   -- an answer
-  answered-not : (h : Happening) (i : ℕ) → live (at es′ i) ≡ true → (b : Bool) → Leaves i (cond b ((at es i) .number) ((at es i) .number)) (cond b ((at es i) .synchronous) ((at es i) .synchronous)) (cond b ((x i) .inClear) ((x i) .inClear)) (cond b ((x i) .numberExpected) ((x i) .numberExpected))
+  answered-not : (h : Happening) (i : ℕ) → live (at es′ i) ≡ true → (b : Bool) →
+      Leaves i (cond b ((at es i) .number) ((at es i) .number)) (cond b ((at es i) .synchronous) ((at es i) .synchronous))
+      (cond b ((x i) .inClear) ((x i) .inClear)) (cond b ((x i) .numberExpected) ((x i) .numberExpected))
       → ((n : ℕ) → numberingAfter h n (f n) ≡ f n) → Goal h i
   answered-not h i v true t e = untouched h i v t e
   answered-not h i v false t e = untouched h i v t e
@@ -270,7 +293,8 @@ module _ (d : Server) (f : ℕ → Numbering) (g : Reads d f) (r : Result) where
         p : Numbering
         p = f n
 
-        u : Leaves i n ((at es i) .synchronous) ((x i) .inClear) (cond (eqb i (slotIn es c) && eqb ((at es i) .synchronous) c) (errBy h p ((x i) .inClear) ((x i) .numberExpected)) ((x i) .numberExpected))
+        u : Leaves i n ((at es i) .synchronous) ((x i) .inClear)
+            (cond (eqb i (slotIn es c) && eqb ((at es i) .synchronous) c) (errBy h p ((x i) .inClear) ((x i) .numberExpected)) ((x i) .numberExpected))
         u =
             let b = eqb i (slotIn es c) && eqb ((at es i) .synchronous) c in
             (t .0 ∙ same-both b n n refl, t .1 ∙ same-both b ((at es i) .synchronous) ((at es i) .synchronous) refl, t .2 ∙ same-both b ((x i) .inClear) ((x i) .inClear) refl, t .3)
@@ -281,7 +305,8 @@ module _ (d : Server) (f : ℕ → Numbering) (g : Reads d f) (r : Result) where
         k₁ : Knows p (at es i) (x i)
         k₁ = g .knows i alive
 
-        here : (b : Bool) → eqb (p .connection) c ≡ b → Leaves i n ((at es i) .synchronous) ((x i) .inClear) (cond b (errBy h p ((x i) .inClear) ((x i) .numberExpected)) ((x i) .numberExpected)) → Goal hap i
+        here : (b : Bool) → eqb (p .connection) c ≡ b → Leaves i n ((at es i) .synchronous) ((x i) .inClear)
+            (cond b (errBy h p ((x i) .inClear) ((x i) .numberExpected)) ((x i) .numberExpected)) → Goal hap i
         here true q w =
             stays hap i v _ _ w (rw q (let s = refused-one h p in (s .0, s .1 ∙ k₁ .in-clear, s .2 ∙ rw (k₁ .in-clear, k₁ .number)))) (λ m w e. sym (same-place m) ∙ e)
         here false q w = stays hap i v _ _ w (rw q (refl, k₁ .in-clear, k₁ .number)) (λ m w e. sym (same-place m) ∙ e)
@@ -410,11 +435,14 @@ module _ (d : Server) (f : ℕ → Numbering) (g : Reads d f) (r : Result) where
               let apart : eqb ((f n) .connection) (a .connection) ≡ false = ne-eqb _ _ (λ z. other-place i alive (sym (k₁ .connection) ∙ z)) in
               stays did i v _ _ u (rw (not-mine, q, apart) (refl, k₁ .in-clear, k₁ .number)) (λ m w z. others m w z alive (eqb (a .session) m) refl)
             where
-              others : (m : ℕ) → ((numberingAfter did m (f m)) .connection ≡ noConnection → ⊥) → (numberingAfter did m (f m)) .connection ≡ (at es i) .synchronous → live (at es i) ≡ true → (b : Bool) → eqb (a .session) m ≡ b → (f m) .connection ≡ (at es i) .synchronous
+              others : (m : ℕ) → ((numberingAfter did m (f m)) .connection ≡ noConnection → ⊥) →
+                  (numberingAfter did m (f m)) .connection ≡ (at es i) .synchronous → live (at es i) ≡ true → (b : Bool) → eqb (a .session) m ≡ b →
+                  (f m) .connection ≡ (at es i) .synchronous
               others m w z alive true y = absurd (other-place i alive (sym (rw (y, q) at z)))
               others m w z alive false y = by (eqb ((f m) .connection) (a .connection)) refl (rw (y, q) at w) (rw (y, q) at z)
                 where
-                  by : (b : Bool) → eqb ((f m) .connection) (a .connection) ≡ b → ((cond b (firstNumbering noConnection) (f m)) .connection ≡ noConnection → ⊥) → (cond b (firstNumbering noConnection) (f m)) .connection ≡ (at es i) .synchronous → (f m) .connection ≡ (at es i) .synchronous
+                  by : (b : Bool) → eqb ((f m) .connection) (a .connection) ≡ b → ((cond b (firstNumbering noConnection) (f m)) .connection ≡ noConnection → ⊥)
+                      → (cond b (firstNumbering noConnection) (f m)) .connection ≡ (at es i) .synchronous → (f m) .connection ≡ (at es i) .synchronous
                   by true y w c = absurd (w refl)
                   by false y w c = c
 

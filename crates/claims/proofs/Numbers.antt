@@ -88,7 +88,8 @@ one-more : (es : List Entry) (last k : ℕ) → k ≤ sessionLimit → isLive es
 one-more es last k b v =
     let j = slotOfNumber es (candidate last k) in
     let q = live-found es (candidate last k) v in
-    tally-more (below last k) (below last (suc k)) es j (λ e h. or-r (eqb (e .number) (candidate last k)) _ h) (inside live es j refl v) (below-not last k k (omega arith) b (at es j) q) (or-of _ _ (eq-eqb _ _ q))
+    tally-more (below last k) (below last (suc k)) es j (λ e h. or-r (eqb (e .number) (candidate last k)) _ h) (inside live es j refl v)
+    (below-not last k k (omega arith) b (at es j) q) (or-of _ _ (eq-eqb _ _ q))
 
 module _ (es : List Entry) (last : ℕ) (free : all live es ≡ false) (slots : length es ≡ sessionLimit) where
   issued-free : (f k : ℕ) → f + k ≡ sessionLimit → k ≤ tally (below last k) es → isLive es (issued f k es last) ≡ false

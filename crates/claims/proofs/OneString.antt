@@ -114,12 +114,18 @@ complete-strings l i n (Locks.due-now k) s = without-strings l i n no-release k 
 
 -- each event
 module _ (l : Locks) (s : Strings l) where
-  ask-strings : (i t : ℕ) (k : List ℕ) (h a x m z : Bool) → (x ≡ false → leb (suc stringLimit) (length k) ≡ false) → mayGrant (l .entries) i k ≡ m → (z ≡ false → eqb t 0 ≡ false) → Strings ((Locks.respond (Locks.ruling h a x m z) l i t k) .locks)
+  ask-strings : (i t : ℕ) (k : List ℕ) (h a x m z : Bool) → (x ≡ false → leb (suc stringLimit) (length k) ≡ false) → mayGrant (l .entries) i k ≡ m →
+      (z ≡ false → eqb t 0 ≡ false) → Strings ((Locks.respond (Locks.ruling h a x m z) l i t k) .locks)
   ask-strings i t k true a x m z ex em ez = s
   ask-strings i t k false false x m z ex em ez = s
   ask-strings i t k false true true m z ex em ez = s
   ask-strings i t k false true false true z ex em ez =
-      record { strung = strung-give (l .clock) (l .entries) i k em (le-leb (length k) stringLimit (omega (arith, leb-false (suc stringLimit) (length k) (ex refl)))) (s .strung); shortly = s .shortly; timely = s .timely }
+      record {
+        strung = strung-give (l .clock) (l .entries) i k em
+            (le-leb (length k) stringLimit (omega (arith, leb-false (suc stringLimit) (length k) (ex refl)))) (s .strung);
+        shortly = s .shortly;
+        timely = s .timely;
+      }
   ask-strings i t k false true false false true ex em ez = s
   ask-strings i t k false true false false false ex em ez =
       record {
@@ -141,7 +147,8 @@ module _ (l : Locks) (s : Strings l) where
   change-strings Locks.nothing = s
   change-strings (Locks.enter i n c) = record { strung = strung-less (l .entries) i (Locks.opened n c) refl (s .strung); shortly = s .shortly; timely = s .timely }
   change-strings (Locks.join i c) = record { strung = strung-same (l .entries) i (Locks.joined c (at (l .entries) i)) refl (s .strung); shortly = s .shortly; timely = s .timely }
-  change-strings (Locks.request i t k) = ask-strings i t k (holds k (at (l .entries) i)) (all (elsewhere i) (l .waiting)) (Locks.invalidBy k (at (l .entries) i)) (mayGrant (l .entries) i k) (eqb t 0 || noPlace (l .waiting)) (no-or _ _) refl (no-or (eqb t 0) _)
+  change-strings (Locks.request i t k) = ask-strings i t k (holds k (at (l .entries) i)) (all (elsewhere i) (l .waiting))
+      (Locks.invalidBy k (at (l .entries) i)) (mayGrant (l .entries) i k) (eqb t 0 || noPlace (l .waiting)) (no-or _ _) refl (no-or (eqb t 0) _)
   change-strings (Locks.release i n) = release-strings l i n (Locks.releasingOf (at (l .entries) i) n) s
   change-strings (Locks.command i n) = complete-strings l i n (Locks.dueAt n ((at (l .entries) i) .standing)) s
   change-strings (Locks.clear i) =

@@ -23,7 +23,8 @@ use Rattle.model.specs.Interface.{Event, Event.opening, Event.delivery, Event.c
 use Rattle.model.specs.Scan.{Scan, Scan.empty, Scan.few, Scan.wrong, Scan.skipping, Scan.long, Scan.part, Scan.whole, scan, size}
 use Rattle.model.specs.Place.{slotOf, entryOf, roleOf, Role, Role.r-none, Role.r-halfOpen, Role.r-synchronous, Role.r-asynchronous}
 use Rattle.model.specs.Locks.{change}
-use Rattle.model.specs.Checks.{Verdict, Verdict.v-more, Verdict.v-skipped, Verdict.v-held, Verdict.v-ignored, Verdict.v-closed, Verdict.v-acts, Verdict.v-error, Verdict.v-fatal, verdict, judged, partly, either}
+use Rattle.model.specs.Checks.{Verdict, Verdict.v-more, Verdict.v-skipped, Verdict.v-held, Verdict.v-ignored, Verdict.v-closed, Verdict.v-acts}
+use Rattle.model.specs.Checks.{Verdict.v-error, Verdict.v-fatal, verdict, judged, partly, either}
 use Rattle.model.specs.Acts
 use Rattle.model.specs.Refusals.{causes, refusal}
 use Rattle.model.specs.Step.{effect, received, plan, answered, finish, step, final, log}
@@ -105,7 +106,8 @@ module _ (d : Server) (c : ℕ) (bs : List ℕ) (b : Bytes bs) where
     i = slotOf d c
 
     -- closing
-    fatal-done : (n : ℕ) (s : Scan) (r : Role) → scan q bs ≡ s → reads s ≡ true → ClosedBy ((at (d .locks .entries) i) .number) bs ((finish d (effect (v-fatal n) s r d i c)) .frames) → Here (effect (v-fatal n) s r d i c)
+    fatal-done : (n : ℕ) (s : Scan) (r : Role) → scan q bs ≡ s → reads s ≡ true →
+        ClosedBy ((at (d .locks .entries) i) .number) bs ((finish d (effect (v-fatal n) s r d i c)) .frames) → Here (effect (v-fatal n) s r d i c)
     unfolding effect
     fatal-done n s r e f x = record { shows = (none-owed s e f, refl, x); tracks = tracks-closing d c owed _ t (no-change c owed) }
 
@@ -199,7 +201,8 @@ module _ (d : Server) (c : ℕ) (bs : List ℕ) (b : Bytes bs) where
     by-long h r-synchronous e f = too-long h r-synchronous e
     by-long h r-asynchronous e f = too-long h r-asynchronous e
 
-    by-part : (h : Header) (r : Role) → scan q bs ≡ Scan.part h → roleOf (d .locks .entries) c ≡ r → omits ((effect (partly r h) (Scan.part h) r d i c) .reply) ≡ false → Here (effect (partly r h) (Scan.part h) r d i c)
+    by-part : (h : Header) (r : Role) → scan q bs ≡ Scan.part h → roleOf (d .locks .entries) c ≡ r →
+        omits ((effect (partly r h) (Scan.part h) r d i c) .reply) ≡ false → Here (effect (partly r h) (Scan.part h) r d i c)
     unfolding effect
     by-part h r-none e f o = go (either 0 17 (h .kind)) o
       where
@@ -264,7 +267,12 @@ only-whole [] d owed t p = tt
 only-whole (e ∷ es) d owed t p = go (omits ((step d e) .reply)) refl (λ owed t. only-whole es ((step d e) .server) owed t (p .1))
   where
     go : (k : Bool) → omits ((step d e) .reply) ≡ k → ((owed : ℕ → ℕ) → Tracks ((step d e) .server .rest) owed → OnlyWhole owed (kept (log ((step d e) .server) es)))
-        → OnlyWhole owed (cond k (kept (log ((step d e) .server) es)) (record { event = shown e (taken ((step d e) .reply)); reply = (step d e) .reply; frames = (step d e) .frames } ∷ kept (log ((step d e) .server) es)))
+        → OnlyWhole owed (cond k (kept (log ((step d e) .server) es))
+        (record {
+          event = shown e (taken ((step d e) .reply));
+          reply = (step d e) .reply;
+          frames = (step d e) .frames;
+        } ∷ kept (log ((step d e) .server) es)))
     go true o ih = ih owed (subst (λ (x : Server). Tracks (x .rest) owed) (sym (ap (λ x. x .server) (step-omitted d e o))) t)
     go false o ih = let x = called d owed e t (p .0) o in (x .shows, ih _ (x .tracks))
 
@@ -276,7 +284,12 @@ tracked (e ∷ es) d owed t p = go (omits ((step d e) .reply)) refl (λ owed t. 
   where
     go : (k : Bool) → omits ((step d e) .reply) ≡ k
         → ((owed : ℕ → ℕ) → Tracks ((step d e) .server .rest) owed → Tracks ((final ((step d e) .server) es) .rest) (owedIn owed (kept (log ((step d e) .server) es))))
-        → Tracks ((final ((step d e) .server) es) .rest) (owedIn owed (cond k (kept (log ((step d e) .server) es)) (record { event = shown e (taken ((step d e) .reply)); reply = (step d e) .reply; frames = (step d e) .frames } ∷ kept (log ((step d e) .server) es))))
+        → Tracks ((final ((step d e) .server) es) .rest) (owedIn owed
+        (cond k (kept (log ((step d e) .server) es)) (record {
+          event = shown e (taken ((step d e) .reply));
+          reply = (step d e) .reply;
+          frames = (step d e) .frames;
+        } ∷ kept (log ((step d e) .server) es))))
     go true o ih = ih owed (subst (λ (x : Server). Tracks (x .rest) owed) (sym (ap (λ x. x .server) (step-omitted d e o))) t)
     go false o ih = ih _ ((called d owed e t (p .0) o) .tracks)
 

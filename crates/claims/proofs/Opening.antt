@@ -19,7 +19,8 @@ use Rattle.model.specs.Interface.{Event, Event.opening, Event.delivery, Event.c
 use Rattle.model.specs.Scan.{Scan, Scan.empty, Scan.few, Scan.wrong, Scan.skipping, Scan.long, Scan.part, Scan.whole, scan}
 use Rattle.model.specs.Place.{slotOf, Role, Role.r-none, Role.r-halfOpen, Role.r-synchronous, Role.r-asynchronous, roleOf}
 use Rattle.model.specs.Locks.{issued, change}
-use Rattle.model.specs.Checks.{Verdict, Verdict.v-more, Verdict.v-skipped, Verdict.v-held, Verdict.v-ignored, Verdict.v-closed, Verdict.v-acts, Verdict.v-error, Verdict.v-fatal, isUnrecognised, judged}
+use Rattle.model.specs.Checks.{Verdict, Verdict.v-more, Verdict.v-skipped, Verdict.v-held, Verdict.v-ignored, Verdict.v-closed, Verdict.v-acts}
+use Rattle.model.specs.Checks.{Verdict.v-error, Verdict.v-fatal, isUnrecognised, judged}
 use Rattle.model.specs.Acts
 use Rattle.model.specs.Refusals.{refusal}
 use Rattle.model.specs.Step.{Result, effect, received, plan, answered, finish, step, final}
@@ -72,12 +73,14 @@ module _ (d : Server) (inv : Inv (d .locks)) (v : Making) (made : d .rest .made 
   unfolding finish change
   opens-to f =
       let i = slotOfNumber (d .locks .entries) 0 in (
-        ap (λ (x : Making). frameOf c InitializeResponse (cond (x .prefersOverlap) 1 0) (min ((header bs) .param / 65536) protocolVersion * 65536 + issued sessionLimit 0 (d .locks .entries) (d .rest .lastIssued)) [] ∷ []) made,
+        ap (λ (x : Making). frameOf c InitializeResponse (cond (x .prefersOverlap) 1 0)
+            (min ((header bs) .param / 65536) protocolVersion * 65536 + issued sessionLimit 0 (d .locks .entries) (d .rest .lastIssued)) [] ∷ []) made,
         record {
           slot = i;
           was-free = f .vacant;
           session = getD-set-same (d .locks .entries) i _ blank (f .within);
-          exchange = getD-set-same (d .rest .exchanges) i (openExchange (d .rest .made .prefersOverlap)) freshExchange (omega (arith, f .within, room-for)) ∙ ap (λ (x : Making). openExchange (x .prefersOverlap)) made;
+          exchange = getD-set-same (d .rest .exchanges) i (openExchange (d .rest .made .prefersOverlap)) freshExchange (omega (arith, f .within, room-for))
+              ∙ ap (λ (x : Making). openExchange (x .prefersOverlap)) made;
           no-more = record {
             others-same = λ j o. getD-set-other (d .locks .entries) i j _ blank o;
             exchanges-same = λ j o. getD-set-other (d .rest .exchanges) i j _ freshExchange o;
@@ -95,7 +98,8 @@ module _ (d : Server) (inv : Inv (d .locks)) (v : Making) (made : d .rest .made 
       let r = initialize-role d c (header bs) (payloadOf (header bs) bs) (roleOf (d .locks .entries) c) t (s .passes) in
       let b : eqb ((header bs) .kind) 0 ≡ true = eq-eqb _ _ t in
       let passes = opening-passed d (header bs) (payloadOf (header bs) bs) (ap (λ x. judged x d (slotOf d c) (header bs) (payloadOf (header bs) bs)) (sym r) ∙ s .passes) in
-      let replied : took acted (16 + (header bs) .len) (issued sessionLimit 0 (d .locks .entries) (d .rest .lastIssued)) ≡ took acted k n = ap (λ (x : Result). x .reply) (sym (does true k n e b r)) ∙ e in
+      let replied : took acted (16 + (header bs) .len) (issued sessionLimit 0 (d .locks .entries) (d .rest .lastIssued)) ≡ took acted k n =
+      ap (λ (x : Result). x .reply) (sym (does true k n e b r)) ∙ e in
       let n-is : issued sessionLimit 0 (d .locks .entries) (d .rest .lastIssued) ≡ n = cc in
       subst (λ m. Enters (d .locks .entries) (slotOfNumber (d .locks .entries) 0) m c) n-is (opens-fit d c (header bs) (payloadOf (header bs) bs) true b (real k n e) inv r passes)
 
@@ -109,7 +113,8 @@ module _ (d : Server) (inv : Inv (d .locks)) (v : Making) (made : d .rest .made 
       let passes = opening-passed d (header bs) (payloadOf (header bs) bs) (ap (λ x. judged x d (slotOf d c) (header bs) (payloadOf (header bs) bs)) (sym r) ∙ s .passes) in
       let replied : took acted (16 + (header bs) .len) (issued sessionLimit 0 (d .locks .entries) (d .rest .lastIssued)) ≡ took acted k n = ap (λ (x : Result). x .reply) (sym one) ∙ e in
       let n-is : issued sessionLimit 0 (d .locks .entries) (d .rest .lastIssued) ≡ n = cc in
-      subst (λ m. OpensTo m R) n-is (subst (OpensTo (issued sessionLimit 0 (d .locks .entries) (d .rest .lastIssued))) (sym one) (opens-to (opens-fit d c (header bs) (payloadOf (header bs) bs) true b (real k n e) inv r passes)))
+      subst (λ m. OpensTo m R) n-is (subst (OpensTo (issued sessionLimit 0 (d .locks .entries) (d .rest .lastIssued))) (sym one)
+      (opens-to (opens-fit d c (header bs) (payloadOf (header bs) bs) true b (real k n e) inv r passes)))
 
   -- AsyncInitialize
   abbrev JoinsTo : ℕ → Result → Type 0
@@ -141,7 +146,9 @@ module _ (d : Server) (inv : Inv (d .locks)) (v : Making) (made : d .rest .made 
       let s = shows d c bs room k n e in
       let r = join-role d c (header bs) (payloadOf (header bs) bs) (roleOf (d .locks .entries) c) t (s .passes) in
       let b : eqb ((header bs) .kind) 0 ≡ false = rw t in
-      opens-fit d c (header bs) (payloadOf (header bs) bs) false b (real k n e) inv r (opening-passed d (header bs) (payloadOf (header bs) bs) (ap (λ x. judged x d (slotOf d c) (header bs) (payloadOf (header bs) bs)) (sym r) ∙ s .passes))
+      opens-fit d c (header bs) (payloadOf (header bs) bs) false b (real k n e) inv r
+      (opening-passed d (header bs) (payloadOf (header bs) bs)
+      (ap (λ x. judged x d (slotOf d c) (header bs) (payloadOf (header bs) bs)) (sym r) ∙ s .passes))
 
   joins : (k n : ℕ) → R .reply ≡ took acted k n → (header bs) .kind ≡ AsyncInitialize → JoinsTo n R
   unfolding finish
@@ -160,5 +167,8 @@ sessions-open v es =
     record {
       opens-next = λ c bs room.
           let d = final (fresh v) es in
-          record { opens = opens d (inv-run v es) v (same-made es (fresh v)) (exchange-slots es (fresh v) ∙ sym (inv-run v es .sound .firm .slots)) c bs room; joins = joins d (inv-run v es) v (same-made es (fresh v)) (exchange-slots es (fresh v) ∙ sym (inv-run v es .sound .firm .slots)) c bs room };
+          record {
+            opens = opens d (inv-run v es) v (same-made es (fresh v)) (exchange-slots es (fresh v) ∙ sym (inv-run v es .sound .firm .slots)) c bs room;
+            joins = joins d (inv-run v es) v (same-made es (fresh v)) (exchange-slots es (fresh v) ∙ sym (inv-run v es .sound .firm .slots)) c bs room;
+          };
     }

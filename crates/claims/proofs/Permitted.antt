@@ -37,7 +37,8 @@ use Rattle.claims.proofs.Replies.{acting}
 use Rattle.claims.proofs.Access.{whole-read, sync-role, role-sync}
 use Rattle.claims.proofs.SessionId.{session-ids}
 use Rattle.claims.proofs.Deciding.{async-own}
-use Rattle.claims.proofs.Forms.{_also_, form-of, command-passes, clear-passes, sync-permitted, async-passes, async-permitted, initialize-passes, join-passes, opening-permitted, Synchronous, Opens, Joins}
+use Rattle.claims.proofs.Forms.{_also_, form-of, command-passes, clear-passes, sync-permitted, async-passes, async-permitted, initialize-passes}
+use Rattle.claims.proofs.Forms.{join-passes, opening-permitted, Synchronous, Opens, Joins}
 
 -- a whole message is scanned as one
 read-whole : (r : ℕ) (bs : List ℕ) → WholeMessage r bs → scan r bs ≡ Scan.whole (header bs) (payloadOf (header bs) bs)
@@ -168,7 +169,8 @@ module _ (d : Server) (c : ℕ) (bs : List ℕ) (room : ℕ) where
       }
 
   -- on a server with its sessions in order, where an Initialize that acts gets the next SessionID
-  module _ (firm : Firm (d .locks .entries)) (last : ℕ) (ids : (k n : ℕ) → (step d (delivery c bs room)) .reply ≡ took acted k n → (header bs) .kind ≡ Initialize → FirstFree (d .locks .entries) last n) where
+  module _ (firm : Firm (d .locks .entries)) (last : ℕ) (ids : (k n : ℕ) → (step d (delivery c bs room)) .reply ≡ took acted k n →
+      (header bs) .kind ≡ Initialize → FirstFree (d .locks .entries) last n) where
     abbrev Acted : ℕ → Type 0
     Acted n = (step d (delivery c bs room)) .reply ≡ took acted (16 + (header bs) .len) n
 
@@ -182,8 +184,11 @@ module _ (d : Server) (c : ℕ) (bs : List ℕ) (room : ℕ) where
 
     acts : (n : ℕ) → refusal d (delivery c bs room) ≡ 0 → Permitted d last c bs n → Acted n
     unfolding finish Acts.acts
-    acts n z (Permitted.established fs w (Permitted.commands s q a m) f l) = ap (λ (x : Result). x .reply) (whole-does z w r-synchronous (role-sync d c s) (command-passes d (slotOf d c) p q a (header bs) m f (λ t. admits-is (d .rest .allowed) p .1 (l t))))
-    acts n z (Permitted.established fs w (Permitted.clear-complete s q) f l) = ap (λ (x : Result). x .reply) (whole-does z w r-synchronous (role-sync d c s) (clear-passes d (slotOf d c) p q (header bs) f))
+    acts n z (Permitted.established fs w (Permitted.commands s q a m) f l) =
+        ap (λ (x : Result). x .reply) (whole-does z w r-synchronous (role-sync d c s)
+        (command-passes d (slotOf d c) p q a (header bs) m f (λ t. admits-is (d .rest .allowed) p .1 (l t))))
+    acts n z (Permitted.established fs w (Permitted.clear-complete s q) f l) =
+        ap (λ (x : Result). x .reply) (whole-does z w r-synchronous (role-sync d c s) (clear-passes d (slotOf d c) p q (header bs) f))
     acts n z (Permitted.established fs w (Permitted.on-asynchronous s) f l) = ap (λ (x : Result). x .reply) (whole-does z w r-asynchronous (role-async d c s) (async-passes p (header bs) f))
     acts n z (Permitted.initialize m w o f s l x) =
         let free : all live (d .locks .entries) ≡ false = isn't _ (λ a. omega (arith, all-count live (d .locks .entries) a, firm .slots)) in
@@ -224,7 +229,9 @@ module _ (d : Server) (c : ℕ) (bs : List ℕ) (room : ℕ) where
         go : Synchronous d (slotOf d c) p (header bs) → Permitted d last c bs ((entryOf d c) .number)
         go (inl x) = Permitted.established _ w (Permitted.commands (sync-role d c er) (x .0) (x .1) (x .2)) (x .3) (λ t. admits-is (d .rest .allowed) p .0 (x .4 t))
         go (inr x) = Permitted.established _ w (Permitted.clear-complete (sync-role d c er) (x .0)) (x .1) (λ t. absurd (no-clear (header bs) (x .1) t))
-    by-role r-asynchronous k n w er q e f = same-reply k n _ e (Permitted.established _ w (Permitted.on-asynchronous (async-role d c er)) (async-permitted p (header bs) q) (λ t. absurd (no-async (header bs) (async-permitted p (header bs) q) t)))
+    by-role r-asynchronous k n w er q e f = same-reply k n _ e
+        (Permitted.established _ w (Permitted.on-asynchronous (async-role d c er)) (async-permitted p (header bs) q)
+        (λ t. absurd (no-async (header bs) (async-permitted p (header bs) q) t)))
 
     pub acts-exactly : ActsExactly d last c bs room
     unfolding finish
@@ -237,5 +244,6 @@ module _ (d : Server) (c : ℕ) (bs : List ℕ) (room : ℕ) where
 pub permitted-acts : (v : Making) (es : List Event) → PermittedActs v es
 permitted-acts v es =
     record {
-      acts-next = λ c bs room. acts-exactly (final (fresh v) es) c bs room ((inv-run v es) .sound .firm) (lastInLog (log (fresh v) es) 0) (λ k n e t. ((session-ids v es) .issues c bs room k n e t) .first-free);
+      acts-next = λ c bs room. acts-exactly (final (fresh v) es) c bs room ((inv-run v es) .sound .firm) (lastInLog (log (fresh v) es) 0)
+          (λ k n e t. ((session-ids v es) .issues c bs room k n e t) .first-free);
     }

@@ -9,7 +9,8 @@ use Rattle.model.specs.Sizes.{beforeFirst}
 use Rattle.model.specs.Lists.{all, keep}
 use Rattle.model.specs.State.{Locks, Entry, Waiting, Kind, Kind.exclusive-lock, Kind.shared-lock, at, blank}
 use Rattle.model.specs.Locks
-use Rattle.model.specs.Locks.{Answer, LockEvent, LockResult, Passed, elsewhere, holds, invalidBy, noPlace, give, without, releaseCode, grant, mayGrant, tell, refuse, unexpired, after, put, passOver, grantPass, change, settle}
+use Rattle.model.specs.Locks.{Answer, LockEvent, LockResult, Passed, elsewhere, holds, invalidBy, noPlace, give, without, releaseCode, grant, mayGrant, tell}
+use Rattle.model.specs.Locks.{refuse, unexpired, after, put, passOver, grantPass, change, settle}
 use Rattle.model.proofs.Basics.{and-l, and-r, both, all-set, all-at}
 
 abbrev pub reachable : Entry → Bool
@@ -78,13 +79,19 @@ code-fits shared-lock = refl
 released-kept : (u : Locks.Releasing) (l : Locks) (i n : ℕ) → Reachable (l .entries) → Kept (Locks.released u l i n)
 released-kept Locks.r-invalid l i n h = record { entries = h; answers = one-fits (l .entries) i 3 false h refl }
 released-kept (Locks.r-now k) l i n h =
-    record { entries = all-set reachable (l .entries) i _ (without-reach k (at (l .entries) i) (all-at reachable (l .entries) i refl h)) h; answers = one-fits (l .entries) i (releaseCode k) false h (code-fits k) }
+    record {
+      entries = all-set reachable (l .entries) i _ (without-reach k (at (l .entries) i) (all-at reachable (l .entries) i refl h)) h;
+      answers = one-fits (l .entries) i (releaseCode k) false h (code-fits k);
+    }
 released-kept (Locks.r-stands k) l i n h = record { entries = all-set reachable (l .entries) i _ (all-at reachable (l .entries) i refl h) h; answers = refl }
 
 completed-kept : (u : Locks.Due) (l : Locks) (i n : ℕ) → Reachable (l .entries) → Kept (Locks.completed u l i n)
 completed-kept Locks.not-due l i n h = record { entries = all-set reachable (l .entries) i _ (all-at reachable (l .entries) i refl h) h; answers = refl }
 completed-kept (Locks.due-now k) l i n h =
-    record { entries = all-set reachable (l .entries) i _ (without-reach k (at (l .entries) i) (all-at reachable (l .entries) i refl h)) h; answers = one-fits (l .entries) i (releaseCode k) false h (code-fits k) }
+    record {
+      entries = all-set reachable (l .entries) i _ (without-reach k (at (l .entries) i) (all-at reachable (l .entries) i refl h)) h;
+      answers = one-fits (l .entries) i (releaseCode k) false h (code-fits k);
+    }
 
 both-fit : (xs ys : List Answer) → AnswersFit xs → AnswersFit ys → AnswersFit (xs ++ ys)
 both-fit [] ys p q = q
@@ -95,7 +102,11 @@ unfolding change
 change-kept l Locks.nothing b h = record { entries = h; answers = refl }
 change-kept l (Locks.enter i n c) b h = record { entries = all-set reachable (l .entries) i _ (both _ _ (lt-ltb c 256 b) refl) h; answers = refl }
 change-kept l (Locks.join i c) b h =
-    record { entries = all-set reachable (l .entries) i _ (both _ _ (and-l (ltb ((at (l .entries) i) .synchronous) 256) _ (all-at reachable (l .entries) i refl h)) (lt-ltb c 256 b)) h; answers = refl }
+    record {
+      entries = all-set reachable (l .entries) i _ (both _ _
+          (and-l (ltb ((at (l .entries) i) .synchronous) 256) _ (all-at reachable (l .entries) i refl h)) (lt-ltb c 256 b)) h;
+      answers = refl;
+    }
 change-kept l (Locks.request i t k) b h =
     respond-kept (Locks.ruling (holds k (at (l .entries) i)) (all (elsewhere i) (l .waiting)) (invalidBy k (at (l .entries) i)) (mayGrant (l .entries) i k) (eqb t 0 || noPlace (l .waiting))) l i t k h
 change-kept l (Locks.release i n) b h = released-kept (Locks.releasingOf (at (l .entries) i) n) l i n h

@@ -19,7 +19,8 @@ use Rattle.model.specs.Scan.{Scan, Scan.empty, Scan.few, Scan.wrong, Scan.skipp
 use Rattle.model.specs.Place.{slotOf, Role, Role.r-none, Role.r-halfOpen, Role.r-synchronous, Role.r-asynchronous, roleOf}
 use Rattle.model.specs.Locks.{LockEvent, change}
 use Rattle.model.specs.Checks
-use Rattle.model.specs.Checks.{Verdict, Verdict.v-more, Verdict.v-skipped, Verdict.v-held, Verdict.v-ignored, Verdict.v-closed, Verdict.v-acts, Verdict.v-error, Verdict.v-fatal, verdict, judged, either}
+use Rattle.model.specs.Checks.{Verdict, Verdict.v-more, Verdict.v-skipped, Verdict.v-held, Verdict.v-ignored, Verdict.v-closed, Verdict.v-acts}
+use Rattle.model.specs.Checks.{Verdict.v-error, Verdict.v-fatal, verdict, judged, either}
 use Rattle.model.specs.Acts
 use Rattle.model.specs.Refusals.{refusal}
 use Rattle.model.specs.Step.{effect, received, plan, withholds}
@@ -69,12 +70,24 @@ syncActFor Acts.k-clearComplete = LockModel.a-none
 sync-act : (t : ℕ) → one-of synchronousTypes t ≡ true → eqb t 2 ≡ false → eqb t 3 ≡ false → eqb t 0 ≡ false → actOf t ≡ syncActFor (Acts.synchronousKind t)
 unfolding syncActFor
 sync-act t e =
-    each-of (λ t. eqb t 2 ≡ false → eqb t 3 ≡ false → eqb t 0 ≡ false → actOf t ≡ syncActFor (Acts.synchronousKind t)) synchronousTypes ((λ a b z. absurd (true≢false z)), ((λ a b z. absurd (true≢false a)), ((λ a b z. absurd (true≢false b)), ((λ a b z. refl), ((λ a b z. refl), ((λ a b z. refl), ((λ a b z. refl), tt))))))) t e
+    each-of (λ t. eqb t 2 ≡ false → eqb t 3 ≡ false → eqb t 0 ≡ false → actOf t ≡ syncActFor (Acts.synchronousKind t)) synchronousTypes (
+      (λ a b z. absurd (true≢false z)),
+      (
+        (λ a b z. absurd (true≢false a)),
+        ((λ a b z. absurd (true≢false b)), ((λ a b z. refl), ((λ a b z. refl), ((λ a b z. refl), ((λ a b z. refl), tt))))),
+      ),
+    ) t e
 
 async-act : (t : ℕ) → one-of asynchronousTypes t ≡ true → eqb t 17 ≡ false → actOf t ≡ actFor (Acts.asynchronousKind t)
 unfolding actFor
 async-act t e =
-    each-of (λ t. eqb t 17 ≡ false → actOf t ≡ actFor (Acts.asynchronousKind t)) asynchronousTypes ((λ z. refl), ((λ z. refl), ((λ z. refl), ((λ z. refl), ((λ z. refl), ((λ z. absurd (true≢false z)), ((λ z. refl), ((λ z. refl), ((λ z. refl), tt))))))))) t e
+    each-of (λ t. eqb t 17 ≡ false → actOf t ≡ actFor (Acts.asynchronousKind t)) asynchronousTypes (
+      (λ z. refl),
+      (
+        (λ z. refl),
+        ((λ z. refl), ((λ z. refl), ((λ z. refl), ((λ z. absurd (true≢false z)), ((λ z. refl), ((λ z. refl), ((λ z. refl), tt))))))),
+      ),
+    ) t e
 
 -- the number in a reply
 abbrev numberIn : Reply → ℕ
@@ -84,7 +97,8 @@ numberIn Reply.withheld = 0
 numberIn (Reply.took o k n) = n
 
 -- a message that acted
-module _ (d : Server) (m : Model) (a : Agrees (d .locks) m) (i : Inv (d .locks)) (c : ℕ) (real : c ≡ noConnection → ⊥) (h : Header) (p : List ℕ) (bs : List ℕ) (eh : header bs ≡ h) (ep : drop 16 bs ≡ p) where
+module _ (d : Server) (m : Model) (a : Agrees (d .locks) m) (i : Inv (d .locks)) (c : ℕ) (real : c ≡ noConnection → ⊥) (h : Header) (p : List ℕ) (bs : List ℕ)
+    (eh : header bs ≡ h) (ep : drop 16 bs ≡ p) where
   none-alike : Alike (change (d .locks) LockEvent.nothing) (asBefore m)
   unfolding change
   none-alike = record { agrees = a; told = refl }
@@ -100,7 +114,11 @@ module _ (d : Server) (m : Model) (a : Agrees (d .locks) m) (i : Inv (d .locks))
   opens-alike : (b : Bool) → eqb (h .kind) 0 ≡ b → roleOf (d .locks .entries) c ≡ r-none → Passes (Checks.openingRules d h p)
       → Acted (numberIn ((Acts.opens b d c h) .reply)) ((Acts.opens b d c h) .event)
   opens-alike true t r q =
-      by-act _ _ LockModel.a-enter (ap (λ (x : Bool). cond x LockModel.a-enter (cond (eqb (h .kind) 17) LockModel.a-join (cond (eqb (h .kind) 4) LockModel.a-lock (cond (eqb (h .kind) 19) LockModel.a-clear (cond (one-of commands (h .kind)) LockModel.a-message LockModel.a-none))))) t) (sim-enter (d .locks) m a (i .sound .good) (i .sound .firm) (slotOfNumber (d .locks .entries) 0) _ c (opens-fit d c h p true t real i r q))
+      by-act _ _ LockModel.a-enter
+      (ap (λ (x : Bool). cond x LockModel.a-enter (cond (eqb (h .kind) 17) LockModel.a-join
+      (cond (eqb (h .kind) 4) LockModel.a-lock (cond (eqb (h .kind) 19) LockModel.a-clear
+      (cond (one-of commands (h .kind)) LockModel.a-message LockModel.a-none))))) t)
+      (sim-enter (d .locks) m a (i .sound .good) (i .sound .firm) (slotOfNumber (d .locks .entries) 0) _ c (opens-fit d c h p true t real i r q))
   opens-alike false t r q =
       let es = d .locks .entries in
       let x = at es (slotOfNumber es (h .param)) in
@@ -139,10 +157,13 @@ module _ (d : Server) (m : Model) (a : Agrees (d .locks) m) (i : Inv (d .locks))
   acts-alike r-halfOpen e q = absurd (let z : _≡_ {A = ℕ} 0 1 = cc in omega arith)
   acts-alike r-synchronous e q =
       let t = sync-passed d (slotOf d c) h p q in
-      by-act _ _ (syncActFor (Acts.synchronousKind (h .kind))) (sync-act (h .kind) (acted-class synchronous (h .kind) (t .1 .1 .1 .0) (t .1 .1 .1 .1 .0)) (t .0) (t .1 .0) (t .1 .1 .1 .1 .1 .0)) (sync-alike (Acts.synchronousKind (h .kind)) (sync-live (d .locks .entries) c e))
+      by-act _ _ (syncActFor (Acts.synchronousKind (h .kind)))
+      (sync-act (h .kind) (acted-class synchronous (h .kind) (t .1 .1 .1 .0) (t .1 .1 .1 .1 .0)) (t .0) (t .1 .0) (t .1 .1 .1 .1 .1 .0))
+      (sync-alike (Acts.synchronousKind (h .kind)) (sync-live (d .locks .entries) c e))
   acts-alike r-asynchronous e q =
       let t = async-passed h p q in
-      by-act _ _ (actFor (Acts.asynchronousKind (h .kind))) (async-act (h .kind) (acted-class asynchronous (h .kind) (t .1 .1 .0) (t .1 .1 .1 .0)) (t .1 .1 .1 .1 .0)) (async-alike (Acts.asynchronousKind (h .kind)) (async-live (d .locks .entries) c e))
+      by-act _ _ (actFor (Acts.asynchronousKind (h .kind))) (async-act (h .kind) (acted-class asynchronous (h .kind) (t .1 .1 .0) (t .1 .1 .1 .0))
+      (t .1 .1 .1 .1 .0)) (async-alike (Acts.asynchronousKind (h .kind)) (async-live (d .locks .entries) c e))
 
 -- any call: the lock model does the like of the server's event, then looks
 pub record Core (l : Locks) (m : Model) (f : Fed) (e : LockEvent) : Type 0 where
@@ -197,7 +218,8 @@ module _ (d : Server) (m : Model) (a : Agrees (d .locks) m) (i : Inv (d .locks))
   pub plan-core : (e : Event) → refusal d e ≡ 0 → Core (d .locks) m (feed e ((plan d e) .reply)) ((plan d e) .event)
   unfolding plan received modelStep
   plan-core (opening c) z = unchanged (d .locks) m _ a refl
-  plan-core (delivery c bs room) z = effect-core c ((connectionAt (d .rest) c) .remainder) bs room (real-delivery d c bs room z) _ (scan ((connectionAt (d .rest) c) .remainder) bs) (roleOf (d .locks .entries) c) refl refl refl
+  plan-core (delivery c bs room) z = effect-core c ((connectionAt (d .rest) c) .remainder) bs room (real-delivery d c bs room z) _
+      (scan ((connectionAt (d .rest) c) .remainder) bs) (roleOf (d .locks .entries) c) refl refl refl
   plan-core (cut c room) z = removes c (real-cut d c room z) _ refl
   plan-core (clock t room) z = record { out = LockModel.reading t m; is = refl; alike = sim-tick (d .locks) m a (i .sound .good) (i .sound .firm) t }
   plan-core (answer n p end sh room) z = go (withholds d n end sh)

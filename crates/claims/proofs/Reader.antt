@@ -68,7 +68,11 @@ module _ (bs : List ℕ) where
       let a : payloadLimit < h₀ .len = ltb-true _ _ ec in
       let n : length (m₀ .payload) ≡ h₀ .len = payload-length ed in
       record {
-        whole = λ h p. ((λ e. never cc), (λ r. let e : m₀ ≡ messageWith h p = let z = r .decodes in cc in absurd (let y : length (m₀ .payload) ≡ length p = ap (λ (x : Message). length (x .payload)) e in let w = r .within in omega arith)));
+        whole = λ h p. (
+          (λ e. never cc),
+          (λ r. let e : m₀ ≡ messageWith h p = let z = r .decodes in cc in
+              absurd (let y : length (m₀ .payload) ≡ length p = ap (λ (x : Message). length (x .payload)) e in let w = r .within in omega arith)),
+        );
         wrong = ((λ e. never cc), (λ e. never cc));
         few = ((λ e. never cc), (λ r. absurd (let z = r .0 in omega arith)));
         part = λ h. ((λ e. never cc), (λ r. let e = r .waits in never cc));
@@ -81,7 +85,11 @@ module _ (bs : List ℕ) where
         whole = λ h p. ((λ e. never cc), (λ r. let e = r .decodes in never cc));
         wrong = ((λ e. never cc), (λ e. never cc));
         few = ((λ e. never cc), (λ r. absurd (let z = r .0 in omega arith)));
-        part = λ h. ((λ e. let q : h₀ ≡ h = cc in subst (λ (x : Header). ReadsPart bs Decoded.short x) q (record { sixteen = l; head = refl; within = a; waits = refl })), (λ r. ap Scan.part (r .head)));
+        part = λ h. (
+          (λ e. let q : h₀ ≡ h = cc in subst (λ (x : Header). ReadsPart bs Decoded.short x) q
+              (record { sixteen = l; head = refl; within = a; waits = refl })),
+          (λ r. ap Scan.part (r .head)),
+        );
         long = λ h. ((λ e. never cc), (λ r. absurd (let z = r .above in let y : h₀ .len ≡ h .len = ap (λ (x : Header). x .len) (r .head) in omega arith)));
       }
   by-tests false true false false ea eb ec ed =

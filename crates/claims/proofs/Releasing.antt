@@ -10,7 +10,8 @@ use lib.ListN.{set, length}
 use lib.Seq.{set-getD}
 use Rattle.model.specs.State.{Entry, Waiting, Locks, Kind, Kind.exclusive-lock, Kind.shared-lock, Standing, Standing.no-release, Standing.release-of, blank, at, live}
 use Rattle.model.specs.Locks
-use Rattle.model.specs.Locks.{LockResult, Releasing, Releasing.r-invalid, Releasing.r-now, Releasing.r-stands, Due, Due.not-due, Due.due-now, stands, releasing, releasingOf, released, completed, without, withOrder, withEntries, noShared, dueAt, dueAny}
+use Rattle.model.specs.Locks.{LockResult, Releasing, Releasing.r-invalid, Releasing.r-now, Releasing.r-stands, Due, Due.not-due, Due.due-now, stands}
+use Rattle.model.specs.Locks.{releasing, releasingOf, released, completed, without, withOrder, withEntries, noShared, dueAt, dueAny}
 use Rattle.model.proofs.Basics.{not-of}
 use Rattle.claims.proofs.Invariant.{Good, Firm, Sound, Lesser, backing, backed, backed-at, firm-lesser, ready-lesser, good-weaker}
 
@@ -22,7 +23,14 @@ pub record Stores (l : Locks) (i : ℕ) (x : LockResult) : Type 0 where
 
 -- without a lock; with another order
 lesser-without : (k : Kind) (n : ℕ) (s : Standing) (e : Entry) → backing s (without k e) ≡ true → Lesser e (withOrder n s (without k e))
-lesser-without exclusive-lock n s e b = record { number = refl; synchronous = refl; asynchronous = refl; exclusive = λ h. absurd (mathlib.Core.Bool.false≢true h); shared = inr refl; standing = go s b }
+lesser-without exclusive-lock n s e b = record {
+  number = refl;
+  synchronous = refl;
+  asynchronous = refl;
+  exclusive = λ h. absurd (mathlib.Core.Bool.false≢true h);
+  shared = inr refl;
+  standing = go s b;
+}
   where
     go : (s : Standing) → backing s (without exclusive-lock e) ≡ true → backing s (withOrder n s (without exclusive-lock e)) ≡ true
     go no-release b = refl
@@ -92,7 +100,8 @@ module _ (l : Locks) (i n : ℕ) (f : Firm (l .entries)) where
   complete-stores (due-now k) = record { entry = _; lesser = lesser-without k n no-release (at (l .entries) i) refl; locks = refl; few = omega arith }
 
 -- so the invariant goes on
-pub stores-sound : (l : Locks) (i : ℕ) (x : LockResult) → Good (l .entries) (l .waiting) → Firm (l .entries) → live (at (l .entries) i) ≡ true → Stores l i x → Sound (x .locks .entries) (x .locks .waiting)
+pub stores-sound : (l : Locks) (i : ℕ) (x : LockResult) → Good (l .entries) (l .waiting) → Firm (l .entries) → live (at (l .entries) i) ≡ true → Stores l i x →
+    Sound (x .locks .entries) (x .locks .waiting)
 stores-sound l i x g f v s =
     rw (s .locks)
     record {

@@ -69,7 +69,8 @@ module _ (d : Server) (c : ℕ) (bs : List ℕ) (room : ℕ) where
 
   -- by verdict and scan
   act-shown : (s : Scan) (k n : ℕ) → scan ((connectionAt (d .rest) c) .remainder) bs ≡ s → verdict (roleOf (d .locks .entries) c) d (slotOf d c) s ≡ v-acts → refusal d (delivery c bs room) ≡ 0
-      → (effect v-acts s (roleOf (d .locks .entries) c) d (slotOf d c) c) .reply ≡ took acted k n → step d (delivery c bs room) ≡ finish d (effect v-acts s (roleOf (d .locks .entries) c) d (slotOf d c) c) → Acting d c bs room
+      → (effect v-acts s (roleOf (d .locks .entries) c) d (slotOf d c) c) .reply ≡ took acted k n →
+      step d (delivery c bs room) ≡ finish d (effect v-acts s (roleOf (d .locks .entries) c) d (slotOf d c) c) → Acting d c bs room
   unfolding effect verdict
   act-shown empty k n es ev z e f = absurd (let y : _≡_ {A = ℕ} 0 1 = cc in omega arith)
   act-shown few k n es ev z e f = absurd (let y : _≡_ {A = ℕ} 0 1 = cc in omega arith)
@@ -80,7 +81,8 @@ module _ (d : Server) (c : ℕ) (bs : List ℕ) (room : ℕ) where
   act-shown (whole h p) k n es ev z e f = record { head = h; payload = p; shows = es; reads = (whole-scan _ bs h p es) .0; passes = ev; accepted = z; does = f }
 
   by-acted : (v : Verdict) (s : Scan) (k n : ℕ) → scan ((connectionAt (d .rest) c) .remainder) bs ≡ s → verdict (roleOf (d .locks .entries) c) d (slotOf d c) s ≡ v → refusal d (delivery c bs room) ≡ 0
-      → (effect v s (roleOf (d .locks .entries) c) d (slotOf d c) c) .reply ≡ took acted k n → step d (delivery c bs room) ≡ finish d (effect v s (roleOf (d .locks .entries) c) d (slotOf d c) c) → Acting d c bs room
+      → (effect v s (roleOf (d .locks .entries) c) d (slotOf d c) c) .reply ≡ took acted k n →
+      step d (delivery c bs room) ≡ finish d (effect v s (roleOf (d .locks .entries) c) d (slotOf d c) c) → Acting d c bs room
   unfolding effect
   by-acted v-more s k n es ev z e f = absurd (let y : _≡_ {A = ℕ} 0 1 = cc in omega arith)
   by-acted v-held s k n es ev z e f = absurd (let y : _≡_ {A = ℕ} 0 1 = cc in omega arith)
@@ -100,7 +102,8 @@ module _ (d : Server) (c : ℕ) (bs : List ℕ) (room : ℕ) where
       go (suc y) z e = absurd (let y : _≡_ {A = ℕ} 0 1 = cc in omega arith)
 
   by-error : (v : Verdict) (s : Scan) (k n : ℕ) → scan ((connectionAt (d .rest) c) .remainder) bs ≡ s → verdict (roleOf (d .locks .entries) c) d (slotOf d c) s ≡ v
-      → (effect v s (roleOf (d .locks .entries) c) d (slotOf d c) c) .reply ≡ took error-sent k n → step d (delivery c bs room) ≡ finish d (effect v s (roleOf (d .locks .entries) c) d (slotOf d c) c) → Erring d c bs room
+      → (effect v s (roleOf (d .locks .entries) c) d (slotOf d c) c) .reply ≡ took error-sent k n →
+      step d (delivery c bs room) ≡ finish d (effect v s (roleOf (d .locks .entries) c) d (slotOf d c) c) → Erring d c bs room
   unfolding effect finish Rattle.model.specs.Locks.change
   by-error v-more s k n es ev e f = absurd (let y : _≡_ {A = ℕ} 0 1 = cc in omega arith)
   by-error v-held s k n es ev e f = absurd (let y : _≡_ {A = ℕ} 0 1 = cc in omega arith)
@@ -126,7 +129,8 @@ module _ (d : Server) (c : ℕ) (bs : List ℕ) (room : ℕ) where
       go (suc y) z e = absurd (let y : _≡_ {A = ℕ} 0 1 = cc in omega arith)
 
   by-closed : (v : Verdict) (s : Scan) (k n : ℕ) → refusal d (delivery c bs room) ≡ 0 → (effect v s (roleOf (d .locks .entries) c) d (slotOf d c) c) .reply ≡ took closed k n
-      → plan d (delivery c bs room) ≡ effect v s (roleOf (d .locks .entries) c) d (slotOf d c) c → step d (delivery c bs room) ≡ finish d (effect v s (roleOf (d .locks .entries) c) d (slotOf d c) c) → Closing d c bs room
+      → plan d (delivery c bs room) ≡ effect v s (roleOf (d .locks .entries) c) d (slotOf d c) c →
+      step d (delivery c bs room) ≡ finish d (effect v s (roleOf (d .locks .entries) c) d (slotOf d c) c) → Closing d c bs room
   unfolding effect
   by-closed v-more s k n z e g f = absurd (let y : _≡_ {A = ℕ} 0 1 = cc in omega arith)
   by-closed v-held s k n z e g f = absurd (let y : _≡_ {A = ℕ} 0 1 = cc in omega arith)

@@ -56,7 +56,18 @@ fresh-cut bs k e p = go (ltb (length bs) 16) (prologue bs) (ltb payloadLimit n) 
     go false true false true ea eb ec ed e = absurd (omega arith)
     go false true false false ea eb ec ed e =
         let l : 16 + n ≤ length bs = ltb-false _ _ ed in
-        rw (header-take k bs (omega arith), prologue-take k bs (omega arith), eb, ec, length-take-le k bs (omega arith), le-ltb k 16 (omega arith), ← e, le-ltb (16 + n) (16 + n) (omega arith), payload-take n bs l)
+        rw (
+          header-take k bs (omega arith),
+          prologue-take k bs (omega arith),
+          eb,
+          ec,
+          length-take-le k bs (omega arith),
+          le-ltb k 16 (omega arith),
+          ← e,
+          le-ltb
+              (16 + n) (16 + n) (omega arith),
+          payload-take n bs l,
+        )
 
 pub scan-cut : (r : ℕ) (bs : List ℕ) (k : ℕ) → size (scan r bs) ≡ k → 0 < k → scan r (take k bs) ≡ scan r bs
 unfolding scan

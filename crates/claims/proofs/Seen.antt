@@ -61,7 +61,8 @@ module _ (ss : List Session) (es : List Entry) (s : Same ss es) (f : Firm es) (i
   none-own : (p : Session → Bool) → all (λ x. not (eqb (x .number) ((at es i) .number) && p x)) ss ≡ not (p (asSession (at es i)))
   none-own p =
       here (λ x. not (eqb (x .number) ((at es i) .number) && p x))
-      ∙ ap₂ _&&_ (ap (λ b. not (b && p (asSession (at es i)))) (eq-eqb ((at es i) .number) ((at es i) .number) refl)) (allBut-cong _ (λ e. true) es i (λ j d. out j d (live (at es j)) refl) ∙ allBut-true es i)
+      ∙ ap₂ _&&_ (ap (λ b. not (b && p (asSession (at es i)))) (eq-eqb ((at es i) .number) ((at es i) .number) refl))
+      (allBut-cong _ (λ e. true) es i (λ j d. out j d (live (at es j)) refl) ∙ allBut-true es i)
       ∙ and-true _
     where
       out : (j : ℕ) → (j ≡ i → ⊥) → (b : Bool) → live (at es j) ≡ b → (not b || not (eqb ((at es j) .number) ((at es i) .number) && p (asSession (at es j)))) ≡ true
@@ -75,7 +76,8 @@ module _ (ss : List Session) (es : List Entry) (s : Same ss es) (f : Firm es) (i
   pub others-seen : (p : Session → Bool) → others ((at es i) .number) p ss ≡ allBut (lift p) i es
   others-seen p =
       here (λ x. eqb (x .number) ((at es i) .number) || p x)
-      ∙ ap₂ _&&_ (or-of _ _ (eq-eqb ((at es i) .number) ((at es i) .number) refl)) (allBut-cong _ (lift p) es i (λ j d. when (live (at es j)) _ _ (λ u. ap (λ b. b || p (asSession (at es j))) (other j d u))))
+      ∙ ap₂ _&&_ (or-of _ _ (eq-eqb ((at es i) .number) ((at es i) .number) refl))
+      (allBut-cong _ (lift p) es i (λ j d. when (live (at es j)) _ _ (λ u. ap (λ b. b || p (asSession (at es j))) (other j d u))))
 
   -- answers go to its second connection
   second : (e : Entry) → getD ((asSession e) .connections) 1 noConnection ≡ e .asynchronous
@@ -85,7 +87,8 @@ module _ (ss : List Session) (es : List Entry) (s : Same ss es) (f : Firm es) (i
       go true h = sym (eqb-true _ _ h)
       go false h = refl
 
-  found : (ss : List Session) (n a : ℕ) → all (λ x. not (eqb (x .number) n && not (eqb (getD (x .connections) 1 noConnection) a))) ss ≡ true → all (λ x. not (eqb (x .number) n && true)) ss ≡ false → secondConnection n ss ≡ a
+  found : (ss : List Session) (n a : ℕ) → all (λ x. not (eqb (x .number) n && not (eqb (getD (x .connections) 1 noConnection) a))) ss ≡ true →
+      all (λ x. not (eqb (x .number) n && true)) ss ≡ false → secondConnection n ss ≡ a
   found [] n a h k = absurd (true≢false k)
   found (x ∷ ss) n a h k = go (eqb (x .number) n) h k (λ h k. found ss n a h k)
     where
@@ -98,7 +101,9 @@ module _ (ss : List Session) (es : List Entry) (s : Same ss es) (f : Firm es) (i
 
   pub channel-seen : secondConnection ((at es i) .number) ss ≡ (at es i) .asynchronous
   channel-seen =
-      found ss ((at es i) .number) ((at es i) .asynchronous) (none-own (λ x. not (eqb (getD (x .connections) 1 noConnection) ((at es i) .asynchronous))) ∙ not-not _ ∙ eq-eqb _ _ (second (at es i))) (none-own (λ x. true))
+      found ss ((at es i) .number) ((at es i) .asynchronous)
+      (none-own (λ x. not (eqb (getD (x .connections) 1 noConnection) ((at es i) .asynchronous))) ∙ not-not _ ∙ eq-eqb _ _ (second (at es i)))
+      (none-own (λ x. true))
 
   -- a change of session n alone is a store in its slot
   pub alter-seen : (g : Session → Session) (y : Entry) → live y ≡ true → asSession y ≡ g (asSession (at es i)) → Same (alter ((at es i) .number) g ss) (set es i y)
@@ -107,8 +112,13 @@ module _ (ss : List Session) (es : List Entry) (s : Same ss es) (f : Firm es) (i
       ∙ s (λ x. p (onNumber ((at es i) .number) g x))
       ∙ tally-seen (λ x. p (onNumber ((at es i) .number) g x)) es
       ∙ tally-split (lower (λ x. p (onNumber ((at es i) .number) g x))) es i in-range
-      ∙ ap₂ (λ (b : Bool) (n : ℕ). one b + n) (ap₂ (λ (u b : Bool). u && p (cond b (g (asSession (at es i))) (asSession (at es i)))) v (eq-eqb ((at es i) .number) ((at es i) .number) refl) ∙ ap p (sym e)) (tallyBut-cong _ (lower p) es i (λ j d. while (live (at es j)) _ _ (λ u. ap (λ b. p (cond b (g (asSession (at es j))) (asSession (at es j)))) (other j d u))))
-      ∙ sym (tally-seen p (set es i y) ∙ tally-split (lower p) (set es i y) i (rw (length-set es i y) in-range) ∙ ap₂ (λ (b : Bool) (n : ℕ). one b + n) (ap (lower p) (getD-set-same es i y blank in-range) ∙ ap (λ b. b && p (asSession y)) w) (tallyBut-at (lower p) es i y))
+      ∙ ap₂ (λ (b : Bool) (n : ℕ). one b + n) (ap₂ (λ (u b : Bool). u && p (cond b (g (asSession (at es i))) (asSession (at es i)))) v
+      (eq-eqb ((at es i) .number) ((at es i) .number) refl) ∙ ap p (sym e))
+      (tallyBut-cong _ (lower p) es i (λ j d. while (live (at es j)) _ _
+      (λ u. ap (λ b. p (cond b (g (asSession (at es j))) (asSession (at es j)))) (other j d u))))
+      ∙ sym (tally-seen p (set es i y) ∙ tally-split (lower p) (set es i y) i (rw (length-set es i y) in-range)
+      ∙ ap₂ (λ (b : Bool) (n : ℕ). one b + n) (ap (lower p) (getD-set-same es i y blank in-range) ∙ ap (λ b. b && p (asSession y)) w)
+      (tallyBut-at (lower p) es i y))
     where
       in-range : i < length es
       in-range = inside live es i refl v
@@ -118,7 +128,9 @@ pub enter-seen : (ss : List Session) (es : List Entry) → Same ss es → (i : �
 enter-seen ss es s i y v l w p =
     tally-cons p (asSession y) ss
     ∙ ap (λ n. one (p (asSession y)) + n) (s p ∙ tally-seen p es ∙ tally-split (lower p) es i l ∙ ap (λ b. one (b && p (asSession (at es i))) + tallyBut (lower p) i es) v ∙ omega arith)
-    ∙ sym (tally-seen p (set es i y) ∙ tally-split (lower p) (set es i y) i (rw (length-set es i y) l) ∙ ap₂ (λ (b : Bool) (n : ℕ). one b + n) (ap (lower p) (getD-set-same es i y blank l) ∙ ap (λ b. b && p (asSession y)) w) (tallyBut-at (lower p) es i y))
+    ∙ sym (tally-seen p (set es i y) ∙ tally-split (lower p) (set es i y) i (rw (length-set es i y) l)
+    ∙ ap₂ (λ (b : Bool) (n : ℕ). one b + n) (ap (lower p) (getD-set-same es i y blank l) ∙ ap (λ b. b && p (asSession y)) w)
+    (tallyBut-at (lower p) es i y))
 
 -- the granting rule: free slots hold nothing, so they never matter
 clean-lift : (p : Session → Bool) (q : Entry → Bool) (e : Entry) → p (asSession e) ≡ q e → ((noExclusive e && noShared e) ≡ true → q e ≡ true) → clean e ≡ true → lift p e ≡ q e
@@ -141,11 +153,14 @@ pub allowed-seen : (ss : List Session) (es : List Entry) → Same ss es → Firm
 unfolding allowed
 allowed-seen ss es s f i v [] =
     ap₂ _&&_ (others-seen ss es s f i v notExclusive ∙ allBut-cong (lift notExclusive) noExclusive es i (λ j d. lift-excl (at es j) (all-at clean es j refl (f .clean-all))))
-    (ap₂ _||_ (others-seen ss es s f i v notShared ∙ allBut-cong (lift notShared) noShared es i (λ j d. lift-shared (at es j) (all-at clean es j refl (f .clean-all)))) (own-seen ss es s f i v (λ s. not (notShared s))))
+    (ap₂ _||_ (others-seen ss es s f i v notShared ∙ allBut-cong (lift notShared) noShared es i
+    (λ j d. lift-shared (at es j) (all-at clean es j refl (f .clean-all)))) (own-seen ss es s f i v (λ s. not (notShared s))))
     ∙ sym (exclusive-rule es i)
 allowed-seen ss es s f i v (x ∷ k) =
     ap₂ _&&_ (others-seen ss es s f i v notExclusive ∙ allBut-cong (lift notExclusive) noExclusive es i (λ j d. lift-excl (at es j) (all-at clean es j refl (f .clean-all))))
-    (all-lift ss es s (λ s. notShared s || same (s .shared) (x ∷ k)) ∙ all-cong (lift (λ s. notShared s || same (s .shared) (x ∷ k))) (fits (x ∷ k)) es (λ j. lift-fits (x ∷ k) (at es j) (all-at clean es j refl (f .clean-all))))
+    (all-lift ss es s (λ s. notShared s || same (s .shared) (x ∷ k))
+    ∙ all-cong (lift (λ s. notShared s || same (s .shared) (x ∷ k))) (fits (x ∷ k)) es
+    (λ j. lift-fits (x ∷ k) (at es j) (all-at clean es j refl (f .clean-all))))
     ∙ sym (shared-rule es i x k)
 
 -- a connection's session
@@ -181,8 +196,10 @@ drop-seen ss es s f c r p = tally-keep p (on c) ss ∙ s (λ x. not (on c x) && 
     go (inl h) =
         let l : i < length es = inside (isOnConnection c) es i refl h in
         tally-split (lower (λ x. not (on c x) && p x)) es i l
-        ∙ ap₂ (λ (b : Bool) (n : ℕ). one b + n) (ap₂ (λ (u b : Bool). u && (not b && p (asSession (at es i)))) (and-l (live (at es i)) _ h) (on-seen c (at es i) r ∙ and-r (live (at es i)) _ h)) (tallyBut-cong _ (lower p) es i (λ j d. off j (λ h′. d (f .connections c r j i h′ h))))
-        ∙ sym (tally-split (lower p) (set es i blank) i (rw (length-set es i blank) l) ∙ ap₂ (λ (b : Bool) (n : ℕ). one b + n) (ap (lower p) (getD-set-same es i blank blank l)) (tallyBut-at (lower p) es i blank))
+        ∙ ap₂ (λ (b : Bool) (n : ℕ). one b + n) (ap₂ (λ (u b : Bool). u && (not b && p (asSession (at es i)))) (and-l (live (at es i)) _ h)
+        (on-seen c (at es i) r ∙ and-r (live (at es i)) _ h)) (tallyBut-cong _ (lower p) es i (λ j d. off j (λ h′. d (f .connections c r j i h′ h))))
+        ∙ sym (tally-split (lower p) (set es i blank) i (rw (length-set es i blank) l)
+        ∙ ap₂ (λ (b : Bool) (n : ℕ). one b + n) (ap (lower p) (getD-set-same es i blank blank l)) (tallyBut-at (lower p) es i blank))
     go (inr h) =
         tally-cong _ (lower p) es (λ j. off j (λ h′. true≢false (sym (place-complete es c j h′) ∙ ap (isOnConnection c) h)))
         ∙ sym (tally-same (lower p) es i blank (ap (lower p) (sym h)))

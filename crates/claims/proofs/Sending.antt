@@ -62,10 +62,12 @@ module _ (d : Server) (c : ℕ) (h : Header) (p : List ℕ) where
   async-alone r-asynchronous t q = refl
 
 -- a type that one channel alone acts on came on it
-pub role-of-async : (d : Server) (c : ℕ) (bs : List ℕ) (room t k n : ℕ) → (step d (delivery c bs room)) .reply ≡ took acted k n → (header bs) .kind ≡ t → OnlyOn synchronous t → roleOf (d .locks .entries) c ≡ r-asynchronous
+pub role-of-async : (d : Server) (c : ℕ) (bs : List ℕ) (room t k n : ℕ) → (step d (delivery c bs room)) .reply ≡ took acted k n → (header bs) .kind ≡ t →
+    OnlyOn synchronous t → roleOf (d .locks .entries) c ≡ r-asynchronous
 role-of-async d c bs room t k n e q o = async-alone d c (header bs) (payloadOf (header bs) bs) (roleOf (d .locks .entries) c) (rw q o) ((shows d c bs room k n e) .passes)
 
-pub role-of-sync : (d : Server) (c : ℕ) (bs : List ℕ) (room t k n : ℕ) → (step d (delivery c bs room)) .reply ≡ took acted k n → (header bs) .kind ≡ t → OnlyOn asynchronous t → roleOf (d .locks .entries) c ≡ r-synchronous
+pub role-of-sync : (d : Server) (c : ℕ) (bs : List ℕ) (room t k n : ℕ) → (step d (delivery c bs room)) .reply ≡ took acted k n → (header bs) .kind ≡ t →
+    OnlyOn asynchronous t → roleOf (d .locks .entries) c ≡ r-synchronous
 role-of-sync d c bs room t k n e q o = sync-alone d c (header bs) (payloadOf (header bs) bs) (roleOf (d .locks .entries) c) (rw q o) ((shows d c bs room k n e) .passes)
 
 -- at most one request of slot i waits
@@ -126,7 +128,11 @@ module _ (d : Server) (m : Model) (a : Agrees (d .locks) m) (v : Inv (d .locks))
         → map lockFrame ((Locks.completed (dueBy t ((at (d .locks .entries) i) .standing)) (Locks.withWaiting (d .locks) ws) i n) .answers)
         ≡ map (lockAnswer ((at (d .locks .entries) i) .asynchronous)) (endedCodes m ((at (d .locks .entries) i) .number) t)
     ended-frames t n ws =
-        rw (own-seen (m .sessions) (d .locks .entries) (a .sessions) (v .sound .firm) i u (λ s. endsExclusive t (s .pending)), own-seen (m .sessions) (d .locks .entries) (a .sessions) (v .sound .firm) i u (λ s. endsShared t (s .pending)))
+        rw (
+          own-seen (m .sessions) (d .locks .entries) (a .sessions) (v .sound .firm) i u (λ s. endsExclusive t (s .pending)),
+          own-seen (m .sessions)
+              (d .locks .entries) (a .sessions) (v .sound .firm) i u (λ s. endsShared t (s .pending)),
+        )
         (go ((at (d .locks .entries) i) .standing))
       where
         go : (s : Standing) → map lockFrame ((Locks.completed (dueBy t s) (Locks.withWaiting (d .locks) ws) i n) .answers)
@@ -134,12 +140,16 @@ module _ (d : Server) (m : Model) (a : Agrees (d .locks) m) (v : Inv (d .locks))
         go no-release = refl
         go (release-of exclusive-lock q) = by (t q)
           where
-            by : (b : Bool) → map lockFrame ((Locks.completed (cond b (Locks.due-now exclusive-lock) Locks.not-due) (Locks.withWaiting (d .locks) ws) i n) .answers) ≡ map (lockAnswer ((at (d .locks .entries) i) .asynchronous)) (cond b (1 ∷ []) [])
+            by : (b : Bool) → map lockFrame
+                ((Locks.completed (cond b (Locks.due-now exclusive-lock) Locks.not-due) (Locks.withWaiting (d .locks) ws) i n) .answers) ≡ map
+                (lockAnswer ((at (d .locks .entries) i) .asynchronous)) (cond b (1 ∷ []) [])
             by true = refl
             by false = refl
         go (release-of shared-lock q) = by (t q)
           where
-            by : (b : Bool) → map lockFrame ((Locks.completed (cond b (Locks.due-now shared-lock) Locks.not-due) (Locks.withWaiting (d .locks) ws) i n) .answers) ≡ map (lockAnswer ((at (d .locks .entries) i) .asynchronous)) (cond b (2 ∷ []) [])
+            by : (b : Bool) → map lockFrame
+                ((Locks.completed (cond b (Locks.due-now shared-lock) Locks.not-due) (Locks.withWaiting (d .locks) ws) i n) .answers) ≡ map
+                (lockAnswer ((at (d .locks .entries) i) .asynchronous)) (cond b (2 ∷ []) [])
             by true = refl
             by false = refl
 
@@ -165,11 +175,13 @@ module _ (d : Server) (m : Model) (a : Agrees (d .locks) m) (v : Inv (d .locks))
   unfolding finish Acts.acts Acts.synchronousSaid classOf
   commanded-is k n e o =
       each-of (λ t. (header bs) .kind ≡ t → (R .frames ≡ paired ++ commanded) × (roleOf (d .locks .entries) c ≡ r-synchronous)) commands
-      ((λ q. (on-sync 6 k n e q (refl, refl), sync-role 6 k n e q (refl, refl))) also (λ q. (on-sync 7 k n e q (refl, refl), sync-role 7 k n e q (refl, refl))) also (λ q. (on-sync 12 k n e q (refl, refl), sync-role 12 k n e q (refl, refl))) also tt)
+      ((λ q. (on-sync 6 k n e q (refl, refl), sync-role 6 k n e q (refl, refl))) also (λ q. (on-sync 7 k n e q (refl, refl), sync-role 7 k n e q (refl, refl)))
+      also (λ q. (on-sync 12 k n e q (refl, refl), sync-role 12 k n e q (refl, refl))) also tt)
       ((header bs) .kind) o refl
 
   command : (k n : ℕ) → R .reply ≡ took acted k n → one-of commands ((header bs) .kind) ≡ true
-      → R .frames ≡ paired ++ (map (lockAnswer (secondConnection n (m .sessions))) (endedCodes m n (λ p. eqb p ((header bs) .param))) ++ map toldFrame (grantsAfter (LockModel.message m n ((header bs) .param))))
+      → R .frames ≡ paired ++ (map (lockAnswer (secondConnection n (m .sessions))) (endedCodes m n (λ p. eqb p ((header bs) .param)))
+      ++ map toldFrame (grantsAfter (LockModel.message m n ((header bs) .param))))
   unfolding change
   command k n e o =
       let i = slotOf d c in
@@ -234,10 +246,15 @@ module _ (d : Server) (m : Model) (a : Agrees (d .locks) m) (v : Inv (d .locks))
       ap (λ y. map lockFrame ((Locks.completed y (Locks.withWaiting (d .locks) (keep (elsewhere i) (d .locks .waiting))) i beforeFirst) .answers)) (due-any ((at es i) .standing))
       ∙ ended-frames i u (λ p. true) beforeFirst (keep (elsewhere i) (d .locks .waiting)) ∙ ap (λ y. map (lockAnswer y) (endedCodes m ((at es i) .number) (λ p. true))) mine in
       on-async AsyncDeviceClear k n e q o
-      ∙ ap (λ (fs : List Frame). fs ++ (frameOf c AsyncDeviceClearAcknowledge (Acts.preference d) 0 [] ∷ map lockFrame ((settle (frees (d .locks) (Locks.clear i)) ((change (d .locks) (Locks.clear i)) .locks)) .answers))) (frames-append zs (x .answers))
+      ∙ ap (λ (fs : List Frame). fs ++ (frameOf c AsyncDeviceClearAcknowledge (Acts.preference d) 0 []
+      ∷ map lockFrame ((settle (frees (d .locks) (Locks.clear i)) ((change (d .locks) (Locks.clear i)) .locks)) .answers)))
+      (frames-append zs (x .answers))
       ∙ append-assoc (map lockFrame zs) (map lockFrame (x .answers)) _
-      ∙ ap₂ _++_ zeros-are (ap₂ _++_ release-is (ap (λ (fs : List Frame). frameOf c AsyncDeviceClearAcknowledge (Acts.preference d) 0 [] ∷ fs) (granted-frames i u (Locks.clear i) (LockModel.clearing ((at es i) .number) m) u (sim-clear (d .locks) m a (v .sound .good) (v .sound .firm) i u))))
-      ∙ ap (λ x. cond (any (λ w. eqb (w .number) x) (m .waiting)) (lockAnswer c 0 ∷ []) [] ++ (map (lockAnswer c) (endedCodes m x (λ p. true)) ++ (frameOf c AsyncDeviceClearAcknowledge (Acts.preference d) 0 [] ∷ map toldFrame (grantsAfter (LockModel.clearing x m))))) n-is
+      ∙ ap₂ _++_ zeros-are (ap₂ _++_ release-is (ap (λ (fs : List Frame). frameOf c AsyncDeviceClearAcknowledge (Acts.preference d) 0 [] ∷ fs)
+      (granted-frames i u (Locks.clear i) (LockModel.clearing ((at es i) .number) m) u (sim-clear (d .locks) m a (v .sound .good) (v .sound .firm) i u))))
+      ∙ ap (λ x. cond (any (λ w. eqb (w .number) x) (m .waiting)) (lockAnswer c 0 ∷ []) []
+      ++ (map (lockAnswer c) (endedCodes m x (λ p. true)) ++
+      (frameOf c AsyncDeviceClearAcknowledge (Acts.preference d) 0 [] ∷ map toldFrame (grantsAfter (LockModel.clearing x m))))) n-is
     where
       go : (b : Bool) → (entryOf d c) .asynchronous ≡ c → map lockFrame (cond b [] (tell (d .locks .entries) (slotOf d c) 0 true ∷ [])) ≡ cond (not b) (lockAnswer c 0 ∷ []) []
       go true x = refl
@@ -262,7 +279,9 @@ module _ (d : Server) (m : Model) (a : Agrees (d .locks) m) (v : Inv (d .locks))
         remote-local = λ k n e q. on-async 10 k n e q (refl, refl);
         maximum-size = λ k n e q. on-async 15 k n e q (refl, refl);
         device-clear = cleared;
-        status-query = λ k n e q. on-async 21 k n e q (refl, refl) ∙ ap (λ (b : Bool). frameOf c 22 (statusByte (d .rest .status) b) 0 [] ∷ []) (told (record { kind = 21; code = (header bs) .code; param = (header bs) .param; len = (header bs) .len }) (exchangeAt (d .rest) (slotOf d c)));
+        status-query = λ k n e q. on-async 21 k n e q (refl, refl)
+            ∙ ap (λ (b : Bool). frameOf c 22 (statusByte (d .rest .status) b) 0 [] ∷ [])
+            (told (record { kind = 21; code = (header bs) .code; param = (header bs) .param; len = (header bs) .len }) (exchangeAt (d .rest) (slotOf d c)));
       }
 
 pub sending : (v : Making) (es : List Event) → Sending v es

@@ -17,7 +17,8 @@ use Rattle.wire.proofs.Bytes.{take-bytes, drop-bytes, bytes-field}
 use Rattle.model.specs.Sizes.{connectionLimit, payloadLimit, sessionLimit, lastSessionId, protocolVersion, noConnection}
 use Rattle.model.specs.MessageTypes.{FatalError}
 use Rattle.model.specs.Lists.{all, tally}
-use Rattle.model.specs.State.{Asked, Asked.none, Asked.some, Exchange, Rest, Entry, Server, at, live, slotOfNumber, exchangeAt, connectionAt, freshExchange, openExchange, withExchange, fresh, Making, sensingAt, withSensings}
+use Rattle.model.specs.State.{Asked, Asked.none, Asked.some, Exchange, Rest, Entry, Server, at, live, slotOfNumber, exchangeAt, connectionAt, freshExchange}
+use Rattle.model.specs.State.{openExchange, withExchange, fresh, Making, sensingAt, withSensings}
 use Rattle.model.specs.Interface.{Event, Event.opening, Event.delivery, Event.cut, Event.clock, Event.answer, Event.status, Event.setting}
 use Rattle.model.specs.Scan.{Scan, Scan.empty, Scan.few, Scan.wrong, Scan.skipping, Scan.long, Scan.part, Scan.whole, scan}
 use Rattle.model.specs.Place.{slotOf, entryOf, roleOf, Role, Role.r-none, Role.r-halfOpen, Role.r-synchronous, Role.r-asynchronous}
@@ -234,8 +235,19 @@ module _ (d : Server) (g : InRange d) (c : ℕ) (small : c < 256) where
   unfolding Acts.asynchronousSaid
   async-said Acts.k-lock i h = tt
   async-said Acts.k-remoteLocal i h = one 11 0 0 (lit< tt) (lit< tt) (lit< tt)
-  async-said Acts.k-maximumSize i h =
-      (record { connection = small; fields = record { kind = lit< tt; code = lit< tt; param = lit< tt; length = rw (length-field 8 payloadLimit) (lit< tt); payload = bytes-field 8 payloadLimit } }, tt)
+  async-said Acts.k-maximumSize i h = (
+    record {
+      connection = small;
+      fields = record {
+        kind = lit< tt;
+        code = lit< tt;
+        param = lit< tt;
+        length = rw (length-field 8 payloadLimit) (lit< tt);
+        payload = bytes-field 8 payloadLimit;
+      };
+    },
+    tt,
+  )
   async-said Acts.k-deviceClear i h = one 23 (Acts.preference d) 0 (lit< tt) (preference-fits d) (lit< tt)
   async-said Acts.k-statusQuery i h = one 22 _ 0 (lit< tt) (status-fits (d .rest .status) (availableAt h (exchangeAt (d .rest) i)) (g .rest .status)) (lit< tt)
   async-said Acts.k-lockInfo i h =
@@ -277,7 +289,12 @@ module _ (d : Server) (g : InRange d) (c : ℕ) (small : c < 256) where
   acts-fit r-halfOpen i h p l = record { first = tt; said = tt; rest = g .rest; brings = tt }
   acts-fit r-synchronous i h p l =
       let k = Acts.synchronousKind (h .kind) in
-      record { first = sync-first k (at (d .locks .entries) i) (exchangeAt (d .rest) i) h (all-at reachable (d .locks .entries) i refl (g .entries)) l; said = sync-said k h; rest = with-exchange i _ (sync-exchange k h (exchangeAt (d .rest) i) l (own-exchange i)); brings = sync-brings k i h }
+      record {
+        first = sync-first k (at (d .locks .entries) i) (exchangeAt (d .rest) i) h (all-at reachable (d .locks .entries) i refl (g .entries)) l;
+        said = sync-said k h;
+        rest = with-exchange i _ (sync-exchange k h (exchangeAt (d .rest) i) l (own-exchange i));
+        brings = sync-brings k i h;
+      }
   acts-fit r-asynchronous i h p l =
       let k = Acts.asynchronousKind (h .kind) in
       record { first = tt; said = async-said k i h; rest = async-rest k i h p; brings = async-brings k i h p }
@@ -309,10 +326,25 @@ module _ (d : Server) (g : InRange d) (c : ℕ) (small : c < 256) where
   effect-fits v-skipped s r i e q = record { first = tt; said = tt; rest = record { asked = g .rest .asked; vendor = g .rest .vendor; status = g .rest .status }; brings = tt }
   effect-fits v-ignored s r i e q = record { first = tt; said = tt; rest = g .rest; brings = tt }
   effect-fits (v-error n) s r i e q =
-      record { first = tt; said = one 3 n 0 (lit< tt) (error-code n e) (lit< tt); rest = record { asked = all-set exchangeFits (d .rest .exchanges) i _ (own-exchange i) (g .rest .asked); vendor = g .rest .vendor; status = g .rest .status }; brings = tt }
+      record {
+        first = tt;
+        said = one 3 n 0 (lit< tt) (error-code n e) (lit< tt);
+        rest = record {
+          asked = all-set exchangeFits (d .rest .exchanges) i _ (own-exchange i) (g .rest .asked);
+          vendor = g .rest .vendor;
+          status = g .rest .status;
+        };
+        brings = tt;
+      }
   effect-fits (v-fatal n) s r i e q =
       let x = entryOf d c in
-      record { first = tt; said = fatal-fits n (live x) (eqb (x .asynchronous) noConnection) x (let l = ltb-true n 5 e in omega arith) (all-at reachable (d .locks .entries) (slotOf d c) refl (g .entries)); rest = closing-fits; brings = tt }
+      record {
+        first = tt;
+        said = fatal-fits n (live x) (eqb (x .asynchronous) noConnection) x (let l = ltb-true n 5 e in omega arith)
+            (all-at reachable (d .locks .entries) (slotOf d c) refl (g .entries));
+        rest = closing-fits;
+        brings = tt;
+      }
   effect-fits v-closed s r i e q = record { first = tt; said = tt; rest = closing-fits; brings = tt }
   effect-fits v-acts empty r i e q = record { first = tt; said = tt; rest = g .rest; brings = tt }
   effect-fits v-acts few r i e q = record { first = tt; said = tt; rest = g .rest; brings = tt }
@@ -364,7 +396,8 @@ plan-fits d (delivery c bs room) g q z =
     let r = roleOf (d .locks .entries) c in
     let i = slotOf d c in
     let k = (connectionAt (d .rest) c) .remainder in
-    effect-fits d g c (below-32 c ((uncaused (causes d (delivery c bs room)) refl z) .1 .0)) (verdict r d i (scan k bs)) (scan k bs) r i (verdict-coded r d i (scan k bs)) (parameter k bs q (scan k bs) refl)
+    effect-fits d g c (below-32 c ((uncaused (causes d (delivery c bs room)) refl z) .1 .0)) (verdict r d i (scan k bs)) (scan k bs) r i
+    (verdict-coded r d i (scan k bs)) (parameter k bs q (scan k bs) refl)
 plan-fits d (cut c room) g q z = record { first = tt; said = tt; rest = closing-fits d g c (below-32 c ((uncaused (causes d (cut c room)) refl z) .1 .0)); brings = tt }
 plan-fits d (clock t room) g q z = record { first = tt; said = tt; rest = g .rest; brings = tt }
 plan-fits d (answer n p end sh room) g q z = record { first = tt; said = says (withholds d n end sh) refl; rest = leaves (withholds d n end sh); brings = tt }
@@ -384,8 +417,11 @@ plan-fits d (answer n p end sh room) g q z = record { first = tt; said = says (w
     here : reachable (at es i) ≡ true
     here = all-at reachable es i refl (g .entries)
 
-    says : (w : Bool) → withholds d n end sh ≡ w → AllFit (cond w (Acts.interruptions (at es i) ((header sh) .param)) (frameOf ((at es i) .synchronous) (answerType end) 0 (answerNumber x) p ∷ serviceAfter d n p))
-    says true e = pair-fits (at es i) ((header sh) .param) here (shown-parameter sh (q .1) (whole-header end ((exchangeAt (d .rest) i) .overlap) (eqb ((connectionAt (d .rest) ((at es i) .synchronous)) .remainder) 0) sh _ e))
+    says : (w : Bool) → withholds d n end sh ≡ w → AllFit (cond w (Acts.interruptions (at es i) ((header sh) .param))
+        (frameOf ((at es i) .synchronous) (answerType end) 0 (answerNumber x) p ∷ serviceAfter d n p))
+    says true e = pair-fits (at es i) ((header sh) .param) here
+        (shown-parameter sh (q .1) (whole-header end ((exchangeAt (d .rest) i) .overlap)
+        (eqb ((connectionAt (d .rest) ((at es i) .synchronous)) .remainder) 0) sh _ e))
     says false e =
         let l = ltb-false payloadLimit (length p) (neither _ _ ((uncaused (causes d (answer n p end sh room)) refl z) .1 .1 .1 .0)) in (
           record {
@@ -395,8 +431,13 @@ plan-fits d (answer n p end sh room) g q z = record { first = tt; said = says (w
           request-fits (tripsFirst p (sensingAt (d .rest) i)) (at es i) (d .rest .status) here (g .rest .status),
         )
 
-    leaves : (w : Bool) → RestFits (withSensings (withExchange (d .rest) i (cond w (Exchange.interrupted x) (answeredWith end x))) (cond w (d .rest .sensings) (set (d .rest .sensings) i (sensed p (sensingAt (d .rest) i)))))
-    leaves true = record { asked = all-set exchangeFits (d .rest .exchanges) i _ (both _ _ (and-l (ltb (x .count) (2 ^ 32)) _ f) refl) (g .rest .asked); vendor = g .rest .vendor; status = g .rest .status }
+    leaves : (w : Bool) → RestFits (withSensings (withExchange (d .rest) i (cond w (Exchange.interrupted x) (answeredWith end x)))
+        (cond w (d .rest .sensings) (set (d .rest .sensings) i (sensed p (sensingAt (d .rest) i)))))
+    leaves true = record {
+      asked = all-set exchangeFits (d .rest .exchanges) i _ (both _ _ (and-l (ltb (x .count) (2 ^ 32)) _ f) refl) (g .rest .asked);
+      vendor = g .rest .vendor;
+      status = g .rest .status;
+    }
     leaves false = record { asked = all-set exchangeFits (d .rest .exchanges) i _ (answered-asked end x f) (g .rest .asked); vendor = g .rest .vendor; status = g .rest .status }
 plan-fits d (status b) g q z = record { first = tt; said = tt; rest = record { asked = g .rest .asked; vendor = g .rest .vendor; status = q }; brings = tt }
 plan-fits d (setting s) g q z = record { first = tt; said = tt; rest = record { asked = g .rest .asked; vendor = g .rest .vendor; status = g .rest .status }; brings = tt }

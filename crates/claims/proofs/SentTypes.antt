@@ -11,7 +11,9 @@ use Rattle.wire.specs.Frame.{Frame}
 use Rattle.model.specs.Lists.{all, keep}
 use Rattle.model.specs.State.{Server, Entry, Waiting, at, slotOfNumber, exchangeAt}
 use Rattle.model.specs.Step.{Result}
-use Rattle.model.specs.Happening.{Heard, Heard.silence, Heard.with-code, Happening, Happening.unmoved, Happening.connected, Happening.disconnected, Happening.skipped-over, Happening.errored, Happening.message-acted, Happening.clock-read, Happening.status-set, Happening.setting-made, Happening.answer-sent, Happening.answer-withheld}
+use Rattle.model.specs.Happening.{Heard, Heard.silence, Heard.with-code, Happening, Happening.unmoved, Happening.connected, Happening.disconnected}
+use Rattle.model.specs.Happening.{Happening.skipped-over, Happening.errored, Happening.message-acted, Happening.clock-read, Happening.status-set}
+use Rattle.model.specs.Happening.{Happening.setting-made, Happening.answer-sent, Happening.answer-withheld}
 use Rattle.model.specs.LocalityRows.{kindOf, slotActed, endedWith, interruptedBy, requestsOf, reachedBy}
 use Rattle.model.specs.LocalityReplies.{plainTo, ReplyTo, replyIn, replies, saidTo, fatalTo, pairTo, saidFirst, direct, answeredFirst, waitingAnswer}
 use Rattle.model.specs.Locality.{Local}
@@ -135,7 +137,10 @@ module _ (q : ℕ → Bool) (away : all (λ t. not (q t)) sentTypes ≡ true) wh
     none-direct (errored c h k) m = none-said k 3 (c ∷ []) refl
     none-direct (message-acted a) m =
         none-in (replies d a) (kindOf a)
-        (both _ _ (is-not 1 refl) (both _ _ (is-not 18 refl) (both _ _ (is-not 9 refl) (both _ _ (is-not 11 refl) (both _ _ (is-not 16 refl) (both _ _ (is-not 23 refl) (both _ _ (is-not 22 refl) (both _ _ (is-not 25 refl) refl))))))))
+        (both _ _ (is-not 1 refl)
+        (both _ _ (is-not 18 refl) (both _ _ (is-not 9 refl)
+        (both _ _ (is-not 11 refl) (both _ _ (is-not 16 refl)
+        (both _ _ (is-not 23 refl) (both _ _ (is-not 22 refl) (both _ _ (is-not 25 refl) refl))))))))
     none-direct (clock-read t) m = refl
     none-direct (status-set b) m = refl
     none-direct (setting-made s) m = refl
@@ -145,7 +150,8 @@ module _ (q : ℕ → Bool) (away : all (λ t. not (q t)) sentTypes ≡ true) wh
     -- so none of a call's
     pub none-sent : (h : Happening) (r : Result) → Local d h r → Mute h → none (r .frames) ≡ true
     none-sent h r l m =
-        ap none (l .frames) ∙ none-append (saidFirst d h) _ (none-first h) (none-append (answeredFirst d h) _ (none-answered h) (none-append (direct d h) _ (none-direct h m) (none-to 1 (l .due) (l .granted))))
+        ap none (l .frames) ∙ none-append (saidFirst d h) _ (none-first h)
+        (none-append (answeredFirst d h) _ (none-answered h) (none-append (direct d h) _ (none-direct h m) (none-to 1 (l .due) (l .granted))))
 
 -- then none is kept
 pub none-kept : (p : Frame → Bool) (fs : List Frame) → all (λ f. not (p f)) fs ≡ true → keep p fs ≡ []

@@ -16,7 +16,9 @@ use Rattle.model.specs.Sizes.{sessionLimit, lastSessionId, protocolVersion}
 use Rattle.model.specs.MessageTypes.{Initialize, InitializeResponse}
 use Rattle.model.specs.Lists.{all}
 use Rattle.model.specs.State.{Entry, at, live, slotOfNumber, Server, connectionAt, fresh, Making, Rest}
-use Rattle.model.specs.Interface.{Event, Event.opening, Event.delivery, Event.cut, Event.clock, Event.answer, Event.status, Event.setting, Outcome.more-needed, Outcome.skipped, Outcome.held, Outcome.ignored, Outcome.error-sent, Outcome.closed, Outcome.acted, Reply, Reply.refused, Reply.done, Reply.withheld, Reply.took}
+use Rattle.model.specs.Interface.{Event, Event.opening, Event.delivery, Event.cut, Event.clock, Event.answer, Event.status, Event.setting, Outcome.more-needed}
+use Rattle.model.specs.Interface.{Outcome.skipped, Outcome.held, Outcome.ignored, Outcome.error-sent, Outcome.closed, Outcome.acted, Reply, Reply.refused}
+use Rattle.model.specs.Interface.{Reply.done, Reply.withheld, Reply.took}
 use Rattle.model.specs.Scan.{Scan, Scan.empty, Scan.few, Scan.wrong, Scan.skipping, Scan.long, Scan.part, Scan.whole, scan}
 use Rattle.model.specs.Place.{slotOf, Role, Role.r-none, Role.r-halfOpen, Role.r-synchronous, Role.r-asynchronous, roleOf}
 use Rattle.model.specs.Locks.{candidate, isLive, issued}
@@ -139,7 +141,8 @@ module _ (d : Server) (c : ℕ) (bs : List ℕ) (room : ℕ) where
   abbrev Opens : ℕ → Acts.Plan → Type 0
   Opens n p = (all live (d .locks .entries) ≡ false) × (n ≡ issued sessionLimit 0 (d .locks .entries) (d .rest .lastIssued)) × (p ≡ Acts.opens true d c (header bs))
 
-  acts-opens : (r : Role) (k n : ℕ) (h : Header) (p : List ℕ) → header bs ≡ h → h .kind ≡ Initialize → judged r d (slotOf d c) h p ≡ v-acts → (Acts.acts r d (slotOf d c) c h p) .reply ≡ took acted k n → Opens n (Acts.acts r d (slotOf d c) c h p)
+  acts-opens : (r : Role) (k n : ℕ) (h : Header) (p : List ℕ) → header bs ≡ h → h .kind ≡ Initialize → judged r d (slotOf d c) h p ≡ v-acts →
+      (Acts.acts r d (slotOf d c) c h p) .reply ≡ took acted k n → Opens n (Acts.acts r d (slotOf d c) c h p)
   unfolding Acts.acts
   acts-opens r-none k n h p eh t q e =
       let b : eqb (h .kind) 0 ≡ true = eq-eqb _ _ t in
@@ -147,7 +150,9 @@ module _ (d : Server) (c : ℕ) (bs : List ℕ) (room : ℕ) where
       (rw b at ((opening-passed d h p q) .1 .1 .1 .0), cc, rw (b, eh))
   acts-opens r-halfOpen k n h p eh t q e = absurd (let z : _≡_ {A = ℕ} 0 1 = cc in omega arith)
   acts-opens r-synchronous k n h p eh t q e = absurd (true≢false (sym (eq-eqb (h .kind) 0 t) ∙ (sync-passed d (slotOf d c) h p q) .1 .1 .1 .1 .1 .0))
-  acts-opens r-asynchronous k n h p eh t q e = absurd (true≢false (sym (eq-eqb (h .kind) 0 t) ∙ async-not-0 (h .kind) (acted-class asynchronous (h .kind) ((async-passed h p q) .1 .1 .0) ((async-passed h p q) .1 .1 .1 .0))))
+  acts-opens r-asynchronous k n h p eh t q e = absurd (true≢false
+      (sym (eq-eqb (h .kind) 0 t) ∙ async-not-0 (h .kind) (acted-class asynchronous (h .kind) ((async-passed h p q) .1 .1 .0)
+      ((async-passed h p q) .1 .1 .1 .0))))
 
   abbrev Opened : ℕ → Type 0
   Opened n = (all live (d .locks .entries) ≡ false) × (n ≡ issued sessionLimit 0 (d .locks .entries) (d .rest .lastIssued)) × (step d (delivery c bs room) ≡ finish d (Acts.opens true d c (header bs)))
@@ -193,7 +198,8 @@ session-id d s l =
           record {
             first-free = rw (o .1) (first-free (d .locks .entries) (d .rest .lastIssued) s (o .0) l);
             sent = open-frames d c bs room n o;
-            remembered = step-last d (delivery c bs room) ∙ ap (λ (r : Reply). byLine (delivery c bs room) r (d .rest .lastIssued)) e ∙ ap (λ (b : Bool). cond b n (d .rest .lastIssued)) (eq-eqb _ _ t);
+            remembered = step-last d (delivery c bs room) ∙ ap (λ (r : Reply). byLine (delivery c bs room) r (d .rest .lastIssued)) e
+                ∙ ap (λ (b : Bool). cond b n (d .rest .lastIssued)) (eq-eqb _ _ t);
           };
     }
 

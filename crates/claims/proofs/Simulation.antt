@@ -41,7 +41,8 @@ module _ (es : List Entry) where
   pub keep-seen : (P : Request → Bool) (Q : Waiting → Bool) → ((w : Waiting) → live (at es (w .slot)) ≡ true → P (asRequest es w) ≡ Q w)
       → (ws : List Waiting) → Good es ws → keep P (map (asRequest es) ws) ≡ map (asRequest es) (keep Q ws)
   keep-seen P Q h [] g = refl
-  keep-seen P Q h (w ∷ ws) g = ap (λ b. cond b (asRequest es w ∷ keep P (map (asRequest es) ws)) (keep P (map (asRequest es) ws))) (h w (and-l (live (at es (w .slot))) _ (g .0))) ∙ go (Q w) (keep-seen P Q h ws (g .2))
+  keep-seen P Q h (w ∷ ws) g = ap (λ b. cond b (asRequest es w ∷ keep P (map (asRequest es) ws)) (keep P (map (asRequest es) ws)))
+      (h w (and-l (live (at es (w .slot))) _ (g .0))) ∙ go (Q w) (keep-seen P Q h ws (g .2))
     where
       go : (b : Bool) → keep P (map (asRequest es) ws) ≡ map (asRequest es) (keep Q ws)
           → cond b (asRequest es w ∷ keep P (map (asRequest es) ws)) (keep P (map (asRequest es) ws)) ≡ map (asRequest es) (cond b (w ∷ keep Q ws) (keep Q ws))
@@ -69,14 +70,17 @@ module _ (es : List Entry) where
       ∙ go (Q w) (zeros-seen ss s f P Q h ws (g .2))
     where
       go : (b : Bool) → zeros ss (keep P (map (asRequest es) ws)) ≡ map toldOf (refuse es Q ws)
-          → zeros ss (cond (not b) (asRequest es w ∷ keep P (map (asRequest es) ws)) (keep P (map (asRequest es) ws))) ≡ map toldOf (cond b (refuse es Q ws) (tell es (w .slot) 0 true ∷ refuse es Q ws))
+          → zeros ss (cond (not b) (asRequest es w ∷ keep P (map (asRequest es) ws)) (keep P (map (asRequest es) ws))) ≡ map toldOf
+          (cond b (refuse es Q ws) (tell es (w .slot) 0 true ∷ refuse es Q ws))
       go true e = e
       go false e = ap₂ (λ (c : ℕ) (l : List Told). record { connection = c; code = 0; request = true } ∷ l) (channel-seen ss es s f (w .slot) (and-l (live (at es (w .slot))) _ (g .0))) e
 
 -- requests are seen alike after a store that keeps the numbers of those that wait
-pub requests-same : (es es′ : List Entry) → ((j : ℕ) → live (at es j) ≡ true → (at es′ j) .number ≡ (at es j) .number) → (ws : List Waiting) → Good es ws → map (asRequest es) ws ≡ map (asRequest es′) ws
+pub requests-same : (es es′ : List Entry) → ((j : ℕ) → live (at es j) ≡ true → (at es′ j) .number ≡ (at es j) .number) → (ws : List Waiting) → Good es ws →
+    map (asRequest es) ws ≡ map (asRequest es′) ws
 requests-same es es′ h [] g = refl
-requests-same es es′ h (w ∷ ws) g = ap₂ (λ (n : ℕ) (l : List Request). record { number = n; deadline = w .deadline; string = w .string } ∷ l) (sym (h (w .slot) (and-l (live (at es (w .slot))) _ (g .0)))) (requests-same es es′ h ws (g .2))
+requests-same es es′ h (w ∷ ws) g = ap₂ (λ (n : ℕ) (l : List Request). record { number = n; deadline = w .deadline; string = w .string } ∷ l)
+    (sym (h (w .slot) (and-l (live (at es (w .slot))) _ (g .0)))) (requests-same es es′ h ws (g .2))
 
 pub num-same : (es : List Entry) (i : ℕ) (y : Entry) → y .number ≡ (at es i) .number → (j : ℕ) → (at (set es i y) j) .number ≡ (at es j) .number
 num-same [] i y e j = refl
@@ -88,7 +92,8 @@ num-same (x ∷ es) (suc i) y e (suc j) = num-same es i y e j
 requests-apart : (es : List Entry) (i : ℕ) (y : Entry) (ws : List Waiting) → all (elsewhere i) ws ≡ true → map (asRequest es) ws ≡ map (asRequest (set es i y)) ws
 requests-apart es i y [] a = refl
 requests-apart es i y (w ∷ ws) a =
-    ap₂ (λ (e : Entry) (l : List Request). record { number = e .number; deadline = w .deadline; string = w .string } ∷ l) (sym (getD-set-other es i (w .slot) y blank (apart i w (and-l (elsewhere i w) _ a)))) (requests-apart es i y ws (and-r (elsewhere i w) _ a))
+    ap₂ (λ (e : Entry) (l : List Request). record { number = e .number; deadline = w .deadline; string = w .string } ∷ l)
+    (sym (getD-set-other es i (w .slot) y blank (apart i w (and-l (elsewhere i w) _ a)))) (requests-apart es i y ws (and-r (elsewhere i w) _ a))
 
 pub give-num : (k : List ℕ) (e : Entry) → (give k e) .number ≡ e .number
 give-num [] e = refl
@@ -151,7 +156,8 @@ module _ (l : Locks) (m : Model) (a : Agrees l m) (g : Good (l .entries) (l .wai
         record {
           agrees = record {
             clock = a .clock;
-            waiting = ap₂ (λ (ws : List Request) (c : ℕ). ws ++ record { number = (at (l .entries) i) .number; deadline = c + t; string = k } ∷ []) (a .waiting) (a .clock) ∙ sym (map-snoc (asRequest (l .entries)) (l .waiting) _);
+            waiting = ap₂ (λ (ws : List Request) (c : ℕ). ws ++ record { number = (at (l .entries) i) .number; deadline = c + t; string = k } ∷ []) (a .waiting)
+                (a .clock) ∙ sym (map-snoc (asRequest (l .entries)) (l .waiting) _);
             sessions = a .sessions;
           };
           told = refl;
@@ -163,17 +169,33 @@ module _ (l : Locks) (m : Model) (a : Agrees l m) (g : Good (l .entries) (l .wai
 
     pub waits-seen : any (λ w. eqb (w .number) ((at (l .entries) i) .number)) (m .waiting) ≡ not (all (elsewhere i) (l .waiting))
     waits-seen =
-        ap not (ap (λ ws. all (λ w. not (eqb (w .number) ((at (l .entries) i) .number))) ws) (a .waiting) ∙ all-requests (l .entries) (λ w. not (eqb (w .number) ((at (l .entries) i) .number))) (elsewhere i) (λ w u. ap not (num-slot (l .entries) f i (w .slot) v u)) (l .waiting) g)
+        ap not (ap (λ ws. all (λ w. not (eqb (w .number) ((at (l .entries) i) .number))) ws) (a .waiting)
+        ∙ all-requests (l .entries) (λ w. not (eqb (w .number) ((at (l .entries) i) .number))) (elsewhere i)
+        (λ w u. ap not (num-slot (l .entries) f i (w .slot) v u)) (l .waiting) g)
 
     pub sim-ask : (t : ℕ) (k : List ℕ) → Alike (change l (Locks.request i t k)) (LockModel.request m ((at (l .entries) i) .number) t k)
     unfolding LockModel.request
     sim-ask t k =
-        rw (request-rule l g f i v t k, own-seen (m .sessions) (l .entries) (a .sessions) f i v (has k), own-seen (m .sessions) (l .entries) (a .sessions) f i v (λ s. isPending (s .pending)), holds-seen k (at (l .entries) i), pending-seen ((at (l .entries) i) .standing), waits-seen, allowed-seen (m .sessions) (l .entries) (a .sessions) f i v k)
+        rw (
+          request-rule l g f i v t k,
+          own-seen (m .sessions) (l .entries) (a .sessions) f i v (has k),
+          own-seen (m .sessions) (l .entries) (a .sessions) f i v
+              (λ s. isPending (s .pending)),
+          holds-seen k (at (l .entries) i),
+          pending-seen ((at (l .entries) i) .standing),
+          waits-seen,
+          allowed-seen
+              (m .sessions) (l .entries) (a .sessions) f i v k,
+        )
         (ask-seen t k (holds k (at (l .entries) i)) (all (elsewhere i) (l .waiting)) _ (mayGrant (l .entries) i k) (eqb t 0))
 
     -- a store at slot i, with an answer to a release or without
     told-store : (y : Entry) (h : Session → Session) (k : ℕ) → y .number ≡ (at (l .entries) i) .number → asSession y ≡ h (asSession (at (l .entries) i))
-        → Alike (record { locks = Locks.withEntries l (set (l .entries) i y); answers = tell (l .entries) i k false ∷ [] }) (record { model = LockModel.with-sessions m (LockModel.alter ((at (l .entries) i) .number) h (m .sessions)); told = tells (m .sessions) ((at (l .entries) i) .number) k false ∷ [] })
+        → Alike (record { locks = Locks.withEntries l (set (l .entries) i y); answers = tell (l .entries) i k false ∷ [] })
+        (record {
+          model = LockModel.with-sessions m (LockModel.alter ((at (l .entries) i) .number) h (m .sessions));
+          told = tells (m .sessions) ((at (l .entries) i) .number) k false ∷ [];
+        })
     told-store y h k n e =
         record {
           agrees = record { clock = a .clock; waiting = a .waiting ∙ stored y n; sessions = alter-seen (m .sessions) (l .entries) (a .sessions) f i v h y (ap (λ n. not (eqb n 0)) n ∙ v) e };
@@ -181,7 +203,8 @@ module _ (l : Locks) (m : Model) (a : Agrees l m) (g : Good (l .entries) (l .wai
         }
 
     quiet-store : (y : Entry) (h : Session → Session) → y .number ≡ (at (l .entries) i) .number → asSession y ≡ h (asSession (at (l .entries) i))
-        → Alike (Locks.unanswered (Locks.withEntries l (set (l .entries) i y))) (record { model = LockModel.with-sessions m (LockModel.alter ((at (l .entries) i) .number) h (m .sessions)); told = [] })
+        → Alike (Locks.unanswered (Locks.withEntries l (set (l .entries) i y)))
+        (record { model = LockModel.with-sessions m (LockModel.alter ((at (l .entries) i) .number) h (m .sessions)); told = [] })
     quiet-store y h n e =
         record {
           agrees = record { clock = a .clock; waiting = a .waiting ∙ stored y n; sessions = alter-seen (m .sessions) (l .entries) (a .sessions) f i v h y (ap (λ n. not (eqb n 0)) n ∙ v) e };
@@ -199,11 +222,20 @@ module _ (l : Locks) (m : Model) (a : Agrees l m) (g : Good (l .entries) (l .wai
     pub sim-free : (n : ℕ) → Alike (change l (Locks.release i n)) (LockModel.release m ((at (l .entries) i) .number) n)
     unfolding change LockModel.release
     sim-free n =
-        rw (own-seen (m .sessions) (l .entries) (a .sessions) f i v (λ s. isPending (s .pending)), own-seen (m .sessions) (l .entries) (a .sessions) f i v (λ s. s .exclusive), own-seen (m .sessions) (l .entries) (a .sessions) f i v (λ s. not (LockModel.notShared s)), own-seen (m .sessions) (l .entries) (a .sessions) f i v (λ s. eqb (s .heard) n), pending-seen ((at (l .entries) i) .standing))
+        rw (
+          own-seen (m .sessions) (l .entries) (a .sessions) f i v (λ s. isPending (s .pending)),
+          own-seen (m .sessions) (l .entries) (a .sessions) f i v
+              (λ s. s .exclusive),
+          own-seen (m .sessions) (l .entries) (a .sessions) f i v (λ s. not (LockModel.notShared s)),
+          own-seen (m .sessions)
+              (l .entries) (a .sessions) f i v (λ s. eqb (s .heard) n),
+          pending-seen ((at (l .entries) i) .standing),
+        )
         (free-seen n (Locks.stands ((at (l .entries) i) .standing)) ((at (l .entries) i) .exclusive) (noShared (at (l .entries) i)) (eqb ((at (l .entries) i) .last) n))
 
     -- a message is heard of; by the standing release and the test of its number
-    hears-seen : (n : ℕ) (p : ℕ → Bool) (s : Standing) → Alike (Locks.completed (dueBy p s) l i n) (LockModel.hears (LockModel.endsExclusive p (asPending s)) (LockModel.endsShared p (asPending s)) m ((at (l .entries) i) .number) n)
+    hears-seen : (n : ℕ) (p : ℕ → Bool) (s : Standing) → Alike (Locks.completed (dueBy p s) l i n)
+        (LockModel.hears (LockModel.endsExclusive p (asPending s)) (LockModel.endsShared p (asPending s)) m ((at (l .entries) i) .number) n)
     hears-seen n p no-release = quiet-store _ (LockModel.hearing n) refl refl
     hears-seen n p (release-of exclusive-lock q) = go (p q)
       where
@@ -219,7 +251,12 @@ module _ (l : Locks) (m : Model) (a : Agrees l m) (g : Good (l .entries) (l .wai
     pub sim-command : (n : ℕ) → Alike (change l (Locks.command i n)) (LockModel.message m ((at (l .entries) i) .number) n)
     unfolding change LockModel.message
     sim-command n =
-        rw (own-seen (m .sessions) (l .entries) (a .sessions) f i v (λ s. LockModel.endsExclusive (λ q. eqb q n) (s .pending)), own-seen (m .sessions) (l .entries) (a .sessions) f i v (λ s. LockModel.endsShared (λ q. eqb q n) (s .pending)), due-at n ((at (l .entries) i) .standing))
+        rw (
+          own-seen (m .sessions) (l .entries) (a .sessions) f i v (λ s. LockModel.endsExclusive (λ q. eqb q n) (s .pending)),
+          own-seen (m .sessions)
+              (l .entries) (a .sessions) f i v (λ s. LockModel.endsShared (λ q. eqb q n) (s .pending)),
+          due-at n ((at (l .entries) i) .standing),
+        )
         (hears-seen n (λ q. eqb q n) ((at (l .entries) i) .standing))
 
   pub sim-tick : (t : ℕ) → Alike (change l (Locks.reading t)) (LockModel.reading t m)
@@ -237,7 +274,9 @@ module _ (l : Locks) (m : Model) (a : Agrees l m) (g : Good (l .entries) (l .wai
       record {
         agrees = record {
           clock = a .clock;
-          waiting = a .waiting ∙ requests-same (l .entries) (set (l .entries) i (Locks.opened n c)) (λ j u. ap (λ (e : Entry). e .number) (getD-set-other (l .entries) i j (Locks.opened n c) blank (λ e. true≢false (sym u ∙ ap (λ k. live (at (l .entries) k)) e ∙ x .vacant)))) (l .waiting) g;
+          waiting = a .waiting ∙ requests-same (l .entries) (set (l .entries) i (Locks.opened n c))
+              (λ j u. ap (λ (e : Entry). e .number) (getD-set-other (l .entries) i j (Locks.opened n c) blank
+              (λ e. true≢false (sym u ∙ ap (λ k. live (at (l .entries) k)) e ∙ x .vacant)))) (l .waiting) g;
           sessions = enter-seen (m .sessions) (l .entries) (a .sessions) i (Locks.opened n c) (x .vacant) (x .within) (ap not (x .nonzero));
         };
         told = refl;
@@ -249,8 +288,10 @@ module _ (l : Locks) (m : Model) (a : Agrees l m) (g : Good (l .entries) (l .wai
       record {
         agrees = record {
           clock = a .clock;
-          waiting = a .waiting ∙ requests-same (l .entries) (set (l .entries) i (Locks.joined c (at (l .entries) i))) (λ j u. num-same (l .entries) i (Locks.joined c (at (l .entries) i)) refl j) (l .waiting) g;
-          sessions = alter-seen (m .sessions) (l .entries) (a .sessions) f i (x .alive) (LockModel.alsoOn c) (Locks.joined c (at (l .entries) i)) (x .alive) (joined-seen (at (l .entries) i) (x .half));
+          waiting = a .waiting ∙ requests-same (l .entries) (set (l .entries) i (Locks.joined c (at (l .entries) i)))
+              (λ j u. num-same (l .entries) i (Locks.joined c (at (l .entries) i)) refl j) (l .waiting) g;
+          sessions = alter-seen (m .sessions) (l .entries) (a .sessions) f i (x .alive) (LockModel.alsoOn c) (Locks.joined c (at (l .entries) i)) (x .alive)
+              (joined-seen (at (l .entries) i) (x .half));
         };
         told = refl;
       }
@@ -303,15 +344,23 @@ sim-clear l m a g f i v =
     let a′ : Agrees l′ m′ =
     record {
       clock = a .clock;
-      waiting = ap (keep (λ w. not (eqb (w .number) n))) (a .waiting) ∙ keep-seen (l .entries) (λ w. not (eqb (w .number) n)) (elsewhere i) (λ w u. ap not (num-slot (l .entries) f i (w .slot) v u)) (l .waiting) g;
+      waiting = ap (keep (λ w. not (eqb (w .number) n))) (a .waiting)
+          ∙ keep-seen (l .entries) (λ w. not (eqb (w .number) n)) (elsewhere i) (λ w u. ap not (num-slot (l .entries) f i (w .slot) v u)) (l .waiting) g;
       sessions = a .sessions;
     }
     in
     let told : zeros (m .sessions) (keep (λ w. eqb (w .number) n) (m .waiting)) ≡ map toldOf (refuse (l .entries) (elsewhere i) (l .waiting)) =
     ap (λ ws. zeros (m .sessions) (keep (λ w. eqb (w .number) n) ws)) (a .waiting)
     ∙ zeros-seen (l .entries) (m .sessions) (a .sessions) f (λ w. eqb (w .number) n) (elsewhere i) (λ w u. num-slot (l .entries) f i (w .slot) v u ∙ sym (not-not _)) (l .waiting) g in
-    rw (own-seen (m .sessions) (l .entries) (a .sessions) f i v (λ s. LockModel.endsExclusive (λ q. true) (s .pending)), own-seen (m .sessions) (l .entries) (a .sessions) f i v (λ s. LockModel.endsShared (λ q. true) (s .pending)), due-any ((at (l .entries) i) .standing))
-    (then (refuse (l .entries) (elsewhere i) (l .waiting)) (hears-seen l′ m′ a′ (good-keep (l .entries) (elsewhere i) (l .waiting) g) f i v beforeFirst (λ q. true) ((at (l .entries) i) .standing)) told)
+    rw (
+      own-seen (m .sessions) (l .entries) (a .sessions) f i v (λ s. LockModel.endsExclusive (λ q. true) (s .pending)),
+      own-seen (m .sessions) (l .entries)
+          (a .sessions) f i v (λ s. LockModel.endsShared (λ q. true) (s .pending)),
+      due-any ((at (l .entries) i) .standing),
+    )
+    (then (refuse (l .entries) (elsewhere i) (l .waiting)) (hears-seen l′ m′ a′ (good-keep (l .entries) (elsewhere i) (l .waiting) g) f i v beforeFirst
+    (λ q. true) ((at (l .entries) i) .standing)) told)
   where
-    then : {x : LockResult} {o : ModelResult} {ts : List Told} (zs : List Answer) → Alike x o → ts ≡ map toldOf zs → Alike (record { locks = x .locks; answers = zs ++ x .answers }) (record { model = o .model; told = ts ++ o .told })
+    then : {x : LockResult} {o : ModelResult} {ts : List Told} (zs : List Answer) → Alike x o → ts ≡ map toldOf zs →
+        Alike (record { locks = x .locks; answers = zs ++ x .answers }) (record { model = o .model; told = ts ++ o .told })
     then {x = x} zs h e = record { agrees = h .agrees; told = ap₂ _++_ e (h .told) ∙ sym (map-append zs (x .answers)) }

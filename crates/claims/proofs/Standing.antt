@@ -57,7 +57,8 @@ unfolding passOver
 pass-standing now [] es j = refl
 pass-standing now (w ∷ ws) es j = go (mayGrant es (w .slot) (w .string)) (λ es. pass-standing now ws es j)
   where
-    go : (b : Bool) → ((es : List Entry) → (at ((passOver now ws es) .entries) j) .standing ≡ (at es j) .standing) → (at ((put b w es (passOver now ws (after now b w es))) .entries) j) .standing ≡ (at es j) .standing
+    go : (b : Bool) → ((es : List Entry) → (at ((passOver now ws es) .entries) j) .standing ≡ (at es j) .standing) →
+        (at ((put b w es (passOver now ws (after now b w es))) .entries) j) .standing ≡ (at es j) .standing
     go true ih = ih (grant now es (w .slot) (w .string)) ∙ standing-same es (w .slot) (giveAt now (w .string) (at es (w .slot))) (give-standing (w .string) (at es (w .slot))) j
     go false ih = ih es
 
@@ -91,7 +92,12 @@ module _ (l : Locks) (v : Inv l) (j m : ℕ) (k : Kind) (h : (at (l .entries) j)
   store i y f = go (at-set (l .entries) i y j)
     where
       go : ((j ≡ i) × (at (set (l .entries) i y) j ≡ y)) ⊎ (at (set (l .entries) i y) j ≡ at (l .entries) j) → Kept (set (l .entries) i y)
-      go (inl q) = (ap (λ (x : Entry). x .number) (q .1) ∙ (f (q .0)) .0 ∙ ap (λ z. (at (l .entries) z) .number) (sym (q .0)), ap (λ (x : Entry). x .standing) (q .1) ∙ (f (q .0)) .1 ∙ ap (λ z. (at (l .entries) z) .standing) (sym (q .0)) ∙ h)
+      go (inl q) = (
+        ap (λ (x : Entry). x .number) (q .1) ∙ (f (q .0)) .0
+            ∙ ap (λ z. (at (l .entries) z) .number) (sym (q .0)),
+        ap (λ (x : Entry). x .standing) (q .1) ∙ (f (q .0)) .1
+            ∙ ap (λ z. (at (l .entries) z) .standing) (sym (q .0)) ∙ h,
+      )
       go (inr q) = (ap (λ (x : Entry). x .number) q, ap (λ (x : Entry). x .standing) q ∙ h)
 
   stood : (i : ℕ) → j ≡ i → (at (l .entries) i) .standing ≡ release-of k m
@@ -177,7 +183,8 @@ module _ (l : Locks) (v : Inv l) (j m : ℕ) (k : Kind) (h : (at (l .entries) j)
           (pass-num (w .clock) (w .waiting) (w .entries) j ∙ x .0, pass-standing (w .clock) (w .waiting) (w .entries) j ∙ x .1)
 
   -- what answers it: with a message of its number, with a clear
-  due-answers : (ws : List Waiting) (n i : ℕ) → j ≡ i → (u : Locks.Due) → u ≡ Locks.due-now k → (Locks.completed u (Locks.withWaiting l ws) i n) .answers ≡ Locks.tell (l .entries) i (releaseCode k) false ∷ []
+  due-answers : (ws : List Waiting) (n i : ℕ) → j ≡ i → (u : Locks.Due) → u ≡ Locks.due-now k →
+      (Locks.completed u (Locks.withWaiting l ws) i n) .answers ≡ Locks.tell (l .entries) i (releaseCode k) false ∷ []
   due-answers ws n i q u e = ap (λ u. (Locks.completed u (Locks.withWaiting l ws) i n) .answers) e
 
 module _ (d : Server) (v : Inv (d .locks)) (j m : ℕ) (k : Kind) (h : (at (d .locks .entries) j) .standing ≡ release-of k m) where
@@ -195,13 +202,15 @@ module _ (d : Server) (v : Inv (d .locks)) (j m : ℕ) (k : Kind) (h : (at (d .l
   mild-or e (Locks.close i) a = absurd a
   mild-or e (Locks.reading t) a = inl tt
 
-  release-or : (c : ℕ) (bs : List ℕ) (room : ℕ) (x : Header) → header bs ≡ x → x .kind ≡ AsyncLock → eqb (x .code) 0 ≡ true → Acted d c bs room (LockEvent.release (slotOf d c) (x .param)) → Or (delivery c bs room) (LockEvent.release (slotOf d c) (x .param))
+  release-or : (c : ℕ) (bs : List ℕ) (room : ℕ) (x : Header) → header bs ≡ x → x .kind ≡ AsyncLock → eqb (x .code) 0 ≡ true →
+      Acted d c bs room (LockEvent.release (slotOf d c) (x .param)) → Or (delivery c bs room) (LockEvent.release (slotOf d c) (x .param))
   release-or c bs room x eh t b a = inl tt
 
   told-to : (i : ℕ) → j ≡ i → (at (d .locks .entries) i) .asynchronous ≡ (at (d .locks .entries) j) .asynchronous
   told-to i q = ap (λ z. (at (d .locks .entries) z) .asynchronous) (sym q)
 
-  command-or : (c : ℕ) (bs : List ℕ) (room : ℕ) (x : Header) → header bs ≡ x → one-of commands (x .kind) ≡ true → Acted d c bs room (LockEvent.command (slotOf d c) (x .param)) → Or (delivery c bs room) (LockEvent.command (slotOf d c) (x .param))
+  command-or : (c : ℕ) (bs : List ℕ) (room : ℕ) (x : Header) → header bs ≡ x → one-of commands (x .kind) ≡ true →
+      Acted d c bs room (LockEvent.command (slotOf d c) (x .param)) → Or (delivery c bs room) (LockEvent.command (slotOf d c) (x .param))
   unfolding change
   command-or c bs room x eh t a = go (same? j (slotOf d c)) (eqb m (x .param)) refl
     where
@@ -212,11 +221,15 @@ module _ (d : Server) (v : Inv (d .locks)) (j m : ℕ) (k : Kind) (h : (at (d .l
       go (inr n) b e = inl (inl n)
       go (inl q) false e = inl (inr e)
       go (inl q) true e =
-          let u : Locks.dueAt (x .param) ((at (d .locks .entries) (slotOf d c)) .standing) ≡ Locks.due-now k = ap (Locks.dueAt (x .param)) (stood (d .locks) v j m k h (slotOf d c) q) ∙ ap (λ b. cond b (Locks.due-now k) Locks.not-due) e in
-          inr (by-message c bs room (a .taken) (a .number) (sym q) (acted-reply a) (ap (λ (y : Header). one-of commands (y .kind)) eh ∙ t) (ap (λ (y : Header). y .param) eh ∙ sym (eqb-true m (x .param) e))
-          (acted-sends a (releaseCode k) ((at (d .locks .entries) j) .asynchronous) [] (Locks.tell (d .locks .entries) (slotOf d c) (releaseCode k) false) (due-answers (d .locks) v j m k h (d .locks .waiting) (x .param) (slotOf d c) q _ u) (told-to (slotOf d c) q) refl))
+          let u : Locks.dueAt (x .param) ((at (d .locks .entries) (slotOf d c)) .standing) ≡ Locks.due-now k =
+          ap (Locks.dueAt (x .param)) (stood (d .locks) v j m k h (slotOf d c) q) ∙ ap (λ b. cond b (Locks.due-now k) Locks.not-due) e in
+          inr (by-message c bs room (a .taken) (a .number) (sym q) (acted-reply a) (ap (λ (y : Header). one-of commands (y .kind)) eh ∙ t)
+          (ap (λ (y : Header). y .param) eh ∙ sym (eqb-true m (x .param) e))
+          (acted-sends a (releaseCode k) ((at (d .locks .entries) j) .asynchronous) [] (Locks.tell (d .locks .entries) (slotOf d c) (releaseCode k) false)
+          (due-answers (d .locks) v j m k h (d .locks .waiting) (x .param) (slotOf d c) q _ u) (told-to (slotOf d c) q) refl))
 
-  clear-or : (c : ℕ) (bs : List ℕ) (room : ℕ) (x : Header) → header bs ≡ x → eqb (x .kind) AsyncDeviceClear ≡ true → Acted d c bs room (LockEvent.clear (slotOf d c)) → Or (delivery c bs room) (LockEvent.clear (slotOf d c))
+  clear-or : (c : ℕ) (bs : List ℕ) (room : ℕ) (x : Header) → header bs ≡ x → eqb (x .kind) AsyncDeviceClear ≡ true →
+      Acted d c bs room (LockEvent.clear (slotOf d c)) → Or (delivery c bs room) (LockEvent.clear (slotOf d c))
   unfolding change
   clear-or c bs room x eh t a = go (same? j (slotOf d c))
     where
@@ -226,7 +239,9 @@ module _ (d : Server) (v : Inv (d .locks)) (j m : ℕ) (k : Kind) (h : (at (d .l
           let u : Locks.dueAny ((at (d .locks .entries) (slotOf d c)) .standing) ≡ Locks.due-now k = ap Locks.dueAny (stood (d .locks) v j m k h (slotOf d c) q) in
           let zs = Locks.refuse (d .locks .entries) (elsewhere (slotOf d c)) (d .locks .waiting) in
           inr (by-clear c bs room (a .taken) (a .number) (sym q) (acted-reply a) (ap (λ (y : Header). y .kind) eh ∙ eqb-true (x .kind) AsyncDeviceClear t)
-          (acted-sends a (releaseCode k) ((at (d .locks .entries) j) .asynchronous) zs (Locks.tell (d .locks .entries) (slotOf d c) (releaseCode k) false) (ap (λ ys. zs ++ ys) (due-answers (d .locks) v j m k h (keep (elsewhere (slotOf d c)) (d .locks .waiting)) beforeFirst (slotOf d c) q _ u)) (told-to (slotOf d c) q) refl))
+          (acted-sends a (releaseCode k) ((at (d .locks .entries) j) .asynchronous) zs (Locks.tell (d .locks .entries) (slotOf d c) (releaseCode k) false)
+          (ap (λ ys. zs ++ ys) (due-answers (d .locks) v j m k h (keep (elsewhere (slotOf d c)) (d .locks .waiting)) beforeFirst (slotOf d c) q _ u))
+          (told-to (slotOf d c) q) refl))
 
   closing-or : (e : Event) (c : ℕ) → Closes d e c → Or e (LockEvent.close (slotOf d c))
   closing-or e c x = go (same? j (slotOf d c))
@@ -249,7 +264,8 @@ until d v n j k m e s = go (refusal d e) refl
     done z (inr c) = inl c
     done z (inl x) =
         let r = event-kept (d .locks) v j m k (s .release) ((plan d e) .event) (plan-fit d e v z) x in
-        let q : (step d e) .server .locks .entries ≡ (settle (frees (d .locks) ((plan d e) .event)) ((change (d .locks) ((plan d e) .event)) .locks)) .locks .entries = ap (λ n. (answered n d e) .server .locks .entries) z in
+        let q : (step d e) .server .locks .entries ≡ (settle (frees (d .locks) ((plan d e) .event)) ((change (d .locks) ((plan d e) .event)) .locks)) .locks
+        .entries = ap (λ n. (answered n d e) .server .locks .entries) z in
         inr (kept (inv-call d e v) (ap (λ es. (at es j) .number) q ∙ r .0) (ap (λ es. (at es j) .standing) q ∙ r .1))
 
     same : (x : ℕ) → refusal d e ≡ suc x → Stands n j k m ((step d e) .server)
@@ -261,7 +277,13 @@ until d v n j k m e s = go (refusal d e) refl
 
 -- an AsyncLock of the session that acts, a request or a release
 module _ (d : Server) (c : ℕ) (bs : List ℕ) (room : ℕ) (r : Request d c bs room) (t : (header bs) .kind ≡ AsyncLock) where
-  lock-step : step d (delivery c bs room) ≡ finish d (record { reply = took acted (16 + r .head .len) ((at (d .locks .entries) (slotOf d c)) .number); rest = d .rest; first = []; said = []; event = Acts.lockEvent (eqb (r .head .code) 0) (slotOf d c) (r .head) (r .string) })
+  lock-step : step d (delivery c bs room) ≡ finish d (record {
+    reply = took acted (16 + r .head .len) ((at (d .locks .entries) (slotOf d c)) .number);
+    rest = d .rest;
+    first = [];
+    said = [];
+    event = Acts.lockEvent (eqb (r .head .code) 0) (slotOf d c) (r .head) (r .string);
+  })
   unfolding step answered plan received verdict effect Acts.acts Acts.asynchronousRest Acts.asynchronousSaid Acts.asynchronousEvent
   lock-step =
       let h = r .head in
@@ -280,18 +302,24 @@ module _ (d : Server) (v : Inv (d .locks)) (j m : ℕ) (k : Kind) (h : (at (d .l
   answered-3 true i q x p = ap (λ u. (Locks.released u (d .locks) i (x .param)) .answers) (own-releasing (d .locks) v j m k h i (x .param) q)
   answered-3 false i q x p =
       let es = d .locks .entries in
-      ap (λ b. (Locks.respond (Locks.ruling (holds p (at es i)) (all (elsewhere i) (d .locks .waiting)) b (mayGrant es i p) (eqb (x .param) 0 || noPlace (d .locks .waiting))) (d .locks) i (x .param) p) .answers) (own-invalid (d .locks) v j m k h i p q)
-      ∙ ap (λ u. (Locks.respond u (d .locks) i (x .param) p) .answers) (invalid-3 (d .locks) v j m k h (holds p (at es i)) (all (elsewhere i) (d .locks .waiting)) (mayGrant es i p) (eqb (x .param) 0 || noPlace (d .locks .waiting)))
+      ap (λ b. (Locks.respond (Locks.ruling (holds p (at es i)) (all (elsewhere i) (d .locks .waiting)) b (mayGrant es i p)
+      (eqb (x .param) 0 || noPlace (d .locks .waiting))) (d .locks) i (x .param) p) .answers) (own-invalid (d .locks) v j m k h i p q)
+      ∙ ap (λ u. (Locks.respond u (d .locks) i (x .param) p) .answers)
+      (invalid-3 (d .locks) v j m k h (holds p (at es i)) (all (elsewhere i) (d .locks .waiting)) (mayGrant es i p)
+      (eqb (x .param) 0 || noPlace (d .locks .waiting)))
 
   gets-3 : (c : ℕ) (bs : List ℕ) (room a b : ℕ) → slotOf d c ≡ j → (step d (delivery c bs room)) .reply ≡ took acted a b → (header bs) .kind ≡ AsyncLock → Answers d j 3 (delivery c bs room)
   gets-3 c bs room a b q e t =
       let r = step-request d c bs room a b e t in
-      acted-sends {d = d} {c = c} {bs = bs} {room = room} (record { rest = _; first = _; said = _; taken = _; number = _; does = lock-step d c bs room r t }) 3 ((at (d .locks .entries) j) .asynchronous) [] (Locks.tell (d .locks .entries) (slotOf d c) 3 (not (eqb (r .head .code) 0)))
+      acted-sends {d = d} {c = c} {bs = bs} {room = room} (record { rest = _; first = _; said = _; taken = _; number = _; does = lock-step d c bs room r t }) 3
+      ((at (d .locks .entries) j) .asynchronous) [] (Locks.tell (d .locks .entries) (slotOf d c) 3 (not (eqb (r .head .code) 0)))
       (answered-3 (eqb (r .head .code) 0) (slotOf d c) (sym q) (r .head) (r .string)) (ap (λ z. (at (d .locks .entries) z) .asynchronous) q) refl
 
 -- a release that sends nothing stands
-pub begins : (d : Server) → Inv (d .locks) → (j : ℕ) (k : Kind) (m c : ℕ) (bs : List ℕ) (room a b : ℕ) → slotOf d c ≡ j → (step d (delivery c bs room)) .reply ≡ took acted a b → (header bs) .kind ≡ AsyncLock → (header bs) .code ≡ 0
-    → (step d (delivery c bs room)) .frames ≡ [] → (header bs) .param ≡ m → freesFirst (at (d .locks .entries) j) ≡ k → Stands ((at (d .locks .entries) j) .number) j k m ((step d (delivery c bs room)) .server)
+pub begins : (d : Server) → Inv (d .locks) → (j : ℕ) (k : Kind) (m c : ℕ) (bs : List ℕ) (room a b : ℕ) → slotOf d c ≡ j →
+    (step d (delivery c bs room)) .reply ≡ took acted a b → (header bs) .kind ≡ AsyncLock → (header bs) .code ≡ 0
+    → (step d (delivery c bs room)) .frames ≡ [] → (header bs) .param ≡ m → freesFirst (at (d .locks .entries) j) ≡ k →
+    Stands ((at (d .locks .entries) j) .number) j k m ((step d (delivery c bs room)) .server)
 begins d v j k m c bs room a b q r t o f p w =
     let es = d .locks .entries in
     let e = delivery c bs room in

@@ -53,7 +53,8 @@ pub tally-seen : (p : Session → Bool) (es : List Entry) → tally p (asSession
 tally-seen p [] = refl
 tally-seen p (e ∷ es) = go (live e) (tally-seen p es)
   where
-    go : (b : Bool) → tally p (asSessions es) ≡ tally (lower p) es → tally p (cond b (asSession e ∷ asSessions es) (asSessions es)) ≡ cond (b && p (asSession e)) (suc (tally (lower p) es)) (tally (lower p) es)
+    go : (b : Bool) → tally p (asSessions es) ≡ tally (lower p) es →
+        tally p (cond b (asSession e ∷ asSessions es) (asSessions es)) ≡ cond (b && p (asSession e)) (suc (tally (lower p) es)) (tally (lower p) es)
     go true h = ap (λ n. cond (p (asSession e)) (suc n) n) h
     go false h = h
 

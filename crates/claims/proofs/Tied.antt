@@ -11,14 +11,16 @@ use Rattle.wire.specs.Message.{header}
 use Rattle.wire.specs.Frame.{Frame, frameOf}
 use Rattle.wire.specs.Class.{synchronous, asynchronous}
 use Rattle.model.specs.Sizes.{noConnection, sessionLimit}
-use Rattle.model.specs.State.{openExchange, Entry, at, live, slotOfNumber, Server, Rest, Exchange, Asked, Asked.none, exchangeAt, freshExchange, connectionAt, withExchange, withSession, fresh, Making, sensingAt, withSensings}
+use Rattle.model.specs.State.{openExchange, Entry, at, live, slotOfNumber, Server, Rest, Exchange, Asked, Asked.none, exchangeAt, freshExchange, connectionAt}
+use Rattle.model.specs.State.{withExchange, withSession, fresh, Making, sensingAt, withSensings}
 use Rattle.model.specs.Interface.{Event, Event.opening, Event.delivery, Event.cut, Event.clock, Event.answer, Event.status, Event.setting, Reply}
 use Rattle.model.specs.Scan.{Scan, Scan.empty, Scan.few, Scan.wrong, Scan.skipping, Scan.long, Scan.part, Scan.whole, scan}
 use Rattle.model.specs.Place.{slotOf, Role, Role.r-none, Role.r-halfOpen, Role.r-synchronous, Role.r-asynchronous, roleOf}
 use Rattle.model.specs.Locks.{LockEvent, change}
 use Rattle.model.specs.Exchange.{interrupted, answeredWith, mayAnswer, answerNumber}
 use Rattle.model.specs.Checks
-use Rattle.model.specs.Checks.{Verdict, Verdict.v-more, Verdict.v-skipped, Verdict.v-held, Verdict.v-ignored, Verdict.v-closed, Verdict.v-acts, Verdict.v-error, Verdict.v-fatal, verdict, judged, either}
+use Rattle.model.specs.Checks.{Verdict, Verdict.v-more, Verdict.v-skipped, Verdict.v-held, Verdict.v-ignored, Verdict.v-closed, Verdict.v-acts}
+use Rattle.model.specs.Checks.{Verdict.v-error, Verdict.v-fatal, verdict, judged, either}
 use Rattle.model.specs.Acts
 use Rattle.model.specs.Acts.{Plan}
 use Rattle.model.specs.Refusals.{causes, refusal}
@@ -34,7 +36,8 @@ use Rattle.claims.proofs.Invariant.{Inv}
 use Rattle.claims.proofs.Events.{Enters, inv-fresh, blank-at}
 use Rattle.claims.proofs.Fits.{Passes, uncaused, opening-passed, sync-passed, async-passed, opens-fit, real-delivery, inv-call}
 use Rattle.claims.proofs.Numbers.{live-found}
-use Rattle.claims.proofs.Tying.{trackOf, Tied, ends, Calm, calm-num, touch, rest-same, extra-here, extra-there, drop-tied, enter-tied, syncPending, sync-extra, sync-follows, asyncPending, async-follows, async-here, async-there, async-size}
+use Rattle.claims.proofs.Tying.{trackOf, Tied, ends, Calm, calm-num, touch, rest-same, extra-here, extra-there, drop-tied, enter-tied, syncPending}
+use Rattle.claims.proofs.Tying.{sync-extra, sync-follows, asyncPending, async-follows, async-here, async-there, async-size}
 
 lock-calm : (b : Bool) (i : ℕ) (h : Header) (p : List ℕ) → Calm (Acts.lockEvent b i h p)
 lock-calm true i h p = tt
@@ -70,7 +73,8 @@ pub record After (d : Server) (p : Plan) (f : ℕ → Track) : Type 0 where
 
 module _ (d : Server) (f : ℕ → Track) (i : Inv (d .locks)) (z : length (d .rest .exchanges) ≡ sessionLimit) (t : Tied (d .locks .entries) (d .rest) f) where
   -- a call that touches no extras and enters or removes no session
-  still : (r : Rest) (reply : Reply) (e : LockEvent) (f′ : ℕ → Track) → Calm e → r .exchanges ≡ d .rest .exchanges → ((n : ℕ) → f′ n ≡ f n) → (said : List _) {fs : List _} → After d record { reply = reply; rest = r; first = fs; said = said; event = e } f′
+  still : (r : Rest) (reply : Reply) (e : LockEvent) (f′ : ℕ → Track) → Calm e → r .exchanges ≡ d .rest .exchanges → ((n : ℕ) → f′ n ≡ f n) →
+      (said : List _) {fs : List _} → After d record { reply = reply; rest = r; first = fs; said = said; event = e } f′
   still r reply e f′ c x g said =
       record {
         tied = rest-same (d .locks .entries) (ends (d .locks) e) (d .rest) r f f′ (calm-num (d .locks) e c) (λ j. ap (λ (l : List Exchange). trackOf (lib.ListN.getD l j freshExchange)) x) g t;
@@ -85,7 +89,8 @@ module _ (d : Server) (f : ℕ → Track) (i : Inv (d .locks)) (z : length (d .r
     abbrev Tracked : Plan → Type 0
     Tracked x = After d x (λ n. track (d .rest .made .prefersOverlap) (delivery c bs room) (x .reply) n (f n))
 
-    heads : (m n : ℕ) → cond (eqb m n) (follows (d .rest .made .prefersOverlap) ((header bs) .kind) ((header bs) .code) ((header bs) .param) (f n)) (f n) ≡ cond (eqb m n) (follows (d .rest .made .prefersOverlap) (h .kind) (h .code) (h .param) (f n)) (f n)
+    heads : (m n : ℕ) → cond (eqb m n) (follows (d .rest .made .prefersOverlap) ((header bs) .kind) ((header bs) .code) ((header bs) .param) (f n)) (f n) ≡ cond
+        (eqb m n) (follows (d .rest .made .prefersOverlap) (h .kind) (h .code) (h .param) (f n)) (f n)
     heads m n = ap (λ (x : Header). cond (eqb m n) (follows (d .rest .made .prefersOverlap) (x .kind) (x .code) (x .param) (f n)) (f n)) eh
 
     opens-tied : (b : Bool) → eqb (h .kind) 0 ≡ b → roleOf (d .locks .entries) c ≡ r-none → Passes (Checks.openingRules d h p) → Tracked (Acts.opens b d c h)
@@ -96,12 +101,18 @@ module _ (d : Server) (f : ℕ → Track) (i : Inv (d .locks)) (z : length (d .r
         let l : k < length (d .rest .exchanges) = omega (arith, x .within, i .sound .firm .slots) in
         record {
           tied =
-              enter-tied (d .locks) k n c (d .rest) (withSession (d .rest) k n) f _ (nothingYet (d .rest .made .prefersOverlap)) x (ap trackOf (extra-here (d .rest) k (openExchange (d .rest .made .prefersOverlap)) l)) (λ j g. extra-there (d .rest) k (openExchange (d .rest .made .prefersOverlap)) j g) (λ m. heads n m ∙ ap (λ (b : ℕ). cond (eqb n m) (follows (d .rest .made .prefersOverlap) b (h .code) (h .param) (f m)) (f m)) (borrow.Author.Tests.eqb-true (h .kind) 0 t0)) t;
+              enter-tied (d .locks) k n c (d .rest) (withSession (d .rest) k n) f _ (nothingYet (d .rest .made .prefersOverlap)) x
+              (ap trackOf (extra-here (d .rest) k (openExchange (d .rest .made .prefersOverlap)) l))
+              (λ j g. extra-there (d .rest) k (openExchange (d .rest .made .prefersOverlap)) j g)
+              (λ m. heads n m ∙ ap (λ (b : ℕ). cond (eqb n m) (follows (d .rest .made .prefersOverlap) b (h .code) (h .param) (f m)) (f m))
+              (borrow.Author.Tests.eqb-true (h .kind) 0 t0)) t;
           sized = length-set (d .rest .exchanges) k (openExchange (d .rest .made .prefersOverlap)) ∙ z;
         }
     opens-tied false t0 e q =
         let t17 : eqb (h .kind) 17 ≡ true = rw t0 at (not-off (either 0 17 (h .kind)) (q .0)) in
-        still (d .rest) _ _ _ tt refl (λ n. heads (h .param) n ∙ ap (λ (b : ℕ). cond (eqb (h .param) n) (follows (d .rest .made .prefersOverlap) b (h .code) (h .param) (f n)) (f n)) (borrow.Author.Tests.eqb-true (h .kind) 17 t17) ∙ both-same (eqb (h .param) n) (f n)) _
+        still (d .rest) _ _ _ tt refl (λ n. heads (h .param) n
+        ∙ ap (λ (b : ℕ). cond (eqb (h .param) n) (follows (d .rest .made .prefersOverlap) b (h .code) (h .param) (f n)) (f n))
+        (borrow.Author.Tests.eqb-true (h .kind) 17 t17) ∙ both-same (eqb (h .param) n) (f n)) _
       where
         both-same : (b : Bool) (x : Track) → cond b x x ≡ x
         both-same true x = refl
@@ -119,10 +130,13 @@ module _ (d : Server) (f : ℕ → Track) (i : Inv (d .locks)) (z : length (d .r
         let x = Acts.synchronousExchange s h (exchangeAt (d .rest) k) in
         record {
           tied =
-              touch (d .locks .entries) (ends (d .locks) (Acts.synchronousEvent s k h)) (d .rest) (withExchange (d .rest) k x) f _ k (syncPending s (h .code) (h .param)) (i .sound .firm) v (calm-num (d .locks) (Acts.synchronousEvent s k h) (sync-calm s k h))
+              touch (d .locks .entries) (ends (d .locks) (Acts.synchronousEvent s k h)) (d .rest) (withExchange (d .rest) k x) f _ k
+              (syncPending s (h .code) (h .param)) (i .sound .firm) v (calm-num (d .locks) (Acts.synchronousEvent s k h) (sync-calm s k h))
               (ap trackOf (extra-here (d .rest) k x (within k v)) ∙ sync-extra s h (exchangeAt (d .rest) k))
               (λ j n. ap trackOf (extra-there (d .rest) k x j n))
-              (λ n. heads ((at (d .locks .entries) k) .number) n ∙ ap (λ (y : Track). cond (eqb ((at (d .locks .entries) k) .number) n) y (f n)) (sync-follows (d .rest .made .prefersOverlap) (h .code) (h .param) (f n) (h .kind) (acted-class synchronous (h .kind) (g .1 .1 .1 .0) (g .1 .1 .1 .1 .0)) (g .0) (g .1 .0) (g .1 .1 .1 .1 .1 .0)))
+              (λ n. heads ((at (d .locks .entries) k) .number) n ∙ ap (λ (y : Track). cond (eqb ((at (d .locks .entries) k) .number) n) y (f n))
+              (sync-follows (d .rest .made .prefersOverlap) (h .code) (h .param) (f n) (h .kind)
+              (acted-class synchronous (h .kind) (g .1 .1 .1 .0) (g .1 .1 .1 .1 .0)) (g .0) (g .1 .0) (g .1 .1 .1 .1 .1 .0)))
               t;
           sized = length-set (d .rest .exchanges) k x ∙ z;
         }
@@ -133,15 +147,24 @@ module _ (d : Server) (f : ℕ → Track) (i : Inv (d .locks)) (z : length (d .r
         let s = Acts.asynchronousKind (h .kind) in
         record {
           tied =
-              touch (d .locks .entries) (ends (d .locks) (Acts.asynchronousEvent s k h p)) (d .rest) (Acts.asynchronousRest s (d .rest) k h p) f _ k (asyncPending s (h .code)) (i .sound .firm) v (calm-num (d .locks) (Acts.asynchronousEvent s k h p) (async-calm s k h p))
+              touch (d .locks .entries) (ends (d .locks) (Acts.asynchronousEvent s k h p)) (d .rest) (Acts.asynchronousRest s (d .rest) k h p) f _ k
+              (asyncPending s (h .code)) (i .sound .firm) v (calm-num (d .locks) (Acts.asynchronousEvent s k h p) (async-calm s k h p))
               (async-here s (d .rest) k h p (within k v))
               (λ j n. ap trackOf (async-there s (d .rest) k h p j n))
-              (λ n. heads ((at (d .locks .entries) k) .number) n ∙ ap (λ (y : Track). cond (eqb ((at (d .locks .entries) k) .number) n) y (f n)) (async-follows (d .rest .made .prefersOverlap) (h .code) (h .param) (f n) (h .kind) (acted-class asynchronous (h .kind) (g .1 .1 .0) (g .1 .1 .1 .0)) (g .1 .1 .1 .1 .0)))
+              (λ n. heads ((at (d .locks .entries) k) .number) n ∙ ap (λ (y : Track). cond (eqb ((at (d .locks .entries) k) .number) n) y (f n))
+              (async-follows (d .rest .made .prefersOverlap) (h .code) (h .param) (f n) (h .kind)
+              (acted-class asynchronous (h .kind) (g .1 .1 .0) (g .1 .1 .1 .0)) (g .1 .1 .1 .1 .0)))
               t;
           sized = async-size s (d .rest) k h p ∙ z;
         }
 
-  closes : (c : ℕ) (reply : Reply) (said : List _) {fs : List _} (f′ : ℕ → Track) → ((n : ℕ) → f′ n ≡ f n) → After d record { reply = reply; rest = closing d c; first = fs; said = said; event = LockEvent.close (slotOf d c) } f′
+  closes : (c : ℕ) (reply : Reply) (said : List _) {fs : List _} (f′ : ℕ → Track) → ((n : ℕ) → f′ n ≡ f n) → After d record {
+    reply = reply;
+    rest = closing d c;
+    first = fs;
+    said = said;
+    event = LockEvent.close (slotOf d c);
+  } f′
   closes c reply said f′ g =
       record {
         tied = drop-tied (d .locks) (slotOf d c) (d .rest) (closing d c) f f′ (λ j n. extra-there (d .rest) (slotOf d c) freshExchange j n) g t;
@@ -159,7 +182,8 @@ module _ (d : Server) (f : ℕ → Track) (i : Inv (d .locks)) (z : length (d .r
       -- the number expected is not tracked
       let y = counted r s (exchangeAt (d .rest) (slotOf d c)) in
       record {
-        tied = rest-same (d .locks .entries) (ends (d .locks) LockEvent.nothing) (d .rest) (withExchange (d .rest) (slotOf d c) y) f _ (calm-num (d .locks) LockEvent.nothing tt) (untracked (d .rest .exchanges) (slotOf d c) y refl) (λ m. refl) t;
+        tied = rest-same (d .locks .entries) (ends (d .locks) LockEvent.nothing) (d .rest) (withExchange (d .rest) (slotOf d c) y) f _
+            (calm-num (d .locks) LockEvent.nothing tt) (untracked (d .rest .exchanges) (slotOf d c) y refl) (λ m. refl) t;
         sized = length-set (d .rest .exchanges) (slotOf d c) y ∙ z;
       }
   effect-tied c bs room k n (v-fatal x) s r es er ev = closes c _ _ _ (λ m. refl)
@@ -180,7 +204,8 @@ module _ (d : Server) (f : ℕ → Track) (i : Inv (d .locks)) (z : length (d .r
   plan-tied : (e : Event) → refusal d e ≡ 0 → After d (plan d e) (λ n. track (d .rest .made .prefersOverlap) e ((plan d e) .reply) n (f n))
   unfolding plan received
   plan-tied (opening c) q = still _ _ _ _ tt refl (λ m. refl) []
-  plan-tied (delivery c bs room) q = effect-tied c bs room ((connectionAt (d .rest) c) .remainder) (real-delivery d c bs room q) _ (scan ((connectionAt (d .rest) c) .remainder) bs) (roleOf (d .locks .entries) c) refl refl refl
+  plan-tied (delivery c bs room) q = effect-tied c bs room ((connectionAt (d .rest) c) .remainder) (real-delivery d c bs room q) _
+      (scan ((connectionAt (d .rest) c) .remainder) bs) (roleOf (d .locks .entries) c) refl refl refl
   plan-tied (cut c room) q = closes c _ _ _ (λ m. refl)
   plan-tied (clock y room) q = still (d .rest) _ _ _ tt refl (λ m. refl) []
   plan-tied (status b) q = still _ _ _ _ tt refl (λ m. refl) []
@@ -193,7 +218,8 @@ module _ (d : Server) (f : ℕ → Track) (i : Inv (d .locks)) (z : length (d .r
       v : live (at (d .locks .entries) k) ≡ true
       v = answering n x end sh room q
 
-      answers-tied : (y : Exchange) (g : Track → Track) → trackOf y ≡ g (trackOf (exchangeAt (d .rest) k)) → Tied (ends (d .locks) LockEvent.nothing) (withExchange (d .rest) k y) (λ m. cond (eqb n m) (g (f m)) (f m))
+      answers-tied : (y : Exchange) (g : Track → Track) → trackOf y ≡ g (trackOf (exchangeAt (d .rest) k)) →
+          Tied (ends (d .locks) LockEvent.nothing) (withExchange (d .rest) k y) (λ m. cond (eqb n m) (g (f m)) (f m))
       answers-tied y g e =
           touch (d .locks .entries) (ends (d .locks) LockEvent.nothing) (d .rest) (withExchange (d .rest) k y) f _ k g (i .sound .firm) v (calm-num (d .locks) LockEvent.nothing tt)
           (ap trackOf (extra-here (d .rest) k y (within k v)) ∙ e)
@@ -201,7 +227,14 @@ module _ (d : Server) (f : ℕ → Track) (i : Inv (d .locks)) (z : length (d .r
           (λ m. ap (λ (w : ℕ). cond (eqb w m) (g (f m)) (f m)) (sym (live-found (d .locks .entries) n v)))
           t
 
-      go : (w : Bool) (fs : List Frame) → After d record { reply = cond w Reply.withheld Reply.done; rest = withSensings (withExchange (d .rest) k (cond w (interrupted (exchangeAt (d .rest) k)) (answeredWith end (exchangeAt (d .rest) k)))) (cond w (d .rest .sensings) (set (d .rest .sensings) k (sensed x (sensingAt (d .rest) k)))); first = []; said = fs; event = LockEvent.nothing }
+      go : (w : Bool) (fs : List Frame) → After d record {
+        reply = cond w Reply.withheld Reply.done;
+        rest = withSensings (withExchange (d .rest) k (cond w (interrupted (exchangeAt (d .rest) k)) (answeredWith end (exchangeAt (d .rest) k))))
+            (cond w (d .rest .sensings) (set (d .rest .sensings) k (sensed x (sensingAt (d .rest) k))));
+        first = [];
+        said = fs;
+        event = LockEvent.nothing;
+      }
           (λ m. track (d .rest .made .prefersOverlap) (answer n x end sh room) (cond w Reply.withheld Reply.done) m (f m))
       go true fs = record { tied = answers-tied (interrupted (exchangeAt (d .rest) k)) withheldTrack refl; sized = length-set (d .rest .exchanges) k _ ∙ z }
       go false fs = record { tied = answers-tied (answeredWith end (exchangeAt (d .rest) k)) (answeredTrack end) refl; sized = length-set (d .rest .exchanges) k _ ∙ z }
@@ -292,10 +325,12 @@ pub track-run : (v : Making) (es : List Event) (n : ℕ) → live (at ((final (f
     → trackOf (exchangeAt ((final (fresh v) es) .rest) (slotOfNumber ((final (fresh v) es) .locks .entries) n)) ≡ said v es n
 track-run v es n alive =
     let d = final (fresh v) es in
-    (list-ties (v .prefersOverlap) es (fresh v) (λ n. nothingYet (v .prefersOverlap)) (fresh-ties v)) .tied (slotOfNumber (d .locks .entries) n) alive ∙ ap (λ m. said v es m) (live-found (d .locks .entries) n alive)
+    (list-ties (v .prefersOverlap) es (fresh v) (λ n. nothingYet (v .prefersOverlap)) (fresh-ties v)) .tied (slotOfNumber (d .locks .entries) n) alive
+    ∙ ap (λ m. said v es m) (live-found (d .locks .entries) n alive)
 
 -- every answer that is sent
-pub tie : (v : Making) (es : List Event) (n : ℕ) (x : List ℕ) (end : Bool) (sh : List ℕ) (room : ℕ) → (step (final (fresh v) es) (answer n x end sh room)) .reply ≡ Reply.done → Tie v es n x end sh room
+pub tie : (v : Making) (es : List Event) (n : ℕ) (x : List ℕ) (end : Bool) (sh : List ℕ) (room : ℕ) →
+    (step (final (fresh v) es) (answer n x end sh room)) .reply ≡ Reply.done → Tie v es n x end sh room
 unfolding step answered plan finish change refusal causes
 tie v es n x end sh room r =
     record {
@@ -304,7 +339,9 @@ tie v es n x end sh room r =
       counted = λ o. ap (λ (t : Track). t .count) (sym track-is) ∙ sym (answer-counts y (ap (λ (t : Track). t .overlap) track-is ∙ o));
       sent =
           ap (λ k. (answered k d (answer n x end sh room)) .frames) q
-          ∙ ap (λ (w : Bool). cond w (Acts.interruptions e ((header sh) .param)) (frameOf (e .synchronous) (answerType end) 0 (answerNumber y) x ∷ serviceAfter d n x) ++ []) (passed (withholds d n end sh) (ap (λ k. (answered k d (answer n x end sh room)) .reply) (sym q) ∙ r))
+          ∙ ap (λ (w : Bool). cond w (Acts.interruptions e ((header sh) .param))
+          (frameOf (e .synchronous) (answerType end) 0 (answerNumber y) x ∷ serviceAfter d n x) ++ [])
+          (passed (withholds d n end sh) (ap (λ k. (answered k d (answer n x end sh room)) .reply) (sym q) ∙ r))
           ∙ append-nil _;
     }
   where

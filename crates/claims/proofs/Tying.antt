@@ -57,13 +57,17 @@ touch es es′ r r′ f f′ i g firm v nums here there tracks t j u = go (same?
     go : (j ≡ i) ⊎ (j ≡ i → ⊥) → trackOf (exchangeAt r′ j) ≡ f′ ((at es′ j) .number)
     go (inl e) =
         ap (λ k. trackOf (exchangeAt r′ k)) e ∙ here ∙ ap g (t i v)
-        ∙ sym (ap f′ (nums j ∙ ap (λ k. (at es k) .number) e) ∙ tracks ((at es i) .number) ∙ ap (λ b. cond b (g (f ((at es i) .number))) (f ((at es i) .number))) (eq-eqb ((at es i) .number) ((at es i) .number) refl))
+        ∙ sym (ap f′ (nums j ∙ ap (λ k. (at es k) .number) e) ∙ tracks ((at es i) .number)
+        ∙ ap (λ b. cond b (g (f ((at es i) .number))) (f ((at es i) .number))) (eq-eqb ((at es i) .number) ((at es i) .number) refl))
     go (inr n) =
         there j n ∙ t j w
-        ∙ sym (ap f′ (nums j) ∙ tracks ((at es j) .number) ∙ ap (λ b. cond b (g (f ((at es j) .number))) (f ((at es j) .number))) (ne-eqb ((at es i) .number) ((at es j) .number) (λ e. n (firm .numbers ((at es i) .number) j i (both _ _ w (eq-eqb _ _ (sym e))) (both _ _ v (eq-eqb ((at es i) .number) ((at es i) .number) refl))))))
+        ∙ sym (ap f′ (nums j) ∙ tracks ((at es j) .number) ∙ ap (λ b. cond b (g (f ((at es j) .number))) (f ((at es j) .number)))
+        (ne-eqb ((at es i) .number) ((at es j) .number) (λ e. n
+        (firm .numbers ((at es i) .number) j i (both _ _ w (eq-eqb _ _ (sym e))) (both _ _ v (eq-eqb ((at es i) .number) ((at es i) .number) refl))))))
 
 -- nothing is touched
-pub rest-same : (es es′ : List Entry) (r r′ : Rest) (f f′ : ℕ → Track) → Nums es es′ → ((j : ℕ) → trackOf (exchangeAt r′ j) ≡ trackOf (exchangeAt r j)) → ((n : ℕ) → f′ n ≡ f n) → Tied es r f → Tied es′ r′ f′
+pub rest-same : (es es′ : List Entry) (r r′ : Rest) (f f′ : ℕ → Track) → Nums es es′ → ((j : ℕ) → trackOf (exchangeAt r′ j) ≡ trackOf (exchangeAt r j)) →
+    ((n : ℕ) → f′ n ≡ f n) → Tied es r f → Tied es′ r′ f′
 rest-same es es′ r r′ f f′ nums there tracks t j u = there j ∙ t j (ap (λ n. not (eqb n 0)) (sym (nums j)) ∙ u) ∙ sym (ap f′ (nums j) ∙ tracks ((at es j) .number))
 
 -- extras after a store
@@ -99,7 +103,8 @@ unfolding change
 change-calm l Locks.nothing x j = refl
 change-calm l (Locks.enter i n c) x j = absurd x
 change-calm l (Locks.join i c) x j = num-same (l .entries) i (Locks.joined c (at (l .entries) i)) refl j
-change-calm l (Locks.request i t k) x j = asked-num (Locks.ruling (Locks.holds k (at (l .entries) i)) (all (Locks.elsewhere i) (l .waiting)) (Locks.invalidBy k (at (l .entries) i)) (mayGrant (l .entries) i k) (eqb t 0 || Locks.noPlace (l .waiting)))
+change-calm l (Locks.request i t k) x j = asked-num (Locks.ruling (Locks.holds k (at (l .entries) i)) (all (Locks.elsewhere i) (l .waiting))
+    (Locks.invalidBy k (at (l .entries) i)) (mayGrant (l .entries) i k) (eqb t 0 || Locks.noPlace (l .waiting)))
   where
     asked-num : (a : Locks.Ruling) → (at ((Locks.respond a l i t k) .locks .entries) j) .number ≡ (at (l .entries) j) .number
     asked-num Locks.invalid = refl
@@ -146,7 +151,8 @@ drop-tied l i r r′ f f′ there tracks t j u = go (same? j i)
         ap trackOf (there j n) ∙ t j (sym (ap live same) ∙ w) ∙ sym (ap f′ (nums ∙ ap (λ (x : Entry). x .number) same) ∙ tracks ((at (l .entries) j) .number))
 
 -- an opening
-pub enter-tied : (l : Locks) (i n c : ℕ) (r r′ : Rest) (f f′ : ℕ → Track) (z : Track) → Enters (l .entries) i n c → trackOf (exchangeAt r′ i) ≡ z → ((j : ℕ) → (j ≡ i → ⊥) → exchangeAt r′ j ≡ exchangeAt r j)
+pub enter-tied : (l : Locks) (i n c : ℕ) (r r′ : Rest) (f f′ : ℕ → Track) (z : Track) → Enters (l .entries) i n c → trackOf (exchangeAt r′ i) ≡ z →
+    ((j : ℕ) → (j ≡ i → ⊥) → exchangeAt r′ j ≡ exchangeAt r j)
     → ((m : ℕ) → f′ m ≡ cond (eqb n m) z (f m)) → Tied (l .entries) r f → Tied (ends l (LockEvent.enter i n c)) r′ f′
 unfolding change
 enter-tied l i n c r r′ f f′ z x here there tracks t j u = go (same? j i)
@@ -157,12 +163,15 @@ enter-tied l i n c r r′ f f′ z x here there tracks t j u = go (same? j i)
     go : (j ≡ i) ⊎ (j ≡ i → ⊥) → trackOf (exchangeAt r′ j) ≡ f′ ((at es′ j) .number)
     go (inl e) =
         ap (λ k. trackOf (exchangeAt r′ k)) e ∙ here
-        ∙ sym (ap f′ (ap (λ k. (at es′ k) .number) e ∙ ap (λ (y : Entry). y .number) (getD-set-same (l .entries) i (Locks.opened n c) blank (x .within))) ∙ tracks n ∙ ap (λ b. cond b z (f n)) (eq-eqb n n refl))
+        ∙ sym (ap f′ (ap (λ k. (at es′ k) .number) e ∙ ap (λ (y : Entry). y .number) (getD-set-same (l .entries) i (Locks.opened n c) blank (x .within)))
+        ∙ tracks n ∙ ap (λ b. cond b z (f n)) (eq-eqb n n refl))
     go (inr d) =
         let same : at es′ j ≡ at (l .entries) j = getD-set-other (l .entries) i j (Locks.opened n c) blank d in
         let w : live (at (l .entries) j) ≡ true = sym (ap live same) ∙ u in
         ap trackOf (there j d) ∙ t j w
-        ∙ sym (ap f′ (ap (λ (y : Entry). y .number) same) ∙ tracks ((at (l .entries) j) .number) ∙ ap (λ b. cond b z (f ((at (l .entries) j) .number))) (ne-eqb n ((at (l .entries) j) .number) (λ e. x .fresh j (both _ _ w (eq-eqb _ _ (sym e))))))
+        ∙ sym (ap f′ (ap (λ (y : Entry). y .number) same) ∙ tracks ((at (l .entries) j) .number)
+        ∙ ap (λ b. cond b z (f ((at (l .entries) j) .number)))
+        (ne-eqb n ((at (l .entries) j) .number) (λ e. x .fresh j (both _ _ w (eq-eqb _ _ (sym e))))))
 
 -- kinds: what each does to it, and that the type on the wire says so
 pub syncPending : Acts.SynchronousKind → ℕ → ℕ → Track → Track
@@ -175,25 +184,39 @@ pub sync-extra : (k : Acts.SynchronousKind) (h : Header) (x : Exchange) → trac
 unfolding Acts.synchronousExchange syncPending
 sync-extra Acts.k-data h x = go (Exchange.outOfTurn (h .code) x)
   where
-    go : (b : Bool) → trackOf (Exchange.noteRmt (h .code) (Exchange.withExpectation false (cond b (Exchange.interrupted x) x))) ≡ record { overlap = x .overlap; asked = cond b none (x .asked); count = x .count; rmtExpected = false }
+    go : (b : Bool) → trackOf (Exchange.noteRmt (h .code) (Exchange.withExpectation false (cond b (Exchange.interrupted x) x))) ≡ record {
+      overlap = x .overlap;
+      asked = cond b none (x .asked);
+      count = x .count;
+      rmtExpected = false;
+    }
     go true = refl
     go false = refl
 sync-extra Acts.k-dataEnd h x = go (Exchange.outOfTurn (h .code) x)
   where
-    go : (b : Bool) → trackOf (Exchange.ask (h .code) (h .param) (Exchange.withExpectation false (cond b (Exchange.interrupted x) x))) ≡ record { overlap = x .overlap; asked = some (h .param); count = x .count; rmtExpected = false }
+    go : (b : Bool) → trackOf (Exchange.ask (h .code) (h .param) (Exchange.withExpectation false (cond b (Exchange.interrupted x) x))) ≡ record
+        { overlap = x .overlap; asked = some (h .param); count = x .count; rmtExpected = false }
     go true = refl
     go false = refl
 sync-extra Acts.k-trigger h x = go (Exchange.outOfTurn (h .code) x)
   where
-    go : (b : Bool) → trackOf (Exchange.ask (h .code) (h .param) (Exchange.withExpectation false (cond b (Exchange.interrupted x) x))) ≡ record { overlap = x .overlap; asked = some (h .param); count = x .count; rmtExpected = false }
+    go : (b : Bool) → trackOf (Exchange.ask (h .code) (h .param) (Exchange.withExpectation false (cond b (Exchange.interrupted x) x))) ≡ record
+        { overlap = x .overlap; asked = some (h .param); count = x .count; rmtExpected = false }
     go true = refl
     go false = refl
 sync-extra Acts.k-clearComplete h x = refl
 
-pub sync-follows : (b : Bool) (k x : ℕ) (p : Track) (t : ℕ) → one-of synchronousTypes t ≡ true → eqb t 2 ≡ false → eqb t 3 ≡ false → eqb t 0 ≡ false → follows b t k x p ≡ syncPending (Acts.synchronousKind t) k x p
+pub sync-follows : (b : Bool) (k x : ℕ) (p : Track) (t : ℕ) → one-of synchronousTypes t ≡ true → eqb t 2 ≡ false → eqb t 3 ≡ false → eqb t 0 ≡ false →
+    follows b t k x p ≡ syncPending (Acts.synchronousKind t) k x p
 unfolding syncPending
 sync-follows b k x p t e =
-    each-of (λ t. eqb t 2 ≡ false → eqb t 3 ≡ false → eqb t 0 ≡ false → follows b t k x p ≡ syncPending (Acts.synchronousKind t) k x p) synchronousTypes ((λ u v z. absurd (true≢false z)), ((λ u v z. absurd (true≢false u)), ((λ u v z. absurd (true≢false v)), ((λ u v z. refl), ((λ u v z. refl), ((λ u v z. refl), ((λ u v z. refl), tt))))))) t e
+    each-of (λ t. eqb t 2 ≡ false → eqb t 3 ≡ false → eqb t 0 ≡ false → follows b t k x p ≡ syncPending (Acts.synchronousKind t) k x p) synchronousTypes (
+      (λ u v z. absurd (true≢false z)),
+      (
+        (λ u v z. absurd (true≢false u)),
+        ((λ u v z. absurd (true≢false v)), ((λ u v z. refl), ((λ u v z. refl), ((λ u v z. refl), ((λ u v z. refl), tt))))),
+      ),
+    ) t e
 
 pub asyncPending : Acts.AsynchronousKind → ℕ → Track → Track
 asyncPending Acts.k-lock k p = p
@@ -206,9 +229,16 @@ asyncPending Acts.k-lockInfo k p = p
 pub async-follows : (b : Bool) (k x : ℕ) (p : Track) (t : ℕ) → one-of asynchronousTypes t ≡ true → eqb t 17 ≡ false → follows b t k x p ≡ asyncPending (Acts.asynchronousKind t) k p
 unfolding asyncPending
 async-follows b k x p t e =
-    each-of (λ t. eqb t 17 ≡ false → follows b t k x p ≡ asyncPending (Acts.asynchronousKind t) k p) asynchronousTypes ((λ z. refl), ((λ z. refl), ((λ z. refl), ((λ z. refl), ((λ z. refl), ((λ z. absurd (true≢false z)), ((λ z. refl), ((λ z. refl), ((λ z. refl), tt))))))))) t e
+    each-of (λ t. eqb t 17 ≡ false → follows b t k x p ≡ asyncPending (Acts.asynchronousKind t) k p) asynchronousTypes (
+      (λ z. refl),
+      (
+        (λ z. refl),
+        ((λ z. refl), ((λ z. refl), ((λ z. refl), ((λ z. absurd (true≢false z)), ((λ z. refl), ((λ z. refl), ((λ z. refl), tt))))))),
+      ),
+    ) t e
 
-pub async-here : (k : Acts.AsynchronousKind) (r : Rest) (i : ℕ) (h : Header) (p : List ℕ) → i < length (r .exchanges) → trackOf (exchangeAt (Acts.asynchronousRest k r i h p) i) ≡ asyncPending k (h .code) (trackOf (exchangeAt r i))
+pub async-here : (k : Acts.AsynchronousKind) (r : Rest) (i : ℕ) (h : Header) (p : List ℕ) → i < length (r .exchanges) →
+    trackOf (exchangeAt (Acts.asynchronousRest k r i h p) i) ≡ asyncPending k (h .code) (trackOf (exchangeAt r i))
 unfolding Acts.asynchronousRest asyncPending
 async-here Acts.k-lock r i h p l = refl
 async-here Acts.k-remoteLocal r i h p l = refl

@@ -74,11 +74,13 @@ old-one j t (pass-wait {vs = vs} {gs = gs} w m l) (inr o) = go (old-one j t l (o
     go (inl r) = inl (inr (o .0, r .0), r .1)
     go (inr r) = inr (both _ _ (o .0) (r .0), r .1)
 
-pub look-all : (now : ℕ) (p : Waiting → Bool) (b : Bool) (es : List Entry) (ws : List Waiting) (es′ : List Entry) (vs gs : List Waiting) → Look now b es ws es′ vs gs → all p ws ≡ true → (all p vs ≡ true) × (all p gs ≡ true)
+pub look-all : (now : ℕ) (p : Waiting → Bool) (b : Bool) (es : List Entry) (ws : List Waiting) (es′ : List Entry) (vs gs : List Waiting) →
+    Look now b es ws es′ vs gs → all p ws ≡ true → (all p vs ≡ true) × (all p gs ≡ true)
 look-all now p true es ws es′ vs gs l a = old-all p l a
 look-all now p false es ws es′ vs gs l a = (rw (l .1) a, rw (l .2))
 
-pub look-one : (now j t : ℕ) (b : Bool) (es : List Entry) (ws : List Waiting) (es′ : List Entry) (vs gs : List Waiting) → Look now b es ws es′ vs gs → One j t ws → (One j t vs × None j gs) ⊎ (None j vs × One j t gs)
+pub look-one : (now j t : ℕ) (b : Bool) (es : List Entry) (ws : List Waiting) (es′ : List Entry) (vs gs : List Waiting) → Look now b es ws es′ vs gs →
+    One j t ws → (One j t vs × None j gs) ⊎ (None j vs × One j t gs)
 look-one now j t true es ws es′ vs gs l o = old-one j t l o
 look-one now j t false es ws es′ vs gs l o = inl (rw (l .1) o, rw (l .2))
 
@@ -126,7 +128,9 @@ module _ (c k : ℕ) (es : List Entry) where
   codes-one j t e [] a o = absurd o
   codes-one j t e (w ∷ ws) a (inl o) =
       let here : eqb ((at es (w .slot)) .asynchronous) c ≡ true = eq-eqb _ _ (ap (λ (i : ℕ). (at es i) .asynchronous) (o .0) ∙ e) in
-      rw here (ap (λ xs. k ∷ xs) (codes-none ws (all-imp (λ w. (eqb (w .slot) j || away w) && elsewhere j w) away drops ws (all-and (λ w. eqb (w .slot) j || away w) (elsewhere j) ws (and-r (eqb (w .slot) j || away w) _ a) (o .2)))))
+      rw here (ap (λ xs. k ∷ xs)
+      (codes-none ws (all-imp (λ w. (eqb (w .slot) j || away w) && elsewhere j w) away drops ws
+      (all-and (λ w. eqb (w .slot) j || away w) (elsewhere j) ws (and-r (eqb (w .slot) j || away w) _ a) (o .2)))))
     where
       drops : (w : Waiting) → ((eqb (w .slot) j || away w) && elsewhere j w) ≡ true → away w ≡ true
       drops w h = go (eqb (w .slot) j) h
@@ -144,6 +148,7 @@ pub codes-append : (c : ℕ) (xs ys : List Frame) → codesTo c (xs ++ ys) ≡ c
 codes-append c [] ys = refl
 codes-append c (f ∷ xs) ys = go (eqb (f .to) c) (codes-append c xs ys)
   where
-    go : (b : Bool) → codesTo c (xs ++ ys) ≡ codesTo c xs ++ codesTo c ys → cond b (f .message .code ∷ codesTo c (xs ++ ys)) (codesTo c (xs ++ ys)) ≡ cond b (f .message .code ∷ codesTo c xs) (codesTo c xs) ++ codesTo c ys
+    go : (b : Bool) → codesTo c (xs ++ ys) ≡ codesTo c xs ++ codesTo c ys →
+        cond b (f .message .code ∷ codesTo c (xs ++ ys)) (codesTo c (xs ++ ys)) ≡ cond b (f .message .code ∷ codesTo c xs) (codesTo c xs) ++ codesTo c ys
     go true e = ap (λ zs. f .message .code ∷ zs) e
     go false e = e

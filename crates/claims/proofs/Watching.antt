@@ -14,11 +14,15 @@ use Rattle.readings.specs.Request.{requestCode}
 use Rattle.model.specs.Sizes.{sessionLimit}
 use Rattle.model.specs.Lists.{all, keep}
 use Rattle.model.specs.State.{Server, Entry, Sensing, at, live, slotOfNumber, freshSensing, sensingAt, exchangeAt, fresh, Making}
-use Rattle.model.specs.Interface.{Event, Event.opening, Event.delivery, Event.cut, Event.clock, Event.answer, Event.status, Event.setting, Setting, Setting.watch, Setting.patterns, Outcome, Outcome.more-needed, Outcome.skipped, Outcome.held, Outcome.ignored, Outcome.error-sent, Outcome.closed, Outcome.acted, Reply, Reply.refused, Reply.done, Reply.withheld, Reply.took}
+use Rattle.model.specs.Interface.{Event, Event.opening, Event.delivery, Event.cut, Event.clock, Event.answer, Event.status, Event.setting, Setting}
+use Rattle.model.specs.Interface.{Setting.watch, Setting.patterns, Outcome, Outcome.more-needed, Outcome.skipped, Outcome.held, Outcome.ignored}
+use Rattle.model.specs.Interface.{Outcome.error-sent, Outcome.closed, Outcome.acted, Reply, Reply.refused, Reply.done, Reply.withheld, Reply.took}
 use Rattle.model.specs.Place.{slotIn}
 use Rattle.model.specs.Refusals.{causes, refusal}
 use Rattle.model.specs.Step.{Result, answered, step, final, log}
-use Rattle.model.specs.Happening.{Action, Happening, Happening.unmoved, Happening.connected, Happening.disconnected, Happening.skipped-over, Happening.errored, Happening.message-acted, Happening.clock-read, Happening.status-set, Happening.setting-made, Happening.answer-sent, Happening.answer-withheld, happened}
+use Rattle.model.specs.Happening.{Action, Happening, Happening.unmoved, Happening.connected, Happening.disconnected, Happening.skipped-over, Happening.errored}
+use Rattle.model.specs.Happening.{Happening.message-acted, Happening.clock-read, Happening.status-set, Happening.setting-made, Happening.answer-sent}
+use Rattle.model.specs.Happening.{Happening.answer-withheld, happened}
 use Rattle.model.specs.LocalityRows.{kindOf, slotActed, inSlot, number-row, sensing-row, tripsBy, looksAfter}
 use Rattle.model.specs.LocalityReplies.{numberSent, plainTo, serviceFrom, serviceTo, waitingAnswer}
 use Rattle.model.specs.Locality.{atCall, Local}
@@ -138,7 +142,8 @@ module _ (d : Server) (f : ℕ → Sensing) (g : Reads d f) (r : Result) where
   kept h i q n e s = stays h i q n (λ y. y) e (λ v. s ((at es i) .number)) (λ v. refl)
 
   -- a closing
-  closed-at : (h : Happening) (i : ℕ) → i < sessionLimit → (b : Bool) → (at es′ i) .number ≡ cond b 0 ((at es i) .number) → sensingAt (r .server .rest) i ≡ cond b freshSensing (x i) → ((n : ℕ) → senses h n (f n) ≡ f n) → Goal h i
+  closed-at : (h : Happening) (i : ℕ) → i < sessionLimit → (b : Bool) → (at es′ i) .number ≡ cond b 0 ((at es i) .number) →
+      sensingAt (r .server .rest) i ≡ cond b freshSensing (x i) → ((n : ℕ) → senses h n (f n) ≡ f n) → Goal h i
   closed-at h i q true n e s = (λ v. absurd (false≢true (ap (λ m. not (eqb m 0)) (sym n) ∙ v)), λ v. e)
   closed-at h i q false n e s = kept h i q n e s
 
@@ -207,7 +212,8 @@ module _ (d : Server) (f : ℕ → Sensing) (g : Reads d f) (r : Result) where
         go (inr o) =
             let n : (at es′ i) .number ≡ (at es i) .number = number ∙ ap (λ (b : Bool). cond b (a .session) ((at es i) .number)) (ne-eqb i z₀ o) in
             stays did i q n (λ y. y) (l .1)
-            (λ v. reads ((at es i) .number) ∙ ap (λ (b : Bool). cond b freshSensing (f ((at es i) .number))) (ne-eqb (a .session) ((at es i) .number) (λ z. n₀ .fresh i (both _ _ v (eq-eqb _ _ (sym z))))))
+            (λ v. reads ((at es i) .number) ∙ ap (λ (b : Bool). cond b freshSensing (f ((at es i) .number)))
+            (ne-eqb (a .session) ((at es i) .number) (λ z. n₀ .fresh i (both _ _ v (eq-eqb _ _ (sym z))))))
             (λ v. refl)
 
     acted-at : (i : ℕ) → i < sessionLimit → Leaves did i → Goal did i

@@ -119,7 +119,11 @@ pub no-bits : (i : ℕ) → bit 0 i ≡ 1 → ⊥
 no-bits i e = omega (arith, no-bit i)
 
 pub power-bit : (i j : ℕ) → (bit (2 ^ i) j ≡ 1) ↔ (j ≡ i)
-power-bit i j = let f = added 0 i (no-bit i) j in (λ h. ⊎-elim (λ (x : bit 0 j ≡ 1). absurd (no-bits j x)) (λ (x : j ≡ i). x) (f .0 (ap (λ (m : ℕ). bit m j) (zero-add (2 ^ i)) ∙ h)), λ h. sym (ap (λ (m : ℕ). bit m j) (zero-add (2 ^ i))) ∙ f .1 (inr h))
+power-bit i j = let f = added 0 i (no-bit i) j in (
+  λ h. ⊎-elim (λ (x : bit 0 j ≡ 1). absurd (no-bits j x)) (λ (x : j ≡ i). x)
+      (f .0 (ap (λ (m : ℕ). bit m j) (zero-add (2 ^ i)) ∙ h)),
+  λ h. sym (ap (λ (m : ℕ). bit m j) (zero-add (2 ^ i))) ∙ f .1 (inr h),
+)
 
 -- the first that is set
 bit-half : (m j : ℕ) → bit m (suc j) ≡ bit (m / 2) j

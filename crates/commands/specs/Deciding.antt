@@ -11,7 +11,8 @@ use Rattle.scpi.specs.declared.Checked.{Checked}
 use Rattle.scpi.specs.declared.Checked.the-variants.{Good, Bad}
 use Rattle.scpi.specs.Bytes.{colonSign, caseless}
 use Rattle.scpi.specs.Grammar.{Word, short, long, Row, Row.r-none, Row.r-word, Row.r-bracket, mark, Tree, Tree.t-path, Tree.t-star, source, GoodPattern}
-use Rattle.commands.specs.Spelling.{SpellsWord, SpellsWord.in-short, SpellsWord.in-long, SpellsRow, SpellsRow.s-none, SpellsRow.s-word, SpellsRow.s-kept, SpellsRow.s-dropped, SpellsTree, SpellsTree.s-path, Matches}
+use Rattle.commands.specs.Spelling.{SpellsWord, SpellsWord.in-short, SpellsWord.in-long, SpellsRow, SpellsRow.s-none, SpellsRow.s-word, SpellsRow.s-kept}
+use Rattle.commands.specs.Spelling.{SpellsRow.s-dropped, SpellsTree, SpellsTree.s-path, Matches}
 use Rattle.scpi.specs.Answers.{untrue}
 use Rattle.commands.specs.Whole.{star-in, star-out}
 use Rattle.scpi.specs.Verdicts.{Verdict, verdictOf, verdict-is, good-not-bad}
@@ -74,7 +75,8 @@ nothing-split P (a ∷ u) v e h = absurd (let z : _≡_ {A = ℕ} 0 1 = cc in om
 
 splits : (c : List ℕ) (P : List ℕ → List ℕ → Type 0) → ((u v : List ℕ) → Decided (P u v)) → Decided (Split c P)
 splits [] P d = decided-as (λ (h : P [] []). record { front = []; back = []; joined = refl; holds = h }) (λ s. nothing-split P (s .front) (s .back) (s .joined) (s .holds)) (d [] [])
-splits (b ∷ c) P d = decided-as (split-first b c P) (λ s. first-split b c P (s .front) (s .back) (s .joined) (s .holds)) (either (d [] (b ∷ c)) (splits c (λ (u v : List ℕ). P (b ∷ u) v) (λ u v. d (b ∷ u) v)))
+splits (b ∷ c) P d = decided-as (split-first b c P) (λ s. first-split b c P (s .front) (s .back) (s .joined) (s .holds))
+    (either (d [] (b ∷ c)) (splits c (λ (u v : List ℕ). P (b ∷ u) v) (λ u v. d (b ∷ u) v)))
 
 word-in : (w : Word) (u : List ℕ) → SpellsWord w u → (caseless u ≡ caseless (short w)) ⊎ (caseless u ≡ caseless (long w))
 word-in w u (in-short e) = inl e

@@ -9,10 +9,24 @@ use Rattle.commands.specs.Spelling.{SpellsWord.in-short, SpellsWord.in-l
 use Rattle.commands.specs.Lists.{linesOf, commandOf}
 
 abbrev MEASure : Word
-MEASure = record { capital = 77; capitals = 69 ∷ 65 ∷ 83 ∷ []; smalls = 117 ∷ 114 ∷ 101 ∷ []; is-capital = (lit≤ tt, lit≤ tt); are-capitals = ((lit≤ tt, lit≤ tt), ((lit≤ tt, lit≤ tt), ((lit≤ tt, lit≤ tt), tt))); are-small = ((lit≤ tt, lit≤ tt), ((lit≤ tt, lit≤ tt), ((lit≤ tt, lit≤ tt), tt))) }
+MEASure = record {
+  capital = 77;
+  capitals = 69 ∷ 65 ∷ 83 ∷ [];
+  smalls = 117 ∷ 114 ∷ 101 ∷ [];
+  is-capital = (lit≤ tt, lit≤ tt);
+  are-capitals = ((lit≤ tt, lit≤ tt), ((lit≤ tt, lit≤ tt), ((lit≤ tt, lit≤ tt), tt)));
+  are-small = ((lit≤ tt, lit≤ tt), ((lit≤ tt, lit≤ tt), ((lit≤ tt, lit≤ tt), tt)));
+}
 
 abbrev VOLTage : Word
-VOLTage = record { capital = 86; capitals = 79 ∷ 76 ∷ 84 ∷ []; smalls = 97 ∷ 103 ∷ 101 ∷ []; is-capital = (lit≤ tt, lit≤ tt); are-capitals = ((lit≤ tt, lit≤ tt), ((lit≤ tt, lit≤ tt), ((lit≤ tt, lit≤ tt), tt))); are-small = ((lit≤ tt, lit≤ tt), ((lit≤ tt, lit≤ tt), ((lit≤ tt, lit≤ tt), tt))) }
+VOLTage = record {
+  capital = 86;
+  capitals = 79 ∷ 76 ∷ 84 ∷ [];
+  smalls = 97 ∷ 103 ∷ 101 ∷ [];
+  is-capital = (lit≤ tt, lit≤ tt);
+  are-capitals = ((lit≤ tt, lit≤ tt), ((lit≤ tt, lit≤ tt), ((lit≤ tt, lit≤ tt), tt)));
+  are-small = ((lit≤ tt, lit≤ tt), ((lit≤ tt, lit≤ tt), ((lit≤ tt, lit≤ tt), tt)));
+}
 
 abbrev DC : Word
 DC = record { capital = 68; capitals = 67 ∷ []; smalls = []; is-capital = (lit≤ tt, lit≤ tt); are-capitals = ((lit≤ tt, lit≤ tt), tt); are-small = tt }

@@ -50,7 +50,8 @@ starts-append [] y l = refl
 starts-append (x ∷ xs) y [] = refl
 starts-append (x ∷ xs) y (z ∷ l) = go (eqb (upper x) (upper z)) (starts-append xs y l)
   where
-    go : (t : Bool) → starts (xs ++ y) l ≡ cond (starts xs l) (starts y (drop (length xs) l)) false → cond t (starts (xs ++ y) l) false ≡ cond (cond t (starts xs l) false) (starts y (drop (length xs) l)) false
+    go : (t : Bool) → starts (xs ++ y) l ≡ cond (starts xs l) (starts y (drop (length xs) l)) false →
+        cond t (starts (xs ++ y) l) false ≡ cond (cond t (starts xs l) false) (starts y (drop (length xs) l)) false
     go true h = h
     go false h = refl
 
@@ -136,7 +137,8 @@ module _ (x y c s : List ℕ) where
       let fx = lands-taken x c u v i taken k in
       let fy = lands-taken y c u v i taken k in (
         λ h. so-far k .0 (⊎-elim
-            (λ (o : On r k). ⊎-elim (λ (a : On t k). inl a) (λ (z : From x c i k ⊎ From y c i k). inr (⊎-elim (λ (a : From x c i k). inl (fx .1 (inr a))) (λ (a : From y c i k). inr (fy .1 (inr a))) z)) (spread k .0 o))
+            (λ (o : On r k). ⊎-elim (λ (a : On t k). inl a) (λ (z : From x c i k ⊎ From y c i k). inr
+            (⊎-elim (λ (a : From x c i k). inl (fx .1 (inr a))) (λ (a : From y c i k). inr (fy .1 (inr a))) z)) (spread k .0 o))
             (λ (z : Either x y c v k). inr (⊎-elim (λ (a : Lands x c v k). inl (fx .1 (inl a))) (λ (a : Lands y c v k). inr (fy .1 (inl a))) z))
             h),
         λ h. ⊎-elim

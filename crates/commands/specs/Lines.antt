@@ -104,7 +104,9 @@ module _ (s : List ℕ) (i : ℕ) where
 
 -- a line, and the lines behind it
 -- nothing was found, and nothing is
-pub line-clear : (s : List ℕ) (a n : ℕ) (t : Bool) → a + n < length s → (t || eqb (getD s (a + n) 0) 10) ≡ false → (t ≡ false → a + lineLength (drop a s) ≡ a + n + lineLength (drop (a + n) s)) → a + lineLength (drop a s) ≡ a + (n + 1) + lineLength (drop (a + (n + 1)) s)
+pub line-clear : (s : List ℕ) (a n : ℕ) (t : Bool) → a + n < length s → (t || eqb (getD s (a + n) 0) 10) ≡ false →
+    (t ≡ false → a + lineLength (drop a s) ≡ a + n + lineLength (drop (a + n) s)) →
+    a + lineLength (drop a s) ≡ a + (n + 1) + lineLength (drop (a + (n + 1)) s)
 line-clear s a n true l e h = untrue (sym e)
 line-clear s a n false l e h =
     let q : a + n + 1 ≡ a + (n + 1) = omega arith in

@@ -19,7 +19,8 @@ module _ (s : List ℕ) (j : ℕ) where
   pub on-low : j < 64 → (bit (getD s 0 0) j ≡ 1) ↔ On s j
   on-low l = (
     λ h. inl (omega arith, omega arith, ap (bit (getD s 0 0)) (sub-zero j) ∙ h),
-    λ h. ⊎-elim (λ (x : In (getD s 0 0) 0 j). sym (ap (bit (getD s 0 0)) (sub-zero j)) ∙ x .2) (λ y. absurd (⊎-elim (λ (x : In (getD s 1 0) 64 j). omega (arith, x .0)) (λ (x : In (getD s 2 0) 128 j). omega (arith, x .0)) y)) h,
+    λ h. ⊎-elim (λ (x : In (getD s 0 0) 0 j). sym (ap (bit (getD s 0 0)) (sub-zero j)) ∙ x .2)
+        (λ y. absurd (⊎-elim (λ (x : In (getD s 1 0) 64 j). omega (arith, x .0)) (λ (x : In (getD s 2 0) 128 j). omega (arith, x .0)) y)) h,
   )
 
   pub on-mid : 64 ≤ j → j < 128 → (bit (getD s 1 0) (j - 64) ≡ 1) ↔ On s j
@@ -108,7 +109,8 @@ module _ (s : List ℕ) (j : ℕ) (o : On s j) where
         omega (arith, less (getD s 0 0) j b),
       )
 
-  pub without-mid : 64 ≤ j → j < 128 → ((k : ℕ) → On s k ↔ (On (getD s 0 0 ∷ (getD s 1 0 - 2 ^ (j - 64)) ∷ getD s 2 0 ∷ []) k ⊎ (k ≡ j))) × (getD s 0 0 + (getD s 1 0 - 2 ^ (j - 64)) + getD s 2 0 < weight s)
+  pub without-mid : 64 ≤ j → j < 128 → ((k : ℕ) → On s k ↔ (On (getD s 0 0 ∷ (getD s 1 0 - 2 ^ (j - 64)) ∷ getD s 2 0 ∷ []) k ⊎ (k ≡ j)))
+      × (getD s 0 0 + (getD s 1 0 - 2 ^ (j - 64)) + getD s 2 0 < weight s)
   without-mid g l =
       let b : bit (getD s 1 0) (j - 64) ≡ 1 = on-mid s j g l .1 o in (
         λ k. in-second (differing (getD s 1 0) (getD s 1 0 - 2 ^ (j - 64)) 64 j k g (omega arith) (lessened (getD s 1 0) (j - 64) b)),
@@ -132,7 +134,9 @@ in-either m n b j = (
 
 three : {X Y Z A B C D E F : Type 0} → X ↔ (A ⊎ D) → Y ↔ (B ⊎ E) → Z ↔ (C ⊎ F) → (X ⊎ (Y ⊎ Z)) ↔ ((A ⊎ (B ⊎ C)) ⊎ (D ⊎ (E ⊎ F)))
 three {X} {Y} {Z} {A} {B} {C} {D} {E} {F} f g h = (
-  λ u. ⊎-elim (λ (x : X). ⊎-elim (λ (a : A). inl (inl a)) (λ (d : D). inr (inl d)) (f .0 x)) (λ (v : Y ⊎ Z). ⊎-elim (λ (y : Y). ⊎-elim (λ (b : B). inl (inr (inl b))) (λ (e : E). inr (inr (inl e))) (g .0 y)) (λ (z : Z). ⊎-elim (λ (c : C). inl (inr (inr c))) (λ (q : F). inr (inr (inr q))) (h .0 z)) v) u,
+  λ u. ⊎-elim (λ (x : X). ⊎-elim (λ (a : A). inl (inl a)) (λ (d : D). inr (inl d)) (f .0 x))
+      (λ (v : Y ⊎ Z). ⊎-elim (λ (y : Y). ⊎-elim (λ (b : B). inl (inr (inl b))) (λ (e : E). inr (inr (inl e))) (g .0 y))
+      (λ (z : Z). ⊎-elim (λ (c : C). inl (inr (inr c))) (λ (q : F). inr (inr (inr q))) (h .0 z)) v) u,
   λ u. ⊎-elim
       (λ (v : A ⊎ (B ⊎ C)). ⊎-elim (λ (a : A). inl (f .1 (inl a))) (λ (w : B ⊎ C). ⊎-elim (λ (b : B). inr (inl (g .1 (inl b)))) (λ (c : C). inr (inr (h .1 (inl c)))) w) v)
       (λ (v : D ⊎ (E ⊎ F)). ⊎-elim (λ (d : D). inl (f .1 (inr d))) (λ (w : E ⊎ F). ⊎-elim (λ (e : E). inr (inl (g .1 (inr e)))) (λ (q : F). inr (inr (h .1 (inr q)))) w) v)
@@ -184,5 +188,7 @@ module _ (s : List ℕ) where
       let r : ℕ = trailingZeros 64 (getD s 2 0) in
       let e : r + 128 - 128 ≡ r = omega arith in (
         λ h. on-high s (r + 128) (omega arith) h .0 (ap (bit (getD s 2 0)) e ∙ found (getD s 2 0) (omega arith)),
-        λ h j o. ⊎-elim (λ (x : In (getD s 0 0) 0 j). empty-word (getD s 0 0) 0 f j x) (λ y. ⊎-elim (λ (x : In (getD s 1 0) 64 j). empty-word (getD s 1 0) 64 g j x) (λ (x : In (getD s 2 0) 128 j). empty-word (getD s 2 0) 128 (λ l. omega arith) j x) y) o,
+        λ h j o. ⊎-elim (λ (x : In (getD s 0 0) 0 j). empty-word (getD s 0 0) 0 f j x)
+            (λ y. ⊎-elim (λ (x : In (getD s 1 0) 64 j). empty-word (getD s 1 0) 64 g j x)
+            (λ (x : In (getD s 2 0) 128 j). empty-word (getD s 2 0) 128 (λ l. omega arith) j x) y) o,
       )

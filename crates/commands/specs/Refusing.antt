@@ -124,12 +124,15 @@ module _ (t : List ℕ) (newline : (b : ℕ) (k : List ℕ) → t ≡ b ∷ k �
   fits-word : (x : ℕ) (xs ss : List ℕ) → Capital x → All Capital xs → All Small ss → (r : Row) (q : Bool) (u z : List ℕ) → (caseless u ≡ caseless (x ∷ xs)) ⊎ (caseless u ≡ caseless ((x ∷ xs) ++ ss))
       → Fits ((((x ∷ xs) ++ ss) ++ (text r ++ mark q)) ++ t) (u ++ z)
   fits-word x [] ss cx cs sm r q u z e = (
-    ⊎-elim (λ (f : caseless u ≡ caseless (x ∷ [])). sym (like-first u z x [] f ∙ upper-capital x cx)) (λ (f : caseless u ≡ caseless ((x ∷ []) ++ ss)). sym (like-first u z x (caseless ss) f ∙ upper-capital x cx)) e,
+    ⊎-elim (λ (f : caseless u ≡ caseless (x ∷ [])). sym (like-first u z x [] f ∙ upper-capital x cx))
+        (λ (f : caseless u ≡ caseless ((x ∷ []) ++ ss)). sym (like-first u z x (caseless ss) f ∙ upper-capital x cx)) e,
     λ h. absurd (bare ss sm r q h),
   )
   fits-word x (y ∷ ys) ss cx cs sm r q u z e = (
-    ⊎-elim (λ (f : caseless u ≡ caseless (x ∷ y ∷ ys)). sym (like-first u z x (caseless (y ∷ ys)) f ∙ upper-capital x cx)) (λ (f : caseless u ≡ caseless ((x ∷ y ∷ ys) ++ ss)). sym (like-first u z x (caseless ((y ∷ ys) ++ ss)) f ∙ upper-capital x cx)) e,
-    λ h. ⊎-elim (λ (f : caseless u ≡ caseless (x ∷ y ∷ ys)). sym (like-second u z x y (caseless ys) f ∙ upper-capital y (cs .0))) (λ (f : caseless u ≡ caseless ((x ∷ y ∷ ys) ++ ss)). sym (like-second u z x y (caseless (ys ++ ss)) f ∙ upper-capital y (cs .0))) e,
+    ⊎-elim (λ (f : caseless u ≡ caseless (x ∷ y ∷ ys)). sym (like-first u z x (caseless (y ∷ ys)) f ∙ upper-capital x cx))
+        (λ (f : caseless u ≡ caseless ((x ∷ y ∷ ys) ++ ss)). sym (like-first u z x (caseless ((y ∷ ys) ++ ss)) f ∙ upper-capital x cx)) e,
+    λ h. ⊎-elim (λ (f : caseless u ≡ caseless (x ∷ y ∷ ys)). sym (like-second u z x y (caseless ys) f ∙ upper-capital y (cs .0)))
+        (λ (f : caseless u ≡ caseless ((x ∷ y ∷ ys) ++ ss)). sym (like-second u z x y (caseless (ys ++ ss)) f ∙ upper-capital y (cs .0))) e,
   )
 
   word-in : (w : Word) (u : List ℕ) → SpellsWord w u → (caseless u ≡ caseless (short w)) ⊎ (caseless u ≡ caseless (long w))
@@ -202,7 +205,8 @@ module _ (s c : List ℕ) where
     line-behind [] = refl
     line-behind (x ∷ l) = go (eqb x 10) refl (line-behind l)
       where
-        go : (t : Bool) → eqb x 10 ≡ t → behind (drop (lineLength l) l) ≡ behind l → behind (drop (cond t 0 (suc (lineLength l))) (x ∷ l)) ≡ linesOf (drop (suc (cond t 0 (suc (lineLength l)))) (x ∷ l))
+        go : (t : Bool) → eqb x 10 ≡ t → behind (drop (lineLength l) l) ≡ behind l →
+            behind (drop (cond t 0 (suc (lineLength l))) (x ∷ l)) ≡ linesOf (drop (suc (cond t 0 (suc (lineLength l)))) (x ∷ l))
         go true h k = rw h
         go false h k = k
 
@@ -220,7 +224,8 @@ module _ (s c : List ℕ) where
     pub line-refused : (Matches (part at e s) c → ⊥) → Allows (linesOf (drop at s)) c ↔ Allows (behind (drop e s)) c
     line-refused n = ⊎-elim
         (λ (l : at < length s). allows-rest (linesOf (drop at s)) (part at e s) (behind (drop e s)) c (first-line l) n)
-        (λ (l : length s ≤ at). Iff·trans (same-allows _ _ (lines-end s at l)) (same-allows [] (behind (drop e s)) (sym (ap behind (drop-of-length-le s (let k : length s ≤ e = omega arith in k)) ∙ nothing-behind))))
+        (λ (l : length s ≤ at). Iff·trans (same-allows _ _ (lines-end s at l))
+        (same-allows [] (behind (drop e s)) (sym (ap behind (drop-of-length-le s (let k : length s ≤ e = omega arith in k)) ∙ nothing-behind))))
         (lt-or-ge at (length s))
 
   -- the first line of all
@@ -228,7 +233,8 @@ module _ (s c : List ℕ) where
     pub first-matched : Matches (take e s) c → Allows (linesOf s) c
     first-matched m = ⊎-elim
         (λ (l : 0 < length s). line-matched 0 e ends l (subst (λ (x : ℕ). Matches (take x s) c) (sym (sub-zero e)) m))
-        (λ (l : length s ≤ 0). let n : length (take e s) ≡ 0 = let d : length (take e s) ≡ min e (length s) = length-take e s in omega arith in absurd (says-empty (take e s) c n (m .good) (m .spells)))
+        (λ (l : length s ≤ 0). let n : length (take e s) ≡ 0 = let d : length (take e s) ≡ min e (length s) = length-take e s in omega arith in
+        absurd (says-empty (take e s) c n (m .good) (m .spells)))
         (lt-or-ge 0 (length s))
 
     first-refused : (Matches (take e s) c → ⊥) → Allows (linesOf s) c ↔ Allows (behind (drop e s)) c
@@ -277,7 +283,8 @@ module _ (s c : List ℕ) (f g : ℕ) (ef : f ≡ upper (getD c 0 0)) (eg : g �
       let k : i + 1 + n - (i + 1) ≡ n = omega arith in
       let m : i + 1 + suc n ≡ i + 1 + n + 1 = omega arith in
       let d : drop (suc n) (drop (i + 1) s) ≡ drop (i + 1 + n + 1) s = drop-drop (suc n) (i + 1) s ∙ ap (λ (x : ℕ). drop x s) m in
-      let r = allows-rest (linesOf (drop (i + 1) s)) (part (i + 1) (i + 1 + n) s) (linesOf (drop (i + 1 + n + 1) s)) c e (λ h. refused i b o (subst (λ (x : ℕ). Matches (take x (drop (i + 1) s)) c) k h)) in
+      let r = allows-rest (linesOf (drop (i + 1) s)) (part (i + 1) (i + 1 + n) s) (linesOf (drop (i + 1 + n + 1) s)) c e
+      (λ h. refused i b o (subst (λ (x : ℕ). Matches (take x (drop (i + 1) s)) c) k h)) in
       subst (λ (x : List ℕ). Allows (linesOf (drop (i + 1) s)) c ↔ Allows (linesOf x) c) (sym d) r
 
   pass : (i : ℕ) → i < length s → opens s i f g ≡ false → Allows (behind (drop i s)) c ↔ Allows (behind (drop (i + 1) s)) c
@@ -296,7 +303,9 @@ module _ (s c : List ℕ) (f g : ℕ) (ef : f ≡ upper (getD c 0 0)) (eg : g �
   shut-passed zero a l h = same-allows s c _ _ (ap (λ (x : ℕ). behind (drop x s)) (let e : a ≡ a + 0 = omega arith in e))
   shut-passed (suc n) a l h =
       let e : a + 1 + n ≡ a + suc n = omega arith in
-      Iff·trans (pass a (omega arith) (h a (omega arith) (omega arith))) (Iff·trans (shut-passed n (a + 1) (omega arith) (λ k p q. h k (omega arith) (omega arith))) (same-allows s c _ _ (ap (λ (x : ℕ). behind (drop x s)) e)))
+      Iff·trans (pass a (omega arith) (h a (omega arith) (omega arith)))
+      (Iff·trans (shut-passed n (a + 1) (omega arith) (λ k p q. h k (omega arith) (omega arith)))
+      (same-allows s c _ _ (ap (λ (x : ℕ). behind (drop x s)) e)))
 
   pub moved : (e r : ℕ) → e ≤ r → r ≤ length s → Shut s f g e r → Allows (behind (drop e s)) c ↔ Allows (behind (drop r s)) c
   moved e r l k h =

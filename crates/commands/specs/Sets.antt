@@ -87,7 +87,8 @@ module _ (w : Word) (r : Row) (c s t : List ℕ) (j : ℕ) (step : (k : ℕ) →
   pub reach-word : Reach r c t j ↔ Reach (r-word w r) c s j
   reach-word = (
     λ h. ⊎-elim
-        (λ (y : Lands (colonSign ∷ short w) c s (h .from)). word-out (y .from) (h .from) (y .spelling) (h .spelling) (short w) (y .begins) (y .like) (λ u′ e. in-short e) (y .cut) (h .spelled) (h .cut))
+        (λ (y : Lands (colonSign ∷ short w) c s (h .from)). word-out (y .from) (h .from) (y .spelling) (h .spelling) (short w) (y .begins) (y .like)
+        (λ u′ e. in-short e) (y .cut) (h .spelled) (h .cut))
         (λ (y : Lands (colonSign ∷ long w) c s (h .from)). word-out (y .from) (h .from) (y .spelling) (h .spelling) (long w) (y .begins) (y .like) (λ u′ e. in-long e) (y .cut) (h .spelled) (h .cut))
         (step (h .from) .0 (h .begins)),
     λ h. word-in (h .from) (h .spelling) (h .begins) (h .spelled) (h .cut),
@@ -108,7 +109,13 @@ module _ (q r : Row) (c s t : List ℕ) (j : ℕ) (step : (k : ℕ) → On t k �
   reach-bracket = (
     λ h. ⊎-elim
         (λ (y : On s (h .from)). record { from = h .from; spelling = h .spelling; begins = y; spelled = s-dropped (h .spelled); cut = h .cut })
-        (λ (y : Reach q c s (h .from)). record { from = y .from; spelling = y .spelling ++ h .spelling; begins = y .begins; spelled = s-kept (y .spelled) (h .spelled); cut = cut-append c (y .from) (y .spelling) (h .from) (h .spelling) j (y .cut) (h .cut) })
+        (λ (y : Reach q c s (h .from)). record {
+          from = y .from;
+          spelling = y .spelling ++ h .spelling;
+          begins = y .begins;
+          spelled = s-kept (y .spelled) (h .spelled);
+          cut = cut-append c (y .from) (y .spelling) (h .from) (h .spelling) j (y .cut) (h .cut);
+        })
         (step (h .from) .0 (h .begins)),
     λ h. bracket-in (h .from) (h .spelling) (h .begins) (h .spelled) (h .cut),
   )

@@ -133,7 +133,9 @@ module _ (d : ℕ) (p : List ℕ) (at : ℕ) (c s : List ℕ) (h : at < length p
           let x = w .row r rest n f (behind-word p (at + 1) v (text r ++ rest) there nl m em e ee) in
           let ps : part at m p ≡ colonSign ∷ short v = part-short p (at + 1) v (text r ++ rest) there nl m em e ee at (colonSign ∷ []) q′ refl in
           let pl : part at e p ≡ colonSign ∷ long v = part-long p (at + 1) v (text r ++ rest) there nl m em e ee at (colonSign ∷ []) q′ refl in
-          let st : (k : ℕ) → On t k ↔ (Lands (colonSign ∷ short v) c s k ⊎ Lands (colonSign ∷ long v) c s k) = subst (λ (a : List ℕ). (k : ℕ) → On t k ↔ (Lands (colonSign ∷ short v) c s k ⊎ Lands a c s k)) pl (subst (λ (a : List ℕ). (k : ℕ) → On t k ↔ (Lands a c s k ⊎ Lands (part at e p) c s k)) ps step) in
+          let st : (k : ℕ) → On t k ↔ (Lands (colonSign ∷ short v) c s k ⊎ Lands (colonSign ∷ long v) c s k) =
+          subst (λ (a : List ℕ). (k : ℕ) → On t k ↔ (Lands (colonSign ∷ short v) c s k ⊎ Lands a c s k)) pl
+          (subst (λ (a : List ℕ). (k : ℕ) → On t k ↔ (Lands a c s k ⊎ Lands (part at e p) c s k)) ps step) in
           (x .0, λ j. Iff·trans (x .1 j) (reach-word v r c s t j st))
 
   -- a bracket, and the walk behind it
@@ -160,8 +162,14 @@ module _ (d : ℕ) (p : List ℕ) (at : ℕ) (c s : List ℕ) (i : ℕ) (t u : L
     onward = let h : at ≤ i = w .onward in omega arith;
     inside = omega arith;
     row = λ r rest n e.
-        let x = w .row r (closeSign ∷ rest) n (inr refl) e in
-        (sym (drop-drop 1 i p) ∙ ap (drop 1) (x .0), λ j. (λ y. ⊎-elim (λ (z : On s j). inl z) (λ (z : On t j). inr (x .1 j .0 z)) (both j .0 y), λ y. both j .1 (⊎-elim (λ (z : On s j). inl z) (λ (z : Reach r c s j). inr (x .1 j .1 z)) y)));
+        let x = w .row r (closeSign ∷ rest) n (inr refl) e in (
+          sym (drop-drop 1 i p) ∙ ap (drop 1) (x .0),
+          λ j. (
+            λ y. ⊎-elim (λ (z : On s j). inl z) (λ (z : On t j). inr (x .1 j .0 z)) (both j .0 y),
+            λ y. both j .1
+                (⊎-elim (λ (z : On s j). inl z) (λ (z : Reach r c s j). inr (x .1 j .1 z)) y),
+          ),
+        );
   }
 
   pub bracket-out : length p ≤ i → Bracketed d p at c s i u

@@ -12,7 +12,8 @@ use lib.Seq.{drop-cons, drop-append-seam, take-length}
 use borrow.Author.Tests.{leb-true}
 use Rattle.scpi.specs.Bytes.{Capital, querySign, starSign, upper, caseless}
 use Rattle.scpi.specs.Grammar.{Word, short, long, Row, text, Within, mark, Tree, Tree.t-path, Tree.t-star, source, Fine, GoodPattern}
-use Rattle.commands.specs.Spelling.{SpellsWord, SpellsWord.in-short, SpellsWord.in-long, SpellsRow, SpellsRow.s-none, SpellsRow.s-word, SpellsRow.s-kept, SpellsRow.s-dropped, SpellsTree, SpellsTree.s-path, SpellsTree.s-star, Spells}
+use Rattle.commands.specs.Spelling.{SpellsWord, SpellsWord.in-short, SpellsWord.in-long, SpellsRow, SpellsRow.s-none, SpellsRow.s-word, SpellsRow.s-kept}
+use Rattle.commands.specs.Spelling.{SpellsRow.s-dropped, SpellsTree, SpellsTree.s-path, SpellsTree.s-star, Spells}
 use Rattle.commands.specs.Cuts.{Cut, cut-behind, cut-append, cut-first, cut-last, cut-inside}
 use Rattle.commands.specs.Sets.{On, Lands, Reach}
 use Rattle.scpi.specs.Answers.{Says, says-as}
@@ -37,15 +38,24 @@ upto-in w r q c (s-path {u = u} {v = v} a b) = (
 
 pub upto-out : (w : Word) (r : Row) (q : Bool) (c : List ℕ) (k : ℕ) → Upto w r c k → drop k c ≡ mark q → SpellsTree (t-path w r q) c
 upto-out w r q c k h e =
-    let f : c ≡ h .first ++ (h .row ++ mark q) = h .cut .split ∙ ap (λ (l : List ℕ). (h .first ++ h .row) ++ l) (sym (cut-behind c 0 (h .first ++ h .row) k (h .cut)) ∙ e) ∙ append-assoc (h .first) (h .row) (mark q) in
+    let f : c ≡ h .first ++ (h .row ++ mark q) = h .cut .split
+    ∙ ap (λ (l : List ℕ). (h .first ++ h .row) ++ l) (sym (cut-behind c 0 (h .first ++ h .row) k (h .cut)) ∙ e)
+    ∙ append-assoc (h .first) (h .row) (mark q) in
     subst (λ (l : List ℕ). SpellsTree (t-path w r q) l) (sym f) (s-path (h .word-spelled) (h .row-spelled))
 
 -- the walk's set holds these places
-module _ (w : Word) (r : Row) (c s t u : List ℕ) (origin : (j : ℕ) → On s j ↔ (j ≡ 0)) (step : (k : ℕ) → On t k ↔ (Lands (short w) c s k ⊎ Lands (long w) c s k)) (walk : (j : ℕ) → On u j ↔ Reach r c t j) where
+module _ (w : Word) (r : Row) (c s t u : List ℕ) (origin : (j : ℕ) → On s j ↔ (j ≡ 0))
+    (step : (k : ℕ) → On t k ↔ (Lands (short w) c s k ⊎ Lands (long w) c s k)) (walk : (j : ℕ) → On u j ↔ Reach r c t j) where
   first-out : (j k : ℕ) (v x : List ℕ) → ((a : List ℕ) → caseless a ≡ caseless x → SpellsWord w a) → Lands x c s k → SpellsRow r v → Cut c k v j → Upto w r c j
   first-out j k v x f y b z =
       let e : y .from ≡ 0 = origin (y .from) .0 (y .begins) in
-      record { first = y .spelling; row = v; word-spelled = f (y .spelling) (y .like); row-spelled = b; cut = cut-append c 0 (y .spelling) k v j (subst (λ (m : ℕ). Cut c m (y .spelling) k) e (y .cut)) z }
+      record {
+        first = y .spelling;
+        row = v;
+        word-spelled = f (y .spelling) (y .like);
+        row-spelled = b;
+        cut = cut-append c 0 (y .spelling) k v j (subst (λ (m : ℕ). Cut c m (y .spelling) k) e (y .cut)) z;
+      }
 
   first-in : (k : ℕ) (a : List ℕ) → SpellsWord w a → Cut c 0 a k → On t k
   first-in k a (in-short e) z = step k .1 (inl (record { from = 0; spelling = a; begins = origin 0 .1 refl; like = e; cut = z }))
@@ -156,7 +166,8 @@ module _ (b : ℕ) (bs : List ℕ) (q : Bool) where
       let f : upper a ∷ caseless c ≡ starSign ∷ (caseless (b ∷ bs) ++ mark q) = e ∙ star-text in
       let g : upper a ≡ starSign = cc in
       let t = parted (b ∷ bs) (mark q) c (let h : caseless c ≡ caseless (b ∷ bs) ++ mark q = cc in h) in
-      let m : a ∷ c ≡ starSign ∷ (t .front ++ mark q) = ap₂ (λ (n : ℕ) (k : List ℕ). n ∷ k) (upper-sign starSign a (lit< tt) g) (t .joined ∙ ap (λ (k : List ℕ). t .front ++ k) (like-mark q (t .back) (t .back-like))) in
+      let m : a ∷ c ≡ starSign ∷ (t .front ++ mark q) = ap₂ (λ (n : ℕ) (k : List ℕ). n ∷ k) (upper-sign starSign a (lit< tt) g)
+      (t .joined ∙ ap (λ (k : List ℕ). t .front ++ k) (like-mark q (t .back) (t .back-like))) in
       subst (λ (l : List ℕ). SpellsTree (t-star b bs q) l) (sym m) (s-star (t .front) (t .front-like))
 
 -- comparing all of p with all of c
@@ -187,7 +198,12 @@ first-short w r q c (s-path {u = u} {v = v} a b) = starts-begins (short w) (u ++
     go (in-short e) = record { spelling = u; rest = v ++ mark q; split = refl; like = e }
     go (in-long e) =
         let t = parted (short w) (caseless (w .smalls)) u (e ∙ caseless-append (short w) (w .smalls)) in
-        record { spelling = t .front; rest = t .back ++ (v ++ mark q); split = ap (λ (k : List ℕ). k ++ (v ++ mark q)) (t .joined) ∙ append-assoc (t .front) (t .back) (v ++ mark q); like = t .front-like }
+        record {
+          spelling = t .front;
+          rest = t .back ++ (v ++ mark q);
+          split = ap (λ (k : List ℕ). k ++ (v ++ mark q)) (t .joined) ∙ append-assoc (t .front) (t .back) (v ++ mark q);
+          like = t .front-like;
+        }
 
 -- a spelling is no longer than the pattern
 word-length : (w : Word) (u : List ℕ) → SpellsWord w u → length u ≤ length (long w)

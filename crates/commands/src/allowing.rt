@@ -168,7 +168,8 @@ fn second_differs(text: &[u8], g: u8) -> bool
 // Does the first line match the command? By its first two bytes most do not: f and g are the command's.
 fn first_matches(text: &[u8], c: &[u8], f: u8, g: u8) -> bool
     requires { ⌜ (f ≡ upper (getD (now c) 0 0)) × (g ≡ upper (getD (now c) 1 0)) ⌝ }
-    ensures { λ r. ⌜ (r ≡ true → Allows (linesOf (now (text .entry))) (now (c .entry))) × (r ≡ false → Allows (linesOf (now (text .entry))) (now (c .entry)) ↔ Allows (behind (now (text .entry))) (now (c .entry))) ⌝ }
+    ensures { λ r. ⌜ (r ≡ true → Allows (linesOf (now (text .entry))) (now (c .entry)))
+        × (r ≡ false → Allows (linesOf (now (text .entry))) (now (c .entry)) ↔ Allows (behind (now (text .entry))) (now (c .entry))) ⌝ }
 {
     if text.len() == 0 {
         return false;

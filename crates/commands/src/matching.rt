@@ -170,7 +170,8 @@ fn from_place(
     i: usize,
 ) -> Stride
     requires { ⌜ (a < m) × (m ≤ e) × (e ≤ length (now p)) × (length (now c) ≤ 128) × On left i ⌝ }
-    ensures { λ r. ⌜ ((k : ℕ) → On left k ↔ (On (r .left) k ⊎ (k ≡ i))) × (weight (r .left) < weight left) × Spread (part a m (now (p .entry))) (part a e (now (p .entry))) (now (c .entry)) i t (r .on) × Member (r .left) (r .next) ⌝ }
+    ensures { λ r. ⌜ ((k : ℕ) → On left k ↔ (On (r .left) k ⊎ (k ≡ i))) × (weight (r .left) < weight left)
+        × Spread (part a m (now (p .entry))) (part a e (now (p .entry))) (now (c .entry)) i t (r .on) × Member (r .left) (r .next) ⌝ }
 {
     let rest = without(left, i);
     let on = spread(t, p, a, m, e, c, i);

@@ -44,7 +44,9 @@ feed-four x bs i h =
 pub feed-eight : (x : ℕ) (bs : List ℕ) (i : ℕ) → i + 8 ≤ length bs
     → feedOf x (drop i bs)
     ≡ feedOf
-    (byteStep (byteStep (byteStep (byteStep (byteStep (byteStep (byteStep (byteStep x (getD bs i 0)) (getD bs (i + 1) 0)) (getD bs (i + 2) 0)) (getD bs (i + 3) 0)) (getD bs (i + 4) 0)) (getD bs (i + 5) 0)) (getD bs (i + 6) 0)) (getD bs (i + 7) 0))
+    (byteStep (byteStep (byteStep
+    (byteStep (byteStep (byteStep (byteStep (byteStep x (getD bs i 0)) (getD bs (i + 1) 0)) (getD bs (i + 2) 0)) (getD bs (i + 3) 0)) (getD bs (i + 4) 0))
+    (getD bs (i + 5) 0)) (getD bs (i + 6) 0)) (getD bs (i + 7) 0))
     (drop (i + 8) bs)
 feed-eight x bs i h =
     let y : ℕ = byteStep (byteStep (byteStep (byteStep x (getD bs i 0)) (getD bs (i + 1) 0)) (getD bs (i + 2) 0)) (getD bs (i + 3) 0) in

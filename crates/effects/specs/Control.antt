@@ -62,7 +62,8 @@ module _ (w s w′ out out′ : List ℕ) (i c n : ℕ) (e : entryWith 0 n (at (
       did-one (view (memory w s)) i n len 0 (controlling code (view (memory w s) .rest)) (frameOf c 11 0 0 []) (frameOf c 11 0 0 []) told (memory w s) (memory w′ s) out out′ q e refl refl v o u
 
   -- 1,024 in 8 bytes
-  pub size-told : (code param len size : ℕ) (p : List ℕ) → told ≡ delivered n len 25 → length p ≡ 8 → size ≡ numberAt p 0 8 → view (memory w′ s) ≡ onExchange (view (memory w s)) i (exchangeWith 3 size)
+  pub size-told : (code param len size : ℕ) (p : List ℕ) → told ≡ delivered n len 25 → length p ≡ 8 → size ≡ numberAt p 0 8 →
+      view (memory w′ s) ≡ onExchange (view (memory w s)) i (exchangeWith 3 size)
       → out′ ≡ splice out 0 (frameBytes (frameOf c 16 0 0 (0 ∷ 0 ∷ 0 ∷ 0 ∷ 0 ∷ 0 ∷ 4 ∷ 0 ∷ []))) → (Tidy (memory w s) → Tidy (memory w′ s))
       → DidKind k-maximumSize i c code param len p told (memory w s) (memory w′ s) out out′
   unfolding asynchronousRest asynchronousSaid asynchronousEvent field
@@ -78,5 +79,6 @@ module _ (w s w′ out out′ : List ℕ) (i c n : ℕ) (e : entryWith 0 n (at (
       → DidKind k-lockInfo i c code param len p told (memory w s) (memory w s) out out′
   unfolding asynchronousRest asynchronousSaid asynchronousEvent
   info-told code param len x y p z q r o t =
-      did-one (view (memory w s)) i n len 0 (view (memory w s) .rest) (frameOf c 25 (cond (all noExclusive (locksOf w s .entries)) 0 1) (tally holder (locksOf w s .entries)) []) (frameOf c 25 x y []) told
+      did-one (view (memory w s)) i n len 0 (view (memory w s) .rest)
+      (frameOf c 25 (cond (all noExclusive (locksOf w s .entries)) 0 1) (tally holder (locksOf w s .entries)) []) (frameOf c 25 x y []) told
       (memory w s) (memory w s) out out′ z e (ap₂ (λ (a b : ℕ). frameOf c 25 a b []) q r) refl refl o (λ u. u)

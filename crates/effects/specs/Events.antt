@@ -112,7 +112,11 @@ module _ (d d₁ d₂ : Server) (i : ℕ) (end : Bool) (p out out₁ : List ℕ)
   unfolding requested
   sends-answer t =
       let e : serviceAt d i p ≡ [] = ap (λ (b : Bool). requested b (at (d .locks .entries) i) (d .rest .status)) (sym read-before ∙ t) in
-      record { server = left; buffer = a .buffer ∙ ap (λ (fs : List Frame). written out (answerFrame d i end p ∷ fs)) (sym e); place = a .place ∙ ap (λ (fs : List Frame). length (bytesOf (answerFrame d i end p ∷ fs))) (sym e) }
+      record {
+        server = left;
+        buffer = a .buffer ∙ ap (λ (fs : List Frame). written out (answerFrame d i end p ∷ fs)) (sym e);
+        place = a .place ∙ ap (λ (fs : List Frame). length (bytesOf (answerFrame d i end p ∷ fs))) (sym e);
+      }
 
   pub sends-request : tripsFirst p (sensingAt (d₁ .rest) i) ≡ true → (out₂ : List ℕ) → 17 + length p ≤ length out
       → out₂ ≡ splice out₁ n (frameBytes (requestFrame (at (d₂ .locks .entries) i) (d₂ .rest .status))) → Sends d i end p d₂ out out₂ (n + 17)
@@ -155,7 +159,8 @@ status-finishes d b = refl
 abbrev pub answeredAs : Server → ℕ → List ℕ → Bool → List ℕ → Bool → Result
 answeredAs d i p end sh b =
     record {
-      server = onRest d (λ (q : Rest). withSensings (withExchange q i (cond b (interrupted (exchangeAt q i)) (answeredWith end (exchangeAt q i)))) (cond b (q .sensings) (set (q .sensings) i (sensed p (sensingAt q i)))));
+      server = onRest d (λ (q : Rest). withSensings (withExchange q i (cond b (interrupted (exchangeAt q i)) (answeredWith end (exchangeAt q i))))
+          (cond b (q .sensings) (set (q .sensings) i (sensed p (sensingAt q i)))));
       reply = cond b withheld done;
       frames = cond b (interruptions (at (d .locks .entries) i) ((header sh) .param)) (answerFrame d i end p ∷ serviceAt d i p) ++ [];
     }

@@ -179,14 +179,17 @@ module _ (d : Server) (i : ℕ) (end : Bool) (sh : List ℕ) where
   pub sent-in-overlap : end ≡ true → (exchangeAt (d .rest) i) .overlap ≡ true → withheldAt d i end sh ≡ false
   sent-in-overlap e o = rw (e, o)
 
-  pub withheld-by : end ≡ true → (exchangeAt (d .rest) i) .overlap ≡ false → (c r : ℕ) (b : Bool) → (at (d .locks .entries) i) .synchronous ≡ c → (connectionAt (d .rest) c) .remainder ≡ r → interrupts r sh ≡ b
+  pub withheld-by : end ≡ true → (exchangeAt (d .rest) i) .overlap ≡ false → (c r : ℕ) (b : Bool) → (at (d .locks .entries) i) .synchronous ≡ c →
+      (connectionAt (d .rest) c) .remainder ≡ r → interrupts r sh ≡ b
       → withheldAt d i end sh ≡ b
   withheld-by e o c r b p q t =
       rw (e, o) (ap (λ (x : ℕ). interrupts ((connectionAt (d .rest) x) .remainder) sh) p ∙ ap (λ (x : ℕ). interrupts x sh) q ∙ t)
 
   -- then a whole header is here
   pub header-shown : withheldAt d i end sh ≡ true → 16 ≤ length sh
-  header-shown e = leb-true 16 (length sh) (deep end (not ((exchangeAt (d .rest) i) .overlap)) (eqb ((connectionAt (d .rest) ((at (d .locks .entries) i) .synchronous)) .remainder) 0) (leb 16 (length sh)) (prologue sh && one-of commands ((header sh) .kind)) e)
+  header-shown e = leb-true 16 (length sh) (deep end (not ((exchangeAt (d .rest) i) .overlap))
+      (eqb ((connectionAt (d .rest) ((at (d .locks .entries) i) .synchronous)) .remainder) 0) (leb 16 (length sh))
+      (prologue sh && one-of commands ((header sh) .kind)) e)
     where
       deep : (a b c x y : Bool) → (a && (b && (c && (x && y)))) ≡ true → x ≡ true
       deep true true true true y e = refl
@@ -249,7 +252,14 @@ did-frames m m′ out out₁ out′ i n len a r left fs v told t e fits o l ls r
     let c : a ≡ 0 + length (bytesOf fs) = l ∙ sym (zero-add _) in
     let z : r ≡ length (bytesOf (fs ++ gs)) = behind-length fs gs a c r zs in
     record {
-      numbers = ap numbersOf t ∙ (λ j. record { refusal = 0; outcome = 6; session = ap (λ (x : Entry). x .number) e j; taken = 16 + len; output = (z ∙ ap (λ (l : List Frame). length (bytesOf l)) (sym s)) j; missing = 0 });
+      numbers = ap numbersOf t ∙ (λ j. record {
+        refusal = 0;
+        outcome = 6;
+        session = ap (λ (x : Entry). x .number) e j;
+        taken = 16 + len;
+        output = (z ∙ ap (λ (l : List Frame). length (bytesOf l)) (sym s)) j;
+        missing = 0;
+      });
       server = (λ j. record { locks = ls j; rest = rs j });
       buffer = behind fs gs a c out out₁ out′ fits o ys ∙ ap (written out) (sym s);
       same-memory = λ y. absurd (true≢false (sym y));
@@ -264,7 +274,8 @@ pub did-noted : (m m₂ m′ : Memory) (out out₁ out′ : List ℕ) (i n len a
     → Did (finish (view m) (planFirst (view m) i len (withSlot i g (view m .rest)) fs v)) told m m′ out out′
 did-noted m m₂ m′ out out₁ out′ i n len a r g fs v told t e fits p u x =
     let y : Met (settled (view m .locks) v) m₂ m′ out₁ out′ a r = subst (λ (l : Locks). Met (settled l v) m₂ m′ out₁ out′ a r) (ap (λ (k : Server). k .locks) (p .server)) x in
-    did-frames m m′ out out₁ out′ i n len a r (withSlot i g (view m .rest)) fs v told t e fits (p .buffer) (p .place) (y .locks) (y .rest ∙ ap (λ (k : Server). k .rest) (p .server)) (y .buffer) (y .place) (λ z. y .tidy (u z))
+    did-frames m m′ out out₁ out′ i n len a r (withSlot i g (view m .rest)) fs v told t e fits (p .buffer) (p .place) (y .locks)
+    (y .rest ∙ ap (λ (k : Server). k .rest) (p .server)) (y .buffer) (y .place) (λ z. y .tidy (u z))
 
 -- the number of a slot's last message says nothing of its connections
 module _ {B : Type 0} (f : Entry → B) (g : Entry → Entry) (h : (x : Entry) → f (g x) ≡ f x) where
@@ -287,7 +298,8 @@ same-pair d d₁ i k n e =
 pub did-after : (m m₁ m′ : Memory) (out out′ : List ℕ) (i n len a kind code k : ℕ) (v : LockEvent) (told : Delivery) → told ≡ delivered n len a
     → entryWith 0 n (at (view m .locks .entries) i) ≡ at (view m .locks .entries) i → a ≤ length out → view m₁ ≡ onEntry (view m) i (orderWith 0 k)
     → Met (settled (view m .locks) v) m m₁ out′ out′ a a → Turned (view m₁) i kind code k (view m′) out out′ a → (Tidy m₁ → Tidy m′)
-    → Did (finish (view m) (planFirst (view m) i len (withSlot i (λ (x : Exchange). stepped (commandNotes kind code k (tested code x))) (view m .rest)) (cond (outOfTurn code (exchangeAt (view m .rest) i)) (interruptions (at (view m .locks .entries) i) k) []) v)) told m m′ out out′
+    → Did (finish (view m) (planFirst (view m) i len (withSlot i (λ (x : Exchange). stepped (commandNotes kind code k (tested code x))) (view m .rest))
+    (cond (outOfTurn code (exchangeAt (view m .rest) i)) (interruptions (at (view m .locks .entries) i) k) []) v)) told m m′ out out′
 did-after m m₁ m′ out out′ i n len a kind code k v told t e fits o y q u =
     let d : Server = view m in
     let g : Exchange → Exchange = λ x. stepped (commandNotes kind code k (tested code x)) in

@@ -84,10 +84,18 @@ module _ (w s w₁ s₁ w₂ out out₁ out₂ : List ℕ) (i c n a k len : ℕ)
 
   -- the plan's result, by whether a release stood
   result : (b : Bool) → stands ((at (locksOf w s .entries) i) .standing) ≡ b
-      → finish d (planWith d i len q (f ∷ []) (clear i)) ≡ record { server = record { locks = (settle b (left .locks)) .locks; rest = q }; reply = took acted (16 + len) ((at (d .locks .entries) i) .number); frames = xs ++ ((f ∷ []) ++ map lockFrame ((settle b (left .locks)) .answers)) }
+      → finish d (planWith d i len q (f ∷ []) (clear i)) ≡ record {
+        server = record { locks = (settle b (left .locks)) .locks; rest = q };
+        reply = took acted (16 + len) ((at (d .locks .entries) i) .number);
+        frames = xs ++ ((f ∷ []) ++ map lockFrame ((settle b (left .locks)) .answers));
+      }
   unfolding finish
   result b h =
-      ap (λ (y : Bool). record { server = record { locks = (settle y (left .locks)) .locks; rest = q }; reply = took acted (16 + len) ((at (d .locks .entries) i) .number); frames = xs ++ ((f ∷ []) ++ map lockFrame ((settle y (left .locks)) .answers)) })
+      ap (λ (y : Bool). record {
+        server = record { locks = (settle y (left .locks)) .locks; rest = q };
+        reply = took acted (16 + len) ((at (d .locks .entries) i) .number);
+        frames = xs ++ ((f ∷ []) ++ map lockFrame ((settle y (left .locks)) .answers));
+      })
       (stood-due ((at (locksOf w s .entries) i) .standing) b h)
 
   -- the answers and the acknowledgement behind them
@@ -120,7 +128,8 @@ module _ (w s w₁ s₁ w₂ out out₁ out₂ : List ℕ) (i c n a k len : ℕ)
       (behind-length (xs ++ (f ∷ [])) ys (a + 17) (acknowledged-length ∙ sym (zero-add _)) r (y′ .place))
       (λ u. y′ .tidy (stay (x .tidy u)))
 
-pub release-told : (w s w′ s′ out out′ : List ℕ) (i c n code param len r : ℕ) (p : List ℕ) (told : Delivery) → told ≡ delivered n len r → entryWith 0 n (at (locksOf w s .entries) i) ≡ at (locksOf w s .entries) i
+pub release-told : (w s w′ s′ out out′ : List ℕ) (i c n code param len r : ℕ) (p : List ℕ) (told : Delivery) → told ≡ delivered n len r →
+    entryWith 0 n (at (locksOf w s .entries) i) ≡ at (locksOf w s .entries) i
     → code ≡ 0 → Met (settled (locksOf w s) (release i param)) (memory w s) (memory w′ s′) out out′ 0 r
     → DidKind k-lock i c code param len p told (memory w s) (memory w′ s′) out out′
 unfolding asynchronousRest asynchronousSaid asynchronousEvent
@@ -129,7 +138,8 @@ release-told w s w′ s′ out out′ i c n code param len r p told q e z x t =
     did-settled (memory w s) (memory w s) (memory w′ s′) out out′ i n len r (view (memory w s) .rest) (release i param) told q e refl (λ t. t) x in
     rw (eq-eqb code 0 z) g
 
-pub request-told : (w s w′ s′ out out′ : List ℕ) (i c n code param len r : ℕ) (p : List ℕ) (told : Delivery) → told ≡ delivered n len r → entryWith 0 n (at (locksOf w s .entries) i) ≡ at (locksOf w s .entries) i
+pub request-told : (w s w′ s′ out out′ : List ℕ) (i c n code param len r : ℕ) (p : List ℕ) (told : Delivery) → told ≡ delivered n len r →
+    entryWith 0 n (at (locksOf w s .entries) i) ≡ at (locksOf w s .entries) i
     → (code ≡ 0 → ⊥) → Met (change (locksOf w s) (request i param p)) (memory w s) (memory w′ s′) out out′ 0 r
     → DidKind k-lock i c code param len p told (memory w s) (memory w′ s′) out out′
 unfolding finish asynchronousRest asynchronousSaid asynchronousEvent

@@ -26,7 +26,16 @@ number-stepped d d₁ i a n x e q =
 -- left: nothing changes
 pub number-left : (d : Server) (i : ℕ) (b : Bool) → b ≡ false → d ≡ onRest d (withSlot i (movedBy b))
 number-left d i b e =
-    ap (λ (l : List Exchange). onRest d (λ (r : Rest). record { exchanges = l; sensings = r .sensings; connections = r .connections; lastIssued = r .lastIssued; made = r .made; status = r .status; remoteLocal = r .remoteLocal; allowed = r .allowed })) (sym (upd-same (d .rest .exchanges) i))
+    ap (λ (l : List Exchange). onRest d (λ (r : Rest). record {
+      exchanges = l;
+      sensings = r .sensings;
+      connections = r .connections;
+      lastIssued = r .lastIssued;
+      made = r .made;
+      status = r .status;
+      remoteLocal = r .remoteLocal;
+      allowed = r .allowed;
+    })) (sym (upd-same (d .rest .exchanges) i))
     ∙ slot-changed d i (λ (x : Exchange). x)
     ∙ ap (λ (c : Bool). onRest d (withSlot i (movedBy c))) (sym e)
 

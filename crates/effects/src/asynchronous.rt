@@ -124,7 +124,8 @@ fn flags_of(w: &Words) -> RemoteLocal
 
 // The three flags, stored.
 fn set_flags(w: &mut Words, f: RemoteLocal)
-    ensures { λ _. ⌜ ((s : List ℕ) → view (memory (now (w .exit)) s) ≡ onRest (view (memory (now (w .entry)) s)) (flagging (shown f))) × ((s : List ℕ) → Tidy (memory (now (w .entry)) s) → Tidy (memory (now (w .exit)) s)) ⌝ }
+    ensures { λ _. ⌜ ((s : List ℕ) → view (memory (now (w .exit)) s) ≡ onRest (view (memory (now (w .entry)) s)) (flagging (shown f)))
+        × ((s : List ℕ) → Tidy (memory (now (w .entry)) s) → Tidy (memory (now (w .exit)) s)) ⌝ }
 {
     tables::set_single(w, tables::ENABLE, tables::word_of(f.enable));
     tables::set_single(w, tables::LOCKOUT, tables::word_of(f.lockout));
@@ -133,7 +134,8 @@ fn set_flags(w: &mut Words, f: RemoteLocal)
 
 // What the code makes of the three flags: read, changed in place, stored.
 fn set_control(w: &mut Words, code: u8)
-    ensures { λ _. ⌜ ((s : List ℕ) → view (memory (now (w .exit)) s) ≡ onRest (view (memory (now (w .entry)) s)) (controlling code)) × ((s : List ℕ) → Tidy (memory (now (w .entry)) s) → Tidy (memory (now (w .exit)) s)) ⌝ }
+    ensures { λ _. ⌜ ((s : List ℕ) → view (memory (now (w .exit)) s) ≡ onRest (view (memory (now (w .entry)) s)) (controlling code))
+        × ((s : List ℕ) → Tidy (memory (now (w .entry)) s) → Tidy (memory (now (w .exit)) s)) ⌝ }
 {
     let f = flags_of(w);
     set_flags(w, commanded(f, code));
@@ -153,7 +155,8 @@ fn control(w: &mut Words, out: &mut [u8], c: u64, i: usize, code: u8, len: u64) 
 // AsyncMaximumMessageSize: the client's size is noted, and the server's is 1,024.
 fn note_size(w: &mut Words, out: &mut [u8], c: u64, i: usize, len: u64, payload: &[u8]) -> Delivery
     requires { ⌜ (i < sessionLimit) × (c < connectionLimit) × (len ≤ payloadLimit) × (length (now payload) ≡ 8) × (outputMinimum ≤ length (now out)) ⌝ }
-    ensures { λ r. ⌜ ((s : List ℕ) (code param : ℕ) → DidKind k-maximumSize i c code param len (now (payload .entry)) r (memory (now (w .entry)) s) (memory (now (w .exit)) s) (now (out .entry)) (now (out .exit))) ⌝ }
+    ensures { λ r. ⌜ ((s : List ℕ) (code param : ℕ) → DidKind k-maximumSize i c code param len (now (payload .entry)) r (memory (now (w .entry)) s)
+        (memory (now (w .exit)) s) (now (out .entry)) (now (out .exit))) ⌝ }
 {
     let n = tables::entry(w, i, tables::NUMBER);
     let size = number::number8(payload, 0);
@@ -174,7 +177,8 @@ fn note_size(w: &mut Words, out: &mut [u8], c: u64, i: usize, len: u64, payload:
 // In device clear, with nothing asked, no message available, no answer counted, and the first number expected.
 fn enter_clear(w: &mut Words, i: usize)
     requires { ⌜ i < sessionLimit ⌝ }
-    ensures { λ _. ⌜ ((s : List ℕ) → view (memory (now (w .exit)) s) ≡ onExchange (view (memory (now (w .entry)) s)) i enterClear) × ((s : List ℕ) → Tidy (memory (now (w .entry)) s) → Tidy (memory (now (w .exit)) s)) ⌝ }
+    ensures { λ _. ⌜ ((s : List ℕ) → view (memory (now (w .exit)) s) ≡ onExchange (view (memory (now (w .entry)) s)) i enterClear)
+        × ((s : List ℕ) → Tidy (memory (now (w .entry)) s) → Tidy (memory (now (w .exit)) s)) ⌝ }
 {
     tables::set_exchange(w, i, tables::IN_CLEAR, 1);
     tables::set_exchange(w, i, tables::ASKED, 0);
@@ -195,7 +199,8 @@ fn clear(
     len: u64,
 ) -> Delivery
     requires { ⌜ (i < sessionLimit) × (c < connectionLimit) × (len ≤ payloadLimit) × (outputMinimum ≤ length (now out)) ⌝ }
-    ensures { λ r. ⌜ ((p : List ℕ) (code param : ℕ) → DidKind k-deviceClear i c code param len p r (memory (now (w .entry)) (now (strings .entry))) (memory (now (w .exit)) (now (strings .exit))) (now (out .entry)) (now (out .exit))) ⌝ }
+    ensures { λ r. ⌜ ((p : List ℕ) (code param : ℕ) → DidKind k-deviceClear i c code param len p r (memory (now (w .entry)) (now (strings .entry)))
+        (memory (now (w .exit)) (now (strings .exit))) (now (out .entry)) (now (out .exit))) ⌝ }
 {
     let n = tables::entry(w, i, tables::NUMBER);
     let mode = mode::preference(w);
@@ -230,7 +235,8 @@ fn lock(
     payload: &[u8],
 ) -> Delivery
     requires { ⌜ (i < sessionLimit) × (len ≤ payloadLimit) × (outputMinimum ≤ length (now out)) ⌝ }
-    ensures { λ r. ⌜ ((c : ℕ) → DidKind k-lock i c code param len (now (payload .entry)) r (memory (now (w .entry)) (now (strings .entry))) (memory (now (w .exit)) (now (strings .exit))) (now (out .entry)) (now (out .exit))) ⌝ }
+    ensures { λ r. ⌜ ((c : ℕ) → DidKind k-lock i c code param len (now (payload .entry)) r (memory (now (w .entry)) (now (strings .entry)))
+        (memory (now (w .exit)) (now (strings .exit))) (now (out .entry)) (now (out .exit))) ⌝ }
 {
     let n = tables::entry(w, i, tables::NUMBER);
     if code == 0 {
@@ -255,7 +261,9 @@ pub fn act_asynchronous(
     payload: &[u8],
 ) -> Delivery
     requires { ⌜ (i < sessionLimit) × (c < connectionLimit) × (len ≤ payloadLimit) × (length (now payload) ≡ len) × (outputMinimum ≤ length (now out)) × (kind ≡ 15 → len ≡ 8) ⌝ }
-    ensures { λ r. ⌜ Did (finish (view (memory (now (w .entry)) (now (strings .entry)))) (acts r-asynchronous (view (memory (now (w .entry)) (now (strings .entry)))) i c (heading kind code param len) (now (payload .entry)))) r (memory (now (w .entry)) (now (strings .entry))) (memory (now (w .exit)) (now (strings .exit))) (now (out .entry)) (now (out .exit)) ⌝ }
+    ensures { λ r. ⌜ Did (finish (view (memory (now (w .entry)) (now (strings .entry))))
+        (acts r-asynchronous (view (memory (now (w .entry)) (now (strings .entry)))) i c (heading kind code param len) (now (payload .entry)))) r
+        (memory (now (w .entry)) (now (strings .entry))) (memory (now (w .exit)) (now (strings .exit))) (now (out .entry)) (now (out .exit)) ⌝ }
 {
     if kind == types::ASYNC_LOCK {
         return lock(w, strings, out, i, code, param, len, payload);

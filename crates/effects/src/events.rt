@@ -27,14 +27,16 @@ use wire::types;
 // Connection c opens, with nothing to skip.
 pub fn open_connection(w: &mut Words, c: u64)
     requires { ⌜ c < connectionLimit ⌝ }
-    ensures { λ _. ⌜ ((s : List ℕ) → view (memory (now (w .exit)) s) ≡ onRest (view (memory (now (w .entry)) s)) (λ r. withConnection r c (openConnection 0))) × ((s : List ℕ) → Tidy (memory (now (w .entry)) s) → Tidy (memory (now (w .exit)) s)) ⌝ }
+    ensures { λ _. ⌜ ((s : List ℕ) → view (memory (now (w .exit)) s) ≡ onRest (view (memory (now (w .entry)) s)) (λ r. withConnection r c (openConnection 0)))
+        × ((s : List ℕ) → Tidy (memory (now (w .entry)) s) → Tidy (memory (now (w .exit)) s)) ⌝ }
 {
     keep_open(w, c, 0);
 }
 
 // The instrument's status byte changes.
 pub fn set_status(w: &mut Words, b: u8)
-    ensures { λ _. ⌜ ((s : List ℕ) → view (memory (now (w .exit)) s) ≡ onRest (view (memory (now (w .entry)) s)) (λ r. withStatus r b)) × ((s : List ℕ) → Tidy (memory (now (w .entry)) s) → Tidy (memory (now (w .exit)) s)) ⌝ }
+    ensures { λ _. ⌜ ((s : List ℕ) → view (memory (now (w .exit)) s) ≡ onRest (view (memory (now (w .entry)) s)) (λ r. withStatus r b))
+        × ((s : List ℕ) → Tidy (memory (now (w .entry)) s) → Tidy (memory (now (w .exit)) s)) ⌝ }
 {
     tables::set_single(w, tables::STATUS, b as u64);
 }
@@ -57,7 +59,8 @@ fn answer_number(w: &Words, i: usize) -> MessageId
 // Slot i was sent an answer: message available goes on, it is counted, and with END nothing is asked any more and an RMT is expected.
 fn note_answer(w: &mut Words, i: usize, end: bool)
     requires { ⌜ i < sessionLimit ⌝ }
-    ensures { λ _. ⌜ ((s : List ℕ) → view (memory (now (w .exit)) s) ≡ onRest (view (memory (now (w .entry)) s)) (λ r. withExchange r i (answeredWith end (exchangeAt r i)))) × ((s : List ℕ) → Tidy (memory (now (w .entry)) s) → Tidy (memory (now (w .exit)) s)) ⌝ }
+    ensures { λ _. ⌜ ((s : List ℕ) → view (memory (now (w .exit)) s) ≡ onRest (view (memory (now (w .entry)) s))
+        (λ r. withExchange r i (answeredWith end (exchangeAt r i)))) × ((s : List ℕ) → Tidy (memory (now (w .entry)) s) → Tidy (memory (now (w .exit)) s)) ⌝ }
 {
     tables::set_exchange(w, i, tables::AVAILABLE, 1);
     mode::count_answer(w, i);
@@ -81,7 +84,8 @@ fn answer_kind(end: bool) -> u8
 // The instrument's answer to slot i goes to its synchronous connection; how many bytes of the output hold it.
 pub fn send_answer(w: &mut Words, out: &mut [u8], i: usize, end: bool, payload: &[u8]) -> usize
     requires { ⌜ (i < sessionLimit) × (length (now payload) ≤ payloadLimit) × (outputMinimum ≤ length (now out)) ⌝ }
-    ensures { λ r. ⌜ ((s : List ℕ) → Answers (view (memory (now (w .entry)) s)) i end (now (payload .entry)) (view (memory (now (w .exit)) s)) (now (out .entry)) (now (out .exit)) r) × ((s : List ℕ) → Tidy (memory (now (w .entry)) s) → Tidy (memory (now (w .exit)) s)) ⌝ }
+    ensures { λ r. ⌜ ((s : List ℕ) → Answers (view (memory (now (w .entry)) s)) i end (now (payload .entry)) (view (memory (now (w .exit)) s))
+        (now (out .entry)) (now (out .exit)) r) × ((s : List ℕ) → Tidy (memory (now (w .entry)) s) → Tidy (memory (now (w .exit)) s)) ⌝ }
 {
     let c = (tables::entry(w, i, tables::SYNCHRONOUS) % 256) as u8;
     let id = answer_number(w, i);
@@ -106,7 +110,8 @@ fn put_request(w: &Words, out: &mut [u8], place: usize, i: usize)
 // The same with its readings (02, Q-11): behind the answer stands the request for service, if it is the first to trip the watch.
 pub fn send_readings(w: &mut Words, out: &mut [u8], i: usize, end: bool, payload: &[u8]) -> usize
     requires { ⌜ (i < sessionLimit) × (length (now payload) ≤ payloadLimit) × (outputMinimum ≤ length (now out)) ⌝ }
-    ensures { λ r. ⌜ ((s : List ℕ) → Sends (view (memory (now (w .entry)) s)) i end (now (payload .entry)) (view (memory (now (w .exit)) s)) (now (out .entry)) (now (out .exit)) r) × ((s : List ℕ) → Tidy (memory (now (w .entry)) s) → Tidy (memory (now (w .exit)) s)) ⌝ }
+    ensures { λ r. ⌜ ((s : List ℕ) → Sends (view (memory (now (w .entry)) s)) i end (now (payload .entry)) (view (memory (now (w .exit)) s)) (now (out .entry))
+        (now (out .exit)) r) × ((s : List ℕ) → Tidy (memory (now (w .entry)) s) → Tidy (memory (now (w .exit)) s)) ⌝ }
 {
     let n = send_answer(w, out, i, end, payload);
     if !sense::sense(w, i, payload) {

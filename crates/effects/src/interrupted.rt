@@ -46,7 +46,8 @@ fn put_pair(w: &Words, out: &mut [u8], i: usize, id: u32)
 // Nothing is asked any more, and message available goes off.
 fn note_interrupted(w: &mut Words, i: usize)
     requires { ⌜ i < sessionLimit ⌝ }
-    ensures { λ _. ⌜ ((s : List ℕ) → view (memory (now (w .exit)) s) ≡ onRest (view (memory (now (w .entry)) s)) (withSlot i Rattle.model.specs.Exchange.interrupted)) × ((s : List ℕ) → Tidy (memory (now (w .entry)) s) → Tidy (memory (now (w .exit)) s)) ⌝ }
+    ensures { λ _. ⌜ ((s : List ℕ) → view (memory (now (w .exit)) s) ≡ onRest (view (memory (now (w .entry)) s))
+        (withSlot i Rattle.model.specs.Exchange.interrupted)) × ((s : List ℕ) → Tidy (memory (now (w .entry)) s) → Tidy (memory (now (w .exit)) s)) ⌝ }
 {
     tables::set_exchange(w, i, tables::ASKED, 0);
     tables::set_exchange(w, i, tables::AVAILABLE, 0);
@@ -55,7 +56,9 @@ fn note_interrupted(w: &mut Words, i: usize)
 // The session of slot i is interrupted by the message of this number; how many bytes of the output say so.
 fn interrupt(w: &mut Words, out: &mut [u8], i: usize, id: u32) -> usize
     requires { ⌜ (i < sessionLimit) × (outputMinimum ≤ length (now out)) ⌝ }
-    ensures { λ r. ⌜ (r ≤ 34) × ((s : List ℕ) → Noted (view (memory (now (w .entry)) s)) i Rattle.model.specs.Exchange.interrupted (interruptions (at (locksOf (now (w .entry)) s .entries) i) id) (view (memory (now (w .exit)) s)) (now (out .entry)) (now (out .exit)) r) × ((s : List ℕ) → Tidy (memory (now (w .entry)) s) → Tidy (memory (now (w .exit)) s)) ⌝ }
+    ensures { λ r. ⌜ (r ≤ 34) × ((s : List ℕ) → Noted (view (memory (now (w .entry)) s)) i Rattle.model.specs.Exchange.interrupted
+        (interruptions (at (locksOf (now (w .entry)) s .entries) i) id) (view (memory (now (w .exit)) s)) (now (out .entry)) (now (out .exit)) r)
+        × ((s : List ℕ) → Tidy (memory (now (w .entry)) s) → Tidy (memory (now (w .exit)) s)) ⌝ }
 {
     put_pair(w, out, i, id);
     note_interrupted(w, i);
@@ -65,7 +68,8 @@ fn interrupt(w: &mut Words, out: &mut [u8], i: usize, id: u32) -> usize
 // A message whose RMT-delivered differs from what is expected: in synchronized mode it interrupts.
 pub fn out_of_turn(w: &mut Words, out: &mut [u8], i: usize, id: u32) -> usize
     requires { ⌜ (i < sessionLimit) × (outputMinimum ≤ length (now out)) ⌝ }
-    ensures { λ r. ⌜ (r ≤ 34) × ((s : List ℕ) → OutOfTurn (view (memory (now (w .entry)) s)) i id (view (memory (now (w .exit)) s)) (now (out .entry)) (now (out .exit)) r) × ((s : List ℕ) → Tidy (memory (now (w .entry)) s) → Tidy (memory (now (w .exit)) s)) ⌝ }
+    ensures { λ r. ⌜ (r ≤ 34) × ((s : List ℕ) → OutOfTurn (view (memory (now (w .entry)) s)) i id (view (memory (now (w .exit)) s)) (now (out .entry))
+        (now (out .exit)) r) × ((s : List ℕ) → Tidy (memory (now (w .entry)) s) → Tidy (memory (now (w .exit)) s)) ⌝ }
 {
     if is_overlap(w, i) {
         tables::set_exchange(w, i, tables::RMT_EXPECTED, 0);
@@ -88,7 +92,8 @@ pub fn in_turn(w: &Words, i: usize, code: u8) -> bool
 // A status query: RMT-delivered (code 1) clears the expectation and turns message available off.
 pub fn note_query(w: &mut Words, i: usize, code: u8)
     requires { ⌜ i < sessionLimit ⌝ }
-    ensures { λ _. ⌜ ((s : List ℕ) → view (memory (now (w .exit)) s) ≡ onRest (view (memory (now (w .entry)) s)) (withSlot i (queried code))) × ((s : List ℕ) → Tidy (memory (now (w .entry)) s) → Tidy (memory (now (w .exit)) s)) ⌝ }
+    ensures { λ _. ⌜ ((s : List ℕ) → view (memory (now (w .exit)) s) ≡ onRest (view (memory (now (w .entry)) s)) (withSlot i (queried code)))
+        × ((s : List ℕ) → Tidy (memory (now (w .entry)) s) → Tidy (memory (now (w .exit)) s)) ⌝ }
 {
     let expected = tables::exchange(w, i, tables::RMT_EXPECTED);
     tables::set_exchange(w, i, tables::RMT_EXPECTED, left_by(expected, code));
@@ -141,7 +146,9 @@ pub fn withholds(w: &Words, i: usize, end: bool, shown: &[u8]) -> bool
 // The answer to slot i is withheld: the unread header interrupts it; how many bytes of the output say so.
 pub fn withhold(w: &mut Words, out: &mut [u8], i: usize, shown: &[u8]) -> usize
     requires { ⌜ (i < sessionLimit) × (16 ≤ length (now shown)) × (outputMinimum ≤ length (now out)) ⌝ }
-    ensures { λ r. ⌜ ((s : List ℕ) → Noted (view (memory (now (w .entry)) s)) i Rattle.model.specs.Exchange.interrupted (interruptions (at (locksOf (now (w .entry)) s .entries) i) ((header (now (shown .entry))) .param)) (view (memory (now (w .exit)) s)) (now (out .entry)) (now (out .exit)) r) × ((s : List ℕ) → Tidy (memory (now (w .entry)) s) → Tidy (memory (now (w .exit)) s)) ⌝ }
+    ensures { λ r. ⌜ ((s : List ℕ) → Noted (view (memory (now (w .entry)) s)) i Rattle.model.specs.Exchange.interrupted
+        (interruptions (at (locksOf (now (w .entry)) s .entries) i) ((header (now (shown .entry))) .param)) (view (memory (now (w .exit)) s))
+        (now (out .entry)) (now (out .exit)) r) × ((s : List ℕ) → Tidy (memory (now (w .entry)) s) → Tidy (memory (now (w .exit)) s)) ⌝ }
 {
     let h = reading::header_at(shown);
     interrupt(w, out, i, h.param)

@@ -18,7 +18,8 @@ use wire::message_id::MessageId;
 // The number expected moves on.
 pub fn step_number(w: &mut Words, i: usize)
     requires { ⌜ i < sessionLimit ⌝ }
-    ensures { λ _. ⌜ ((s : List ℕ) → view (memory (now (w .exit)) s) ≡ onRest (view (memory (now (w .entry)) s)) (withSlot i stepped)) × ((s : List ℕ) → Tidy (memory (now (w .entry)) s) → Tidy (memory (now (w .exit)) s)) ⌝ }
+    ensures { λ _. ⌜ ((s : List ℕ) → view (memory (now (w .exit)) s) ≡ onRest (view (memory (now (w .entry)) s)) (withSlot i stepped))
+        × ((s : List ℕ) → Tidy (memory (now (w .entry)) s) → Tidy (memory (now (w .exit)) s)) ⌝ }
 {
     let expected = tables::exchange(w, i, tables::NUMBER_EXPECTED);
     let behind = MessageId::new((expected % NUMBERS) as u32).next();
@@ -28,7 +29,8 @@ pub fn step_number(w: &mut Words, i: usize)
 // A message that is answered Error moves it where it carries it.
 pub fn count_refused(w: &mut Words, i: usize, moves: bool)
     requires { ⌜ (moves ≡ true → i < sessionLimit) ⌝ }
-    ensures { λ _. ⌜ ((s : List ℕ) → view (memory (now (w .exit)) s) ≡ onRest (view (memory (now (w .entry)) s)) (withSlot i (movedBy moves))) × ((s : List ℕ) → Tidy (memory (now (w .entry)) s) → Tidy (memory (now (w .exit)) s)) ⌝ }
+    ensures { λ _. ⌜ ((s : List ℕ) → view (memory (now (w .exit)) s) ≡ onRest (view (memory (now (w .entry)) s)) (withSlot i (movedBy moves)))
+        × ((s : List ℕ) → Tidy (memory (now (w .entry)) s) → Tidy (memory (now (w .exit)) s)) ⌝ }
 {
     if !moves {
         return;

@@ -59,7 +59,8 @@ pub fn left_by(word: u64, code: u8) -> u64
 // RMT-delivered (code 1) turns message available off.
 pub fn note_rmt(w: &mut Words, i: usize, code: u8)
     requires { ⌜ i < sessionLimit ⌝ }
-    ensures { λ _. ⌜ ((s : List ℕ) → view (memory (now (w .exit)) s) ≡ onRest (view (memory (now (w .entry)) s)) (withSlot i (noteRmt code))) × ((s : List ℕ) → Tidy (memory (now (w .entry)) s) → Tidy (memory (now (w .exit)) s)) ⌝ }
+    ensures { λ _. ⌜ ((s : List ℕ) → view (memory (now (w .exit)) s) ≡ onRest (view (memory (now (w .entry)) s)) (withSlot i (noteRmt code)))
+        × ((s : List ℕ) → Tidy (memory (now (w .entry)) s) → Tidy (memory (now (w .exit)) s)) ⌝ }
 {
     let available = tables::exchange(w, i, tables::AVAILABLE);
     tables::set_exchange(w, i, tables::AVAILABLE, left_by(available, code));
@@ -68,7 +69,8 @@ pub fn note_rmt(w: &mut Words, i: usize, code: u8)
 // What is asked is this message. The word kept is its number plus 1; 0 is nothing asked.
 fn note_asked(w: &mut Words, i: usize, code: u8, id: MessageId)
     requires { ⌜ i < sessionLimit ⌝ }
-    ensures { λ _. ⌜ ((s : List ℕ) → view (memory (now (w .exit)) s) ≡ onRest (view (memory (now (w .entry)) s)) (withSlot i (ask code (id .number)))) × ((s : List ℕ) → Tidy (memory (now (w .entry)) s) → Tidy (memory (now (w .exit)) s)) ⌝ }
+    ensures { λ _. ⌜ ((s : List ℕ) → view (memory (now (w .exit)) s) ≡ onRest (view (memory (now (w .entry)) s)) (withSlot i (ask code (id .number))))
+        × ((s : List ℕ) → Tidy (memory (now (w .entry)) s) → Tidy (memory (now (w .exit)) s)) ⌝ }
 {
     tables::set_exchange(w, i, tables::ASKED, id.number as u64 + 1);
     note_rmt(w, i, code);
@@ -77,7 +79,8 @@ fn note_asked(w: &mut Words, i: usize, code: u8, id: MessageId)
 // The device clear ends, and the session is in the mode that bit 0 of the code asks for.
 fn leave_clear(w: &mut Words, i: usize, code: u8)
     requires { ⌜ i < sessionLimit ⌝ }
-    ensures { λ _. ⌜ ((s : List ℕ) → view (memory (now (w .exit)) s) ≡ onRest (view (memory (now (w .entry)) s)) (withSlot i (leaveClear code))) × ((s : List ℕ) → Tidy (memory (now (w .entry)) s) → Tidy (memory (now (w .exit)) s)) ⌝ }
+    ensures { λ _. ⌜ ((s : List ℕ) → view (memory (now (w .exit)) s) ≡ onRest (view (memory (now (w .entry)) s)) (withSlot i (leaveClear code)))
+        × ((s : List ℕ) → Tidy (memory (now (w .entry)) s) → Tidy (memory (now (w .exit)) s)) ⌝ }
 {
     tables::set_exchange(w, i, tables::IN_CLEAR, 0);
     tables::set_exchange(w, i, tables::OVERLAP, (code % 2) as u64);
@@ -99,7 +102,8 @@ pub fn is_command(kind: u8) -> bool
 // What a Data notes, and what a DataEND or Trigger does.
 fn note_command(w: &mut Words, i: usize, kind: u8, code: u8, param: u32)
     requires { ⌜ i < sessionLimit ⌝ }
-    ensures { λ _. ⌜ ((s : List ℕ) → view (memory (now (w .exit)) s) ≡ onRest (view (memory (now (w .entry)) s)) (withSlot i (commandNotes kind code param))) × ((s : List ℕ) → Tidy (memory (now (w .entry)) s) → Tidy (memory (now (w .exit)) s)) ⌝ }
+    ensures { λ _. ⌜ ((s : List ℕ) → view (memory (now (w .exit)) s) ≡ onRest (view (memory (now (w .entry)) s)) (withSlot i (commandNotes kind code param)))
+        × ((s : List ℕ) → Tidy (memory (now (w .entry)) s) → Tidy (memory (now (w .exit)) s)) ⌝ }
 {
     if kind == types::DATA {
         note_rmt(w, i, code);
@@ -111,7 +115,8 @@ fn note_command(w: &mut Words, i: usize, kind: u8, code: u8, param: u32)
 // A command in turn, just before it acts: the expectation is cleared, what it says is noted, and the number expected moves.
 fn note_in_turn(w: &mut Words, i: usize, kind: u8, code: u8, param: u32)
     requires { ⌜ (i < sessionLimit) × (differs (eqb code 1) ((exchangeAt (restOf (now w)) i) .rmtExpected) ≡ false) ⌝ }
-    ensures { λ _. ⌜ ((s out : List ℕ) → Turned (view (memory (now (w .entry)) s)) i kind code param (view (memory (now (w .exit)) s)) out out 0) × ((s : List ℕ) → Tidy (memory (now (w .entry)) s) → Tidy (memory (now (w .exit)) s)) ⌝ }
+    ensures { λ _. ⌜ ((s out : List ℕ) → Turned (view (memory (now (w .entry)) s)) i kind code param (view (memory (now (w .exit)) s)) out out 0)
+        × ((s : List ℕ) → Tidy (memory (now (w .entry)) s) → Tidy (memory (now (w .exit)) s)) ⌝ }
 {
     tables::set_exchange(w, i, tables::RMT_EXPECTED, 0);
     note_command(w, i, kind, code, param);
@@ -129,7 +134,8 @@ fn note_out_of_turn(
     param: u32,
 ) -> usize
     requires { ⌜ (i < sessionLimit) × (outputMinimum ≤ length (now out)) × (differs (eqb code 1) ((exchangeAt (restOf (now w)) i) .rmtExpected) ≡ true) ⌝ }
-    ensures { λ r. ⌜ (r ≤ 34) × ((s : List ℕ) → Turned (view (memory (now (w .entry)) s)) i kind code param (view (memory (now (w .exit)) s)) (now (out .entry)) (now (out .exit)) r) × ((s : List ℕ) → Tidy (memory (now (w .entry)) s) → Tidy (memory (now (w .exit)) s)) ⌝ }
+    ensures { λ r. ⌜ (r ≤ 34) × ((s : List ℕ) → Turned (view (memory (now (w .entry)) s)) i kind code param (view (memory (now (w .exit)) s)) (now (out .entry))
+        (now (out .exit)) r) × ((s : List ℕ) → Tidy (memory (now (w .entry)) s) → Tidy (memory (now (w .exit)) s)) ⌝ }
 {
     let end = out_of_turn(w, out, i, param);
     note_command(w, i, kind, code, param);
@@ -141,7 +147,8 @@ fn note_out_of_turn(
 // the output say that it interrupts.
 fn take_turn(w: &mut Words, out: &mut [u8], i: usize, kind: u8, code: u8, param: u32) -> usize
     requires { ⌜ (i < sessionLimit) × (outputMinimum ≤ length (now out)) ⌝ }
-    ensures { λ r. ⌜ (r ≤ 34) × ((s : List ℕ) → Turned (view (memory (now (w .entry)) s)) i kind code param (view (memory (now (w .exit)) s)) (now (out .entry)) (now (out .exit)) r) × ((s : List ℕ) → Tidy (memory (now (w .entry)) s) → Tidy (memory (now (w .exit)) s)) ⌝ }
+    ensures { λ r. ⌜ (r ≤ 34) × ((s : List ℕ) → Turned (view (memory (now (w .entry)) s)) i kind code param (view (memory (now (w .exit)) s)) (now (out .entry))
+        (now (out .exit)) r) × ((s : List ℕ) → Tidy (memory (now (w .entry)) s) → Tidy (memory (now (w .exit)) s)) ⌝ }
 {
     if in_turn(w, i, code) {
         note_in_turn(w, i, kind, code, param);
@@ -164,7 +171,9 @@ pub fn act_synchronous(
     len: u64,
 ) -> Delivery
     requires { ⌜ (c < connectionLimit) × (i < sessionLimit) × (len ≤ payloadLimit) × (outputMinimum ≤ length (now out)) ⌝ }
-    ensures { λ r. ⌜ ((p : List ℕ) → Did (finish (view (memory (now (w .entry)) (now (strings .entry)))) (acts r-synchronous (view (memory (now (w .entry)) (now (strings .entry)))) i c (record { kind = kind; code = code; param = param; len = len }) p)) r (memory (now (w .entry)) (now (strings .entry))) (memory (now (w .exit)) (now (strings .exit))) (now (out .entry)) (now (out .exit))) ⌝ }
+    ensures { λ r. ⌜ ((p : List ℕ) → Did (finish (view (memory (now (w .entry)) (now (strings .entry))))
+        (acts r-synchronous (view (memory (now (w .entry)) (now (strings .entry)))) i c (record { kind = kind; code = code; param = param; len = len }) p)) r
+        (memory (now (w .entry)) (now (strings .entry))) (memory (now (w .exit)) (now (strings .exit))) (now (out .entry)) (now (out .exit))) ⌝ }
 {
     let session = tables::entry(w, i, tables::NUMBER);
     if is_command(kind) {
@@ -194,8 +203,11 @@ pub fn act_plainly(
     param: u32,
     len: u64,
 ) -> Delivery
-    requires { ⌜ (i < sessionLimit) × (len ≤ payloadLimit) × (outputMinimum ≤ length (now out)) × (isCommand kind ≡ true) × ((s : List ℕ) → stands ((at (locksOf (now w) s .entries) i) .standing) ≡ false) ⌝ }
-    ensures { λ r. ⌜ ((s p : List ℕ) (c : ℕ) → Did (finish (view (memory (now (w .entry)) s)) (acts r-synchronous (view (memory (now (w .entry)) s)) i c (record { kind = kind; code = code; param = param; len = len }) p)) r (memory (now (w .entry)) s) (memory (now (w .exit)) s) (now (out .entry)) (now (out .exit))) ⌝ }
+    requires { ⌜ (i < sessionLimit) × (len ≤ payloadLimit) × (outputMinimum ≤ length (now out)) × (isCommand kind ≡ true)
+        × ((s : List ℕ) → stands ((at (locksOf (now w) s .entries) i) .standing) ≡ false) ⌝ }
+    ensures { λ r. ⌜ ((s p : List ℕ) (c : ℕ) → Did (finish (view (memory (now (w .entry)) s))
+        (acts r-synchronous (view (memory (now (w .entry)) s)) i c (record { kind = kind; code = code; param = param; len = len }) p)) r
+        (memory (now (w .entry)) s) (memory (now (w .exit)) s) (now (out .entry)) (now (out .exit))) ⌝ }
 {
     let session = tables::entry(w, i, tables::NUMBER);
     complete::note_message(w, i, param);

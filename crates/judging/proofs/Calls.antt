@@ -9,14 +9,16 @@ use lib.ListN.{length}
 use borrow.Author.Tests.{ltb-false}
 use Rattle.wire.specs.Frame.{bytesOf}
 use Rattle.journal.specs.Journal.{bodyLimit, Fine, AllFine}
-use Rattle.record.specs.Layout.{Event as Recorded, opening as r-opening, delivery as r-delivery, cut as r-cut, clock as r-clock, answer as r-answer, status as r-status, watchOff, watchAbove, watchOutside, patterns as r-patterns, Row, Fits, bodyBytes}
+use Rattle.record.specs.Layout.{Event as Recorded, opening as r-opening, delivery as r-delivery, cut as r-cut, clock as r-clock, answer as r-answer}
+use Rattle.record.specs.Layout.{status as r-status, watchOff, watchAbove, watchOutside, patterns as r-patterns, Row, Fits, bodyBytes}
 use Rattle.verifier.specs.Judge.{Deed, refused, gave}
 use Rattle.verifier.specs.Right.{Yields, Right, none, more}
 use Rattle.model.specs.Sizes.{outputMinimum, payloadLimit, listLimit}
 use Rattle.commands.specs.Lines.{listed-room}
 use Rattle.readings.specs.Watch.{Limits, Limits.off, Limits.above, Limits.outside}
 use Rattle.model.specs.State.{Server}
-use Rattle.model.specs.Interface.{Event, Event.opening, Event.delivery, Event.cut, Event.clock, Event.answer, Event.status, Event.setting, Setting, Setting.watch, Setting.patterns, Reply, Reply.refused as turned-away, Reply.done, Reply.withheld, Reply.took}
+use Rattle.model.specs.Interface.{Event, Event.opening, Event.delivery, Event.cut, Event.clock, Event.answer, Event.status, Event.setting, Setting}
+use Rattle.model.specs.Interface.{Setting.watch, Setting.patterns, Reply, Reply.refused as turned-away, Reply.done, Reply.withheld, Reply.took}
 use Rattle.model.specs.Refusals.{causes, refusal}
 use Rattle.model.specs.Step.{Result, Line, answered, finish, plan, step, final, log}
 use Rattle.claims.proofs.Fits.{uncaused}
@@ -225,7 +227,8 @@ first-call {d = d} y o p = record {
   none-refused = (o .taken, subst (λ (x : Server). NoneRefused (log x (p .calls))) (sym (o .leaves)) (p .none-refused));
   is =
       (λ i. (y .is ∙ (λ j. bodyBytes (sym (o .same) j) (sym (o .gives) j))) i ∷ (p .is ∙ ap (λ (x : Server). bodiesOf (log x (p .calls))) (sym (o .leaves))) i)
-      ∙ ap (λ (t : Bool). cond t (bodiesOf (log ((step d (o .call)) .server) (p .calls))) (bodyBytes (recorded (o .call)) (bytesOf ((step d (o .call)) .frames)) ∷ bodiesOf (log ((step d (o .call)) .server) (p .calls)))) (sym (o .taken));
+      ∙ ap (λ (t : Bool). cond t (bodiesOf (log ((step d (o .call)) .server) (p .calls)))
+      (bodyBytes (recorded (o .call)) (bytesOf ((step d (o .call)) .frames)) ∷ bodiesOf (log ((step d (o .call)) .server) (p .calls)))) (sym (o .taken));
   count = ap suc (p .count);
   server = ap (λ (x : Server). final x (p .calls)) (o .leaves) ∙ p .server;
 }

@@ -11,7 +11,8 @@ use Rattle.wire.specs.ReadFrames.{AllFit}
 use Rattle.wire.proofs.ReadFrames.{rows-read}
 use Rattle.journal.specs.Journal.{Fine, AllFine}
 use Rattle.journal.specs.Bytes.{append-bytes, field-bytes}
-use Rattle.record.specs.Layout.{Event as Recorded, opening as r-opening, delivery as r-delivery, cut as r-cut, clock as r-clock, answer as r-answer, status as r-status, watchOff, watchAbove, watchOutside, patterns as r-patterns, Row, row, Fits, encode, bodyBytes}
+use Rattle.record.specs.Layout.{Event as Recorded, opening as r-opening, delivery as r-delivery, cut as r-cut, clock as r-clock, answer as r-answer}
+use Rattle.record.specs.Layout.{status as r-status, watchOff, watchAbove, watchOutside, patterns as r-patterns, Row, row, Fits, encode, bodyBytes}
 use Rattle.record.specs.RoundTrip.{mostFrames, Taken, longest-body}
 use Rattle.model.specs.Sizes.{outputMinimum, sessionLimit}
 use Rattle.model.specs.State.{Server, Making, fresh}

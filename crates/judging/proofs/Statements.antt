@@ -97,7 +97,8 @@ own v es words book h k room =
 
 -- an entry's place among the others
 entry-there : (before : List Event) (d : Server) (e : Event) (after : List Event) → NoneRefused (log d (before ++ e ∷ after))
-    → (bodiesOf (log d (before ++ e ∷ after)) ≡ bodiesOf (log d before) ++ bodyBytes (recorded e) (bytesOf ((step (final d before) e) .frames)) ∷ bodiesOf (log ((step (final d before) e) .server) after))
+    → (bodiesOf (log d (before ++ e ∷ after)) ≡ bodiesOf (log d before) ++ bodyBytes (recorded e) (bytesOf ((step (final d before) e) .frames))
+    ∷ bodiesOf (log ((step (final d before) e) .server) after))
     × (length (bodiesOf (log d before)) ≡ length before)
 unfolding log final bodiesOf
 entry-there [] d e after n = (rw (n .0) refl, refl)
@@ -118,7 +119,11 @@ pub statements : Statements
 unfolding verdict
 statements = record {
   accepted-exactly = λ v book n h y. (accepted-good v book n y, good-accepted v book n h);
-  named-exactly = λ v book n f y. (wrong-is deed (fresh v) book n f y, λ w. ap (judge deed (fresh v)) (sym (w .all)) ∙ stopped-is deed (fresh v) (w .bodies) (w .server) (w .rest) (wrong n f) (w .right) (w .stopped));
+  named-exactly = λ v book n f y. (
+    wrong-is deed (fresh v) book n f y,
+    λ w. ap (judge deed (fresh v)) (sym (w .all))
+        ∙ stopped-is deed (fresh v) (w .bodies) (w .server) (w .rest) (wrong n f) (w .right) (w .stopped),
+  );
   own-books = own;
   however-cut = λ v pieces. pieces-judge deed (fresh v) pieces;
   strangers = λ v book n h y e. let g = accepted-good v book n y e in record { good = g; vouched = vouched v (g .calls) (g .none-refused) };

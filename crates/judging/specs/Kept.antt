@@ -7,10 +7,12 @@ use lib.ListN.{length}
 use Rattle.wire.specs.Field.{Bytes}
 use Rattle.wire.specs.Frame.{bytesOf}
 use Rattle.journal.specs.Journal.{closedJournal, lastOffset}
-use Rattle.record.specs.Layout.{Event as Recorded, opening as r-opening, delivery as r-delivery, cut as r-cut, clock as r-clock, answer as r-answer, status as r-status, watchOff, watchAbove, watchOutside, patterns as r-patterns, Row, mostDelivered, mostShown, bodyBytes}
+use Rattle.record.specs.Layout.{Event as Recorded, opening as r-opening, delivery as r-delivery, cut as r-cut, clock as r-clock, answer as r-answer}
+use Rattle.record.specs.Layout.{status as r-status, watchOff, watchAbove, watchOutside, patterns as r-patterns, Row, mostDelivered, mostShown, bodyBytes}
 use Rattle.readings.specs.Watch.{Limits, Limits.off, Limits.above, Limits.outside}
 use Rattle.model.specs.State.{Making, fresh}
-use Rattle.model.specs.Interface.{Event, Event.opening, Event.delivery, Event.cut, Event.clock, Event.answer, Event.status, Event.setting, Setting, Setting.watch, Setting.patterns, Reply, Reply.refused, Reply.done, Reply.withheld, Reply.took}
+use Rattle.model.specs.Interface.{Event, Event.opening, Event.delivery, Event.cut, Event.clock, Event.answer, Event.status, Event.setting, Setting}
+use Rattle.model.specs.Interface.{Setting.watch, Setting.patterns, Reply, Reply.refused, Reply.done, Reply.withheld, Reply.took}
 use Rattle.model.specs.Step.{Line, log}
 
 -- what the host sets, as it is recorded

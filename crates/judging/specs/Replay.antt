@@ -5,13 +5,15 @@ use mathlib.Core.List.{List}
 use Prim.Native.Nat.{ℕ}
 use lib.Dec.{eqb}
 use Rattle.wire.specs.Frame.{bytesOf}
-use Rattle.record.specs.Layout.{Event as Recorded, opening as r-opening, delivery as r-delivery, cut as r-cut, clock as r-clock, answer as r-answer, status as r-status, watchOff, watchAbove, watchOutside, patterns as r-patterns}
+use Rattle.record.specs.Layout.{Event as Recorded, opening as r-opening, delivery as r-delivery, cut as r-cut, clock as r-clock, answer as r-answer}
+use Rattle.record.specs.Layout.{status as r-status, watchOff, watchAbove, watchOutside, patterns as r-patterns}
 use Rattle.readings.specs.Watch.{Limits.off, Limits.above, Limits.outside}
 use Rattle.verifier.specs.Judge.{Verdict, Deed, refused, gave, judge}
 use Rattle.verifier.specs.Feed.{Reading}
 use Rattle.model.specs.Sizes.{outputMinimum}
 use Rattle.model.specs.State.{Server, Making, fresh}
-use Rattle.model.specs.Interface.{Event, Event.opening, Event.delivery, Event.cut, Event.clock, Event.answer, Event.status, Event.setting, Setting.watch, Setting.patterns, Reply, Reply.refused as turned-away, Reply.done, Reply.withheld, Reply.took}
+use Rattle.model.specs.Interface.{Event, Event.opening, Event.delivery, Event.cut, Event.clock, Event.answer, Event.status, Event.setting, Setting.watch}
+use Rattle.model.specs.Interface.{Setting.patterns, Reply, Reply.refused as turned-away, Reply.done, Reply.withheld, Reply.took}
 use Rattle.model.specs.Step.{Result, step}
 
 -- a recorded event's call: with the least output buffer that is not refused; bytes shown as they were recorded

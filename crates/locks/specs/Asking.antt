@@ -10,7 +10,8 @@ use borrow.Author.Tests.{lt-ltb, le-ltb, eq-eqb, ne-eqb, ltb-false, leb-false}
 use Rattle.model.specs.Sizes.{sessionLimit, stringLimit}
 use Rattle.model.specs.Lists.{all}
 use Rattle.model.specs.State.{Entry, Waiting, Locks, Server, at, blank}
-use Rattle.model.specs.Locks.{LockResult, LockEvent.request, noShared, mayGrant, giveAt, holds, tell, withEntries, withWaiting, unanswered, elsewhere, noPlace, invalidBy, stands, Ruling, Ruling.invalid, ruling, respond, change}
+use Rattle.model.specs.Locks.{LockResult, LockEvent.request, noShared, mayGrant, giveAt, holds, tell, withEntries, withWaiting, unanswered, elsewhere, noPlace}
+use Rattle.model.specs.Locks.{invalidBy, stands, Ruling, Ruling.invalid, ruling, respond, change}
 use Rattle.state.specs.Grid.{upd, upd-set}
 use Rattle.queue.specs.Queue.{noRequest, onWaiting, count-is}
 use Rattle.queue.specs.Requests.{countOf}
@@ -65,7 +66,8 @@ module _ (l : Locks) (i : ℕ) (k : List ℕ) where
 
   pub able-short : unable l i k ≡ false → length k ≤ stringLimit
   unfolding unable
-  able-short e = ltb-false stringLimit (length k) (or-first (ltb stringLimit (length k)) (stands ((at (l .entries) i) .standing)) (short-of (invalidBy k (at (l .entries) i)) (holds k (at (l .entries) i)) (all (elsewhere i) (l .waiting)) e))
+  able-short e = ltb-false stringLimit (length k) (or-first (ltb stringLimit (length k)) (stands ((at (l .entries) i) .standing))
+      (short-of (invalidBy k (at (l .entries) i)) (holds k (at (l .entries) i)) (all (elsewhere i) (l .waiting)) e))
     where
       or-first : (p q : Bool) → (p || q) ≡ false → p ≡ false
       or-first true q e = e

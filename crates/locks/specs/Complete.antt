@@ -9,7 +9,8 @@ use lib.ListN.{length}
 use borrow.Author.Tests.{eq-eqb, ne-eqb}
 use Rattle.model.specs.Sizes.{beforeFirst}
 use Rattle.model.specs.State.{Entry, Locks, Server, Kind, Standing, Standing.no-release, Standing.release-of, at, blank}
-use Rattle.model.specs.Locks.{LockEvent.command, LockEvent.clear, LockResult, Due, Due.not-due, Due.due-now, tell, without, withOrder, withEntries, unanswered, releaseCode, dueAt, dueAny, completed, isDue, stands, change, settle, grantPass}
+use Rattle.model.specs.Locks.{LockEvent.command, LockEvent.clear, LockResult, Due, Due.not-due, Due.due-now, tell, without, withOrder, withEntries, unanswered}
+use Rattle.model.specs.Locks.{releaseCode, dueAt, dueAny, completed, isDue, stands, change, settle, grantPass}
 use Rattle.state.specs.Change.{onEntry, orderWith}
 use Rattle.state.specs.Grid.{upd, upd-upd, upd-set}
 use Rattle.state.specs.View.{Memory, view, standingOf}

@@ -37,7 +37,8 @@ module _ (l : Locks) (i : ℕ) (k : List ℕ) (n : length k ≡ 0) (f : Free l i
   pub free-request : (t : ℕ) → change l (request i t k) ≡ told (withEntries l (upd (l .entries) i (giveAt (l .clock) k))) (tell (l .entries) i 1 true)
   free-request t =
       request-decided l i k t
-      (unable-waits l i k true (omega arith) (f .settles) (holds-none k (at (l .entries) i) n ∙ not-true ((at (l .entries) i) .exclusive) (one-of noExclusive (l .entries) i refl (f .exclusive))) (none-waits i (l .waiting) (f .waiting)))
+      (unable-waits l i k true (omega arith) (f .settles) (holds-none k (at (l .entries) i) n
+      ∙ not-true ((at (l .entries) i) .exclusive) (one-of noExclusive (l .entries) i refl (f .exclusive))) (none-waits i (l .waiting) (f .waiting)))
       ∙ decided-granted l i k t free-grants
 
 -- slot i holds the exclusive lock, message n is the last, nobody waits, and no release of the slot stands

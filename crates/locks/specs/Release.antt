@@ -6,7 +6,8 @@ use Prim.Native.Nat.{ℕ}
 use lib.Dec.{eqb}
 use borrow.Author.Tests.{eq-eqb, ne-eqb}
 use Rattle.model.specs.State.{Entry, Locks, Server, Kind, Kind.exclusive-lock, Kind.shared-lock, Standing, Standing.release-of, at, blank}
-use Rattle.model.specs.Locks.{LockEvent.release, Releasing, Releasing.r-invalid, Releasing.r-now, Releasing.r-stands, tell, noShared, without, withOrder, withEntries, unanswered, releaseCode, stands, releasing, releasingOf, released, change, freesNow, settle, grantPass}
+use Rattle.model.specs.Locks.{LockEvent.release, Releasing, Releasing.r-invalid, Releasing.r-now, Releasing.r-stands, tell, noShared, without, withOrder}
+use Rattle.model.specs.Locks.{withEntries, unanswered, releaseCode, stands, releasing, releasingOf, released, change, freesNow, settle, grantPass}
 use Rattle.state.specs.Change.{onEntry, orderWith}
 use Rattle.state.specs.Grid.{upd, upd-set}
 use Rattle.state.specs.View.{standingOf}
@@ -78,5 +79,6 @@ module _ (l : Locks) (i n : ℕ) where
       done (r-stands k) e ∙ ap (λ (es : List Entry). unanswered (withEntries l es)) (upd-set (l .entries) i blank (λ (e : Entry). withOrder (e .last) (release-of k n) e))
 
 -- the word that is stored
-pub standing-stored : (d d₁ : Server) (i v : ℕ) (k : Kind) (n : ℕ) → standingOf v ≡ release-of k n → d₁ ≡ onEntry d i (orderWith 1 v) → d₁ ≡ record { locks = standing (d .locks) i k n; rest = d .rest }
+pub standing-stored : (d d₁ : Server) (i v : ℕ) (k : Kind) (n : ℕ) → standingOf v ≡ release-of k n → d₁ ≡ onEntry d i (orderWith 1 v) →
+    d₁ ≡ record { locks = standing (d .locks) i k n; rest = d .rest }
 standing-stored d d₁ i v k n e q = q ∙ ap (λ (x : Standing). onEntry d i (λ (e : Entry). withOrder (e .last) x e)) e

@@ -17,7 +17,8 @@ abbrev pub withoutLocks : Entry → Entry
 withoutLocks e = withGranted noGrants (withOrder beforeFirst no-release (withoutShared (withoutExclusive e)))
 
 -- six stores make it so
-pub unlocked : (i : ℕ) (d d₁ d₂ d₃ d₄ d₅ d₆ : Server) → d₁ ≡ onEntry d i (orderWith 0 beforeFirst) → d₂ ≡ onEntry d₁ i (orderWith 1 0) → d₃ ≡ onEntry d₂ i (orderWith 2 0) → d₄ ≡ onEntry d₃ i (orderWith 3 0)
+pub unlocked : (i : ℕ) (d d₁ d₂ d₃ d₄ d₅ d₆ : Server) → d₁ ≡ onEntry d i (orderWith 0 beforeFirst) → d₂ ≡ onEntry d₁ i (orderWith 1 0) →
+    d₃ ≡ onEntry d₂ i (orderWith 2 0) → d₄ ≡ onEntry d₃ i (orderWith 3 0)
     → d₅ ≡ onEntry d₄ i withoutExclusive → d₆ ≡ onEntry d₅ i withoutShared → d₆ ≡ onEntry d i withoutLocks
 unlocked i d d₁ d₂ d₃ d₄ d₅ d₆ e₁ e₂ e₃ e₄ e₅ e₆ = rw (e₆, e₅, e₄, e₃, e₂, e₁, upd-upd, upd-upd, upd-upd, upd-upd, upd-upd)
 
@@ -31,7 +32,11 @@ unfolding change
 entered m m₁ m′ i n c e f t =
     let g : view m′ ≡ onEntry (view m) i (λ (e : Entry). withoutLocks (withRow n c noConnection e)) = renewed i n c noConnection (view m) (view m₁) (view m′) e f in
     record {
-      locks = ap (λ (d : Server). d .locks) g ∙ (λ k. record { clock = view m .locks .clock; entries = sym (upd-set (view m .locks .entries) i blank (λ (e : Entry). opened n c)) k; waiting = view m .locks .waiting });
+      locks = ap (λ (d : Server). d .locks) g ∙ (λ k. record {
+        clock = view m .locks .clock;
+        entries = sym (upd-set (view m .locks .entries) i blank (λ (e : Entry). opened n c)) k;
+        waiting = view m .locks .waiting;
+      });
       rest = ap (λ (d : Server). d .rest) g;
       silent = refl;
       tidy = t;
@@ -48,12 +53,14 @@ joining m m′ i c e t =
     }
 
 -- a closing: the slot is blank, its request is dropped
-pub closed : (m m₁ m₂ m′ : Memory) (i : ℕ) → view m₁ ≡ onEntry (view m) i (withRow 0 noConnection noConnection) → view m₂ ≡ onEntry (view m₁) i withoutLocks → view m′ ≡ onWaiting (view m₂) (keep (elsewhere i)) → (Tidy m → Tidy m′)
+pub closed : (m m₁ m₂ m′ : Memory) (i : ℕ) → view m₁ ≡ onEntry (view m) i (withRow 0 noConnection noConnection) → view m₂ ≡ onEntry (view m₁) i withoutLocks →
+    view m′ ≡ onWaiting (view m₂) (keep (elsewhere i)) → (Tidy m → Tidy m′)
     → Quiet (change (view m .locks) (close i)) m m′
 unfolding change
 closed m m₁ m₂ m′ i e f k t =
     let b : Entry → Entry = (λ (e : Entry). withoutLocks (withRow 0 noConnection noConnection e)) in
-    let g : view m′ ≡ onWaiting (onEntry (view m) i b) (keep (elsewhere i)) = k ∙ ap (λ (d : Server). onWaiting d (keep (elsewhere i))) (renewed i 0 noConnection noConnection (view m) (view m₁) (view m₂) e f) in
+    let g : view m′ ≡ onWaiting (onEntry (view m) i b) (keep (elsewhere i)) = k
+    ∙ ap (λ (d : Server). onWaiting d (keep (elsewhere i))) (renewed i 0 noConnection noConnection (view m) (view m₁) (view m₂) e f) in
     record {
       locks = ap (λ (d : Server). d .locks) g
           ∙ (λ k. record {

@@ -36,7 +36,8 @@ fn complete(
     n: u64,
 ) -> usize
     requires { ⌜ (i < sessionLimit) × (at + 17 ≤ length (now out)) × (n < 2 ^ 32) × (releaseCode (kindOf kind) ≡ kind) ⌝ }
-    ensures { λ r. ⌜ (r ≡ at + 17) × Met (completed (due-now (kindOf kind)) (locksOf (now (w .entry)) (now (strings .entry))) i n) (memory (now (w .entry)) (now (strings .entry))) (memory (now (w .exit)) (now (strings .exit))) (now (out .entry)) (now (out .exit)) at r ⌝ }
+    ensures { λ r. ⌜ (r ≡ at + 17) × Met (completed (due-now (kindOf kind)) (locksOf (now (w .entry)) (now (strings .entry))) i n)
+        (memory (now (w .entry)) (now (strings .entry))) (memory (now (w .exit)) (now (strings .exit))) (now (out .entry)) (now (out .exit)) at r ⌝ }
 {
     let r = put_answer(w, out, at, i, kind);
     standing::free_lock(w, strings, i, kind);
@@ -55,7 +56,8 @@ pub fn at_message(
     n: u32,
 ) -> usize
     requires { ⌜ (i < sessionLimit) × (at + 17 + answersRoom ≤ length (now out)) ⌝ }
-    ensures { λ r. ⌜ Met (settled (locksOf (now (w .entry)) (now (strings .entry))) (command i n)) (memory (now (w .entry)) (now (strings .entry))) (memory (now (w .exit)) (now (strings .exit))) (now (out .entry)) (now (out .exit)) at r ⌝ }
+    ensures { λ r. ⌜ Met (settled (locksOf (now (w .entry)) (now (strings .entry))) (command i n)) (memory (now (w .entry)) (now (strings .entry)))
+        (memory (now (w .exit)) (now (strings .exit))) (now (out .entry)) (now (out .exit)) at r ⌝ }
 {
     let word = tables::order(w, i, tables::STANDING);
     let number = n as u64;
@@ -74,7 +76,8 @@ pub fn at_message(
 // The same where no release of slot i stands: the number is noted, nothing else is changed, and nothing is told.
 pub fn note_message(w: &mut Words, i: usize, n: u32)
     requires { ⌜ (i < sessionLimit) × ((s : List ℕ) → stands ((Rattle.model.specs.State.at (locksOf (now w) s .entries) i) .standing) ≡ false) ⌝ }
-    ensures { λ _. ⌜ ((s out : List ℕ) (r : ℕ) → Met (settled (locksOf (now (w .entry)) s) (command i n)) (memory (now (w .entry)) s) (memory (now (w .exit)) s) out out r r) × ((s : List ℕ) → view (memory (now (w .exit)) s) ≡ onEntry (view (memory (now (w .entry)) s)) i (orderWith 0 n)) ⌝ }
+    ensures { λ _. ⌜ ((s out : List ℕ) (r : ℕ) → Met (settled (locksOf (now (w .entry)) s) (command i n)) (memory (now (w .entry)) s) (memory (now (w .exit)) s)
+        out out r r) × ((s : List ℕ) → view (memory (now (w .exit)) s) ≡ onEntry (view (memory (now (w .entry)) s)) i (orderWith 0 n)) ⌝ }
 {
     tables::set_order(w, i, tables::LAST_NUMBER, n as u64);
 }
@@ -82,7 +85,10 @@ pub fn note_message(w: &mut Words, i: usize, n: u32)
 // Whatever release of slot i stands takes effect, and no message has acted since.
 fn complete_any(w: &mut Words, strings: &mut Strings, out: &mut [u8], at: usize, i: usize) -> usize
     requires { ⌜ (i < sessionLimit) × (at + 17 ≤ length (now out)) ⌝ }
-    ensures { λ r. ⌜ (r ≤ at + 17) × Met (completed (dueAny ((Rattle.model.specs.State.at (locksOf (now (w .entry)) (now (strings .entry)) .entries) i) .standing)) (locksOf (now (w .entry)) (now (strings .entry))) i beforeFirst) (memory (now (w .entry)) (now (strings .entry))) (memory (now (w .exit)) (now (strings .exit))) (now (out .entry)) (now (out .exit)) at r ⌝ }
+    ensures { λ r. ⌜ (r ≤ at + 17)
+        × Met (completed (dueAny ((Rattle.model.specs.State.at (locksOf (now (w .entry)) (now (strings .entry)) .entries) i) .standing))
+        (locksOf (now (w .entry)) (now (strings .entry))) i beforeFirst) (memory (now (w .entry)) (now (strings .entry)))
+        (memory (now (w .exit)) (now (strings .exit))) (now (out .entry)) (now (out .exit)) at r ⌝ }
 {
     let word = tables::order(w, i, tables::STANDING);
     if word == 0 {
@@ -103,7 +109,8 @@ fn complete_any(w: &mut Words, strings: &mut Strings, out: &mut [u8], at: usize,
 // A device clear: the request of slot i is answered 0, then a release that stands takes effect.
 pub fn at_clear(w: &mut Words, strings: &mut Strings, out: &mut [u8], at: usize, i: usize) -> usize
     requires { ⌜ (i < sessionLimit) × (at + 17 + answersRoom ≤ length (now out)) ⌝ }
-    ensures { λ r. ⌜ (r ≤ at + 17 + answersRoom) × Met (change (locksOf (now (w .entry)) (now (strings .entry))) (clear i)) (memory (now (w .entry)) (now (strings .entry))) (memory (now (w .exit)) (now (strings .exit))) (now (out .entry)) (now (out .exit)) at r ⌝ }
+    ensures { λ r. ⌜ (r ≤ at + 17 + answersRoom) × Met (change (locksOf (now (w .entry)) (now (strings .entry))) (clear i))
+        (memory (now (w .entry)) (now (strings .entry))) (memory (now (w .exit)) (now (strings .exit))) (now (out .entry)) (now (out .exit)) at r ⌝ }
 {
     let r = waiting::clear_request(w, strings, out, at, i);
     complete_any(w, strings, out, r, i)

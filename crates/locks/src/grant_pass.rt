@@ -15,7 +15,8 @@ use state::sizes::Words;
 // and `grant_waiting` is copied to where it is called.
 pub fn pass_waiting(w: &mut Words, strings: &mut Strings, out: &mut [u8], start: usize) -> usize
     requires { ⌜ start + answersRoom ≤ length (now out) ⌝ }
-    ensures { λ r. ⌜ Met (grantPass (locksOf (now (w .entry)) (now (strings .entry)))) (memory (now (w .entry)) (now (strings .entry))) (memory (now (w .exit)) (now (strings .exit))) (now (out .entry)) (now (out .exit)) start r ⌝ }
+    ensures { λ r. ⌜ Met (grantPass (locksOf (now (w .entry)) (now (strings .entry)))) (memory (now (w .entry)) (now (strings .entry)))
+        (memory (now (w .exit)) (now (strings .exit))) (now (out .entry)) (now (out .exit)) start r ⌝ }
 {
     let n = requests::waiting_count(w);
     let mut at = start;
@@ -38,7 +39,8 @@ pub fn pass_waiting(w: &mut Words, strings: &mut Strings, out: &mut [u8], start:
 // The same; mostly nobody waits, and nothing is done.
 pub fn grant_waiting(w: &mut Words, strings: &mut Strings, out: &mut [u8], start: usize) -> usize
     requires { ⌜ start + answersRoom ≤ length (now out) ⌝ }
-    ensures { λ r. ⌜ Met (grantPass (locksOf (now (w .entry)) (now (strings .entry)))) (memory (now (w .entry)) (now (strings .entry))) (memory (now (w .exit)) (now (strings .exit))) (now (out .entry)) (now (out .exit)) start r ⌝ }
+    ensures { λ r. ⌜ Met (grantPass (locksOf (now (w .entry)) (now (strings .entry)))) (memory (now (w .entry)) (now (strings .entry)))
+        (memory (now (w .exit)) (now (strings .exit))) (now (out .entry)) (now (out .exit)) start r ⌝ }
 {
     if requests::waiting_count(w) == 0 {
         return start;

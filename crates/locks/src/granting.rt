@@ -71,7 +71,8 @@ pub fn may_give(w: &Words, strings: &Strings, i: usize, string: &[u8]) -> bool
 // Slot i gets what the string asks for.
 pub fn give_asked(w: &mut Words, strings: &mut Strings, i: usize, string: &[u8])
     requires { ⌜ (i < sessionLimit) × (length (now string) ≤ stringLimit) × (mayGrant (locksOf (now w) (now strings) .entries) i (now string) ≡ true) ⌝ }
-    ensures { λ _. ⌜ (view (memory (now (w .exit)) (now (strings .exit))) ≡ onEntry (view (memory (now (w .entry)) (now (strings .entry)))) i (give (now (string .entry)))) × (Tidy (memory (now (w .entry)) (now (strings .entry))) → Tidy (memory (now (w .exit)) (now (strings .exit)))) ⌝ }
+    ensures { λ _. ⌜ (view (memory (now (w .exit)) (now (strings .exit))) ≡ onEntry (view (memory (now (w .entry)) (now (strings .entry)))) i
+        (give (now (string .entry)))) × (Tidy (memory (now (w .entry)) (now (strings .entry))) → Tidy (memory (now (w .exit)) (now (strings .exit)))) ⌝ }
 {
     if string.len() == 0 {
         holders::give_exclusive(w, i);
@@ -83,7 +84,9 @@ pub fn give_asked(w: &mut Words, strings: &mut Strings, i: usize, string: &[u8])
 // Slot i gets the lock that its request asks for.
 pub fn grant(w: &mut Words, strings: &mut Strings, i: usize)
     requires { ⌜ (i < sessionLimit) × (mayGrant (locksOf (now w) (now strings) .entries) i (stringAt (now w) (now strings) i) ≡ true) ⌝ }
-    ensures { λ _. ⌜ (view (memory (now (w .exit)) (now (strings .exit))) ≡ onEntry (view (memory (now (w .entry)) (now (strings .entry)))) i (give (stringAt (now (w .entry)) (now (strings .entry)) i))) × (Tidy (memory (now (w .entry)) (now (strings .entry))) → Tidy (memory (now (w .exit)) (now (strings .exit)))) ⌝ }
+    ensures { λ _. ⌜ (view (memory (now (w .exit)) (now (strings .exit))) ≡ onEntry (view (memory (now (w .entry)) (now (strings .entry)))) i
+        (give (stringAt (now (w .entry)) (now (strings .entry)) i)))
+        × (Tidy (memory (now (w .entry)) (now (strings .entry))) → Tidy (memory (now (w .exit)) (now (strings .exit)))) ⌝ }
 {
     let n = asked_length(w, strings, i);
     if n == 0 {
@@ -108,7 +111,8 @@ fn one_more(n: u64) -> u64
 // A grant to slot i is noted: the clock's reading, and one lock more.
 pub fn note_grant(w: &mut Words, i: usize)
     requires { ⌜ i < sessionLimit ⌝ }
-    ensures { λ _. ⌜ ((s : List ℕ) → view (memory (now (w .exit)) s) ≡ onEntry (view (memory (now (w .entry)) s)) i (noteGrant (locksOf (now (w .entry)) s .clock))) × ((s : List ℕ) → Tidy (memory (now (w .entry)) s) → Tidy (memory (now (w .exit)) s)) ⌝ }
+    ensures { λ _. ⌜ ((s : List ℕ) → view (memory (now (w .exit)) s) ≡ onEntry (view (memory (now (w .entry)) s)) i
+        (noteGrant (locksOf (now (w .entry)) s .clock))) × ((s : List ℕ) → Tidy (memory (now (w .entry)) s) → Tidy (memory (now (w .exit)) s)) ⌝ }
 {
     let t = tables::clock(w);
     let n = one_more(tables::order(w, i, tables::GRANTS));

@@ -55,7 +55,8 @@ pub fn request_quickly(
     string: &[u8],
 ) -> usize
     requires { ⌜ (i < sessionLimit) × (at + 17 ≤ length (now out)) × ((s : List ℕ) → (Rattle.model.specs.State.at (locksOf (now w) s .entries) i) .asynchronous ≡ c) ⌝ }
-    ensures { λ r. ⌜ Met (change (locksOf (now (w .entry)) (now (strings .entry))) (request i timeout (now (string .entry)))) (memory (now (w .entry)) (now (strings .entry))) (memory (now (w .exit)) (now (strings .exit))) (now (out .entry)) (now (out .exit)) at r ⌝ }
+    ensures { λ r. ⌜ Met (change (locksOf (now (w .entry)) (now (strings .entry))) (request i timeout (now (string .entry))))
+        (memory (now (w .entry)) (now (strings .entry))) (memory (now (w .exit)) (now (strings .exit))) (now (out .entry)) (now (out .exit)) at r ⌝ }
 {
     if string.len() == 0 {
         if is_free(w, i) {
@@ -96,7 +97,8 @@ pub fn release_quickly(
     n: u32,
 ) -> usize
     requires { ⌜ (i < sessionLimit) × (at + 17 + answersRoom ≤ length (now out)) × ((s : List ℕ) → (Rattle.model.specs.State.at (locksOf (now w) s .entries) i) .asynchronous ≡ c) ⌝ }
-    ensures { λ r. ⌜ Met (settled (locksOf (now (w .entry)) (now (strings .entry))) (release i n)) (memory (now (w .entry)) (now (strings .entry))) (memory (now (w .exit)) (now (strings .exit))) (now (out .entry)) (now (out .exit)) at r ⌝ }
+    ensures { λ r. ⌜ Met (settled (locksOf (now (w .entry)) (now (strings .entry))) (release i n)) (memory (now (w .entry)) (now (strings .entry)))
+        (memory (now (w .exit)) (now (strings .exit))) (now (out .entry)) (now (out .exit)) at r ⌝ }
 {
     if ends_at_once(w, i, n) {
         let r = put_answer_to(w, out, at, c, i, EXCLUSIVE);

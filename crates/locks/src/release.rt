@@ -27,7 +27,9 @@ use state::tables;
 // The lock that a release of slot i frees: exclusive first, then shared; 0 where none is held or a release stands.
 fn freed_kind(w: &Words, i: usize) -> u8
     requires { ⌜ i < sessionLimit ⌝ }
-    ensures { λ r. ⌜ ((r ≡ 0 → ⊥) → releaseCode (kindOf r) ≡ r) × ((s : List ℕ) (n : ℕ) → releasingOf (at (locksOf (now (w .entry)) s .entries) i) n ≡ ruledBy r (eqb ((at (locksOf (now (w .entry)) s .entries) i) .last) n)) ⌝ }
+    ensures { λ r. ⌜ ((r ≡ 0 → ⊥) → releaseCode (kindOf r) ≡ r)
+        × ((s : List ℕ) (n : ℕ) → releasingOf (at (locksOf (now (w .entry)) s .entries) i) n ≡ ruledBy r
+        (eqb ((at (locksOf (now (w .entry)) s .entries) i) .last) n)) ⌝ }
 {
     if standing::stands(w, i) {
         return 0;
@@ -51,7 +53,8 @@ pub fn release_lock(
     n: u32,
 ) -> usize
     requires { ⌜ (i < sessionLimit) × (at + 17 + answersRoom ≤ length (now out)) ⌝ }
-    ensures { λ r. ⌜ Met (settled (locksOf (now (w .entry)) (now (strings .entry))) (release i n)) (memory (now (w .entry)) (now (strings .entry))) (memory (now (w .exit)) (now (strings .exit))) (now (out .entry)) (now (out .exit)) at r ⌝ }
+    ensures { λ r. ⌜ Met (settled (locksOf (now (w .entry)) (now (strings .entry))) (release i n)) (memory (now (w .entry)) (now (strings .entry)))
+        (memory (now (w .exit)) (now (strings .exit))) (now (out .entry)) (now (out .exit)) at r ⌝ }
 {
     let kind = freed_kind(w, i);
     if kind == 0 {

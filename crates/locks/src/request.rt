@@ -84,8 +84,11 @@ fn cannot_wait(w: &Words, timeout: u32) -> bool
 
 // The request of slot i waits until the clock and the timeout: only now its string is laid into its place.
 fn wait(w: &mut Words, strings: &mut Strings, i: usize, timeout: u32, string: &[u8])
-    requires { ⌜ (i < sessionLimit) × (length (now string) ≤ stringLimit) × (length (locksOf (now w) (now strings) .waiting) < sessionLimit) × (all (elsewhere i) (locksOf (now w) (now strings) .waiting) ≡ true) ⌝ }
-    ensures { λ _. ⌜ (view (memory (now (w .exit)) (now (strings .exit))) ≡ onWaiting (view (memory (now (w .entry)) (now (strings .entry)))) (λ x. x ++ (record { slot = i; deadline = locksOf (now (w .entry)) (now (strings .entry)) .clock + timeout; string = now (string .entry) } ∷ []))) × (Tidy (memory (now (w .entry)) (now (strings .entry))) → Tidy (memory (now (w .exit)) (now (strings .exit)))) ⌝ }
+    requires { ⌜ (i < sessionLimit) × (length (now string) ≤ stringLimit) × (length (locksOf (now w) (now strings) .waiting) < sessionLimit)
+        × (all (elsewhere i) (locksOf (now w) (now strings) .waiting) ≡ true) ⌝ }
+    ensures { λ _. ⌜ (view (memory (now (w .exit)) (now (strings .exit))) ≡ onWaiting (view (memory (now (w .entry)) (now (strings .entry))))
+        (λ x. x ++ (record { slot = i; deadline = locksOf (now (w .entry)) (now (strings .entry)) .clock + timeout; string = now (string .entry) } ∷ [])))
+        × (Tidy (memory (now (w .entry)) (now (strings .entry))) → Tidy (memory (now (w .exit)) (now (strings .exit)))) ⌝ }
 {
     let t = tables::clock(w) + timeout as u64;
     requests::put_request(w, strings, i, t, string);
@@ -102,7 +105,8 @@ fn decide(
     string: &[u8],
 ) -> usize
     requires { ⌜ (i < sessionLimit) × (at + 17 ≤ length (now out)) × (length (now string) ≤ stringLimit) × (all (elsewhere i) (locksOf (now w) (now strings) .waiting) ≡ true) ⌝ }
-    ensures { λ r. ⌜ Met (decided (locksOf (now (w .entry)) (now (strings .entry))) i timeout (now (string .entry))) (memory (now (w .entry)) (now (strings .entry))) (memory (now (w .exit)) (now (strings .exit))) (now (out .entry)) (now (out .exit)) at r ⌝ }
+    ensures { λ r. ⌜ Met (decided (locksOf (now (w .entry)) (now (strings .entry))) i timeout (now (string .entry)))
+        (memory (now (w .entry)) (now (strings .entry))) (memory (now (w .exit)) (now (strings .exit))) (now (out .entry)) (now (out .exit)) at r ⌝ }
 {
     if granting::may_give(w, strings, i, string) {
         let r = put_answer(w, out, at, i, 1);
@@ -128,7 +132,8 @@ pub fn request_lock(
     string: &[u8],
 ) -> usize
     requires { ⌜ (i < sessionLimit) × (at + 17 ≤ length (now out)) ⌝ }
-    ensures { λ r. ⌜ Met (change (locksOf (now (w .entry)) (now (strings .entry))) (request i timeout (now (string .entry)))) (memory (now (w .entry)) (now (strings .entry))) (memory (now (w .exit)) (now (strings .exit))) (now (out .entry)) (now (out .exit)) at r ⌝ }
+    ensures { λ r. ⌜ Met (change (locksOf (now (w .entry)) (now (strings .entry))) (request i timeout (now (string .entry))))
+        (memory (now (w .entry)) (now (strings .entry))) (memory (now (w .exit)) (now (strings .exit))) (now (out .entry)) (now (out .exit)) at r ⌝ }
 {
     if is_invalid(w, i, string.len()) {
         return put_answer(w, out, at, i, 3);

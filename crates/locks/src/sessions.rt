@@ -23,7 +23,8 @@ use state::tables;
 // A slot that opens or closes has no locks, no message acted in it, no release stands, and no lock was granted to it.
 fn drop_locks(w: &mut Words, strings: &mut Strings, i: usize)
     requires { ⌜ i < sessionLimit ⌝ }
-    ensures { λ _. ⌜ (view (memory (now (w .exit)) (now (strings .exit))) ≡ onEntry (view (memory (now (w .entry)) (now (strings .entry)))) i withoutLocks) × (Tidy (memory (now (w .entry)) (now (strings .entry))) → Tidy (memory (now (w .exit)) (now (strings .exit)))) ⌝ }
+    ensures { λ _. ⌜ (view (memory (now (w .exit)) (now (strings .exit))) ≡ onEntry (view (memory (now (w .entry)) (now (strings .entry)))) i withoutLocks)
+        × (Tidy (memory (now (w .entry)) (now (strings .entry))) → Tidy (memory (now (w .exit)) (now (strings .exit)))) ⌝ }
 {
     tables::set_order(w, i, tables::LAST_NUMBER, BEFORE_FIRST);
     tables::set_order(w, i, tables::STANDING, 0);

@@ -66,7 +66,8 @@ pub fn standing_word(kind: u8, n: u32) -> u64
 // Slot i holds the lock of a kind no more, if it did.
 pub fn free_lock(w: &mut Words, strings: &mut Strings, i: usize, kind: u8)
     requires { ⌜ i < sessionLimit ⌝ }
-    ensures { λ _. ⌜ (view (memory (now (w .exit)) (now (strings .exit))) ≡ onEntry (view (memory (now (w .entry)) (now (strings .entry)))) i (without (kindOf kind))) × (Tidy (memory (now (w .entry)) (now (strings .entry))) → Tidy (memory (now (w .exit)) (now (strings .exit)))) ⌝ }
+    ensures { λ _. ⌜ (view (memory (now (w .exit)) (now (strings .exit))) ≡ onEntry (view (memory (now (w .entry)) (now (strings .entry)))) i
+        (without (kindOf kind))) × (Tidy (memory (now (w .entry)) (now (strings .entry))) → Tidy (memory (now (w .exit)) (now (strings .exit)))) ⌝ }
 {
     if kind == EXCLUSIVE {
         holders::drop_exclusive(w, i);

@@ -56,7 +56,8 @@ fn answer_leaving(w: &Words, out: &mut [u8], start: usize, i: usize, t: u64) -> 
 
 // Those that stay go on waiting, in their order.
 fn keep_staying(w: &mut Words, strings: &mut Strings, i: usize, t: u64)
-    ensures { λ _. ⌜ (view (memory (now (w .exit)) (now (strings .exit))) ≡ onWaiting (view (memory (now (w .entry)) (now (strings .entry)))) (keep (stays i t))) × (Tidy (memory (now (w .entry)) (now (strings .entry))) → Tidy (memory (now (w .exit)) (now (strings .exit)))) ⌝ }
+    ensures { λ _. ⌜ (view (memory (now (w .exit)) (now (strings .exit))) ≡ onWaiting (view (memory (now (w .entry)) (now (strings .entry))))
+        (keep (stays i t))) × (Tidy (memory (now (w .entry)) (now (strings .entry))) → Tidy (memory (now (w .exit)) (now (strings .exit)))) ⌝ }
 {
     let n = requests::waiting_count(w);
     let mut k = 0;
@@ -75,7 +76,8 @@ fn keep_staying(w: &mut Words, strings: &mut Strings, i: usize, t: u64)
 // What does not stay is answered 0 and leaves the queue.
 fn sweep(w: &mut Words, strings: &mut Strings, out: &mut [u8], at: usize, i: usize, t: u64) -> usize
     requires { ⌜ at + answersRoom ≤ length (now out) ⌝ }
-    ensures { λ r. ⌜ Met (swept (locksOf (now (w .entry)) (now (strings .entry))) i t) (memory (now (w .entry)) (now (strings .entry))) (memory (now (w .exit)) (now (strings .exit))) (now (out .entry)) (now (out .exit)) at r ⌝ }
+    ensures { λ r. ⌜ Met (swept (locksOf (now (w .entry)) (now (strings .entry))) i t) (memory (now (w .entry)) (now (strings .entry)))
+        (memory (now (w .exit)) (now (strings .exit))) (now (out .entry)) (now (out .exit)) at r ⌝ }
 {
     let r = answer_leaving(w, out, at, i, t);
     // Nobody was answered, so all stay.
@@ -95,7 +97,8 @@ pub fn clear_request(
     i: usize,
 ) -> usize
     requires { ⌜ (i < sessionLimit) × (at + answersRoom ≤ length (now out)) ⌝ }
-    ensures { λ r. ⌜ Met (turnedAway (locksOf (now (w .entry)) (now (strings .entry))) i) (memory (now (w .entry)) (now (strings .entry))) (memory (now (w .exit)) (now (strings .exit))) (now (out .entry)) (now (out .exit)) at r ⌝ }
+    ensures { λ r. ⌜ Met (turnedAway (locksOf (now (w .entry)) (now (strings .entry))) i) (memory (now (w .entry)) (now (strings .entry)))
+        (memory (now (w .exit)) (now (strings .exit))) (now (out .entry)) (now (out .exit)) at r ⌝ }
 {
     sweep(w, strings, out, at, i, 0)
 }
@@ -103,7 +106,8 @@ pub fn clear_request(
 // The clock reads t: a request whose deadline is t or before is answered 0.
 pub fn expire(w: &mut Words, strings: &mut Strings, out: &mut [u8], at: usize, t: u64) -> usize
     requires { ⌜ (t < 9223372036854775808) × (at + answersRoom ≤ length (now out)) ⌝ }
-    ensures { λ r. ⌜ Met (change (locksOf (now (w .entry)) (now (strings .entry))) (reading t)) (memory (now (w .entry)) (now (strings .entry))) (memory (now (w .exit)) (now (strings .exit))) (now (out .entry)) (now (out .exit)) at r ⌝ }
+    ensures { λ r. ⌜ Met (change (locksOf (now (w .entry)) (now (strings .entry))) (reading t)) (memory (now (w .entry)) (now (strings .entry)))
+        (memory (now (w .exit)) (now (strings .exit))) (now (out .entry)) (now (out .exit)) at r ⌝ }
 {
     tables::set_clock(w, t);
     sweep(w, strings, out, at, NO_SLOT, t)
@@ -112,7 +116,8 @@ pub fn expire(w: &mut Words, strings: &mut Strings, out: &mut [u8], at: usize, t
 // The request of slot i leaves the queue unanswered.
 pub fn drop_request(w: &mut Words, strings: &mut Strings, i: usize)
     requires { ⌜ i < sessionLimit ⌝ }
-    ensures { λ _. ⌜ (view (memory (now (w .exit)) (now (strings .exit))) ≡ onWaiting (view (memory (now (w .entry)) (now (strings .entry)))) (keep (elsewhere i))) × (Tidy (memory (now (w .entry)) (now (strings .entry))) → Tidy (memory (now (w .exit)) (now (strings .exit)))) ⌝ }
+    ensures { λ _. ⌜ (view (memory (now (w .exit)) (now (strings .exit))) ≡ onWaiting (view (memory (now (w .entry)) (now (strings .entry))))
+        (keep (elsewhere i))) × (Tidy (memory (now (w .entry)) (now (strings .entry))) → Tidy (memory (now (w .exit)) (now (strings .exit)))) ⌝ }
 {
     keep_staying(w, strings, i, 0);
 }

@@ -15,7 +15,9 @@ use Rattle.readings.specs.Block.{blockOf}
 use Rattle.model.specs.Sizes.{stringLimit, outputMinimum, lastSessionId}
 use Rattle.model.specs.Lists.{isNil, same, all, any, keep}
 use Rattle.model.specs.State.{Server, Entry, at, fresh}
-use Rattle.model.specs.Interface.{Event, Event.opening, Event.delivery, Event.cut, Event.clock, Event.answer, Event.status, Event.setting, Setting.watch, Setting.patterns, Outcome.more-needed, Outcome.skipped, Outcome.held, Outcome.ignored, Outcome.error-sent, Outcome.closed, Outcome.acted, Reply, Reply.refused, Reply.done, Reply.withheld, Reply.took}
+use Rattle.model.specs.Interface.{Event, Event.opening, Event.delivery, Event.cut, Event.clock, Event.answer, Event.status, Event.setting, Setting.watch}
+use Rattle.model.specs.Interface.{Setting.patterns, Outcome.more-needed, Outcome.skipped, Outcome.held, Outcome.ignored, Outcome.error-sent}
+use Rattle.model.specs.Interface.{Outcome.closed, Outcome.acted, Reply, Reply.refused, Reply.done, Reply.withheld, Reply.took}
 use Rattle.model.specs.Scan.{freshScan, scan}
 use Rattle.model.specs.Place.{placeOf}
 use Rattle.model.specs.Locks.{mayGrant, access, elsewhere, opened, joined, withLocks, passOver, grantPass, change}
@@ -104,7 +106,16 @@ withLast n b =
     let d = final (fresh benchMaking) b in
     record {
       locks = d .locks;
-      rest = record { exchanges = d .rest .exchanges; sensings = d .rest .sensings; connections = d .rest .connections; lastIssued = n; made = d .rest .made; status = d .rest .status; remoteLocal = d .rest .remoteLocal; allowed = d .rest .allowed };
+      rest = record {
+        exchanges = d .rest .exchanges;
+        sensings = d .rest .sensings;
+        connections = d .rest .connections;
+        lastIssued = n;
+        made = d .rest .made;
+        status = d .rest .status;
+        remoteLocal = d .rest .remoteLocal;
+        allowed = d .rest .allowed;
+      };
     }
 
 pub number-cases : List Case
@@ -228,27 +239,45 @@ fixed-case =
     same (shapes (canonical d once)) (shapes once) && eqb (length once) 18
 
 pub access-holds : map passes access-cases ≡ replicate 4 true
-unfolding access-cases passes after isHeld isActed unsent entryIn waitingIn answersTo fitsBuffer noneExpired final step refusal causes answered plan finish received effect verdict placeOf acts synchronousExchange synchronousSaid asynchronousRest asynchronousSaid asynchronousEvent controlled mayAnswer answerNumber availableAt sensed requested settingSensings watched readingsIn blockOf scan freshScan header field encode headerBytes frameBytes bytesOf classOf mayGrant access passOver grantPass change
+unfolding access-cases passes after isHeld isActed unsent entryIn waitingIn answersTo fitsBuffer noneExpired final step refusal causes answered plan finish
+    received effect verdict placeOf acts synchronousExchange synchronousSaid asynchronousRest asynchronousSaid asynchronousEvent controlled mayAnswer
+    answerNumber availableAt sensed requested settingSensings watched readingsIn blockOf scan freshScan header field encode headerBytes frameBytes bytesOf
+    classOf mayGrant access passOver grantPass change
 access-holds = refl
 
 pub number-holds : map passes number-cases ≡ replicate 4 true
-unfolding number-cases withLast passes after isHeld isActed unsent entryIn waitingIn answersTo fitsBuffer noneExpired final step refusal causes answered plan finish received effect verdict placeOf acts synchronousExchange synchronousSaid asynchronousRest asynchronousSaid asynchronousEvent controlled mayAnswer answerNumber availableAt sensed requested settingSensings watched readingsIn blockOf scan freshScan header field encode headerBytes frameBytes bytesOf classOf mayGrant access passOver grantPass change
+unfolding number-cases withLast passes after isHeld isActed unsent entryIn waitingIn answersTo fitsBuffer noneExpired final step refusal causes answered plan
+    finish received effect verdict placeOf acts synchronousExchange synchronousSaid asynchronousRest asynchronousSaid asynchronousEvent controlled mayAnswer
+    answerNumber availableAt sensed requested settingSensings watched readingsIn blockOf scan freshScan header field encode headerBytes frameBytes bytesOf
+    classOf mayGrant access passOver grantPass change
 number-holds = refl
 
 pub string-holds : map passes string-cases ≡ replicate 5 true
-unfolding string-cases passes after isHeld isActed unsent entryIn waitingIn answersTo fitsBuffer noneExpired final step refusal causes answered plan finish received effect verdict placeOf acts synchronousExchange synchronousSaid asynchronousRest asynchronousSaid asynchronousEvent controlled mayAnswer answerNumber availableAt sensed requested settingSensings watched readingsIn blockOf scan freshScan header field encode headerBytes frameBytes bytesOf classOf mayGrant access passOver grantPass change
+unfolding string-cases passes after isHeld isActed unsent entryIn waitingIn answersTo fitsBuffer noneExpired final step refusal causes answered plan finish
+    received effect verdict placeOf acts synchronousExchange synchronousSaid asynchronousRest asynchronousSaid asynchronousEvent controlled mayAnswer
+    answerNumber availableAt sensed requested settingSensings watched readingsIn blockOf scan freshScan header field encode headerBytes frameBytes bytesOf
+    classOf mayGrant access passOver grantPass change
 string-holds = refl
 
 pub output-holds : map passes output-cases ≡ replicate 2 true
-unfolding output-cases passes after isHeld isActed unsent entryIn waitingIn answersTo fitsBuffer noneExpired final step refusal causes answered plan finish received effect verdict placeOf acts synchronousExchange synchronousSaid asynchronousRest asynchronousSaid asynchronousEvent controlled mayAnswer answerNumber availableAt sensed requested settingSensings watched readingsIn blockOf scan freshScan header field encode headerBytes frameBytes bytesOf classOf mayGrant access passOver grantPass change
+unfolding output-cases passes after isHeld isActed unsent entryIn waitingIn answersTo fitsBuffer noneExpired final step refusal causes answered plan finish
+    received effect verdict placeOf acts synchronousExchange synchronousSaid asynchronousRest asynchronousSaid asynchronousEvent controlled mayAnswer
+    answerNumber availableAt sensed requested settingSensings watched readingsIn blockOf scan freshScan header field encode headerBytes frameBytes bytesOf
+    classOf mayGrant access passOver grantPass change
 output-holds = refl
 
 pub closing-holds : map passes closing-cases ≡ replicate 6 true
-unfolding closing-cases queue passes after isHeld isActed unsent entryIn waitingIn answersTo fitsBuffer noneExpired final step refusal causes answered plan finish received effect verdict placeOf acts synchronousExchange synchronousSaid asynchronousRest asynchronousSaid asynchronousEvent controlled mayAnswer answerNumber availableAt sensed requested settingSensings watched readingsIn blockOf scan freshScan header field encode headerBytes frameBytes bytesOf classOf mayGrant access passOver grantPass change
+unfolding closing-cases queue passes after isHeld isActed unsent entryIn waitingIn answersTo fitsBuffer noneExpired final step refusal causes answered plan
+    finish received effect verdict placeOf acts synchronousExchange synchronousSaid asynchronousRest asynchronousSaid asynchronousEvent controlled mayAnswer
+    answerNumber availableAt sensed requested settingSensings watched readingsIn blockOf scan freshScan header field encode headerBytes frameBytes bytesOf
+    classOf mayGrant access passOver grantPass change
 closing-holds = refl
 
 pub isolation-holds : map passes isolation-cases ≡ replicate 7 true
-unfolding isolation-cases passes after isHeld isActed unsent entryIn waitingIn answersTo fitsBuffer noneExpired final step refusal causes answered plan finish received effect verdict placeOf acts synchronousExchange synchronousSaid asynchronousRest asynchronousSaid asynchronousEvent controlled mayAnswer answerNumber availableAt sensed requested settingSensings watched readingsIn blockOf scan freshScan header field encode headerBytes frameBytes bytesOf classOf mayGrant access passOver grantPass change
+unfolding isolation-cases passes after isHeld isActed unsent entryIn waitingIn answersTo fitsBuffer noneExpired final step refusal causes answered plan finish
+    received effect verdict placeOf acts synchronousExchange synchronousSaid asynchronousRest asynchronousSaid asynchronousEvent controlled mayAnswer
+    answerNumber availableAt sensed requested settingSensings watched readingsIn blockOf scan freshScan header field encode headerBytes frameBytes bytesOf
+    classOf mayGrant access passOver grantPass change
 isolation-holds = refl
 
 pub fewer-holds : fewer-cases ≡ replicate 5 true
@@ -256,9 +285,13 @@ unfolding fewer-cases noWorse implies entry mayGrant access
 fewer-holds = refl
 
 pub request-holds : request-cases ≡ replicate 2 true
-unfolding request-cases grantedAt sharing implies final step refusal causes answered plan finish received effect verdict placeOf acts synchronousExchange synchronousSaid asynchronousRest asynchronousSaid asynchronousEvent controlled mayAnswer answerNumber availableAt sensed requested settingSensings watched readingsIn blockOf scan freshScan header field encode headerBytes frameBytes bytesOf classOf mayGrant access passOver grantPass change
+unfolding request-cases grantedAt sharing implies final step refusal causes answered plan finish received effect verdict placeOf acts synchronousExchange
+    synchronousSaid asynchronousRest asynchronousSaid asynchronousEvent controlled mayAnswer answerNumber availableAt sensed requested settingSensings watched
+    readingsIn blockOf scan freshScan header field encode headerBytes frameBytes bytesOf classOf mayGrant access passOver grantPass change
 request-holds = refl
 
 pub fixed-holds : fixed-case ≡ true
-unfolding fixed-case shapes mixed log final step refusal causes answered plan finish received effect verdict placeOf acts synchronousExchange synchronousSaid asynchronousRest asynchronousSaid asynchronousEvent controlled mayAnswer answerNumber availableAt sensed requested settingSensings watched readingsIn blockOf scan freshScan header field encode headerBytes frameBytes bytesOf classOf mayGrant access passOver grantPass change
+unfolding fixed-case shapes mixed log final step refusal causes answered plan finish received effect verdict placeOf acts synchronousExchange synchronousSaid
+    asynchronousRest asynchronousSaid asynchronousEvent controlled mayAnswer answerNumber availableAt sensed requested settingSensings watched readingsIn
+    blockOf scan freshScan header field encode headerBytes frameBytes bytesOf classOf mayGrant access passOver grantPass change
 fixed-holds = refl

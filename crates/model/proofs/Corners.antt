@@ -13,7 +13,9 @@ use Rattle.readings.specs.Payload.{watched, readingsIn}
 use Rattle.readings.specs.Block.{blockOf}
 use Rattle.model.specs.Sizes.{sessionLimit}
 use Rattle.model.specs.State.{Making, Server, RemoteLocal, fresh, withSession}
-use Rattle.model.specs.Interface.{Event, Event.opening, Event.delivery, Event.cut, Event.clock, Event.answer, Event.status, Event.setting, Outcome.more-needed, Outcome.skipped, Outcome.held, Outcome.ignored, Outcome.error-sent, Outcome.closed, Outcome.acted, Reply.refused, Reply.done, Reply.withheld, Reply.took, outcomeNumber, deliveryAnswer, doneAnswer, answeredAnswer}
+use Rattle.model.specs.Interface.{Event, Event.opening, Event.delivery, Event.cut, Event.clock, Event.answer, Event.status, Event.setting}
+use Rattle.model.specs.Interface.{Outcome.more-needed, Outcome.skipped, Outcome.held, Outcome.ignored, Outcome.error-sent, Outcome.closed, Outcome.acted}
+use Rattle.model.specs.Interface.{Reply.refused, Reply.done, Reply.withheld, Reply.took, outcomeNumber, deliveryAnswer, doneAnswer, answeredAnswer}
 use Rattle.model.specs.Scan.{freshScan, scan}
 use Rattle.model.specs.Place.{placeOf}
 use Rattle.model.specs.Locks.{issued, mayGrant, access, passOver, grantPass, change}
@@ -125,7 +127,9 @@ checks =
     ∷ []
 
 pub checks-hold : map found checks ≡ map sought checks
-unfolding checks log final step refusal causes answered plan finish received effect verdict placeOf acts synchronousExchange synchronousSaid asynchronousRest asynchronousSaid asynchronousEvent controlled mayAnswer answerNumber availableAt sensed requested settingSensings watched readingsIn blockOf scan freshScan header field encode headerBytes frameBytes bytesOf classOf mayGrant access passOver grantPass change
+unfolding checks log final step refusal causes answered plan finish received effect verdict placeOf acts synchronousExchange synchronousSaid asynchronousRest
+    asynchronousSaid asynchronousEvent controlled mayAnswer answerNumber availableAt sensed requested settingSensings watched readingsIn blockOf scan
+    freshScan header field encode headerBytes frameBytes bytesOf classOf mayGrant access passOver grantPass change
 checks-hold = refl
 
 -- opening a session
@@ -147,7 +151,9 @@ openings =
     ∷ []
 
 pub openings-hold : map found openings ≡ map sought openings
-unfolding openings log final step refusal causes answered plan finish received effect verdict placeOf acts synchronousExchange synchronousSaid asynchronousRest asynchronousSaid asynchronousEvent controlled mayAnswer answerNumber availableAt sensed requested settingSensings watched readingsIn blockOf scan freshScan header field encode headerBytes frameBytes bytesOf classOf mayGrant access passOver grantPass change
+unfolding openings log final step refusal causes answered plan finish received effect verdict placeOf acts synchronousExchange synchronousSaid asynchronousRest
+    asynchronousSaid asynchronousEvent controlled mayAnswer answerNumber availableAt sensed requested settingSensings watched readingsIn blockOf scan
+    freshScan header field encode headerBytes frameBytes bytesOf classOf mayGrant access passOver grantPass change
 openings-hold = refl
 
 -- 256 bytes, the last of them given
@@ -198,7 +204,9 @@ locks =
     ∷ []
 
 pub locks-hold : map found locks ≡ map sought locks
-unfolding locks log final step refusal causes answered plan finish received effect verdict placeOf acts synchronousExchange synchronousSaid asynchronousRest asynchronousSaid asynchronousEvent controlled mayAnswer answerNumber availableAt sensed requested settingSensings watched readingsIn blockOf scan freshScan header field encode headerBytes frameBytes bytesOf classOf mayGrant access passOver grantPass change
+unfolding locks log final step refusal causes answered plan finish received effect verdict placeOf acts synchronousExchange synchronousSaid asynchronousRest
+    asynchronousSaid asynchronousEvent controlled mayAnswer answerNumber availableAt sensed requested settingSensings watched readingsIn blockOf scan
+    freshScan header field encode headerBytes frameBytes bytesOf classOf mayGrant access passOver grantPass change
 locks-hold = refl
 
 -- 02, Q-3: a release waits for the message that it names
@@ -243,21 +251,26 @@ releases =
     -- a malformed AsyncLock gets its Error, not 3
     ∷ corner stood (send 1 (message 4 2 0 [])) (took error-sent 16 0) (plain 1 3 2)
     -- AsyncDeviceClear: the waiting request's 0, the release's answer, the acknowledgement, the grants; then none has acted
-    ∷ corner (three ++ (request 1 0 cal ∷ request 3 0 cal ∷ request 5 90 Cal ∷ releaseOf 3 8 ∷ cut 1 2048 ∷ [])) (send 3 (message 19 0 0 [])) (took acted 16 2) (plain 3 5 2 ++ (plain 3 23 0 ++ plain 5 5 1))
-    ∷ corner (three ++ (request 1 0 cal ∷ request 3 0 cal ∷ request 1 0 [] ∷ request 3 90 [] ∷ releaseOf 3 8 ∷ [])) (send 3 (message 19 0 0 [])) (took acted 16 2) (plain 3 5 0 ++ (plain 3 5 2 ++ plain 3 23 0))
+    ∷ corner (three ++ (request 1 0 cal ∷ request 3 0 cal ∷ request 5 90 Cal ∷ releaseOf 3 8 ∷ cut 1 2048 ∷ [])) (send 3 (message 19 0 0 [])) (took acted 16 2)
+    (plain 3 5 2 ++ (plain 3 23 0 ++ plain 5 5 1))
+    ∷ corner (three ++ (request 1 0 cal ∷ request 3 0 cal ∷ request 1 0 [] ∷ request 3 90 [] ∷ releaseOf 3 8 ∷ [])) (send 3 (message 19 0 0 []))
+    (took acted 16 2) (plain 3 5 0 ++ (plain 3 5 2 ++ plain 3 23 0))
     ∷ corner (sent ++ (send 1 (message 19 0 0 []) ∷ send 0 (message 8 0 0 []) ∷ [])) (release 1) (took acted 16 1) (plain 1 5 1)
     -- a release in a clear stands through it: an ignored message does not act, DeviceClearComplete leaves it
     ∷ corner (clearing ++ (send 0 (message 6 0 0xffffff00 []) ∷ [])) (releaseOf 1 0xffffff00) (took acted 16 1) (plain 1 5 3)
     ∷ corner (clearing ++ (send 0 (message 8 0 0 []) ∷ [])) (send 0 (message 6 0 0xffffff00 [])) (took acted 16 1) (plain 1 5 1)
     -- which lock it frees is fixed when it arrives: exclusive is granted meanwhile, and shared goes. Then A is exclusive alone while B shares
     ∷ corner (shared ++ (request 3 0 [] ∷ request 1 90 [] ∷ releaseOf 1 0xffffff00 ∷ release 3 ∷ [])) (send 0 (message 6 0 0xffffff00 [])) (took acted 16 1) (plain 1 5 2)
-    ∷ corner (shared ++ (request 3 0 [] ∷ request 1 90 [] ∷ releaseOf 1 0xffffff00 ∷ release 3 ∷ send 0 (message 6 0 0xffffff00 []) ∷ [])) (send 5 (message 24 0 0 [])) (took acted 16 3) (5 ∷ 0x48 ∷ 0x53 ∷ 25 ∷ 1 ∷ 0 ∷ 0 ∷ 0 ∷ 2 ∷ eightZeros)
+    ∷ corner (shared ++ (request 3 0 [] ∷ request 1 90 [] ∷ releaseOf 1 0xffffff00 ∷ release 3 ∷ send 0 (message 6 0 0xffffff00 []) ∷ []))
+    (send 5 (message 24 0 0 [])) (took acted 16 3) (5 ∷ 0x48 ∷ 0x53 ∷ 25 ∷ 1 ∷ 0 ∷ 0 ∷ 0 ∷ 2 ∷ eightZeros)
     -- a closing drops it, unanswered
     ∷ corner (stood ++ (request 3 9 [] ∷ [])) (cut 0 2048) done (plain 3 5 1)
     ∷ []
 
 pub releases-hold : map found releases ≡ map sought releases
-unfolding releases log final step refusal causes answered plan finish received effect verdict placeOf acts synchronousExchange synchronousSaid asynchronousRest asynchronousSaid asynchronousEvent controlled mayAnswer answerNumber availableAt sensed requested settingSensings watched readingsIn blockOf scan freshScan header field encode headerBytes frameBytes bytesOf classOf mayGrant access passOver grantPass change
+unfolding releases log final step refusal causes answered plan finish received effect verdict placeOf acts synchronousExchange synchronousSaid asynchronousRest
+    asynchronousSaid asynchronousEvent controlled mayAnswer answerNumber availableAt sensed requested settingSensings watched readingsIn blockOf scan
+    freshScan header field encode headerBytes frameBytes bytesOf classOf mayGrant access passOver grantPass change
 releases-hold = refl
 
 -- 02, Q-1: overlap mode. A server that prefers it; A cleared into the other mode and back
@@ -300,7 +313,9 @@ overlapping =
     ∷ []
 
 pub overlapping-hold : map (foundOn overlapMaking) overlapping ≡ map sought overlapping
-unfolding overlapping log final step refusal causes answered plan finish received effect verdict placeOf acts synchronousExchange synchronousSaid asynchronousRest asynchronousSaid asynchronousEvent controlled mayAnswer answerNumber availableAt sensed requested settingSensings watched readingsIn blockOf scan freshScan header field encode headerBytes frameBytes bytesOf classOf mayGrant access passOver grantPass change
+unfolding overlapping log final step refusal causes answered plan finish received effect verdict placeOf acts synchronousExchange synchronousSaid
+    asynchronousRest asynchronousSaid asynchronousEvent controlled mayAnswer answerNumber availableAt sensed requested settingSensings watched readingsIn
+    blockOf scan freshScan header field encode headerBytes frameBytes bytesOf classOf mayGrant access passOver grantPass change
 overlapping-hold = refl
 
 -- the same server, preferring synchronized mode, cleared into overlap mode
@@ -314,7 +329,9 @@ switched =
     ∷ []
 
 pub switched-hold : map found switched ≡ map sought switched
-unfolding switched log final step refusal causes answered plan finish received effect verdict placeOf acts synchronousExchange synchronousSaid asynchronousRest asynchronousSaid asynchronousEvent controlled mayAnswer answerNumber availableAt sensed requested settingSensings watched readingsIn blockOf scan freshScan header field encode headerBytes frameBytes bytesOf classOf mayGrant access passOver grantPass change
+unfolding switched log final step refusal causes answered plan finish received effect verdict placeOf acts synchronousExchange synchronousSaid asynchronousRest
+    asynchronousSaid asynchronousEvent controlled mayAnswer answerNumber availableAt sensed requested settingSensings watched readingsIn blockOf scan
+    freshScan header field encode headerBytes frameBytes bytesOf classOf mayGrant access passOver grantPass change
 switched-hold = refl
 
 -- 02, Q-5: interrupted queries. A message with a number ending in n, to a connection
@@ -360,11 +377,14 @@ interruptions-of =
     ∷ corner (ended ++ (send 1 (message 21 1 0 []) ∷ [])) (send 0 (message 6 0 0xffffff02 [])) (took acted 16 1) []
     ∷ corner (ended ++ (send 1 (message 19 0 0 []) ∷ send 0 (message 8 0 0 []) ∷ [])) (send 0 (message 6 0 0xffffff00 [])) (took acted 16 1) []
     -- the order: AsyncInterrupted, Interrupted, the release's answer, the grants
-    ∷ corner (ended ++ (request 1 0 [] ∷ request 3 9 [] ∷ releaseOf 1 0xffffff02 ∷ [])) (send 0 (message 7 0 0xffffff02 [])) (took acted 16 1) (numbered 1 14 2 ++ (numbered 0 13 2 ++ (plain 1 5 1 ++ plain 3 5 1)))
+    ∷ corner (ended ++ (request 1 0 [] ∷ request 3 9 [] ∷ releaseOf 1 0xffffff02 ∷ [])) (send 0 (message 7 0 0xffffff02 [])) (took acted 16 1)
+    (numbered 1 14 2 ++ (numbered 0 13 2 ++ (plain 1 5 1 ++ plain 3 5 1)))
     ∷ []
 
 pub interruptions-hold : map found interruptions-of ≡ map sought interruptions-of
-unfolding interruptions-of log final step refusal causes answered plan finish received effect verdict placeOf acts synchronousExchange synchronousSaid asynchronousRest asynchronousSaid asynchronousEvent controlled mayAnswer answerNumber availableAt sensed requested settingSensings watched readingsIn blockOf scan freshScan header field encode headerBytes frameBytes bytesOf classOf mayGrant access passOver grantPass change
+unfolding interruptions-of log final step refusal causes answered plan finish received effect verdict placeOf acts synchronousExchange synchronousSaid
+    asynchronousRest asynchronousSaid asynchronousEvent controlled mayAnswer answerNumber availableAt sensed requested settingSensings watched readingsIn
+    blockOf scan freshScan header field encode headerBytes frameBytes bytesOf classOf mayGrant access passOver grantPass change
 interruptions-hold = refl
 
 -- overlap mode: neither tested nor withheld
@@ -376,7 +396,9 @@ uninterrupted =
     ∷ []
 
 pub uninterrupted-hold : map (foundOn overlapMaking) uninterrupted ≡ map sought uninterrupted
-unfolding uninterrupted log final step refusal causes answered plan finish received effect verdict placeOf acts synchronousExchange synchronousSaid asynchronousRest asynchronousSaid asynchronousEvent controlled mayAnswer answerNumber availableAt sensed requested settingSensings watched readingsIn blockOf scan freshScan header field encode headerBytes frameBytes bytesOf classOf mayGrant access passOver grantPass change
+unfolding uninterrupted log final step refusal causes answered plan finish received effect verdict placeOf acts synchronousExchange synchronousSaid
+    asynchronousRest asynchronousSaid asynchronousEvent controlled mayAnswer answerNumber availableAt sensed requested settingSensings watched readingsIn
+    blockOf scan freshScan header field encode headerBytes frameBytes bytesOf classOf mayGrant access passOver grantPass change
 uninterrupted-hold = refl
 
 -- 02, Q-10: numbers out of step
@@ -397,7 +419,8 @@ inStep =
     ∷ corner (exclusive ++ (send 2 (message 6 0 0xffffff00 []) ∷ release 1 ∷ [])) (send 2 (message 6 0 0xffffff00 [])) (took acted 16 2) []
     ∷ corner exclusive (send 2 (message 6 0 7 [])) (took held 0 0) []
     ∷ corner (three ++ (send 1 (message 19 0 0 []) ∷ send 0 (message 6 0 0xffffff00 []) ∷ send 0 (message 8 0 0 []) ∷ [])) (send 0 (message 6 0 0xffffff00 [])) (took acted 16 1) []
-    ∷ corner (three ++ (send 1 (message 19 0 0 []) ∷ send 0 (message 6 0 0xffffff00 (replicate 1025 7)) ∷ send 0 (replicate 1025 7) ∷ send 0 (message 8 0 0 []) ∷ [])) (send 0 (message 6 0 0xffffff00 [])) (took acted 16 1) []
+    ∷ corner (three ++ (send 1 (message 19 0 0 []) ∷ send 0 (message 6 0 0xffffff00 (replicate 1025 7)) ∷ send 0 (replicate 1025 7) ∷ send 0 (message 8 0 0 [])
+    ∷ [])) (send 0 (message 6 0 0xffffff00 [])) (took acted 16 1) []
     ∷ corner (three ++ (send 0 (message 6 0 0xffffff00 []) ∷ cleared 0)) (send 0 (message 6 0 0xffffff00 [])) (took acted 16 1) []
     -- in a clear none is tested; a held one is tested when it is taken; a too large one moves it without access too
     ∷ corner (three ++ (send 1 (message 19 0 0 []) ∷ [])) (send 0 (message 6 0 7 [])) (took ignored 16 0) []
@@ -410,7 +433,9 @@ inStep =
     ∷ []
 
 pub in-step-hold : map found inStep ≡ map sought inStep
-unfolding inStep log final step refusal causes answered plan finish received effect verdict placeOf acts synchronousExchange synchronousSaid asynchronousRest asynchronousSaid asynchronousEvent controlled mayAnswer answerNumber availableAt sensed requested settingSensings watched readingsIn blockOf scan freshScan header field encode headerBytes frameBytes bytesOf classOf mayGrant access passOver grantPass change
+unfolding inStep log final step refusal causes answered plan finish received effect verdict placeOf acts synchronousExchange synchronousSaid asynchronousRest
+    asynchronousSaid asynchronousEvent controlled mayAnswer answerNumber availableAt sensed requested settingSensings watched readingsIn blockOf scan
+    freshScan header field encode headerBytes frameBytes bytesOf classOf mayGrant access passOver grantPass change
 in-step-hold = refl
 
 -- a client that counts: B, through a message in two pieces, one held, one with a wrong code and one too large; what the reader has of it
@@ -421,7 +446,9 @@ counting =
     ∷ send 2 (message 7 0 0xffffff02 []) ∷ send 2 (message 6 9 0xffffff04 []) ∷ send 2 (message 6 0 0xffffff06 (replicate 1025 7)) ∷ send 2 (replicate 1025 7) ∷ [])
 
 pub counting-holds : (numbering benchMaking counting 2) .taken ≡ countUp 4
-unfolding numberingOf log final step refusal causes answered plan finish received effect verdict placeOf acts synchronousExchange synchronousSaid asynchronousRest asynchronousSaid asynchronousEvent controlled mayAnswer answerNumber availableAt sensed requested settingSensings watched readingsIn blockOf scan freshScan header field encode headerBytes frameBytes bytesOf classOf mayGrant access passOver grantPass change
+unfolding numberingOf log final step refusal causes answered plan finish received effect verdict placeOf acts synchronousExchange synchronousSaid
+    asynchronousRest asynchronousSaid asynchronousEvent controlled mayAnswer answerNumber availableAt sensed requested settingSensings watched readingsIn
+    blockOf scan freshScan header field encode headerBytes frameBytes bytesOf classOf mayGrant access passOver grantPass change
 counting-holds = refl
 
 -- 02, Q-14: of the frames of a call, the codes that answer the request that waits of the session with connections c (asynchronous) and s
@@ -457,7 +484,9 @@ told-waiting =
     ∷ []
 
 pub told-waiting-holds : told-waiting ≡ (1 ∷ []) ∷ (1 ∷ []) ∷ [] ∷ (0 ∷ []) ∷ (0 ∷ []) ∷ [] ∷ [] ∷ [] ∷ (0 ∷ []) ∷ [] ∷ (1 ∷ []) ∷ []
-unfolding told-waiting log final step refusal causes answered plan finish received effect verdict placeOf acts synchronousExchange synchronousSaid asynchronousRest asynchronousSaid asynchronousEvent controlled mayAnswer answerNumber availableAt sensed requested settingSensings watched readingsIn blockOf scan freshScan header field encode headerBytes frameBytes bytesOf classOf mayGrant access passOver grantPass change
+unfolding told-waiting log final step refusal causes answered plan finish received effect verdict placeOf acts synchronousExchange synchronousSaid
+    asynchronousRest asynchronousSaid asynchronousEvent controlled mayAnswer answerNumber availableAt sensed requested settingSensings watched readingsIn
+    blockOf scan freshScan header field encode headerBytes frameBytes bytesOf classOf mayGrant access passOver grantPass change
 told-waiting-holds = refl
 
 -- clear, status, remote, sizes, answers
@@ -490,14 +519,18 @@ exchanges =
     ∷ corner (asked ++ (send 2 (message 7 0 0xffffff00 []) ∷ [])) (answer 2 [] true [] 2048) done (2 ∷ 0x48 ∷ 0x53 ∷ 7 ∷ 0 ∷ 0xff ∷ 0xff ∷ 0xff ∷ 0 ∷ eightZeros)
     -- an answer flows though another holds the lock; the client's size; the reply says 1,024
     ∷ corner (asked ++ (request 3 0 [] ∷ [])) (answer 1 [] true [] 2048) done (0 ∷ 0x48 ∷ 0x53 ∷ 7 ∷ 0 ∷ 0xff ∷ 0xff ∷ 0xff ∷ 0 ∷ eightZeros)
-    ∷ corner three (send 1 (message 15 0 0 (0 ∷ 0 ∷ 0 ∷ 0 ∷ 0 ∷ 0 ∷ 2 ∷ 0 ∷ []))) (took acted 24 1) (1 ∷ 0x48 ∷ 0x53 ∷ 16 ∷ 0 ∷ 0 ∷ 0 ∷ 0 ∷ 0 ∷ 0 ∷ 0 ∷ 0 ∷ 0 ∷ 0 ∷ 0 ∷ 0 ∷ 8 ∷ 0 ∷ 0 ∷ 0 ∷ 0 ∷ 0 ∷ 0 ∷ 4 ∷ 0 ∷ [])
+    ∷ corner three (send 1 (message 15 0 0 (0 ∷ 0 ∷ 0 ∷ 0 ∷ 0 ∷ 0 ∷ 2 ∷ 0 ∷ []))) (took acted 24 1)
+    (1 ∷ 0x48 ∷ 0x53 ∷ 16 ∷ 0 ∷ 0 ∷ 0 ∷ 0 ∷ 0 ∷ 0 ∷ 0 ∷ 0 ∷ 0 ∷ 0 ∷ 0 ∷ 0 ∷ 8 ∷ 0 ∷ 0 ∷ 0 ∷ 0 ∷ 0 ∷ 0 ∷ 4 ∷ 0 ∷ [])
     ∷ corner (asked ++ (send 1 (message 15 0 0 (0 ∷ 0 ∷ 0 ∷ 0 ∷ 0 ∷ 0 ∷ 0 ∷ 3 ∷ [])) ∷ [])) (answer 1 (1 ∷ 2 ∷ 3 ∷ 4 ∷ []) true [] 2048) (refused 6) []
     ∷ corner (asked ++ (send 1 (message 15 0 0 (0 ∷ 0 ∷ 0 ∷ 0 ∷ 0 ∷ 0 ∷ 0 ∷ 0 ∷ [])) ∷ [])) (answer 1 [] true [] 2048) done (0 ∷ 0x48 ∷ 0x53 ∷ 7 ∷ 0 ∷ 0xff ∷ 0xff ∷ 0xff ∷ 0 ∷ eightZeros)
-    ∷ corner (asked ++ (send 1 (message 15 0 0 (0 ∷ 0 ∷ 0 ∷ 0 ∷ 0 ∷ 0 ∷ 0 ∷ 3 ∷ [])) ∷ [])) (answer 1 (1 ∷ 2 ∷ 3 ∷ []) true [] 2048) done (0 ∷ 0x48 ∷ 0x53 ∷ 7 ∷ 0 ∷ 0xff ∷ 0xff ∷ 0xff ∷ 0 ∷ 0 ∷ 0 ∷ 0 ∷ 0 ∷ 0 ∷ 0 ∷ 0 ∷ 3 ∷ 1 ∷ 2 ∷ 3 ∷ [])
+    ∷ corner (asked ++ (send 1 (message 15 0 0 (0 ∷ 0 ∷ 0 ∷ 0 ∷ 0 ∷ 0 ∷ 0 ∷ 3 ∷ [])) ∷ [])) (answer 1 (1 ∷ 2 ∷ 3 ∷ []) true [] 2048) done
+    (0 ∷ 0x48 ∷ 0x53 ∷ 7 ∷ 0 ∷ 0xff ∷ 0xff ∷ 0xff ∷ 0 ∷ 0 ∷ 0 ∷ 0 ∷ 0 ∷ 0 ∷ 0 ∷ 0 ∷ 3 ∷ 1 ∷ 2 ∷ 3 ∷ [])
     ∷ []
 
 pub exchanges-hold : map found exchanges ≡ map sought exchanges
-unfolding exchanges log final step refusal causes answered plan finish received effect verdict placeOf acts synchronousExchange synchronousSaid asynchronousRest asynchronousSaid asynchronousEvent controlled mayAnswer answerNumber availableAt sensed requested settingSensings watched readingsIn blockOf scan freshScan header field encode headerBytes frameBytes bytesOf classOf mayGrant access passOver grantPass change
+unfolding exchanges log final step refusal causes answered plan finish received effect verdict placeOf acts synchronousExchange synchronousSaid asynchronousRest
+    asynchronousSaid asynchronousEvent controlled mayAnswer answerNumber availableAt sensed requested settingSensings watched readingsIn blockOf scan
+    freshScan header field encode headerBytes frameBytes bytesOf classOf mayGrant access passOver grantPass change
 exchanges-hold = refl
 
 -- refusals 1 to 8 and their order
@@ -531,7 +564,9 @@ refusals =
     ∷ []
 
 pub refusals-hold : map found refusals ≡ map sought refusals
-unfolding refusals log final step refusal causes answered plan finish received effect verdict placeOf acts synchronousExchange synchronousSaid asynchronousRest asynchronousSaid asynchronousEvent controlled mayAnswer answerNumber availableAt sensed requested settingSensings watched readingsIn blockOf scan freshScan header field encode headerBytes frameBytes bytesOf classOf mayGrant access passOver grantPass change
+unfolding refusals log final step refusal causes answered plan finish received effect verdict placeOf acts synchronousExchange synchronousSaid asynchronousRest
+    asynchronousSaid asynchronousEvent controlled mayAnswer answerNumber availableAt sensed requested settingSensings watched readingsIn blockOf scan
+    freshScan header field encode headerBytes frameBytes bytesOf classOf mayGrant access passOver grantPass change
 refusals-hold = refl
 
 -- 32 half-open sessions are 32 live ones; the sub-address is looked at first; a cut frees a place
@@ -550,7 +585,9 @@ places =
     ∷ []
 
 pub places-hold : map found places ≡ map sought places
-unfolding places log final step refusal causes answered plan finish received effect verdict placeOf acts synchronousExchange synchronousSaid asynchronousRest asynchronousSaid asynchronousEvent controlled mayAnswer answerNumber availableAt sensed requested settingSensings watched readingsIn blockOf scan freshScan header field encode headerBytes frameBytes bytesOf classOf mayGrant access passOver grantPass change
+unfolding places log final step refusal causes answered plan finish received effect verdict placeOf acts synchronousExchange synchronousSaid asynchronousRest
+    asynchronousSaid asynchronousEvent controlled mayAnswer answerNumber availableAt sensed requested settingSensings watched readingsIn blockOf scan
+    freshScan header field encode headerBytes frameBytes bytesOf classOf mayGrant access passOver grantPass change
 places-hold = refl
 
 -- SessionIDs with 1, 2 and 3 live: from 65,535 back to 1, passing over live ones
@@ -558,7 +595,9 @@ abbrev issuedAfter : ℕ → ℕ
 issuedAfter last = issued sessionLimit 0 ((final (fresh benchMaking) three) .locks .entries) last
 
 pub numbers-hold : map issuedAfter (0 ∷ 2 ∷ 3 ∷ 7 ∷ 65534 ∷ 65535 ∷ []) ≡ 4 ∷ 4 ∷ 4 ∷ 8 ∷ 65535 ∷ 4 ∷ []
-unfolding log final step refusal causes answered plan finish received effect verdict placeOf acts synchronousExchange synchronousSaid asynchronousRest asynchronousSaid asynchronousEvent controlled mayAnswer answerNumber availableAt sensed requested settingSensings watched readingsIn blockOf scan freshScan header field encode headerBytes frameBytes bytesOf classOf mayGrant access passOver grantPass change
+unfolding log final step refusal causes answered plan finish received effect verdict placeOf acts synchronousExchange synchronousSaid asynchronousRest
+    asynchronousSaid asynchronousEvent controlled mayAnswer answerNumber availableAt sensed requested settingSensings watched readingsIn blockOf scan
+    freshScan header field encode headerBytes frameBytes bytesOf classOf mayGrant access passOver grantPass change
 numbers-hold = refl
 
 -- and a new session gets such a number: after 65,535, with 1, 2 and 3 live
@@ -566,7 +605,9 @@ abbrev wrapped : Server
 wrapped = let d = final (fresh benchMaking) (three ++ (opening 6 ∷ [])) in record { locks = d .locks; rest = withSession (d .rest) 9 65535 }
 
 pub wrapped-hold : bytesOf ((step wrapped (send 6 initialize)) .frames) ≡ 6 ∷ 0x48 ∷ 0x53 ∷ 1 ∷ 0 ∷ 1 ∷ 0 ∷ 0 ∷ 4 ∷ eightZeros
-unfolding log final step refusal causes answered plan finish received effect verdict placeOf acts synchronousExchange synchronousSaid asynchronousRest asynchronousSaid asynchronousEvent controlled mayAnswer answerNumber availableAt sensed requested settingSensings watched readingsIn blockOf scan freshScan header field encode headerBytes frameBytes bytesOf classOf mayGrant access passOver grantPass change
+unfolding log final step refusal causes answered plan finish received effect verdict placeOf acts synchronousExchange synchronousSaid asynchronousRest
+    asynchronousSaid asynchronousEvent controlled mayAnswer answerNumber availableAt sensed requested settingSensings watched readingsIn blockOf scan
+    freshScan header field encode headerBytes frameBytes bytesOf classOf mayGrant access passOver grantPass change
 wrapped-hold = refl
 
 -- what the wire does not show: the flags after codes 0 to 6, from all off and from all on
@@ -585,7 +626,9 @@ flags-hold = refl
 
 -- the message on the wire reaches them: after code 5 all three are on, and a closing leaves them so
 pub flags-kept : (final (fresh benchMaking) (three ++ (send 1 (message 10 5 0 []) ∷ cut 0 2048 ∷ []))) .rest .remoteLocal ≡ flags true true true
-unfolding log final step refusal causes answered plan finish received effect verdict placeOf acts synchronousExchange synchronousSaid asynchronousRest asynchronousSaid asynchronousEvent controlled mayAnswer answerNumber availableAt sensed requested settingSensings watched readingsIn blockOf scan freshScan header field encode headerBytes frameBytes bytesOf classOf mayGrant access passOver grantPass change
+unfolding log final step refusal causes answered plan finish received effect verdict placeOf acts synchronousExchange synchronousSaid asynchronousRest
+    asynchronousSaid asynchronousEvent controlled mayAnswer answerNumber availableAt sensed requested settingSensings watched readingsIn blockOf scan
+    freshScan header field encode headerBytes frameBytes bytesOf classOf mayGrant access passOver grantPass change
 flags-kept = refl
 
 -- the numbers that the C interface returns

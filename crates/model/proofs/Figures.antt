@@ -76,5 +76,7 @@ figures =
     ∷ []
 
 pub figures-hold : map played figures ≡ figures
-unfolding figures log step refusal causes answered plan finish received effect verdict placeOf acts synchronousExchange synchronousSaid asynchronousRest asynchronousSaid asynchronousEvent controlled mayAnswer answerNumber availableAt sensed requested settingSensings watched readingsIn blockOf scan freshScan header field encode headerBytes frameBytes bytesOf classOf mayGrant access passOver grantPass change
+unfolding figures log step refusal causes answered plan finish received effect verdict placeOf acts synchronousExchange synchronousSaid asynchronousRest
+    asynchronousSaid asynchronousEvent controlled mayAnswer answerNumber availableAt sensed requested settingSensings watched readingsIn blockOf scan
+    freshScan header field encode headerBytes frameBytes bytesOf classOf mayGrant access passOver grantPass change
 figures-hold = refl

@@ -64,5 +64,7 @@ forms =
     ∷ []
 
 pub forms-hold : map found forms ≡ map sought forms
-unfolding forms log final step refusal causes answered plan finish received effect verdict placeOf acts synchronousExchange synchronousSaid asynchronousRest asynchronousSaid asynchronousEvent controlled mayAnswer answerNumber availableAt sensed requested settingSensings watched readingsIn blockOf scan freshScan header field encode headerBytes frameBytes bytesOf classOf mayGrant access passOver grantPass change
+unfolding forms log final step refusal causes answered plan finish received effect verdict placeOf acts synchronousExchange synchronousSaid asynchronousRest
+    asynchronousSaid asynchronousEvent controlled mayAnswer answerNumber availableAt sensed requested settingSensings watched readingsIn blockOf scan
+    freshScan header field encode headerBytes frameBytes bytesOf classOf mayGrant access passOver grantPass change
 forms-hold = refl

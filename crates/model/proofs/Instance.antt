@@ -14,8 +14,11 @@ use Rattle.readings.specs.Payload.{watched, readingsIn}
 use Rattle.readings.specs.Block.{blockOf}
 use Rattle.model.specs.Lists.{same, all, any, tally}
 use Rattle.model.specs.MessageTypes.{commands}
-use Rattle.model.specs.State.{Server, Rest, Locks, Entry, Waiting, Kind.exclusive-lock, Kind.shared-lock, Standing, Standing.no-release, Standing.release-of, Exchange, Asked, Asked.none, Asked.some, Connection, at, live, slotOfNumber, fresh}
-use Rattle.model.specs.Interface.{Event, Event.opening, Event.delivery, Event.cut, Event.clock, Event.answer, Event.status, Event.setting, Outcome.more-needed, Outcome.skipped, Outcome.held, Outcome.ignored, Outcome.error-sent, Outcome.closed, Outcome.acted, Reply, Reply.refused, Reply.done, Reply.withheld, Reply.took, outcomeNumber}
+use Rattle.model.specs.State.{Server, Rest, Locks, Entry, Waiting, Kind.exclusive-lock, Kind.shared-lock, Standing, Standing.no-release}
+use Rattle.model.specs.State.{Standing.release-of, Exchange, Asked, Asked.none, Asked.some, Connection, at, live, slotOfNumber, fresh}
+use Rattle.model.specs.Interface.{Event, Event.opening, Event.delivery, Event.cut, Event.clock, Event.answer, Event.status, Event.setting}
+use Rattle.model.specs.Interface.{Outcome.more-needed, Outcome.skipped, Outcome.held, Outcome.ignored, Outcome.error-sent, Outcome.closed, Outcome.acted}
+use Rattle.model.specs.Interface.{Reply, Reply.refused, Reply.done, Reply.withheld, Reply.took, outcomeNumber}
 use Rattle.model.specs.Scan.{freshScan, scan}
 use Rattle.model.specs.Place.{placeOf}
 use Rattle.model.specs.Locks.{mayGrant, access, passOver, grantPass, change, noExclusive}
@@ -27,7 +30,8 @@ use Rattle.model.specs.Refusals.{refusal, causes}
 use Rattle.model.specs.Step.{Line, final, log, step, answered, plan, finish, received, effect, answerType}
 use Rattle.model.specs.Canonical.{canonical, kept, omits, taken, showed}
 use Rattle.model.specs.LockModel
-use Rattle.model.specs.LockModel.{Session, Pending, Pending.none-pending, Pending.exclusive-until, Pending.shared-until, Request, Model, freshModel, modelStep, modelRun, allowed, look, looked, notExclusive, notShared}
+use Rattle.model.specs.LockModel.{Session, Pending, Pending.none-pending, Pending.exclusive-until, Pending.shared-until, Request, Model, freshModel}
+use Rattle.model.specs.LockModel.{modelStep, modelRun, allowed, look, looked, notExclusive, notShared}
 use Rattle.model.specs.Agreement.{feed, feeds, asSessions, asRequest, toldFrame, isLock}
 use Rattle.model.specs.Count.{count, isGrant, tellsRelease, dropped, locksHeld}
 use Rattle.model.specs.Granting.{hasAccess}
@@ -55,7 +59,8 @@ rich =
     ∷ release 3 ∷ release 5 ∷ send 0 (message 12 0 0xffffff06 []) ∷ send 0 (message 6 0 0xffffff08 cal) ∷ answer 1 (4 ∷ []) true [] 2048
     -- exclusive, two waiting, a device clear of one, its end
     ∷ request 1 0 [] ∷ request 3 70 [] ∷ request 7 70 [] ∷ send 2 (message 7 0 10 cal) ∷ send 3 (message 19 0 0 []) ∷ send 2 (message 6 0 0 [])
-    ∷ send 2 (message 8 0 0 []) ∷ send 0 (message 7 0 0xffffff0a []) ∷ releaseOf 1 0xffffff0c ∷ send 7 (message 24 0 0 []) ∷ send 1 (message 19 0 0 []) ∷ answer 1 [] true [] 2048 ∷ send 1 (message 21 0 0 [])
+    ∷ send 2 (message 8 0 0 []) ∷ send 0 (message 7 0 0xffffff0a []) ∷ releaseOf 1 0xffffff0c ∷ send 7 (message 24 0 0 []) ∷ send 1 (message 19 0 0 [])
+    ∷ answer 1 [] true [] 2048 ∷ send 1 (message 21 0 0 [])
     ∷ release 7 ∷ request 1 0 [] ∷ request 7 70 [] ∷ request 1 0 cal ∷ request 3 99 cal ∷ status 0x41
     -- a cut that leaves a grant, a FatalError from a client; connections used again; a half-open session that goes on; a wrong prologue
     ∷ cut 0 2048 ∷ send 1 [] ∷ send 3 (message 2 0 0 []) ∷ opening 0 ∷ opening 1 ∷ send 0 initialize ∷ send 0 (message 6 0 0 []) ∷ opening 0
@@ -101,7 +106,8 @@ askedNumbers (some n) = 1 ∷ n ∷ []
 
 abbrev exchangeNumbers : List Exchange → List ℕ
 exchangeNumbers [] = 999 ∷ []
-exchangeNumbers (x ∷ xs) = flag (x .inClear) ∷ flag (x .messageAvailable) ∷ x .clientSize ∷ flag (x .overlap) ∷ x .count ∷ flag (x .anySent) ∷ flag (x .rmtExpected) ∷ x .numberExpected ∷ askedNumbers (x .asked) ++ exchangeNumbers xs
+exchangeNumbers (x ∷ xs) = flag (x .inClear) ∷ flag (x .messageAvailable) ∷ x .clientSize ∷ flag (x .overlap) ∷ x .count ∷ flag (x .anySent)
+    ∷ flag (x .rmtExpected) ∷ x .numberExpected ∷ askedNumbers (x .asked) ++ exchangeNumbers xs
 
 abbrev connectionNumbers : List Connection → List ℕ
 connectionNumbers [] = 999 ∷ []
@@ -146,7 +152,9 @@ codes =
     ∷ []
 
 pub codes-at : map codeOf (log d₀ rich) ≡ codes
-unfolding codes rich log final step refusal causes answered plan finish received effect verdict placeOf acts synchronousExchange synchronousSaid asynchronousRest asynchronousSaid asynchronousEvent controlled mayAnswer answerNumber availableAt sensed requested settingSensings watched readingsIn blockOf scan freshScan header field encode headerBytes frameBytes bytesOf classOf mayGrant access passOver grantPass change
+unfolding codes rich log final step refusal causes answered plan finish received effect verdict placeOf acts synchronousExchange synchronousSaid
+    asynchronousRest asynchronousSaid asynchronousEvent controlled mayAnswer answerNumber availableAt sensed requested settingSensings watched readingsIn
+    blockOf scan freshScan header field encode headerBytes frameBytes bytesOf classOf mayGrant access passOver grantPass change
 codes-at = refl
 
 -- A: the same server, the same lines, omitted calls silent, no more taken than shown
@@ -157,19 +165,27 @@ abbrev within : Line → Bool
 within l = leb (taken (l .reply)) (showed (l .event))
 
 pub canonical-at : same (serverNumbers (final d₀ (canonical d₀ rich))) (serverNumbers (final d₀ rich)) ≡ true
-unfolding rich log final step refusal causes answered plan finish received effect verdict placeOf acts synchronousExchange synchronousSaid asynchronousRest asynchronousSaid asynchronousEvent controlled mayAnswer answerNumber availableAt sensed requested settingSensings watched readingsIn blockOf scan freshScan header field encode headerBytes frameBytes bytesOf classOf mayGrant access passOver grantPass change
+unfolding rich log final step refusal causes answered plan finish received effect verdict placeOf acts synchronousExchange synchronousSaid asynchronousRest
+    asynchronousSaid asynchronousEvent controlled mayAnswer answerNumber availableAt sensed requested settingSensings watched readingsIn blockOf scan
+    freshScan header field encode headerBytes frameBytes bytesOf classOf mayGrant access passOver grantPass change
 canonical-at = refl
 
 pub lines-at : same (lineNumbers (log d₀ (canonical d₀ rich))) (lineNumbers (kept (log d₀ rich))) ≡ true
-unfolding rich log final step refusal causes answered plan finish received effect verdict placeOf acts synchronousExchange synchronousSaid asynchronousRest asynchronousSaid asynchronousEvent controlled mayAnswer answerNumber availableAt sensed requested settingSensings watched readingsIn blockOf scan freshScan header field encode headerBytes frameBytes bytesOf classOf mayGrant access passOver grantPass change
+unfolding rich log final step refusal causes answered plan finish received effect verdict placeOf acts synchronousExchange synchronousSaid asynchronousRest
+    asynchronousSaid asynchronousEvent controlled mayAnswer answerNumber availableAt sensed requested settingSensings watched readingsIn blockOf scan
+    freshScan header field encode headerBytes frameBytes bytesOf classOf mayGrant access passOver grantPass change
 lines-at = refl
 
 pub silent-at : all silent (log d₀ rich) ≡ true
-unfolding rich log final step refusal causes answered plan finish received effect verdict placeOf acts synchronousExchange synchronousSaid asynchronousRest asynchronousSaid asynchronousEvent controlled mayAnswer answerNumber availableAt sensed requested settingSensings watched readingsIn blockOf scan freshScan header field encode headerBytes frameBytes bytesOf classOf mayGrant access passOver grantPass change
+unfolding rich log final step refusal causes answered plan finish received effect verdict placeOf acts synchronousExchange synchronousSaid asynchronousRest
+    asynchronousSaid asynchronousEvent controlled mayAnswer answerNumber availableAt sensed requested settingSensings watched readingsIn blockOf scan
+    freshScan header field encode headerBytes frameBytes bytesOf classOf mayGrant access passOver grantPass change
 silent-at = refl
 
 pub within-at : all within (log d₀ rich) ≡ true
-unfolding rich log final step refusal causes answered plan finish received effect verdict placeOf acts synchronousExchange synchronousSaid asynchronousRest asynchronousSaid asynchronousEvent controlled mayAnswer answerNumber availableAt sensed requested settingSensings watched readingsIn blockOf scan freshScan header field encode headerBytes frameBytes bytesOf classOf mayGrant access passOver grantPass change
+unfolding rich log final step refusal causes answered plan finish received effect verdict placeOf acts synchronousExchange synchronousSaid asynchronousRest
+    asynchronousSaid asynchronousEvent controlled mayAnswer answerNumber availableAt sensed requested settingSensings watched readingsIn blockOf scan
+    freshScan header field encode headerBytes frameBytes bytesOf classOf mayGrant access passOver grantPass change
 within-at = refl
 
 -- A, call by call: what is omitted leaves the server as it was
@@ -178,7 +194,9 @@ changesNothing d [] = true
 changesNothing d (e ∷ es) = let r = step d e in (not (omits (r .reply)) || same (serverNumbers (r .server)) (serverNumbers d)) && changesNothing (r .server) es
 
 pub omitted-at : changesNothing d₀ rich ≡ true
-unfolding rich log final step refusal causes answered plan finish received effect verdict placeOf acts synchronousExchange synchronousSaid asynchronousRest asynchronousSaid asynchronousEvent controlled mayAnswer answerNumber availableAt sensed requested settingSensings watched readingsIn blockOf scan freshScan header field encode headerBytes frameBytes bytesOf classOf mayGrant access passOver grantPass change
+unfolding rich log final step refusal causes answered plan finish received effect verdict placeOf acts synchronousExchange synchronousSaid asynchronousRest
+    asynchronousSaid asynchronousEvent controlled mayAnswer answerNumber availableAt sensed requested settingSensings watched readingsIn blockOf scan
+    freshScan header field encode headerBytes frameBytes bytesOf classOf mayGrant access passOver grantPass change
 omitted-at = refl
 
 -- B: after each call the clock, the waiting requests and the sessions agree, and its lock answers are those sent
@@ -217,7 +235,10 @@ agreeing d m (e ∷ es) =
     && (same (bytesOf (map toldFrame (o .told))) (bytesOf (lockFrames (r .frames))) && agreeing (r .server) (o .model) es)
 
 pub agreement-at : agreeing d₀ freshModel rich ≡ true
-unfolding rich log final step refusal causes answered plan finish received effect verdict placeOf acts synchronousExchange synchronousSaid asynchronousRest asynchronousSaid asynchronousEvent controlled mayAnswer answerNumber availableAt sensed requested settingSensings watched readingsIn blockOf scan freshScan header field encode headerBytes frameBytes bytesOf classOf mayGrant access passOver grantPass change modelStep LockModel.request LockModel.release LockModel.message LockModel.reading LockModel.clearing LockModel.removal LockModel.delivered look looked allowed
+unfolding rich log final step refusal causes answered plan finish received effect verdict placeOf acts synchronousExchange synchronousSaid asynchronousRest
+    asynchronousSaid asynchronousEvent controlled mayAnswer answerNumber availableAt sensed requested settingSensings watched readingsIn blockOf scan
+    freshScan header field encode headerBytes frameBytes bytesOf classOf mayGrant access passOver grantPass change modelStep LockModel.request
+    LockModel.release LockModel.message LockModel.reading LockModel.clearing LockModel.removal LockModel.delivered look looked allowed
 agreement-at = refl
 
 -- D: grants, access and AsyncLockInfo go by the lock model's holders, after each call, for every live slot
@@ -244,13 +265,19 @@ deciding d m (e ∷ es) =
     && (eqb (tally holder (r .server .locks .entries)) (tally (λ s. not (notExclusive s && notShared s)) (o .model .sessions)) && deciding (r .server) (o .model) es)
 
 pub decisions-at : deciding d₀ freshModel rich ≡ true
-unfolding rich log final step refusal causes answered plan finish received effect verdict placeOf acts synchronousExchange synchronousSaid asynchronousRest asynchronousSaid asynchronousEvent controlled mayAnswer answerNumber availableAt sensed requested settingSensings watched readingsIn blockOf scan freshScan header field encode headerBytes frameBytes bytesOf classOf mayGrant access passOver grantPass change modelStep LockModel.request LockModel.release LockModel.message LockModel.reading LockModel.clearing LockModel.removal LockModel.delivered look looked allowed
+unfolding rich log final step refusal causes answered plan finish received effect verdict placeOf acts synchronousExchange synchronousSaid asynchronousRest
+    asynchronousSaid asynchronousEvent controlled mayAnswer answerNumber availableAt sensed requested settingSensings watched readingsIn blockOf scan
+    freshScan header field encode headerBytes frameBytes bytesOf classOf mayGrant access passOver grantPass change modelStep LockModel.request
+    LockModel.release LockModel.message LockModel.reading LockModel.clearing LockModel.removal LockModel.delivered look looked allowed
 decisions-at = refl
 
 -- C: the count
 pub count-at : count isGrant ((modelRun freshModel (feeds (log d₀ rich))) .told)
     ≡ count tellsRelease ((modelRun freshModel (feeds (log d₀ rich))) .told) + dropped freshModel (feeds (log d₀ rich)) + locksHeld ((final d₀ rich) .locks .entries)
-unfolding rich log final step refusal causes answered plan finish received effect verdict placeOf acts synchronousExchange synchronousSaid asynchronousRest asynchronousSaid asynchronousEvent controlled mayAnswer answerNumber availableAt sensed requested settingSensings watched readingsIn blockOf scan freshScan header field encode headerBytes frameBytes bytesOf classOf mayGrant access passOver grantPass change modelRun modelStep LockModel.request LockModel.release LockModel.message LockModel.reading LockModel.clearing LockModel.removal LockModel.delivered look looked allowed count dropped locksHeld
+unfolding rich log final step refusal causes answered plan finish received effect verdict placeOf acts synchronousExchange synchronousSaid asynchronousRest
+    asynchronousSaid asynchronousEvent controlled mayAnswer answerNumber availableAt sensed requested settingSensings watched readingsIn blockOf scan
+    freshScan header field encode headerBytes frameBytes bytesOf classOf mayGrant access passOver grantPass change modelRun modelStep LockModel.request
+    LockModel.release LockModel.message LockModel.reading LockModel.clearing LockModel.removal LockModel.delivered look looked allowed count dropped locksHeld
 count-at = refl
 
 -- F: each answer that is sent carries the number that the log before it gives
@@ -277,7 +304,9 @@ tied ls d (e ∷ es) =
     tiedAnswer ls d e (r .reply) (r .frames) && tied (ls ++ record { event = e; reply = r .reply; frames = r .frames } ∷ []) (r .server) es
 
 pub tie-at : tied [] d₀ rich ≡ true
-unfolding rich log final step refusal causes answered plan finish received effect verdict placeOf acts synchronousExchange synchronousSaid asynchronousRest asynchronousSaid asynchronousEvent controlled mayAnswer answerNumber availableAt sensed requested settingSensings watched readingsIn blockOf scan freshScan header field encode headerBytes frameBytes bytesOf classOf mayGrant access passOver grantPass change trackOfLog
+unfolding rich log final step refusal causes answered plan finish received effect verdict placeOf acts synchronousExchange synchronousSaid asynchronousRest
+    asynchronousSaid asynchronousEvent controlled mayAnswer answerNumber availableAt sensed requested settingSensings watched readingsIn blockOf scan
+    freshScan header field encode headerBytes frameBytes bytesOf classOf mayGrant access passOver grantPass change trackOfLog
 tie-at = refl
 
 -- G: while some session holds exclusive, a command that acts is that session's
@@ -304,5 +333,7 @@ isolated d [] = true
 isolated d (e ∷ es) = let r = step d e in ownCommand (d .locks .entries) e (r .reply) && isolated (r .server) es
 
 pub isolation-at : isolated d₀ rich ≡ true
-unfolding rich log final step refusal causes answered plan finish received effect verdict placeOf acts synchronousExchange synchronousSaid asynchronousRest asynchronousSaid asynchronousEvent controlled mayAnswer answerNumber availableAt sensed requested settingSensings watched readingsIn blockOf scan freshScan header field encode headerBytes frameBytes bytesOf classOf mayGrant access passOver grantPass change
+unfolding rich log final step refusal causes answered plan finish received effect verdict placeOf acts synchronousExchange synchronousSaid asynchronousRest
+    asynchronousSaid asynchronousEvent controlled mayAnswer answerNumber availableAt sensed requested settingSensings watched readingsIn blockOf scan
+    freshScan header field encode headerBytes frameBytes bytesOf classOf mayGrant access passOver grantPass change
 isolation-at = refl

@@ -50,7 +50,8 @@ asks =
     ∷ []
 
 pub asks-hold : map found asks ≡ map sought asks
-unfolding asks final step refusal causes answered plan finish received effect verdict placeOf acts synchronousExchange synchronousSaid settingSensings linesOf commandOf judged judgedFrom scan freshScan header field encode headerBytes frameBytes bytesOf classOf access change
+unfolding asks final step refusal causes answered plan finish received effect verdict placeOf acts synchronousExchange synchronousSaid settingSensings linesOf
+    commandOf judged judgedFrom scan freshScan header field encode headerBytes frameBytes bytesOf classOf access change
 asks-hold = refl
 
 -- what is refused
@@ -63,7 +64,8 @@ refuses =
     ∷ []
 
 pub refuses-hold : map found refuses ≡ map sought refuses
-unfolding refuses final step refusal causes answered plan finish received effect verdict placeOf acts synchronousExchange synchronousSaid settingSensings linesOf commandOf judged judgedFrom scan freshScan header field encode headerBytes frameBytes bytesOf classOf access change
+unfolding refuses final step refusal causes answered plan finish received effect verdict placeOf acts synchronousExchange synchronousSaid settingSensings
+    linesOf commandOf judged judgedFrom scan freshScan header field encode headerBytes frameBytes bytesOf classOf access change
 refuses-hold = refl
 
 -- "The first bad pattern is refused as 11 ..; a list above 32 is refused as 12": on every server each text by its ruling, 0, 11 or 12

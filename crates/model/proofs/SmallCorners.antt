@@ -53,7 +53,9 @@ pieces =
     ∷ []
 
 pub pieces-hold : map found pieces ≡ map sought pieces
-unfolding pieces final step refusal causes answered plan finish received effect verdict placeOf acts synchronousExchange synchronousSaid asynchronousRest asynchronousSaid asynchronousEvent mayAnswer answerNumber availableAt scan freshScan header field encode headerBytes frameBytes bytesOf classOf mayGrant access passOver grantPass change
+unfolding pieces final step refusal causes answered plan finish received effect verdict placeOf acts synchronousExchange synchronousSaid asynchronousRest
+    asynchronousSaid asynchronousEvent mayAnswer answerNumber availableAt scan freshScan header field encode headerBytes frameBytes bytesOf classOf mayGrant
+    access passOver grantPass change
 pieces-hold = refl
 
 pub questions : List Corner
@@ -65,7 +67,9 @@ questions =
     ∷ []
 
 pub questions-hold : map found questions ≡ map sought questions
-unfolding questions final step refusal causes answered plan finish received effect verdict placeOf acts synchronousExchange synchronousSaid asynchronousRest asynchronousSaid asynchronousEvent mayAnswer answerNumber availableAt sensed requested Payload.watched Payload.readingsIn Block.blockOf scan freshScan header field encode headerBytes frameBytes bytesOf classOf mayGrant access passOver grantPass change
+unfolding questions final step refusal causes answered plan finish received effect verdict placeOf acts synchronousExchange synchronousSaid asynchronousRest
+    asynchronousSaid asynchronousEvent mayAnswer answerNumber availableAt sensed requested Payload.watched Payload.readingsIn Block.blockOf scan freshScan
+    header field encode headerBytes frameBytes bytesOf classOf mayGrant access passOver grantPass change
 questions-hold = refl
 
 -- 01: DeviceClearComplete ends the clear, and that is all: message available is after it as it was before. A clear turns it off and no
@@ -74,26 +78,35 @@ abbrev available : Server
 available = let d = after (single ++ (send 1 (message 19 0 0 []) ∷ [])) in record { locks = d .locks; rest = withExchange (d .rest) 0 (withAnswering none true (exchangeAt (d .rest) 0)) }
 
 pub available-kept : bytesOf ((step ((step available (send 0 (message 8 0 0 []))) .server) (send 1 (message 21 0 0 []))) .frames) ≡ 1 ∷ 0x48 ∷ 0x53 ∷ 22 ∷ 16 ∷ 0 ∷ 0 ∷ 0 ∷ 0 ∷ eightZeros
-unfolding final step refusal causes answered plan finish received effect verdict placeOf acts synchronousExchange synchronousSaid asynchronousRest asynchronousSaid asynchronousEvent mayAnswer answerNumber availableAt scan freshScan header field encode headerBytes frameBytes bytesOf classOf mayGrant access passOver grantPass change
+unfolding final step refusal causes answered plan finish received effect verdict placeOf acts synchronousExchange synchronousSaid asynchronousRest
+    asynchronousSaid asynchronousEvent mayAnswer answerNumber availableAt scan freshScan header field encode headerBytes frameBytes bytesOf classOf mayGrant
+    access passOver grantPass change
 available-kept = refl
 
 -- 02, Q-9: "the clock reading of its last grant and the number of locks granted to it, as answers sent": the answer 3 to a second request is
 -- no grant
 pub grants-counted : holdersOf ((after (single ++ (clock 7 2048 ∷ request 1 0 [] ∷ clock 9 2048 ∷ request 1 0 [] ∷ []))) .locks .entries)
     ≡ record { session = 1; exclusive = true; shared = false; grantedAt = 7; grants = 1 } ∷ []
-unfolding final step refusal causes answered plan finish received effect verdict placeOf acts synchronousExchange synchronousSaid asynchronousRest asynchronousSaid asynchronousEvent mayAnswer answerNumber availableAt scan freshScan header field encode headerBytes frameBytes bytesOf classOf mayGrant access passOver grantPass change
+unfolding final step refusal causes answered plan finish received effect verdict placeOf acts synchronousExchange synchronousSaid asynchronousRest
+    asynchronousSaid asynchronousEvent mayAnswer answerNumber availableAt scan freshScan header field encode headerBytes frameBytes bytesOf classOf mayGrant
+    access passOver grantPass change
 grants-counted = refl
 
 -- and a request that waits until 90 and is granted at 7 was granted at 7
 pub grant-noted : holdersOf ((after (pair ++ (request 1 0 [] ∷ request 3 90 [] ∷ clock 7 2048 ∷ release 1 ∷ []))) .locks .entries)
     ≡ record { session = 2; exclusive = true; shared = false; grantedAt = 7; grants = 1 } ∷ []
-unfolding final step refusal causes answered plan finish received effect verdict placeOf acts synchronousExchange synchronousSaid asynchronousRest asynchronousSaid asynchronousEvent mayAnswer answerNumber availableAt scan freshScan header field encode headerBytes frameBytes bytesOf classOf mayGrant access passOver grantPass change
+unfolding final step refusal causes answered plan finish received effect verdict placeOf acts synchronousExchange synchronousSaid asynchronousRest
+    asynchronousSaid asynchronousEvent mayAnswer answerNumber availableAt scan freshScan header field encode headerBytes frameBytes bytesOf classOf mayGrant
+    access passOver grantPass change
 grant-noted = refl
 
 -- 02, Q-11: the record is of the readings sent, "watch or none": a watch that is set leaves it. One reading, of 1
 pub record-kept : readingsAnswer (after (single ++ (send 0 (message 7 0 0xffffff00 []) ∷ answer 1 (35 ∷ 49 ∷ 52 ∷ 0x3f ∷ 0x80 ∷ 0 ∷ 0 ∷ []) true [] 2048 ∷ setting (watch 1 off) ∷ []))) 1
     ≡ record { refusal = 0; seen = 1; last = 0x3f800000; lowest = 0x3f800000; highest = 0x3f800000 }
-unfolding final step refusal causes answered plan finish received effect verdict placeOf acts synchronousExchange synchronousSaid asynchronousRest asynchronousSaid asynchronousEvent mayAnswer answerNumber availableAt sensed requested settingSensings Payload.watched Payload.stepped Payload.readings Payload.readingsIn Block.blockOf Block.counted Block.decimal Record.noted Record.lesser Record.greater Watch.refused trips withValue notNumber place below scan freshScan header field encode headerBytes frameBytes bytesOf classOf mayGrant access passOver grantPass change
+unfolding final step refusal causes answered plan finish received effect verdict placeOf acts synchronousExchange synchronousSaid asynchronousRest
+    asynchronousSaid asynchronousEvent mayAnswer answerNumber availableAt sensed requested settingSensings Payload.watched Payload.stepped Payload.readings
+    Payload.readingsIn Block.blockOf Block.counted Block.decimal Record.noted Record.lesser Record.greater Watch.refused trips withValue notNumber place below
+    scan freshScan header field encode headerBytes frameBytes bytesOf classOf mayGrant access passOver grantPass change
 record-kept = refl
 
 -- 02, Q-14: "by the first accepted clock reading at or past its deadline": what a reading of 89, 90 and 91 is to a request that waits until 90

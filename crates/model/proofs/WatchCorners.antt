@@ -77,5 +77,8 @@ rows =
     ∷ []
 
 pub rows-hold : map found rows ≡ map sought rows
-unfolding rows log final step refusal causes answered plan finish received effect verdict placeOf acts synchronousExchange synchronousSaid asynchronousRest asynchronousSaid asynchronousEvent controlled mayAnswer answerNumber availableAt sensed requested settingSensings Payload.watched Payload.stepped Payload.readings Payload.readingsIn Block.blockOf Block.counted Block.decimal Record.noted Record.lesser Record.greater Watch.refused trips withValue notNumber place below scan freshScan header field encode headerBytes frameBytes bytesOf classOf mayGrant access passOver grantPass change
+unfolding rows log final step refusal causes answered plan finish received effect verdict placeOf acts synchronousExchange synchronousSaid asynchronousRest
+    asynchronousSaid asynchronousEvent controlled mayAnswer answerNumber availableAt sensed requested settingSensings Payload.watched Payload.stepped
+    Payload.readings Payload.readingsIn Block.blockOf Block.counted Block.decimal Record.noted Record.lesser Record.greater Watch.refused trips withValue
+    notNumber place below scan freshScan header field encode headerBytes frameBytes bytesOf classOf mayGrant access passOver grantPass change
 rows-hold = refl

@@ -12,7 +12,8 @@ use Rattle.model.specs.Lists.{any}
 use Rattle.commands.specs.Lists.{linesOf, Listed}
 use Rattle.model.specs.State.{Server, Making, Allowed, Allowed.any-command, Allowed.only, fresh, exchangeAt, withExchange}
 use Rattle.model.specs.Allowing.{Admits}
-use Rattle.model.specs.Interface.{Event, Event.opening, Event.delivery, Event.cut, Event.clock, Event.answer, Event.status, Event.setting, Outcome.error-sent, Outcome.acted, Reply, Reply.refused, Reply.done, Reply.withheld, Reply.took}
+use Rattle.model.specs.Interface.{Event, Event.opening, Event.delivery, Event.cut, Event.clock, Event.answer, Event.status, Event.setting}
+use Rattle.model.specs.Interface.{Outcome.error-sent, Outcome.acted, Reply, Reply.refused, Reply.done, Reply.withheld, Reply.took}
 use Rattle.model.specs.Place.{slotOf, entryOf}
 use Rattle.model.specs.Exchange.{stepped}
 use Rattle.model.specs.Refusals.{refusal}

@@ -16,7 +16,9 @@ use Rattle.model.specs.Lists.{keep}
 use Rattle.model.specs.State.{fresh, Making}
 use Rattle.model.specs.Interface.{Event, Event.delivery, Outcome.acted, Reply.took}
 use Rattle.model.specs.Step.{Line, step, final, log}
-use Rattle.model.specs.Happening.{Action, Happening, Happening.unmoved, Happening.connected, Happening.disconnected, Happening.skipped-over, Happening.errored, Happening.message-acted, Happening.clock-read, Happening.status-set, Happening.setting-made, Happening.answer-sent, Happening.answer-withheld, happened}
+use Rattle.model.specs.Happening.{Action, Happening, Happening.unmoved, Happening.connected, Happening.disconnected, Happening.skipped-over}
+use Rattle.model.specs.Happening.{Happening.errored, Happening.message-acted, Happening.clock-read, Happening.status-set, Happening.setting-made}
+use Rattle.model.specs.Happening.{Happening.answer-sent, Happening.answer-withheld, happened}
 use Rattle.model.specs.LocalityRows.{kindOf, isSilence, clock-row}
 use Rattle.model.specs.Locality.{overLog}
 use Rattle.model.specs.NextQuestion.{synchronousOf}

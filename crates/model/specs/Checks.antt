@@ -6,7 +6,8 @@ use lib.Dec.{eqb, ltb}
 use Rattle.wire.specs.declared.Header.{Header}
 use Rattle.wire.specs.Class.{Class, Class.acted-on, Class.vendor, Class.unrecognised, classOf, synchronous, asynchronous, one-of}
 use Rattle.model.specs.Lists.{isNil, same, all}
-use Rattle.model.specs.MessageTypes.{Initialize, FatalError, Error, AsyncLock, DataEND, DeviceClearComplete, AsyncRemoteLocalControl, Trigger, AsyncMaximumMessageSize, AsyncInitialize, AsyncDeviceClear, AsyncStatusQuery, AsyncLockInfo, commands}
+use Rattle.model.specs.MessageTypes.{Initialize, FatalError, Error, AsyncLock, DataEND, DeviceClearComplete, AsyncRemoteLocalControl, Trigger}
+use Rattle.model.specs.MessageTypes.{AsyncMaximumMessageSize, AsyncInitialize, AsyncDeviceClear, AsyncStatusQuery, AsyncLockInfo, commands}
 use Rattle.model.specs.State.{Server, at, live, halfOpen, slotOfNumber, exchangeAt}
 use Rattle.model.specs.Allowing.{admits}
 use Rattle.model.specs.Scan.{Scan, Scan.empty, Scan.few, Scan.wrong, Scan.skipping, Scan.long, Scan.part, Scan.whole}

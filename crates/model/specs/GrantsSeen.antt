@@ -13,7 +13,9 @@ use Rattle.model.specs.MessageTypes.{Initialize, AsyncInitialize}
 use Rattle.model.specs.State.{Entry, at, live, fresh, Making}
 use Rattle.model.specs.Interface.{Event}
 use Rattle.model.specs.Step.{Line, final, log}
-use Rattle.model.specs.Happening.{Action, Happening, Happening.unmoved, Happening.connected, Happening.disconnected, Happening.skipped-over, Happening.errored, Happening.message-acted, Happening.clock-read, Happening.status-set, Happening.setting-made, Happening.answer-sent, Happening.answer-withheld}
+use Rattle.model.specs.Happening.{Action, Happening, Happening.unmoved, Happening.connected, Happening.disconnected, Happening.skipped-over}
+use Rattle.model.specs.Happening.{Happening.errored, Happening.message-acted, Happening.clock-read, Happening.status-set, Happening.setting-made}
+use Rattle.model.specs.Happening.{Happening.answer-sent, Happening.answer-withheld}
 use Rattle.model.specs.LocalityRows.{kindOf, obtains, singly, clock-row}
 use Rattle.model.specs.AnsweredOnce.{lockOnly, happening}
 

@@ -6,7 +6,9 @@ use lib.Dec.{eqb}
 use Rattle.wire.specs.declared.Header.{Header}
 use Rattle.wire.specs.Message.{Message, header, messageOf}
 use Rattle.wire.specs.Frame.{Frame}
-use Rattle.model.specs.Interface.{Event, Event.opening, Event.delivery, Event.cut, Event.clock, Event.answer, Event.status, Event.setting, Setting, Outcome, Outcome.more-needed, Outcome.skipped, Outcome.held, Outcome.ignored, Outcome.error-sent, Outcome.closed, Outcome.acted, Reply, Reply.refused, Reply.done, Reply.withheld, Reply.took}
+use Rattle.model.specs.Interface.{Event, Event.opening, Event.delivery, Event.cut, Event.clock, Event.answer, Event.status, Event.setting, Setting}
+use Rattle.model.specs.Interface.{Outcome, Outcome.more-needed, Outcome.skipped, Outcome.held, Outcome.ignored, Outcome.error-sent, Outcome.closed}
+use Rattle.model.specs.Interface.{Outcome.acted, Reply, Reply.refused, Reply.done, Reply.withheld, Reply.took}
 
 -- the control code of the first frame of a call, if that frame has a given type
 pub data Heard : Type 0 where

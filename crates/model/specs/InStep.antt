@@ -22,7 +22,9 @@ use Rattle.model.specs.Refusals.{refusal}
 use Rattle.model.specs.Step.{Line, step, final, log}
 use Rattle.model.specs.Access.{Command, accessOf}
 use Rattle.model.specs.Permitted.{commandForms, permits, ListAllows}
-use Rattle.model.specs.Happening.{Happening, Happening.unmoved, Happening.connected, Happening.disconnected, Happening.skipped-over, Happening.errored, Happening.message-acted, Happening.clock-read, Happening.status-set, Happening.answer-sent, Happening.answer-withheld, happened, Happening.setting-made}
+use Rattle.model.specs.Happening.{Happening, Happening.unmoved, Happening.connected, Happening.disconnected, Happening.skipped-over, Happening.errored}
+use Rattle.model.specs.Happening.{Happening.message-acted, Happening.clock-read, Happening.status-set, Happening.answer-sent, Happening.answer-withheld}
+use Rattle.model.specs.Happening.{happened, Happening.setting-made}
 
 -- what the taken messages say of a session: its synchronous connection, whether it is in a device clear, and the numbers of its Data, DataEND
 -- and Trigger messages since it firstNumbering or was last cleared, the last one first

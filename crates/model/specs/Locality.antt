@@ -15,7 +15,10 @@ use Rattle.model.specs.Interface.{Event, Event.delivery, Outcome, Outcom
 use Rattle.model.specs.Step.{Line, Result, step, final, log}
 use Rattle.model.specs.Closing.{OldestFirst}
 use Rattle.model.specs.Happening.{Happening, heard, happened}
-use Rattle.model.specs.LocalityRows.{Row, inSlot, clear-row, asked-row, available-row, size-row, mode-row, count-row, sent-row, expected-row, step-row, number-row, synchronous-row, asynchronous-row, exclusive-row, shared-row, last-row, standing-row, moreGranted, granted-row, requestsLeft, looksAfter, Way, inPlace, open-row, remainder-row, isSilence, Single, singly, clock-row, status-row, made-row, allowed-row, issued-row, enable-row, lockout-row, remote-row, sensing-row}
+use Rattle.model.specs.LocalityRows.{Row, inSlot, clear-row, asked-row, available-row, size-row, mode-row, count-row, sent-row, expected-row, step-row}
+use Rattle.model.specs.LocalityRows.{number-row, synchronous-row, asynchronous-row, exclusive-row, shared-row, last-row, standing-row, moreGranted}
+use Rattle.model.specs.LocalityRows.{granted-row, requestsLeft, looksAfter, Way, inPlace, open-row, remainder-row, isSilence, Single, singly, clock-row}
+use Rattle.model.specs.LocalityRows.{status-row, made-row, allowed-row, issued-row, enable-row, lockout-row, remote-row, sensing-row}
 use Rattle.model.specs.LocalityReplies.{saidFirst, direct, answeredFirst, waitingAnswer, sessionSaid}
 
 -- what happened at a call, as the host sees it
@@ -117,7 +120,8 @@ pub record Local (d : Server) (h : Happening) (r : Result) : Type 0 where
   pub due : List Entry
   pub due-slots : length due ≡ length (d .locks .entries)
   pub due-is : (i : ℕ) → i < length (d .locks .entries) → at due i ≡ entryDue (d .locks .clock) (d .locks .entries) h i (at (d .locks .entries) i)
-  pub waiting : Look (d .locks .clock) (looksAfter (d .locks .entries) h) due (requestsLeft (d .locks .entries) (d .locks .clock) h (d .locks .waiting)) (r .server .locks .entries) (r .server .locks .waiting) granted
+  pub waiting : Look (d .locks .clock) (looksAfter (d .locks .entries) h) due (requestsLeft (d .locks .entries) (d .locks .clock) h (d .locks .waiting))
+      (r .server .locks .entries) (r .server .locks .waiting) granted
   -- every frame: an interruption (02, Q-5), the lock answers that come first, direct replies (02, Q-11: with the request for service), answers 1 to those granted
   pub frames : r .frames ≡ saidFirst d h ++ (answeredFirst d h ++ (direct d h ++ map (waitingAnswer 1 due) granted))
   -- the session's number in the reply

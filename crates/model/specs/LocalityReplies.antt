@@ -9,7 +9,9 @@ use Rattle.readings.specs.Request.{requestCode}
 use Rattle.model.specs.Lists.{isNil, any, keep, tally}
 use Rattle.model.specs.State.{Server, Entry, Exchange, Waiting, Asked, Asked.none, Asked.some, at, live, slotOfNumber, exchangeAt, Sensing, sensingAt}
 use Rattle.model.specs.Place.{slotIn}
-use Rattle.model.specs.Happening.{Heard, Heard.silence, Heard.with-code, Action, Happening, Happening.unmoved, Happening.connected, Happening.disconnected, Happening.skipped-over, Happening.errored, Happening.message-acted, Happening.clock-read, Happening.status-set, Happening.setting-made, Happening.answer-sent, Happening.answer-withheld}
+use Rattle.model.specs.Happening.{Heard, Heard.silence, Heard.with-code, Action, Happening, Happening.unmoved, Happening.connected}
+use Rattle.model.specs.Happening.{Happening.disconnected, Happening.skipped-over, Happening.errored, Happening.message-acted, Happening.clock-read}
+use Rattle.model.specs.Happening.{Happening.status-set, Happening.setting-made, Happening.answer-sent, Happening.answer-withheld}
 use Rattle.model.specs.LocalityRows.{kindOf, slotActed, tripsBy, available-row, interruptedBy, endedWith, requestsOf, reachedBy, connectionsOf}
 
 -- a message to a connection with a type, code and parameter and no payload

@@ -13,10 +13,13 @@ use Rattle.readings.specs.Payload.{readingsOf}
 use Rattle.readings.specs.Some as Some
 use Rattle.model.specs.Sizes.{noConnection}
 use Rattle.model.specs.Lists.{isNil, keep}
-use Rattle.model.specs.State.{Making, Allowed, Allowed.only, Granted, noGrants, Entry, Waiting, Kind.exclusive-lock, Kind.shared-lock, Standing, Standing.no-release, Standing.release-of, Asked, Asked.none, Asked.some, Exchange, at, live, slotOfNumber, Sensing}
+use Rattle.model.specs.State.{Making, Allowed, Allowed.only, Granted, noGrants, Entry, Waiting, Kind.exclusive-lock, Kind.shared-lock, Standing}
+use Rattle.model.specs.State.{Standing.no-release, Standing.release-of, Asked, Asked.none, Asked.some, Exchange, at, live, slotOfNumber, Sensing}
 use Rattle.model.specs.Interface.{Setting, Setting.watch, Setting.patterns}
 use Rattle.model.specs.Place.{slotIn}
-use Rattle.model.specs.Happening.{Heard, Heard.silence, Heard.with-code, Action, Happening, Happening.unmoved, Happening.connected, Happening.disconnected, Happening.skipped-over, Happening.errored, Happening.message-acted, Happening.clock-read, Happening.status-set, Happening.setting-made, Happening.answer-sent, Happening.answer-withheld}
+use Rattle.model.specs.Happening.{Heard, Heard.silence, Heard.with-code, Action, Happening, Happening.unmoved, Happening.connected}
+use Rattle.model.specs.Happening.{Happening.disconnected, Happening.skipped-over, Happening.errored, Happening.message-acted, Happening.clock-read}
+use Rattle.model.specs.Happening.{Happening.status-set, Happening.setting-made, Happening.answer-sent, Happening.answer-withheld}
 
 abbrev pub kindOf : Action → ℕ
 kindOf a = a .message .kind

@@ -7,7 +7,8 @@ use lib.Dec.{eqb, leb, ltb}
 use lib.ListN.{set, length}
 use Rattle.model.specs.Lists.{isNil, same, all, allBut, keep}
 use Rattle.model.specs.Sizes.{sessionLimit, stringLimit, lastSessionId, noConnection, beforeFirst, grantsLimit}
-use Rattle.model.specs.State.{Granted, Entry, Waiting, Locks, Kind, Kind.exclusive-lock, Kind.shared-lock, Standing, Standing.no-release, Standing.release-of, at, live, noGrants, blank, slotOfNumber}
+use Rattle.model.specs.State.{Granted, Entry, Waiting, Locks, Kind, Kind.exclusive-lock, Kind.shared-lock, Standing, Standing.no-release}
+use Rattle.model.specs.State.{Standing.release-of, at, live, noGrants, blank, slotOfNumber}
 
 -- an answer (type 5): to which connection, the code, and whether it answers a request (true) or a release (false)
 pub record Answer : Type 0 where
@@ -79,10 +80,28 @@ joined c e = withRow (e .number) (e .synchronous) c e
 
 -- with other locks; with another last number and standing release
 abbrev pub withLocks : Bool → List ℕ → Entry → Entry
-withLocks x k e = record { number = e .number; synchronous = e .synchronous; asynchronous = e .asynchronous; exclusive = x; shared = k; last = e .last; standing = e .standing; locksGranted = e .locksGranted }
+withLocks x k e = record {
+  number = e .number;
+  synchronous = e .synchronous;
+  asynchronous = e .asynchronous;
+  exclusive = x;
+  shared = k;
+  last = e .last;
+  standing = e .standing;
+  locksGranted = e .locksGranted;
+}
 
 abbrev pub withOrder : ℕ → Standing → Entry → Entry
-withOrder n s e = record { number = e .number; synchronous = e .synchronous; asynchronous = e .asynchronous; exclusive = e .exclusive; shared = e .shared; last = n; standing = s; locksGranted = e .locksGranted }
+withOrder n s e = record {
+  number = e .number;
+  synchronous = e .synchronous;
+  asynchronous = e .asynchronous;
+  exclusive = e .exclusive;
+  shared = e .shared;
+  last = n;
+  standing = s;
+  locksGranted = e .locksGranted;
+}
 
 -- with the lock that a string asks for; without its exclusive lock; without its shared one; without the lock of a kind
 abbrev pub give : List ℕ → Entry → Entry
@@ -94,7 +113,16 @@ abbrev pub oneMore : ℕ → ℕ
 oneMore n = cond (ltb n grantsLimit) (suc n) n
 
 abbrev pub withGranted : Granted → Entry → Entry
-withGranted g e = record { number = e .number; synchronous = e .synchronous; asynchronous = e .asynchronous; exclusive = e .exclusive; shared = e .shared; last = e .last; standing = e .standing; locksGranted = g }
+withGranted g e = record {
+  number = e .number;
+  synchronous = e .synchronous;
+  asynchronous = e .asynchronous;
+  exclusive = e .exclusive;
+  shared = e .shared;
+  last = e .last;
+  standing = e .standing;
+  locksGranted = g;
+}
 
 -- the clock reads now: the lock is given, and its grant is noted
 abbrev pub noteGrant : ℕ → Entry → Entry

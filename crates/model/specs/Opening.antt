@@ -25,13 +25,41 @@ pub record OnlySlot (d d′ : Server) (i : ℕ) : Type 0 where
 pub record Opened (d d′ : Server) (v : Making) (c n : ℕ) : Type 0 where
   pub slot : ℕ
   pub was-free : live (at (d .locks .entries) slot) ≡ false
-  pub session : at (d′ .locks .entries) slot ≡ record { number = n; synchronous = c; asynchronous = noConnection; exclusive = false; shared = []; last = beforeFirst; standing = no-release; locksGranted = noGrants }
-  pub exchange : exchangeAt (d′ .rest) slot ≡ record { inClear = false; asked = none; messageAvailable = false; clientSize = payloadLimit; overlap = v .prefersOverlap; count = start; anySent = false; rmtExpected = false; numberExpected = start }
+  pub session : at (d′ .locks .entries) slot ≡ record {
+    number = n;
+    synchronous = c;
+    asynchronous = noConnection;
+    exclusive = false;
+    shared = [];
+    last = beforeFirst;
+    standing = no-release;
+    locksGranted = noGrants;
+  }
+  pub exchange : exchangeAt (d′ .rest) slot ≡ record {
+    inClear = false;
+    asked = none;
+    messageAvailable = false;
+    clientSize = payloadLimit;
+    overlap = v .prefersOverlap;
+    count = start;
+    anySent = false;
+    rmtExpected = false;
+    numberExpected = start;
+  }
   pub no-more : OnlySlot d d′ slot
 
 -- half-open session n gets connection c as its second one, and is otherwise as it was
 abbrev pub withSecond : ℕ → Entry → Entry
-withSecond c e = record { number = e .number; synchronous = e .synchronous; asynchronous = c; exclusive = e .exclusive; shared = e .shared; last = e .last; standing = e .standing; locksGranted = e .locksGranted }
+withSecond c e = record {
+  number = e .number;
+  synchronous = e .synchronous;
+  asynchronous = c;
+  exclusive = e .exclusive;
+  shared = e .shared;
+  last = e .last;
+  standing = e .standing;
+  locksGranted = e .locksGranted;
+}
 
 pub record Joined (d d′ : Server) (c n : ℕ) : Type 0 where
   pub slot : ℕ

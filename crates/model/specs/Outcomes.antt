@@ -10,7 +10,8 @@ use lib.ListN.{length}
 use Rattle.wire.specs.Message.{Message, Decoded, decode}
 use Rattle.model.specs.Sizes.{payloadLimit}
 use Rattle.model.specs.State.{fresh, Making}
-use Rattle.model.specs.Interface.{Event, Event.delivery, Outcome, Outcome.more-needed, Outcome.skipped, Outcome.held, Outcome.ignored, Outcome.error-sent, Outcome.closed, Outcome.acted, Reply, Reply.refused, Reply.done, Reply.withheld, Reply.took}
+use Rattle.model.specs.Interface.{Event, Event.delivery, Outcome, Outcome.more-needed, Outcome.skipped, Outcome.held, Outcome.ignored}
+use Rattle.model.specs.Interface.{Outcome.error-sent, Outcome.closed, Outcome.acted, Reply, Reply.refused, Reply.done, Reply.withheld, Reply.took}
 use Rattle.model.specs.Place.{Role, Role.r-none, Role.r-halfOpen, Role.r-synchronous, Role.r-asynchronous, roleOf}
 use Rattle.model.specs.Step.{Line, step, final, log}
 use Rattle.model.specs.Canonical.{kept}

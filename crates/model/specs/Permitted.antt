@@ -9,7 +9,8 @@ use lib.Dec.{eqb, leb}
 use Rattle.wire.specs.declared.Header.{Header}
 use Rattle.wire.specs.Message.{header, payloadOf}
 use Rattle.model.specs.Sizes.{sessionLimit, noConnection}
-use Rattle.model.specs.MessageTypes.{Initialize, AsyncLock, Data, DataEND, DeviceClearComplete, AsyncRemoteLocalControl, Trigger, AsyncMaximumMessageSize, AsyncInitialize, AsyncDeviceClear, AsyncStatusQuery, AsyncLockInfo}
+use Rattle.model.specs.MessageTypes.{Initialize, AsyncLock, Data, DataEND, DeviceClearComplete, AsyncRemoteLocalControl, Trigger}
+use Rattle.model.specs.MessageTypes.{AsyncMaximumMessageSize, AsyncInitialize, AsyncDeviceClear, AsyncStatusQuery, AsyncLockInfo}
 use Rattle.model.specs.Lists.{tally}
 use Rattle.model.specs.State.{at, live, halfOpen, Server, exchangeAt, connectionAt, fresh, Making}
 use Rattle.model.specs.Allowing.{Admits}

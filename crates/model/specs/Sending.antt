@@ -10,7 +10,9 @@ use Rattle.wire.specs.Message.{header}
 use Rattle.wire.specs.MessageId.{next}
 use Rattle.wire.specs.Class.{one-of}
 use Rattle.wire.specs.Frame.{Frame, frameOf}
-use Rattle.model.specs.MessageTypes.{Interrupted, AsyncInterrupted, DeviceClearComplete, DeviceClearAcknowledge, AsyncRemoteLocalControl, AsyncRemoteLocalResponse, AsyncMaximumMessageSize, AsyncMaximumMessageSizeResponse, AsyncDeviceClear, AsyncStatusQuery, AsyncStatusResponse, AsyncDeviceClearAcknowledge, commands}
+use Rattle.model.specs.MessageTypes.{Interrupted, AsyncInterrupted, DeviceClearComplete, DeviceClearAcknowledge, AsyncRemoteLocalControl}
+use Rattle.model.specs.MessageTypes.{AsyncRemoteLocalResponse, AsyncMaximumMessageSize, AsyncMaximumMessageSizeResponse, AsyncDeviceClear}
+use Rattle.model.specs.MessageTypes.{AsyncStatusQuery, AsyncStatusResponse, AsyncDeviceClearAcknowledge, commands}
 use Rattle.model.specs.Lists.{any}
 use Rattle.model.specs.State.{Server, Entry, at, Exchange, exchangeAt, fresh, Making}
 use Rattle.model.specs.Interface.{Event, Event.delivery, Outcome.acted, Reply.took}
@@ -56,7 +58,8 @@ pub record Sends (d : Server) (m : Model) (c : ℕ) (bs : List ℕ) (room : ℕ)
   -- after a waiting request's 0 and before the acknowledgement"; then those to whoever is granted
   pub device-clear : (k n : ℕ) → (step d (delivery c bs room)) .reply ≡ took acted k n → (header bs) .kind ≡ AsyncDeviceClear
       → (step d (delivery c bs room)) .frames ≡ cond (any (λ w. eqb (w .number) n) (m .waiting)) (lockAnswer c 0 ∷ []) []
-      ++ (map (lockAnswer c) (endedCodes m n (λ p. true)) ++ (frameOf c AsyncDeviceClearAcknowledge (cond (d .rest .made .prefersOverlap) 1 0) 0 [] ∷ map toldFrame (grantsAfter (LockModel.clearing n m))))
+      ++ (map (lockAnswer c) (endedCodes m n (λ p. true)) ++
+      (frameOf c AsyncDeviceClearAcknowledge (cond (d .rest .made .prefersOverlap) 1 0) 0 [] ∷ map toldFrame (grantsAfter (LockModel.clearing n m))))
   -- 01: "The status response is the meter's byte with value 16 replaced by" message available, off at RMT-delivered 1 "before its response is formed"; 02, Q-1
   pub status-query : (k n : ℕ) → (step d (delivery c bs room)) .reply ≡ took acted k n → (header bs) .kind ≡ AsyncStatusQuery
       → (step d (delivery c bs room)) .frames

@@ -198,28 +198,82 @@ slotOfNumber es n = position (λ e. eqb (e .number) n) es
 
 -- a change of one part of the rest
 abbrev pub withConnections : Rest → List Connection → Rest
-withConnections r cs = record { exchanges = r .exchanges; sensings = r .sensings; connections = cs; lastIssued = r .lastIssued; made = r .made; status = r .status; remoteLocal = r .remoteLocal; allowed = r .allowed }
+withConnections r cs = record {
+  exchanges = r .exchanges;
+  sensings = r .sensings;
+  connections = cs;
+  lastIssued = r .lastIssued;
+  made = r .made;
+  status = r .status;
+  remoteLocal = r .remoteLocal;
+  allowed = r .allowed;
+}
 
 abbrev pub withConnection : Rest → ℕ → Connection → Rest
 withConnection r c x = withConnections r (set (r .connections) c x)
 
 abbrev pub withExchange : Rest → ℕ → Exchange → Rest
-withExchange r i x = record { exchanges = set (r .exchanges) i x; sensings = r .sensings; connections = r .connections; lastIssued = r .lastIssued; made = r .made; status = r .status; remoteLocal = r .remoteLocal; allowed = r .allowed }
+withExchange r i x = record {
+  exchanges = set (r .exchanges) i x;
+  sensings = r .sensings;
+  connections = r .connections;
+  lastIssued = r .lastIssued;
+  made = r .made;
+  status = r .status;
+  remoteLocal = r .remoteLocal;
+  allowed = r .allowed;
+}
 
 abbrev pub withSensings : Rest → List Sensing → Rest
-withSensings r ss = record { exchanges = r .exchanges; sensings = ss; connections = r .connections; lastIssued = r .lastIssued; made = r .made; status = r .status; remoteLocal = r .remoteLocal; allowed = r .allowed }
+withSensings r ss = record {
+  exchanges = r .exchanges;
+  sensings = ss;
+  connections = r .connections;
+  lastIssued = r .lastIssued;
+  made = r .made;
+  status = r .status;
+  remoteLocal = r .remoteLocal;
+  allowed = r .allowed;
+}
 
 abbrev pub withSensing : Rest → ℕ → Sensing → Rest
 withSensing r i x = withSensings r (set (r .sensings) i x)
 
 abbrev pub withRemoteLocal : Rest → RemoteLocal → Rest
-withRemoteLocal r x = record { exchanges = r .exchanges; sensings = r .sensings; connections = r .connections; lastIssued = r .lastIssued; made = r .made; status = r .status; remoteLocal = x; allowed = r .allowed }
+withRemoteLocal r x = record {
+  exchanges = r .exchanges;
+  sensings = r .sensings;
+  connections = r .connections;
+  lastIssued = r .lastIssued;
+  made = r .made;
+  status = r .status;
+  remoteLocal = x;
+  allowed = r .allowed;
+}
 
 abbrev pub withStatus : Rest → ℕ → Rest
-withStatus r b = record { exchanges = r .exchanges; sensings = r .sensings; connections = r .connections; lastIssued = r .lastIssued; made = r .made; status = b; remoteLocal = r .remoteLocal; allowed = r .allowed }
+withStatus r b = record {
+  exchanges = r .exchanges;
+  sensings = r .sensings;
+  connections = r .connections;
+  lastIssued = r .lastIssued;
+  made = r .made;
+  status = b;
+  remoteLocal = r .remoteLocal;
+  allowed = r .allowed;
+}
 
 abbrev pub withAllowed : Rest → Allowed → Rest
-withAllowed r a = record { exchanges = r .exchanges; sensings = r .sensings; connections = r .connections; lastIssued = r .lastIssued; made = r .made; status = r .status; remoteLocal = r .remoteLocal; allowed = a }
+withAllowed r a = record {
+  exchanges = r .exchanges;
+  sensings = r .sensings;
+  connections = r .connections;
+  lastIssued = r .lastIssued;
+  made = r .made;
+  status = r .status;
+  remoteLocal = r .remoteLocal;
+  allowed = a;
+}
 
 -- session n opens in slot i
 abbrev pub withSession : Rest → ℕ → ℕ → Rest

@@ -9,8 +9,12 @@ use Rattle.wire.specs.Message.{header}
 use Rattle.wire.specs.Frame.{Frame, frameOf}
 use Rattle.model.specs.Sizes.{noConnection}
 use Rattle.model.specs.MessageTypes.{FatalError, Error, AsyncLockResponse, Data, DataEND}
-use Rattle.model.specs.State.{Server, Rest, Exchange, Connection, at, live, slotOfNumber, exchangeAt, connectionAt, openConnection, closedConnection, freshExchange, freshSensing, sensingAt, withConnections, withConnection, withExchange, withSensing, withSensings, withStatus}
-use Rattle.model.specs.Interface.{Event, Event.opening, Event.delivery, Event.cut, Event.clock, Event.answer, Event.status, Event.setting, Outcome.more-needed, Outcome.skipped, Outcome.held, Outcome.ignored, Outcome.error-sent, Outcome.closed, Reply, Reply.refused, Reply.done, Reply.withheld, Reply.took}
+use Rattle.model.specs.State.{Server, Rest, Exchange, Connection, at, live, slotOfNumber, exchangeAt, connectionAt, openConnection, closedConnection}
+use Rattle.model.specs.State.{freshExchange, freshSensing, sensingAt, withConnections, withConnection, withExchange, withSensing, withSensings}
+use Rattle.model.specs.State.{withStatus}
+use Rattle.model.specs.Interface.{Event, Event.opening, Event.delivery, Event.cut, Event.clock, Event.answer, Event.status, Event.setting}
+use Rattle.model.specs.Interface.{Outcome.more-needed, Outcome.skipped, Outcome.held, Outcome.ignored, Outcome.error-sent, Outcome.closed, Reply}
+use Rattle.model.specs.Interface.{Reply.refused, Reply.done, Reply.withheld, Reply.took}
 use Rattle.model.specs.Scan.{Scan, Scan.empty, Scan.few, Scan.wrong, Scan.skipping, Scan.long, Scan.part, Scan.whole, scan, size, leftover}
 use Rattle.model.specs.Place.{Role, Role.r-none, Role.r-halfOpen, Role.r-synchronous, Role.r-asynchronous, slotOf, roleOf, entryOf}
 use Rattle.model.specs.Locks.{Answer, LockEvent.nothing, LockEvent.close, LockEvent.reading, change, frees, settle}

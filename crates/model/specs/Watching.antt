@@ -12,7 +12,9 @@ use Rattle.model.specs.Lists.{keep}
 use Rattle.model.specs.State.{Server, Sensing, at, live, freshSensing, sensingAt, fresh, Making}
 use Rattle.model.specs.Interface.{Event, Event.answer, Setting, Setting.watch, Setting.patterns, Reply.done}
 use Rattle.model.specs.Step.{Line, step, final, log, answerType}
-use Rattle.model.specs.Happening.{Action, Happening, Happening.unmoved, Happening.connected, Happening.disconnected, Happening.skipped-over, Happening.errored, Happening.message-acted, Happening.clock-read, Happening.status-set, Happening.setting-made, Happening.answer-sent, Happening.answer-withheld, happened}
+use Rattle.model.specs.Happening.{Action, Happening, Happening.unmoved, Happening.connected, Happening.disconnected, Happening.skipped-over}
+use Rattle.model.specs.Happening.{Happening.errored, Happening.message-acted, Happening.clock-read, Happening.status-set, Happening.setting-made}
+use Rattle.model.specs.Happening.{Happening.answer-sent, Happening.answer-withheld, happened}
 use Rattle.model.specs.LocalityRows.{kindOf, tripsBy, notedAll, status-row}
 use Rattle.model.specs.LocalityReplies.{serviceFrom}
 use Rattle.model.specs.Locality.{overLog}

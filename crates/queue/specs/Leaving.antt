@@ -16,7 +16,8 @@ use Rattle.model.specs.State.{Waiting, Server}
 use Rattle.state.specs.Table.{apart, below}
 use Rattle.state.specs.Grid.{part, word-of}
 use Rattle.state.specs.Bits.{bit, with-bit, with-same, with-other, empty-bits}
-use Rattle.state.specs.Layout.{EXCHANGES, EXCHANGE, CONNECTIONS, CONNECTION, HOME, LISTED, CLOCK, HOLDER, SHARERS, KEY, COUNT, ENTRIES, ENTRY, ORDERS, ORDER, REQUESTS, REQUEST, QUEUE, WORDS, LIST, STRINGS, SENSINGS, SENSING}
+use Rattle.state.specs.Layout.{EXCHANGES, EXCHANGE, CONNECTIONS, CONNECTION, HOME, LISTED, CLOCK, HOLDER, SHARERS, KEY, COUNT, ENTRIES, ENTRY, ORDERS, ORDER}
+use Rattle.state.specs.Layout.{REQUESTS, REQUEST, QUEUE, WORDS, LIST, STRINGS, SENSINGS, SENSING}
 use Rattle.state.specs.View.{memory, word, homeAt, slotAt, view}
 use Rattle.state.specs.Change.{off, here}
 use Rattle.queue.specs.Requests.{countOf, Idle, part-behind, part-before, slot-small, laid-view, laid-string}
@@ -39,9 +40,11 @@ module _ (In In′ : ℕ → Type 0) (w w′ s s′ : List ℕ) (t : TidyOver In
         values = kept-values In w w′ s s′ t (λ p h. front p (omega arith) (omega arith));
         exchanges = kept-range In w w′ s s′ t ExchangeRange EXCHANGES EXCHANGE EXCHANGE sessionLimit (λ i f h l. front (EXCHANGES + i * EXCHANGE + f) (omega arith) (omega arith)) (t .exchanges);
         sensings = kept-range In w w′ s s′ t SensingRange SENSINGS SENSING SENSING sessionLimit (λ i f h l. front (SENSINGS + i * SENSING + f) (omega arith) (omega arith)) (t .sensings);
-        connections = kept-range In w w′ s s′ t ConnectionRange CONNECTIONS CONNECTION HOME connectionLimit (λ i f h l. front (CONNECTIONS + i * CONNECTION + f) (omega arith) (omega arith)) (t .connections);
+        connections = kept-range In w w′ s s′ t ConnectionRange CONNECTIONS CONNECTION HOME connectionLimit
+            (λ i f h l. front (CONNECTIONS + i * CONNECTION + f) (omega arith) (omega arith)) (t .connections);
         orders = kept-range In w w′ s s′ t OrderRange ORDERS ORDER ORDER sessionLimit (λ i f h l. front (ORDERS + i * ORDER + f) (omega arith) (omega arith)) (t .orders);
-        singles = kept-singles In w w′ s s′ t (front CLOCK (omega arith) (omega arith)) (front HOLDER (omega arith) (omega arith)) (subst (λ (x : ℕ). x < 2 ^ sessionLimit) (sym sharers) (t .singles .sharers)) count;
+        singles = kept-singles In w w′ s s′ t (front CLOCK (omega arith) (omega arith)) (front HOLDER (omega arith) (omega arith))
+            (subst (λ (x : ℕ). x < 2 ^ sessionLimit) (sym sharers) (t .singles .sharers)) count;
         rows = kept-rows In w w′ s s′ t (λ i f h l. front (ENTRIES + i * ENTRY + f) (omega arith) (omega arith)) (λ c h. front (homeAt c) (omega arith) (omega arith));
         homes = kept-homes In w w′ s s′ t (λ i f h l. front (ENTRIES + i * ENTRY + f) (omega arith) (omega arith)) (λ c h. front (homeAt c) (omega arith) (omega arith));
         requests = r;
@@ -186,7 +189,8 @@ module _ (w s : List ℕ) (i d : ℕ) (x : List ℕ) (t : Tidy (memory w s)) (h 
 
 -- and what it shows
 pub put-view : (w s : List ℕ) (i d : ℕ) (x : List ℕ) → i < sessionLimit → length x ≤ stringLimit → length w ≡ WORDS → length s ≡ STRINGS → Idle w i → countOf w < sessionLimit
-    → view (memory (set (set (set (set w (REQUESTS + i * REQUEST + 1) (length x)) (REQUESTS + i * REQUEST + 0) d) (QUEUE + countOf w) i) COUNT (countOf w + 1)) (splice s (stringLimit + i * stringLimit) x))
+    → view (memory (set (set (set (set w (REQUESTS + i * REQUEST + 1) (length x)) (REQUESTS + i * REQUEST + 0) d) (QUEUE + countOf w) i) COUNT (countOf w + 1))
+    (splice s (stringLimit + i * stringLimit) x))
     ≡ onWaiting (view (memory w s)) (λ (l : List Waiting). l ++ (record { slot = i; deadline = d; string = x } ∷ []))
 put-view w s i d x h small long room free left =
     let a : ℕ = REQUESTS + i * REQUEST + 1 in
@@ -432,7 +436,8 @@ module _ (w s : List ℕ) (p : ℕ) (few : p < sessionLimit) (long : length w �
             (λ j l. refl)
             (λ i f l k o. off w (QUEUE + p) 0 (REQUESTS + i * REQUEST + f) (omega arith))
             (λ i j l k o. refl)
-            (kept-request (Still n p m) w w′ s s t (Still n (p + 1) m) (slotAt w p) (slot-small w p) (λ f k. off w (QUEUE + p) 0 (REQUESTS + slotAt w p * REQUEST + f) (omega (arith, slot-small w p))) (λ j k. refl)
+            (kept-request (Still n p m) w w′ s s t (Still n (p + 1) m) (slotAt w p) (slot-small w p)
+            (λ f k. off w (QUEUE + p) 0 (REQUESTS + slotAt w p * REQUEST + f) (omega (arith, slot-small w p))) (λ j k. refl)
             (λ o. absurd (o (x .place) (inl (omega (arith, x .before))) (slot (x .place) (omega (arith, x .before)) ∙ x .is))));
       }
 
@@ -493,7 +498,13 @@ module _ (w s : List ℕ) (p : ℕ) (few : p < sessionLimit) (long : length w �
     pub wiped-left : Left w s u′ s′ p
     wiped-left =
         record {
-          shown = past-count u s′ p 0 (omega (arith, off (set w (REQUESTS + i * REQUEST + 0) 0) (REQUESTS + i * REQUEST + 1) 0 COUNT (omega arith), off w (REQUESTS + i * REQUEST + 0) 0 COUNT (omega arith))) ∙ request-wiped w s s′ i k short long room (omega arith) x idle;
+          shown = past-count u s′ p 0
+              (omega (
+                arith,
+                off (set w (REQUESTS + i * REQUEST + 0) 0) (REQUESTS + i * REQUEST + 1) 0 COUNT (omega arith),
+                off w (REQUESTS + i * REQUEST + 0)
+                    0 COUNT (omega arith),
+              )) ∙ request-wiped w s s′ i k short long room (omega arith) x idle;
           long = long-3;
           room = x .room ∙ room;
           count = front-same COUNT (omega arith);

@@ -11,12 +11,17 @@ use lib.ListN.{length, getD, take, length-take}
 use lib.Seq.{ext-getD, getD-take}
 use borrow.Author.Tests.{eq-eqb, ne-eqb, eqb-true, eqb-false, ltb-true, ltb-false}
 use Rattle.model.specs.Sizes.{sessionLimit, connectionLimit, stringLimit, listLimit}
-use Rattle.model.specs.State.{Entry, Waiting, Locks, Kind, Kind.exclusive-lock, Kind.shared-lock, Standing, Standing.no-release, Standing.release-of, Asked, Asked.none, Asked.some, Exchange, Connection, Allowed, Allowed.any-command, Allowed.only, Rest, Server, withAllowed, at, freshExchange, closedConnection, Sensing, sensingAt}
+use Rattle.model.specs.State.{Entry, Waiting, Locks, Kind, Kind.exclusive-lock, Kind.shared-lock, Standing, Standing.no-release, Standing.release-of, Asked}
+use Rattle.model.specs.State.{Asked.none, Asked.some, Exchange, Connection, Allowed, Allowed.any-command, Allowed.only, Rest, Server, withAllowed, at}
+use Rattle.model.specs.State.{freshExchange, closedConnection, Sensing, sensingAt}
 use Rattle.state.specs.Table.{below}
 use Rattle.state.specs.Grid.{part, word-of, length-part, grid, getD-grid}
 use Rattle.state.specs.Bits.{bit, low-bits, Member, member}
-use Rattle.state.specs.Layout.{LOCKS, VENDOR, PREFERENCE, STATUS, LAST, ENABLE, LOCKOUT, REMOTE, EXCHANGES, EXCHANGE, CONNECTIONS, CONNECTION, HOME, LISTED, CLOCK, HOLDER, SHARERS, KEY, COUNT, ENTRIES, ENTRY, ORDERS, ORDER, REQUESTS, REQUEST, QUEUE, WORDS, LIST, STRINGS, SENSINGS, SENSING}
-use Rattle.state.specs.View.{Memory, memory, word, keyOf, rowWord, homeIn, homeOf, fieldOf, standingOf, entryAt, slotAt, requestAt, locksOf, askedOf, exchangeOf, connectionOf, restOf, allowedFrom, allowedOf, view, numeral, sensingFrom}
+use Rattle.state.specs.Layout.{LOCKS, VENDOR, PREFERENCE, STATUS, LAST, ENABLE, LOCKOUT, REMOTE, EXCHANGES, EXCHANGE, CONNECTIONS, CONNECTION, HOME, LISTED}
+use Rattle.state.specs.Layout.{CLOCK, HOLDER, SHARERS, KEY, COUNT, ENTRIES, ENTRY, ORDERS, ORDER, REQUESTS, REQUEST, QUEUE, WORDS, LIST, STRINGS, SENSINGS}
+use Rattle.state.specs.Layout.{SENSING}
+use Rattle.state.specs.View.{Memory, memory, word, keyOf, rowWord, homeIn, homeOf, fieldOf, standingOf, entryAt, slotAt, requestAt, locksOf, askedOf}
+use Rattle.state.specs.View.{exchangeOf, connectionOf, restOf, allowedFrom, allowedOf, view, numeral, sensingFrom}
 use Rattle.state.specs.Change.{entry-at, sensingWord, sensing-at}
 use Rattle.queue.specs.Requests.{countOf, Idle, stringAt}
 use Rattle.queue.specs.Queue.{noRequest, count-is, waiting-at}
@@ -240,15 +245,27 @@ module _ (w s w′ s′ : List ℕ) (t : Tidy (memory w s)) (t′ : Tidy (memory
       ∙ getD-grid exchangeOf EXCHANGES EXCHANGE sessionLimit w′ i freshExchange h
 
   exchange-word : (i f : ℕ) → i < sessionLimit → f < EXCHANGE → word w (EXCHANGES + i * EXCHANGE + f) ≡ word w′ (EXCHANGES + i * EXCHANGE + f)
-  exchange-word i zero h l = flag-one _ _ (t .exchanges i 0 h l) (t′ .exchanges i 0 h l) (read (λ (x : ℕ). eqb x 1) (EXCHANGES + i * EXCHANGE) EXCHANGE 0 l (ap (λ (x : Exchange). x .inClear) (exchange-same i h)))
-  exchange-word i (suc zero) h l = asked-one _ _ (t .exchanges i 1 h l) (t′ .exchanges i 1 h l) (read askedOf (EXCHANGES + i * EXCHANGE) EXCHANGE 1 l (ap (λ (x : Exchange). x .asked) (exchange-same i h)))
-  exchange-word i (suc (suc zero)) h l = flag-one _ _ (t .exchanges i 2 h l) (t′ .exchanges i 2 h l) (read (λ (x : ℕ). eqb x 1) (EXCHANGES + i * EXCHANGE) EXCHANGE 2 l (ap (λ (x : Exchange). x .messageAvailable) (exchange-same i h)))
+  exchange-word i zero h l = flag-one _ _ (t .exchanges i 0 h l) (t′ .exchanges i 0 h l)
+      (read (λ (x : ℕ). eqb x 1) (EXCHANGES + i * EXCHANGE) EXCHANGE 0 l (ap (λ (x : Exchange). x .inClear) (exchange-same i h)))
+  exchange-word i (suc zero) h l = asked-one _ _ (t .exchanges i 1 h l) (t′ .exchanges i 1 h l)
+      (read askedOf (EXCHANGES + i * EXCHANGE) EXCHANGE 1 l (ap (λ (x : Exchange). x .asked) (exchange-same i h)))
+  exchange-word i (suc (suc zero)) h l = flag-one _ _ (t .exchanges i 2 h l) (t′ .exchanges i 2 h l)
+      (read (λ (x : ℕ). eqb x 1) (EXCHANGES + i * EXCHANGE) EXCHANGE 2 l (ap (λ (x : Exchange). x .messageAvailable) (exchange-same i h)))
   exchange-word i (suc (suc (suc zero))) h l = read (λ (x : ℕ). x) (EXCHANGES + i * EXCHANGE) EXCHANGE 3 l (ap (λ (x : Exchange). x .clientSize) (exchange-same i h))
-  exchange-word i (suc (suc (suc (suc zero)))) h l = flag-one _ _ (t .exchanges i 4 h l) (t′ .exchanges i 4 h l) (read (λ (x : ℕ). eqb x 1) (EXCHANGES + i * EXCHANGE) EXCHANGE 4 l (ap (λ (x : Exchange). x .overlap) (exchange-same i h)))
-  exchange-word i (suc (suc (suc (suc (suc zero))))) h l = mod-one _ _ (2 ^ 32) (t .exchanges i 5 h l) (t′ .exchanges i 5 h l) (read (λ (x : ℕ). x % 2 ^ 32) (EXCHANGES + i * EXCHANGE) EXCHANGE 5 l (ap (λ (x : Exchange). x .count) (exchange-same i h)))
-  exchange-word i (suc (suc (suc (suc (suc (suc zero)))))) h l = flag-one _ _ (t .exchanges i 6 h l) (t′ .exchanges i 6 h l) (read (λ (x : ℕ). eqb x 1) (EXCHANGES + i * EXCHANGE) EXCHANGE 6 l (ap (λ (x : Exchange). x .anySent) (exchange-same i h)))
-  exchange-word i (suc (suc (suc (suc (suc (suc (suc zero))))))) h l = flag-one _ _ (t .exchanges i 7 h l) (t′ .exchanges i 7 h l) (read (λ (x : ℕ). eqb x 1) (EXCHANGES + i * EXCHANGE) EXCHANGE 7 l (ap (λ (x : Exchange). x .rmtExpected) (exchange-same i h)))
-  exchange-word i (suc (suc (suc (suc (suc (suc (suc (suc zero)))))))) h l = mod-one _ _ (2 ^ 32) (t .exchanges i 8 h l) (t′ .exchanges i 8 h l) (read (λ (x : ℕ). x % 2 ^ 32) (EXCHANGES + i * EXCHANGE) EXCHANGE 8 l (ap (λ (x : Exchange). x .numberExpected) (exchange-same i h)))
+  exchange-word i (suc (suc (suc (suc zero)))) h l = flag-one _ _ (t .exchanges i 4 h l) (t′ .exchanges i 4 h l)
+      (read (λ (x : ℕ). eqb x 1) (EXCHANGES + i * EXCHANGE) EXCHANGE 4 l (ap (λ (x : Exchange). x .overlap) (exchange-same i h)))
+  exchange-word i (suc (suc (suc (suc (suc zero))))) h l =
+      mod-one _ _ (2 ^ 32) (t .exchanges i 5 h l) (t′ .exchanges i 5 h l)
+      (read (λ (x : ℕ). x % 2 ^ 32) (EXCHANGES + i * EXCHANGE) EXCHANGE 5 l (ap (λ (x : Exchange). x .count) (exchange-same i h)))
+  exchange-word i (suc (suc (suc (suc (suc (suc zero)))))) h l =
+      flag-one _ _ (t .exchanges i 6 h l) (t′ .exchanges i 6 h l)
+      (read (λ (x : ℕ). eqb x 1) (EXCHANGES + i * EXCHANGE) EXCHANGE 6 l (ap (λ (x : Exchange). x .anySent) (exchange-same i h)))
+  exchange-word i (suc (suc (suc (suc (suc (suc (suc zero))))))) h l =
+      flag-one _ _ (t .exchanges i 7 h l) (t′ .exchanges i 7 h l)
+      (read (λ (x : ℕ). eqb x 1) (EXCHANGES + i * EXCHANGE) EXCHANGE 7 l (ap (λ (x : Exchange). x .rmtExpected) (exchange-same i h)))
+  exchange-word i (suc (suc (suc (suc (suc (suc (suc (suc zero)))))))) h l =
+      mod-one _ _ (2 ^ 32) (t .exchanges i 8 h l) (t′ .exchanges i 8 h l)
+      (read (λ (x : ℕ). x % 2 ^ 32) (EXCHANGES + i * EXCHANGE) EXCHANGE 8 l (ap (λ (x : Exchange). x .numberExpected) (exchange-same i h)))
   exchange-word i (suc (suc (suc (suc (suc (suc (suc (suc (suc f))))))))) h l = absurd (omega arith)
 
   -- 02, Q-11: the readings
@@ -276,7 +293,8 @@ module _ (w s w′ s′ : List ℕ) (t : Tidy (memory w s)) (t′ : Tidy (memory
       ∙ getD-grid connectionOf CONNECTIONS CONNECTION connectionLimit w′ i closedConnection h
 
   connection-word : (i f : ℕ) → i < connectionLimit → f < HOME → word w (CONNECTIONS + i * CONNECTION + f) ≡ word w′ (CONNECTIONS + i * CONNECTION + f)
-  connection-word i zero h l = flag-one _ _ (t .connections i 0 h l) (t′ .connections i 0 h l) (read (λ (x : ℕ). eqb x 1) (CONNECTIONS + i * CONNECTION) CONNECTION 0 (lit< tt) (ap (λ (x : Connection). x .isOpen) (connection-same i h)))
+  connection-word i zero h l = flag-one _ _ (t .connections i 0 h l) (t′ .connections i 0 h l)
+      (read (λ (x : ℕ). eqb x 1) (CONNECTIONS + i * CONNECTION) CONNECTION 0 (lit< tt) (ap (λ (x : Connection). x .isOpen) (connection-same i h)))
   connection-word i (suc zero) h l = read (λ (x : ℕ). x) (CONNECTIONS + i * CONNECTION) CONNECTION 1 (lit< tt) (ap (λ (x : Connection). x .remainder) (connection-same i h))
   connection-word i (suc (suc f)) h l = absurd (omega arith)
 
@@ -343,7 +361,8 @@ module _ (w s w′ s′ : List ℕ) (t : Tidy (memory w s)) (t′ : Tidy (memory
 
   sharing-same : (i : ℕ) → i < sessionLimit → eqb (bit (word w SHARERS) i) 1 ≡ eqb (bit (word w′ SHARERS) i) 1
   unfolding entryAt
-  sharing-same i h = shared-one (eqb (bit (word w SHARERS) i) 1) (eqb (bit (word w′ SHARERS) i) 1) (keyOf w s) (keyOf w′ s′) (some-key w s) (some-key w′ s′) (ap (λ (x : Entry). x .shared) (entry-same i h))
+  sharing-same i h = shared-one (eqb (bit (word w SHARERS) i) 1) (eqb (bit (word w′ SHARERS) i) 1) (keyOf w s) (keyOf w′ s′) (some-key w s) (some-key w′ s′)
+      (ap (λ (x : Entry). x .shared) (entry-same i h))
 
   sharers-same : word w SHARERS ≡ word w′ SHARERS
   sharers-same =

@@ -102,7 +102,8 @@ pub swapped : (w s : List ℕ) (j k : ℕ) → j < countOf w → k < countOf w �
 swapped w s j k h l long =
     let w₁ : List ℕ = set w (QUEUE + k) (slotAt w j) in
     let c : countOf w₁ ≡ countOf w = ap (λ (x : ℕ). min x sessionLimit) (off w (QUEUE + k) (slotAt w j) COUNT (omega arith)) in
-    let r : requestAt w₁ s (slotAt w k) ≡ getD (locksOf w s .waiting) k noRequest = request-row w s (QUEUE + k) (slotAt w j) (inr (omega arith)) (slotAt w k) (slot-small w k) ∙ sym (waiting-at w s k l) in
+    let r : requestAt w₁ s (slotAt w k) ≡ getD (locksOf w s .waiting) k noRequest =
+    request-row w s (QUEUE + k) (slotAt w j) (inr (omega arith)) (slotAt w k) (slot-small w k) ∙ sym (waiting-at w s k l) in
     slot-placed w₁ s j (slotAt w k) (omega arith) (slot-small w k) (length-set w (QUEUE + k) (slotAt w j) ∙ long)
     ∙ ap (λ (x : Waiting). onWaiting (view (memory w₁ s)) (λ (y : List Waiting). set y j x)) r
     ∙ ap (λ (d : Server). onWaiting d (λ (y : List Waiting). set y j (getD (locksOf w s .waiting) k noRequest))) (moved w s j k h l long)

@@ -65,8 +65,10 @@ module _ (w s k : List ℕ) (some : 0 < length k) (small : length k ≤ stringLi
       λ j. record {
         locks = record {
           clock = off w KEY (length k - 1) CLOCK (omega arith) j % 2 ^ 63;
-          entries = (entries-off w (keyOf keyed lettered) KEY (length k - 1) (omega arith) (omega arith) (past-homes w KEY (omega arith)) (inl (omega arith)) ∙ unshared-entries w (keyOf w s) (keyOf keyed lettered) z) j;
-          waiting = (waiting-off w lettered KEY (length k - 1) (omega arith) (omega arith) ∙ waiting-strings w s lettered (λ i l. part-behind s 0 k inside (stringLimit + i * stringLimit) stringLimit (omega arith))) j;
+          entries = (entries-off w (keyOf keyed lettered) KEY (length k - 1) (omega arith) (omega arith) (past-homes w KEY (omega arith)) (inl (omega arith))
+              ∙ unshared-entries w (keyOf w s) (keyOf keyed lettered) z) j;
+          waiting = (waiting-off w lettered KEY (length k - 1) (omega arith) (omega arith)
+              ∙ waiting-strings w s lettered (λ i l. part-behind s 0 k inside (stringLimit + i * stringLimit) stringLimit (omega arith))) j;
         };
         rest = rest-off w s lettered KEY (length k - 1) (omega arith) (part-behind s 0 k inside LIST listLimit (omega arith)) j;
       }

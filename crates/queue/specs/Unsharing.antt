@@ -11,7 +11,8 @@ use Rattle.wire.specs.Splice.{splice, length-splice}
 use Rattle.model.specs.Sizes.{sessionLimit, connectionLimit, stringLimit}
 use Rattle.state.specs.Table.{below}
 use Rattle.state.specs.Bits.{bit, without}
-use Rattle.state.specs.Layout.{EXCHANGES, EXCHANGE, CONNECTIONS, CONNECTION, HOME, LISTED, CLOCK, HOLDER, SHARERS, KEY, COUNT, ENTRIES, ENTRY, ORDERS, ORDER, REQUESTS, REQUEST, QUEUE, WORDS, LIST, STRINGS, SENSINGS, SENSING}
+use Rattle.state.specs.Layout.{EXCHANGES, EXCHANGE, CONNECTIONS, CONNECTION, HOME, LISTED, CLOCK, HOLDER, SHARERS, KEY, COUNT, ENTRIES, ENTRY, ORDERS, ORDER}
+use Rattle.state.specs.Layout.{REQUESTS, REQUEST, QUEUE, WORDS, LIST, STRINGS, SENSINGS, SENSING}
 use Rattle.state.specs.View.{memory, word, homeAt}
 use Rattle.state.specs.Change.{off, here}
 use Rattle.state.specs.Tidy.{Tidy, Counted, ExchangeRange, ConnectionRange, OrderRange, TidyKey, SensingRange}
@@ -32,15 +33,19 @@ module _ (w w′ s s′ : List ℕ) (t : Tidy (memory w s)) (long : length w′ 
         long = long;
         room = room ∙ t .room;
         values = kept-values (Counted w) w w′ s s′ t (λ p h. same p (omega arith) (omega arith));
-        exchanges = kept-range (Counted w) w w′ s s′ t ExchangeRange EXCHANGES EXCHANGE EXCHANGE sessionLimit (λ i f h l. same (EXCHANGES + i * EXCHANGE + f) (omega arith) (omega arith)) (t .exchanges);
+        exchanges = kept-range (Counted w) w w′ s s′ t ExchangeRange EXCHANGES EXCHANGE EXCHANGE sessionLimit
+            (λ i f h l. same (EXCHANGES + i * EXCHANGE + f) (omega arith) (omega arith)) (t .exchanges);
         sensings = kept-range (Counted w) w w′ s s′ t SensingRange SENSINGS SENSING SENSING sessionLimit (λ i f h l. same (SENSINGS + i * SENSING + f) (omega arith) (omega arith)) (t .sensings);
-        connections = kept-range (Counted w) w w′ s s′ t ConnectionRange CONNECTIONS CONNECTION HOME connectionLimit (λ i f h l. same (CONNECTIONS + i * CONNECTION + f) (omega arith) (omega arith)) (t .connections);
+        connections = kept-range (Counted w) w w′ s s′ t ConnectionRange CONNECTIONS CONNECTION HOME connectionLimit
+            (λ i f h l. same (CONNECTIONS + i * CONNECTION + f) (omega arith) (omega arith)) (t .connections);
         orders = kept-range (Counted w) w w′ s s′ t OrderRange ORDERS ORDER ORDER sessionLimit (λ i f h l. same (ORDERS + i * ORDER + f) (omega arith) (omega arith)) (t .orders);
-        singles = kept-singles (Counted w) w w′ s s′ t (same CLOCK (omega arith) (omega arith)) (same HOLDER (omega arith) (omega arith)) sharers (subst (λ (x : ℕ). x ≤ sessionLimit) (sym count) (t .singles .count));
+        singles = kept-singles (Counted w) w w′ s s′ t (same CLOCK (omega arith) (omega arith)) (same HOLDER (omega arith) (omega arith)) sharers
+            (subst (λ (x : ℕ). x ≤ sessionLimit) (sym count) (t .singles .count));
         rows = kept-rows (Counted w) w w′ s s′ t (λ i f h l. same (ENTRIES + i * ENTRY + f) (omega arith) (omega arith)) (λ c h. same (homeAt c) (omega arith) (omega arith));
         homes = kept-homes (Counted w) w w′ s s′ t (λ i f h l. same (ENTRIES + i * ENTRY + f) (omega arith) (omega arith)) (λ c h. same (homeAt c) (omega arith) (omega arith));
         requests = λ i h.
-            kept-request (Counted w) w w′ s s′ t (Counted w′) i h (λ f l. same (REQUESTS + i * REQUEST + f) (omega arith) (omega arith)) (λ j l. letters (stringLimit + i * stringLimit + j) (omega arith))
+            kept-request (Counted w) w w′ s s′ t (Counted w′) i h (λ f l. same (REQUESTS + i * REQUEST + f) (omega arith) (omega arith))
+            (λ j l. letters (stringLimit + i * stringLimit + j) (omega arith))
             (kept-away (Counted w) w w′ s s′ t (Counted w′) i queue (count-to w w′ count));
         queue = kept-queue (Counted w) w w′ s s′ t (Counted w′) queue (count-from w w′ count) (count-to w w′ count);
         key = k;

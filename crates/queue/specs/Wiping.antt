@@ -98,7 +98,8 @@ key-wiped w s s′ n room small x z =
     λ k. record {
       locks = record {
         clock = off w KEY 0 CLOCK (omega arith) k % 2 ^ 63;
-        entries = (entries-off w (keyOf (set w KEY 0) s′) KEY 0 (omega arith) (omega arith) (past-homes w KEY (omega arith)) (inl (omega arith)) ∙ unshared-entries w (keyOf w s) (keyOf (set w KEY 0) s′) z) k;
+        entries = (entries-off w (keyOf (set w KEY 0) s′) KEY 0 (omega arith) (omega arith) (past-homes w KEY (omega arith)) (inl (omega arith))
+            ∙ unshared-entries w (keyOf w s) (keyOf (set w KEY 0) s′) z) k;
         waiting = (waiting-off w s′ KEY 0 (omega arith) (omega arith)
             ∙ waiting-strings w s s′ (λ i l. part-same s s′ (stringLimit + i * stringLimit) stringLimit (x .room) (omega arith) (λ p a b. x .others p (inr (omega arith))))) k;
       };

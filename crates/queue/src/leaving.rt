@@ -52,7 +52,9 @@ fn leave_place(w: &mut [u64], strings: &mut [u8], p: usize, stay: u64)
 // The places from n to m, behind the count, which is n.
 fn leave_places(w: &mut [u64], strings: &mut [u8], n: usize, m: usize, stay: u64)
     requires { ⌜ (length (now w) ≡ WORDS) × (length (now strings) ≡ STRINGS) × (word (now w) COUNT ≡ n) × (n ≤ m) × (m ≤ sessionLimit) × Members (now w) n stay ⌝ }
-    ensures { λ _. ⌜ (view (memory (now (w .exit)) (now (strings .exit))) ≡ view (memory (now (w .entry)) (now (strings .entry)))) × (TidyOver (Still n n m) (memory (now (w .entry)) (now (strings .entry))) → Tidy (memory (now (w .exit)) (now (strings .exit)))) × (length (now (w .exit)) ≡ WORDS) ⌝ }
+    ensures { λ _. ⌜ (view (memory (now (w .exit)) (now (strings .exit))) ≡ view (memory (now (w .entry)) (now (strings .entry))))
+        × (TidyOver (Still n n m) (memory (now (w .entry)) (now (strings .entry))) → Tidy (memory (now (w .exit)) (now (strings .exit))))
+        × (length (now (w .exit)) ≡ WORDS) ⌝ }
 {
     let mut p = n;
     while p < m {
@@ -63,7 +65,8 @@ fn leave_places(w: &mut [u64], strings: &mut [u8], n: usize, m: usize, stay: u64
 
 fn keep_first_in(w: &mut [u64], strings: &mut [u8], n: usize)
     requires { ⌜ (length (now w) ≡ WORDS) × (length (now strings) ≡ STRINGS) × (n ≤ countOf (now w)) ⌝ }
-    ensures { λ _. ⌜ (view (memory (now (w .exit)) (now (strings .exit))) ≡ onWaiting (view (memory (now (w .entry)) (now (strings .entry)))) (take n)) × (Tidy (memory (now (w .entry)) (now (strings .entry))) → Tidy (memory (now (w .exit)) (now (strings .exit)))) ⌝ }
+    ensures { λ _. ⌜ (view (memory (now (w .exit)) (now (strings .exit))) ≡ onWaiting (view (memory (now (w .entry)) (now (strings .entry)))) (take n))
+        × (Tidy (memory (now (w .entry)) (now (strings .entry))) → Tidy (memory (now (w .exit)) (now (strings .exit)))) ⌝ }
 {
     let m = least(w[COUNT], SESSION_LIMIT);
     w[COUNT] = n as u64;
@@ -78,7 +81,8 @@ fn keep_first_in(w: &mut [u64], strings: &mut [u8], n: usize)
 // Only the first n go on waiting.
 pub fn keep_first(w: &mut Words, strings: &mut Strings, n: usize)
     requires { ⌜ n ≤ countOf (now w) ⌝ }
-    ensures { λ _. ⌜ (view (memory (now (w .exit)) (now (strings .exit))) ≡ onWaiting (view (memory (now (w .entry)) (now (strings .entry)))) (take n)) × (Tidy (memory (now (w .entry)) (now (strings .entry))) → Tidy (memory (now (w .exit)) (now (strings .exit)))) ⌝ }
+    ensures { λ _. ⌜ (view (memory (now (w .exit)) (now (strings .exit))) ≡ onWaiting (view (memory (now (w .entry)) (now (strings .entry)))) (take n))
+        × (Tidy (memory (now (w .entry)) (now (strings .entry))) → Tidy (memory (now (w .exit)) (now (strings .exit)))) ⌝ }
 {
     keep_first_in(w, strings, n);
 }

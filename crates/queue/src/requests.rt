@@ -81,7 +81,9 @@ pub fn string_length(w: &Words, i: usize) -> usize
 // The j-th request that waits and the k-th change places: the same slots go on waiting.
 pub fn swap_waiting(w: &mut Words, j: usize, k: usize)
     requires { ⌜ (j < countOf (now w)) × (k < countOf (now w)) ⌝ }
-    ensures { λ _. ⌜ ((s : List ℕ) → view (memory (now (w .exit)) s) ≡ onWaiting (view (memory (now (w .entry)) s)) (λ x. set (set x k (getD x j noRequest)) j (getD x k noRequest))) × ((s : List ℕ) → Tidy (memory (now (w .entry)) s) → Tidy (memory (now (w .exit)) s)) ⌝ }
+    ensures { λ _. ⌜ ((s : List ℕ) → view (memory (now (w .exit)) s) ≡ onWaiting (view (memory (now (w .entry)) s))
+        (λ x. set (set x k (getD x j noRequest)) j (getD x k noRequest)))
+        × ((s : List ℕ) → Tidy (memory (now (w .entry)) s) → Tidy (memory (now (w .exit)) s)) ⌝ }
 {
     let x = w[QUEUE + j] % SESSIONS;
     let y = w[QUEUE + k] % SESSIONS;
@@ -91,7 +93,9 @@ pub fn swap_waiting(w: &mut Words, j: usize, k: usize)
 
 fn put_request_in(w: &mut [u64], strings: &mut [u8], i: usize, deadline: u64, string: &[u8])
     requires { ⌜ (i < sessionLimit) × (length (now string) ≤ stringLimit) × (length (now w) ≡ WORDS) × (length (now strings) ≡ STRINGS) × (countOf (now w) < sessionLimit) × Idle (now w) i ⌝ }
-    ensures { λ _. ⌜ (view (memory (now (w .exit)) (now (strings .exit))) ≡ onWaiting (view (memory (now (w .entry)) (now (strings .entry)))) (λ x. x ++ (record { slot = i; deadline = deadline; string = now (string .entry) } ∷ []))) × (Tidy (memory (now (w .entry)) (now (strings .entry))) → Tidy (memory (now (w .exit)) (now (strings .exit)))) ⌝ }
+    ensures { λ _. ⌜ (view (memory (now (w .exit)) (now (strings .exit))) ≡ onWaiting (view (memory (now (w .entry)) (now (strings .entry))))
+        (λ x. x ++ (record { slot = i; deadline = deadline; string = now (string .entry) } ∷ [])))
+        × (Tidy (memory (now (w .entry)) (now (strings .entry))) → Tidy (memory (now (w .exit)) (now (strings .exit)))) ⌝ }
 {
     let n = least(w[COUNT], SESSION_LIMIT);
     wire::frame::put_payload(strings, STRING_LIMIT + i * STRING_LIMIT, string);
@@ -104,7 +108,9 @@ fn put_request_in(w: &mut [u64], strings: &mut [u8], i: usize, deadline: u64, st
 // The request of slot i, which does not wait, goes to the end of the queue with a string and a deadline.
 pub fn put_request(w: &mut Words, strings: &mut Strings, i: usize, deadline: u64, string: &[u8])
     requires { ⌜ (i < sessionLimit) × (length (now string) ≤ stringLimit) × (countOf (now w) < sessionLimit) × Idle (now w) i ⌝ }
-    ensures { λ _. ⌜ (view (memory (now (w .exit)) (now (strings .exit))) ≡ onWaiting (view (memory (now (w .entry)) (now (strings .entry)))) (λ x. x ++ (record { slot = i; deadline = deadline; string = now (string .entry) } ∷ []))) × (Tidy (memory (now (w .entry)) (now (strings .entry))) → Tidy (memory (now (w .exit)) (now (strings .exit)))) ⌝ }
+    ensures { λ _. ⌜ (view (memory (now (w .exit)) (now (strings .exit))) ≡ onWaiting (view (memory (now (w .entry)) (now (strings .entry))))
+        (λ x. x ++ (record { slot = i; deadline = deadline; string = now (string .entry) } ∷ [])))
+        × (Tidy (memory (now (w .entry)) (now (strings .entry))) → Tidy (memory (now (w .exit)) (now (strings .exit)))) ⌝ }
 {
     put_request_in(w, strings, i, deadline, string);
 }

@@ -27,8 +27,11 @@ use state::sizes::Words;
 
 // While nobody shares, a string becomes the one that the next session shares. Nobody sees it yet.
 fn lay_key(w: &mut [u64], strings: &mut [u8], string: &[u8])
-    requires { ⌜ (0 < length (now string)) × (length (now string) ≤ stringLimit) × (length (now w) ≡ WORDS) × (length (now strings) ≡ STRINGS) × (all noShared (locksOf (now w) (now strings) .entries) ≡ true) ⌝ }
-    ensures { λ _. ⌜ (view (memory (now (w .exit)) (now (strings .exit))) ≡ view (memory (now (w .entry)) (now (strings .entry)))) × (keyOf (now (w .exit)) (now (strings .exit)) ≡ now (string .entry)) × (now (w .exit) ≡ set (now (w .entry)) KEY (length (now (string .entry)) - 1)) × (now (strings .exit) ≡ splice (now (strings .entry)) 0 (now (string .entry))) ⌝ }
+    requires { ⌜ (0 < length (now string)) × (length (now string) ≤ stringLimit) × (length (now w) ≡ WORDS) × (length (now strings) ≡ STRINGS)
+        × (all noShared (locksOf (now w) (now strings) .entries) ≡ true) ⌝ }
+    ensures { λ _. ⌜ (view (memory (now (w .exit)) (now (strings .exit))) ≡ view (memory (now (w .entry)) (now (strings .entry))))
+        × (keyOf (now (w .exit)) (now (strings .exit)) ≡ now (string .entry)) × (now (w .exit) ≡ set (now (w .entry)) KEY (length (now (string .entry)) - 1))
+        × (now (strings .exit) ≡ splice (now (strings .entry)) 0 (now (string .entry))) ⌝ }
 {
     wire::frame::put_payload(strings, 0, string);
     w[KEY] = string.len() as u64 - 1;
@@ -36,8 +39,12 @@ fn lay_key(w: &mut [u64], strings: &mut [u8], string: &[u8])
 
 // The same with the string of slot i's request, which has n bytes.
 fn copy_key(w: &mut [u64], strings: &mut [u8], i: usize, n: usize)
-    requires { ⌜ (i < sessionLimit) × (0 < n) × (n ≤ stringLimit) × (length (now w) ≡ WORDS) × (length (now strings) ≡ STRINGS) × (n ≡ length (stringAt (now w) (now strings) i)) × (all noShared (locksOf (now w) (now strings) .entries) ≡ true) ⌝ }
-    ensures { λ _. ⌜ (view (memory (now (w .exit)) (now (strings .exit))) ≡ view (memory (now (w .entry)) (now (strings .entry)))) × (keyOf (now (w .exit)) (now (strings .exit)) ≡ stringAt (now (w .entry)) (now (strings .entry)) i) × (now (w .exit) ≡ set (now (w .entry)) KEY (length (stringAt (now (w .entry)) (now (strings .entry)) i) - 1)) × (now (strings .exit) ≡ splice (now (strings .entry)) 0 (stringAt (now (w .entry)) (now (strings .entry)) i)) ⌝ }
+    requires { ⌜ (i < sessionLimit) × (0 < n) × (n ≤ stringLimit) × (length (now w) ≡ WORDS) × (length (now strings) ≡ STRINGS)
+        × (n ≡ length (stringAt (now w) (now strings) i)) × (all noShared (locksOf (now w) (now strings) .entries) ≡ true) ⌝ }
+    ensures { λ _. ⌜ (view (memory (now (w .exit)) (now (strings .exit))) ≡ view (memory (now (w .entry)) (now (strings .entry))))
+        × (keyOf (now (w .exit)) (now (strings .exit)) ≡ stringAt (now (w .entry)) (now (strings .entry)) i)
+        × (now (w .exit) ≡ set (now (w .entry)) KEY (length (stringAt (now (w .entry)) (now (strings .entry)) i) - 1))
+        × (now (strings .exit) ≡ splice (now (strings .entry)) 0 (stringAt (now (w .entry)) (now (strings .entry)) i)) ⌝ }
 {
     copy_to_front(strings, STRING_LIMIT + i * STRING_LIMIT, n);
     w[KEY] = n as u64 - 1;
@@ -46,7 +53,8 @@ fn copy_key(w: &mut [u64], strings: &mut [u8], i: usize, n: usize)
 // Slot i gets the shared lock with a string that fits the shared locks.
 pub fn give_key(w: &mut Words, strings: &mut Strings, i: usize, string: &[u8])
     requires { ⌜ (i < sessionLimit) × (0 < length (now string)) × (length (now string) ≤ stringLimit) × (all (fits (now string)) (locksOf (now w) (now strings) .entries) ≡ true) ⌝ }
-    ensures { λ _. ⌜ (view (memory (now (w .exit)) (now (strings .exit))) ≡ onEntry (view (memory (now (w .entry)) (now (strings .entry)))) i (give (now (string .entry)))) × (Tidy (memory (now (w .entry)) (now (strings .entry))) → Tidy (memory (now (w .exit)) (now (strings .exit)))) ⌝ }
+    ensures { λ _. ⌜ (view (memory (now (w .exit)) (now (strings .exit))) ≡ onEntry (view (memory (now (w .entry)) (now (strings .entry)))) i
+        (give (now (string .entry)))) × (Tidy (memory (now (w .entry)) (now (strings .entry))) → Tidy (memory (now (w .exit)) (now (strings .exit)))) ⌝ }
 {
     if nobody_shares(w) {
         lay_key(w, strings, string);
@@ -58,8 +66,11 @@ pub fn give_key(w: &mut Words, strings: &mut Strings, i: usize, string: &[u8])
 
 // Slot i gets the shared lock with the string of its request, which has n bytes and fits the shared locks.
 pub fn give_shared(w: &mut Words, strings: &mut Strings, i: usize, n: usize)
-    requires { ⌜ (i < sessionLimit) × (n ≡ length (stringAt (now w) (now strings) i)) × (0 < n) × (n ≤ stringLimit) × (all (fits (stringAt (now w) (now strings) i)) (locksOf (now w) (now strings) .entries) ≡ true) ⌝ }
-    ensures { λ _. ⌜ (view (memory (now (w .exit)) (now (strings .exit))) ≡ onEntry (view (memory (now (w .entry)) (now (strings .entry)))) i (give (stringAt (now (w .entry)) (now (strings .entry)) i))) × (Tidy (memory (now (w .entry)) (now (strings .entry))) → Tidy (memory (now (w .exit)) (now (strings .exit)))) ⌝ }
+    requires { ⌜ (i < sessionLimit) × (n ≡ length (stringAt (now w) (now strings) i)) × (0 < n) × (n ≤ stringLimit)
+        × (all (fits (stringAt (now w) (now strings) i)) (locksOf (now w) (now strings) .entries) ≡ true) ⌝ }
+    ensures { λ _. ⌜ (view (memory (now (w .exit)) (now (strings .exit))) ≡ onEntry (view (memory (now (w .entry)) (now (strings .entry)))) i
+        (give (stringAt (now (w .entry)) (now (strings .entry)) i)))
+        × (Tidy (memory (now (w .entry)) (now (strings .entry))) → Tidy (memory (now (w .exit)) (now (strings .exit)))) ⌝ }
 {
     if nobody_shares(w) {
         copy_key(w, strings, i, n);
@@ -72,7 +83,8 @@ pub fn give_shared(w: &mut Words, strings: &mut Strings, i: usize, n: usize)
 // Slot i leaves those that share, if it did; with the last the string goes.
 fn leave_sharers_in(w: &mut [u64], strings: &mut [u8], i: usize)
     requires { ⌜ (i < sessionLimit) × (length (now w) ≡ WORDS) × (length (now strings) ≡ STRINGS) ⌝ }
-    ensures { λ _. ⌜ (view (memory (now (w .exit)) (now (strings .exit))) ≡ onEntry (view (memory (now (w .entry)) (now (strings .entry)))) i withoutShared) × (Tidy (memory (now (w .entry)) (now (strings .entry))) → Tidy (memory (now (w .exit)) (now (strings .exit)))) ⌝ }
+    ensures { λ _. ⌜ (view (memory (now (w .exit)) (now (strings .exit))) ≡ onEntry (view (memory (now (w .entry)) (now (strings .entry)))) i withoutShared)
+        × (Tidy (memory (now (w .entry)) (now (strings .entry))) → Tidy (memory (now (w .exit)) (now (strings .exit)))) ⌝ }
 {
     let before = w[SHARERS];
     let left = taken_out(before, i);
@@ -91,7 +103,8 @@ fn leave_sharers_in(w: &mut [u64], strings: &mut [u8], i: usize)
 // Slot i holds the shared lock no more, if it did.
 pub fn leave_sharers(w: &mut Words, strings: &mut Strings, i: usize)
     requires { ⌜ i < sessionLimit ⌝ }
-    ensures { λ _. ⌜ (view (memory (now (w .exit)) (now (strings .exit))) ≡ onEntry (view (memory (now (w .entry)) (now (strings .entry)))) i withoutShared) × (Tidy (memory (now (w .entry)) (now (strings .entry))) → Tidy (memory (now (w .exit)) (now (strings .exit)))) ⌝ }
+    ensures { λ _. ⌜ (view (memory (now (w .exit)) (now (strings .exit))) ≡ onEntry (view (memory (now (w .entry)) (now (strings .entry)))) i withoutShared)
+        × (Tidy (memory (now (w .entry)) (now (strings .entry))) → Tidy (memory (now (w .exit)) (now (strings .exit)))) ⌝ }
 {
     leave_sharers_in(w, strings, i);
 }

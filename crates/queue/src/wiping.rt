@@ -29,7 +29,9 @@ pub fn wipe(strings: &mut [u8], a: usize, n: usize)
 // The request of slot i, which does not wait.
 pub fn wipe_request(w: &mut [u64], strings: &mut [u8], i: usize)
     requires { ⌜ (i < sessionLimit) × (length (now w) ≡ WORDS) × (length (now strings) ≡ STRINGS) × Idle (now w) i ⌝ }
-    ensures { λ _. ⌜ (now (w .exit) ≡ set (set (now (w .entry)) (REQUESTS + i * REQUEST + 0) 0) (REQUESTS + i * REQUEST + 1) 0) × Wiped (now (strings .entry)) (now (strings .exit)) (stringLimit + i * stringLimit) (min (word (now (w .entry)) (REQUESTS + i * REQUEST + 1)) stringLimit) ⌝ }
+    ensures { λ _. ⌜ (now (w .exit) ≡ set (set (now (w .entry)) (REQUESTS + i * REQUEST + 0) 0) (REQUESTS + i * REQUEST + 1) 0)
+        × Wiped (now (strings .entry)) (now (strings .exit)) (stringLimit + i * stringLimit)
+        (min (word (now (w .entry)) (REQUESTS + i * REQUEST + 1)) stringLimit) ⌝ }
 {
     let n = least(w[REQUESTS + i * REQUEST + 1], STRING_LIMIT);
     wipe(strings, STRING_LIMIT + i * STRING_LIMIT, n);
@@ -40,7 +42,9 @@ pub fn wipe_request(w: &mut [u64], strings: &mut [u8], i: usize)
 // The shared string, where nobody shares.
 pub fn wipe_key(w: &mut [u64], strings: &mut [u8])
     requires { ⌜ (length (now w) ≡ WORDS) × (length (now strings) ≡ STRINGS) × (word (now w) SHARERS % 2 ^ sessionLimit ≡ 0) ⌝ }
-    ensures { λ _. ⌜ (view (memory (now (w .exit)) (now (strings .exit))) ≡ view (memory (now (w .entry)) (now (strings .entry)))) × (now (w .exit) ≡ set (now (w .entry)) KEY 0) × Wiped (now (strings .entry)) (now (strings .exit)) 0 (min (word (now (w .entry)) KEY) (stringLimit - 1) + 1) × (length (now (w .exit)) ≡ WORDS) ⌝ }
+    ensures { λ _. ⌜ (view (memory (now (w .exit)) (now (strings .exit))) ≡ view (memory (now (w .entry)) (now (strings .entry))))
+        × (now (w .exit) ≡ set (now (w .entry)) KEY 0) × Wiped (now (strings .entry)) (now (strings .exit)) 0
+        (min (word (now (w .entry)) KEY) (stringLimit - 1) + 1) × (length (now (w .exit)) ≡ WORDS) ⌝ }
 {
     let n = least(w[KEY], KEY_REST) + 1;
     wipe(strings, 0, n);

@@ -12,7 +12,9 @@ use borrow.Author.Tests.{le-leb, lt-leb, eq-eqb, ne-eqb}
 use Rattle.wire.specs.Field.{number, numberAt}
 use Rattle.journal.specs.Journal.{choose, bodyLimit}
 use Rattle.journal.specs.Bytes.{yes-is, no-is, and-is, and-not, not-and, below}
-use Rattle.record.specs.Layout.{Event, opening, delivery, cut, clock, answer, status, watchOff, watchAbove, watchOutside, patterns, mostDelivered, mostShown, Read, found, none, andThen, getNumber, getRow, getOpening, getDelivery, getCut, getClock, getAnswer, getStatus, getOff, getAbove, getOutside, getPatterns, byTag, decode}
+use Rattle.record.specs.Layout.{Event, opening, delivery, cut, clock, answer, status, watchOff, watchAbove, watchOutside, patterns, mostDelivered}
+use Rattle.record.specs.Layout.{mostShown, Read, found, none, andThen, getNumber, getRow, getOpening, getDelivery, getCut, getClock, getAnswer}
+use Rattle.record.specs.Layout.{getStatus, getOff, getAbove, getOutside, getPatterns, byTag, decode}
 use Rattle.record.specs.Fields.{then-is}
 use Rattle.record.specs.declared.parts.Parts.{Parts}
 use Rattle.record.specs.declared.rows.Span.{Span}
@@ -183,7 +185,8 @@ off-none r s h n = gone r s _ n (then-none _ (number-missing s 1 4 (omega arith)
 pub above-there : (r : Parts) (s : List ℕ) (a b : ℕ) → 9 ≤ length s → a ≡ numberAt s 1 4 → b ≡ numberAt s 5 4 → r ≡ plain 7 a b 0 9 → Reads r s (getAbove (drop 1 s))
 unfolding getAbove seen choose
 above-there r s a b h e₁ e₂ p =
-    let w : found (watchAbove a b) (drop 9 s) ≡ getAbove (drop 1 s) = ap₂ (λ (x y : ℕ). found (watchAbove x y) (drop 9 s)) e₁ e₂ ∙ sym (then-is _ (number-there s 1 4 (omega arith)) ∙ then-is _ (number-there s 5 4 (omega arith))) in
+    let w : found (watchAbove a b) (drop 9 s) ≡ getAbove (drop 1 s) = ap₂ (λ (x y : ℕ). found (watchAbove x y) (drop 9 s)) e₁ e₂
+    ∙ sym (then-is _ (number-there s 1 4 (omega arith)) ∙ then-is _ (number-there s 5 4 (omega arith))) in
     rw p (record { says = w; one = omega arith; two = omega arith; end = omega arith; top = omega arith; layout = λ z. no-found (w ∙ z) })
 
 pub above-none : (r : Parts) (s : List ℕ) → length s < 9 → Reads r s none → Reads r s (getAbove (drop 1 s))
@@ -197,7 +200,8 @@ above-none r s h n =
 pub outside-there : (r : Parts) (s : List ℕ) (a b c : ℕ) → 13 ≤ length s → a ≡ numberAt s 1 4 → b ≡ numberAt s 5 4 → c ≡ numberAt s 9 4 → r ≡ plain 8 a b c 13 → Reads r s (getOutside (drop 1 s))
 unfolding getOutside seen choose
 outside-there r s a b c h e₁ e₂ e₃ p =
-    let w : found (watchOutside a b c) (drop 13 s) ≡ getOutside (drop 1 s) = (λ i. found (watchOutside (e₁ i) (e₂ i) (e₃ i)) (drop 13 s)) ∙ sym (then-is _ (number-there s 1 4 (omega arith)) ∙ then-is _ (number-there s 5 4 (omega arith)) ∙ then-is _ (number-there s 9 4 (omega arith))) in
+    let w : found (watchOutside a b c) (drop 13 s) ≡ getOutside (drop 1 s) = (λ i. found (watchOutside (e₁ i) (e₂ i) (e₃ i)) (drop 13 s))
+    ∙ sym (then-is _ (number-there s 1 4 (omega arith)) ∙ then-is _ (number-there s 5 4 (omega arith)) ∙ then-is _ (number-there s 9 4 (omega arith))) in
     rw p (record { says = w; one = omega arith; two = omega arith; end = omega arith; top = omega arith; layout = λ z. no-found (w ∙ z) })
 
 pub outside-none : (r : Parts) (s : List ℕ) → length s < 13 → Reads r s none → Reads r s (getOutside (drop 1 s))

@@ -10,7 +10,9 @@ use borrow.Author.Tests.{le-leb, leb-true, eqb-true}
 use Rattle.wire.specs.Field.{field, number, Bytes, length-field}
 use Rattle.journal.specs.Journal.{choose, bodyLimit}
 use Rattle.journal.specs.Bytes.{yes-is, no-is}
-use Rattle.record.specs.Layout.{Event, opening, delivery, cut, clock, answer, status, watchOff, watchAbove, watchOutside, patterns, row, encode, bodyBytes, mostDelivered, mostShown, Row, Fits, Read, found, none, andThen, getNumber, getRow, getOpening, getDelivery, getCut, getClock, getAnswer, getStatus, getOff, getAbove, getOutside, getPatterns, byTag, decode}
+use Rattle.record.specs.Layout.{Event, opening, delivery, cut, clock, answer, status, watchOff, watchAbove, watchOutside, patterns, row, encode}
+use Rattle.record.specs.Layout.{bodyBytes, mostDelivered, mostShown, Row, Fits, Read, found, none, andThen, getNumber, getRow, getOpening, getDelivery}
+use Rattle.record.specs.Layout.{getCut, getClock, getAnswer, getStatus, getOff, getAbove, getOutside, getPatterns, byTag, decode}
 use Rattle.record.specs.Fields.{then-is, Back, none-back, found-back, choose-back, then-back, Number, number-again, number-back, Got, row-again, row-back}
 
 opening-again : (c : ℕ) → Fits (opening c) → (rest : List ℕ) → getOpening (field 4 c ++ rest) ≡ found (opening c) rest

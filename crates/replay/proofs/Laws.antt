@@ -14,7 +14,8 @@ use Rattle.wire.specs.Frame.{Frame, bytesOf, written}
 use Rattle.wire.specs.Splice.{splice, take-front}
 use Rattle.journal.specs.Journal.{choose, bodyLimit}
 use Rattle.journal.specs.Bytes.{yes-is, no-is}
-use Rattle.record.specs.Layout.{Event as Recorded, opening as r-opening, delivery as r-delivery, cut as r-cut, clock as r-clock, answer as r-answer, status as r-status, watchOff, watchAbove, watchOutside, patterns as r-patterns, Read, found, none, Fits, decode}
+use Rattle.record.specs.Layout.{Event as Recorded, opening as r-opening, delivery as r-delivery, cut as r-cut, clock as r-clock, answer as r-answer}
+use Rattle.record.specs.Layout.{status as r-status, watchOff, watchAbove, watchOutside, patterns as r-patterns, Read, found, none, Fits, decode}
 use Rattle.record.specs.RoundTrip.{read-written}
 use Rattle.record.specs.Parts.{seen, Reads, nine}
 use Rattle.record.specs.declared.parts.Parts.{Parts}
@@ -25,7 +26,9 @@ use Rattle.readings.specs.Bits.{notNumber, below}
 use Rattle.readings.specs.Watch as Watch
 use Rattle.readings.specs.Watch.{Limits, Limits.off, Limits.above, Limits.outside}
 use Rattle.model.specs.State.{Server, at, live, slotOfNumber, connectionAt}
-use Rattle.model.specs.Interface.{Event, Event.opening, Event.delivery, Event.cut, Event.clock, Event.answer, Event.status, Event.setting, Setting, Setting.watch, Setting.patterns, Reply, Reply.refused as turned-away, Reply.done, Reply.withheld, Reply.took, DoneAnswer, doneAnswer, DeliveryAnswer, deliveryAnswer, AnsweredAnswer, answeredAnswer}
+use Rattle.model.specs.Interface.{Event, Event.opening, Event.delivery, Event.cut, Event.clock, Event.answer, Event.status, Event.setting, Setting}
+use Rattle.model.specs.Interface.{Setting.watch, Setting.patterns, Reply, Reply.refused as turned-away, Reply.done, Reply.withheld, Reply.took, DoneAnswer}
+use Rattle.model.specs.Interface.{doneAnswer, DeliveryAnswer, deliveryAnswer, AnsweredAnswer, answeredAnswer}
 use Rattle.commands.specs.declared.Judged.{Judged}
 use Rattle.model.specs.Listing.{ListedAnswer, listedAnswer}
 use Rattle.model.specs.Post.{Post}
@@ -234,7 +237,8 @@ module _ (m m′ : Memory) (frames : List ℕ) where
     pub clock-read : (t r : ℕ) (a : Done) → Called (clock t (length out)) a m m′ out out′ → r ≡ comparedOf (a .refusal) (a .output) out′ frames → Replays r (r-clock t) m m′ frames
     clock-read t r a p q = by-done (clock t outputMinimum) r a (subst (λ (k : ℕ). Called (clock t k) a m m′ out out′) h p) q
 
-    pub delivered : (c : ℕ) (bs : List ℕ) (r : ℕ) (a : Delivery) → Delivered (delivery c bs (length out)) a m m′ out out′ → r ≡ comparedOf (a .refusal) (a .output) out′ frames → Replays r (r-delivery c bs) m m′ frames
+    pub delivered : (c : ℕ) (bs : List ℕ) (r : ℕ) (a : Delivery) → Delivered (delivery c bs (length out)) a m m′ out out′ →
+        r ≡ comparedOf (a .refusal) (a .output) out′ frames → Replays r (r-delivery c bs) m m′ frames
     delivered c bs r a p q = go (subst (λ (k : ℕ). Delivered (delivery c bs k) a m m′ out out′) h p)
       where
         go : Delivered (delivery c bs outputMinimum) a m m′ out out′ → Replays r (r-delivery c bs) m m′ frames
@@ -246,7 +250,8 @@ module _ (m m′ : Memory) (frames : List ℕ) where
             ∙ called e m m′ out out′ frames (a .refusal) (a .output) (o .post) l (ap (λ (z : DeliveryAnswer). z .refusal) (o .numbers) ∙ delivery-refusal y k _)
             (λ z. ap (λ (w : DeliveryAnswer). w .output) (o .numbers) ∙ delivery-output y k _ (fair (view m) e) (sym (ap (λ (w : DeliveryAnswer). w .refusal) (o .numbers)) ∙ z))
 
-    pub answered-so : (n end : ℕ) (x sh : List ℕ) (r : ℕ) (a : Answered) → Replied (answer n x (not (eqb end 0)) sh (length out)) a m m′ out out′ → r ≡ comparedOf (a .refusal) (a .output) out′ frames → Replays r (r-answer n end x sh) m m′ frames
+    pub answered-so : (n end : ℕ) (x sh : List ℕ) (r : ℕ) (a : Answered) → Replied (answer n x (not (eqb end 0)) sh (length out)) a m m′ out out′ →
+        r ≡ comparedOf (a .refusal) (a .output) out′ frames → Replays r (r-answer n end x sh) m m′ frames
     answered-so n end x sh r a p q = go (subst (λ (k : ℕ). Replied (answer n x (not (eqb end 0)) sh k) a m m′ out out′) h p)
       where
         go : Replied (answer n x (not (eqb end 0)) sh outputMinimum) a m m′ out out′ → Replays r (r-answer n end x sh) m m′ frames
@@ -261,7 +266,9 @@ module _ (m m′ : Memory) (frames : List ℕ) where
   pub status-set : (b r : ℕ) → Post view (status b) m m′ [] [] done 0 → r ≡ comparedOf 0 0 [] frames → Replays r (r-status b) m m′ frames
   status-set b r p q =
       let e : Event = status b in
-      let g : Post view e m m′ [] [] ((step (view m) e) .reply) (length (bytesOf ((step (view m) e) .frames))) = subst (λ (y : Reply). Post view e m m′ [] [] y (length (bytesOf ((step (view m) e) .frames)))) (p .replies) (subst (λ (k : ℕ). Post view e m m′ [] [] done k) (p .output-length) p) in
+      let g : Post view e m m′ [] [] ((step (view m) e) .reply) (length (bytesOf ((step (view m) e) .frames))) =
+      subst (λ (y : Reply). Post view e m m′ [] [] y (length (bytesOf ((step (view m) e) .frames)))) (p .replies)
+      (subst (λ (k : ℕ). Post view e m m′ [] [] done k) (p .output-length) p) in
       ap (λ (k : ℕ). wentOf k (view m′)) q
       ∙ called e m m′ [] [] frames 0 0 g refl (ap numberOf (p .replies)) (λ z. p .output-length)
 
@@ -409,7 +416,8 @@ module _ (p : Parts) (s : List ℕ) (o : Reads p s (decode s)) where
     pub judged-3 : p .kind ≡ 3 → Replays r (r-clock (p .a)) m m′ rest → Judges r m m′ s
     judged-3 e g = judged _ (at-3 e) g
 
-    pub judged-4 : p .kind ≡ 4 → Replays r (r-answer (p .a) (p .b) (take (p .first + p .size - p .first) (drop (p .first) s)) (take (p .second + p .extent - p .second) (drop (p .second) s))) m m′ rest → Judges r m m′ s
+    pub judged-4 : p .kind ≡ 4 → Replays r (r-answer (p .a) (p .b) (take (p .first + p .size - p .first) (drop (p .first) s))
+        (take (p .second + p .extent - p .second) (drop (p .second) s))) m m′ rest → Judges r m m′ s
     judged-4 e g =
         let k : p .first + p .size - p .first ≡ p .size = omega arith in
         let i : p .second + p .extent - p .second ≡ p .extent = omega arith in

@@ -114,7 +114,9 @@ module _ (r s : Standing) (buf₀ buf : List ℕ) (m₀ m : Memory) (piece : Lis
     further = let w : s .have < wantedOf (take (s .have) buf) = t .sound .short g in (omega (arith, p, q, w, h), omega (arith, p, q))
 
     pub turn-ready : (out : List ℕ) → r .at + r .have + length piece < 2 ^ 63 → length out ≡ outputMinimum
-        → Sound s buf × (s .fault ≡ 0) × (0 < length (take (e - i) (drop i piece))) × (s .have + length (take (e - i) (drop i piece)) ≤ wantedOf (take (s .have) buf)) × (s .at + s .have + length (take (e - i) (drop i piece)) < 2 ^ 63) × (length out ≡ outputMinimum)
+        → Sound s buf × (s .fault ≡ 0) × (0 < length (take (e - i) (drop i piece)))
+        × (s .have + length (take (e - i) (drop i piece)) ≤ wantedOf (take (s .have) buf))
+        × (s .at + s .have + length (take (e - i) (drop i piece)) < 2 ^ 63) × (length out ≡ outputMinimum)
     turn-ready out b l =
         let w : s .have < wantedOf (take (s .have) buf) = t .sound .short g in
         let k : length (take i piece) ≡ i = simp length-take (omega arith) in

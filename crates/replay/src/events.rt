@@ -63,7 +63,8 @@ pub fn delivers(
     frames: &[u8],
 ) -> u64
     requires { ⌜ (connection < 256 ^ 4) × (length (now out) ≡ outputMinimum) ⌝ }
-    ensures { λ r. ⌜ Replays r (delivery connection (now (bytes .entry))) (memory (now (words .entry)) (now (strings .entry))) (memory (now (words .exit)) (now (strings .exit))) (now (frames .entry)) ⌝ }
+    ensures { λ r. ⌜ Replays r (delivery connection (now (bytes .entry))) (memory (now (words .entry)) (now (strings .entry)))
+        (memory (now (words .exit)) (now (strings .exit))) (now (frames .entry)) ⌝ }
 {
     let a = server::hislip_deliver(words, strings, connection as u32, bytes, out);
     compared(a.refusal, a.output, out, frames)
@@ -108,7 +109,8 @@ pub fn answers(
     frames: &[u8],
 ) -> u64
     requires { ⌜ (session < 256 ^ 4) × (end < 2) × (length (now out) ≡ outputMinimum) ⌝ }
-    ensures { λ r. ⌜ Replays r (answer session end (now (payload .entry)) (now (shown .entry))) (memory (now (words .entry)) (now (strings .entry))) (memory (now (words .exit)) (now (strings .exit))) (now (frames .entry)) ⌝ }
+    ensures { λ r. ⌜ Replays r (answer session end (now (payload .entry)) (now (shown .entry))) (memory (now (words .entry)) (now (strings .entry)))
+        (memory (now (words .exit)) (now (strings .exit))) (now (frames .entry)) ⌝ }
 {
     let a = server::hislip_answer(
         words,

@@ -36,7 +36,8 @@ fn turn(
     out: &mut [u8],
     bytes: &[u8],
 ) -> Standing
-    requires { ⌜ Sound r (now buf) × (r .fault ≡ 0) × (0 < length (now bytes)) × (r .have + length (now bytes) ≤ wantedOf (take (r .have) (now buf))) × (r .at + r .have + length (now bytes) < 2 ^ 63) × (length (now out) ≡ outputMinimum) ⌝ }
+    requires { ⌜ Sound r (now buf) × (r .fault ≡ 0) × (0 < length (now bytes)) × (r .have + length (now bytes) ≤ wantedOf (take (r .have) (now buf)))
+        × (r .at + r .have + length (now bytes) < 2 ^ 63) × (length (now out) ≡ outputMinimum) ⌝ }
     ensures { λ s. ⌜ Turned s r (now (buf .entry)) (now (buf .exit)) (memory (now (words .entry)) (now (strings .entry))) (memory (now (words .exit)) (now (strings .exit))) (now (bytes .entry)) ⌝ }
 {
     let h = r.have;

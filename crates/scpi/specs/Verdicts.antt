@@ -33,7 +33,8 @@ same-type e = absurd (let z : _≡_ {A = ℕ} 0 1 = cc in omega arith)
 prefix : (p : List ℕ) (i j : ℕ) → i ≤ j → Viable (take j p) → Viable (take i p)
 prefix p i j h v =
     let e : take i p ++ (drop i (take j p) ++ v .rest) ≡ take j p ++ v .rest =
-    sym (append-assoc (take i p) (drop i (take j p)) (v .rest)) ∙ ap (λ (l : List ℕ). l ++ v .rest) (ap (λ (l : List ℕ). l ++ drop i (take j p)) (sym (take-take i j p h)) ∙ take-append-drop i (take j p)) in
+    sym (append-assoc (take i p) (drop i (take j p)) (v .rest))
+    ∙ ap (λ (l : List ℕ). l ++ v .rest) (ap (λ (l : List ℕ). l ++ drop i (take j p)) (sym (take-take i j p h)) ∙ take-append-drop i (take j p)) in
     record { rest = drop i (take j p) ++ v .rest; pattern = subst Pattern (sym e) (v .pattern) }
 
 whole-viable : (p : List ℕ) → Viable p → Viable (take (length p) p)
@@ -87,7 +88,8 @@ shift s b l n (Bad i) h = (
   suc (h .0),
   (let e : i ≡ n + 1 + h .0 = h .1 in omega arith),
   ⊎-elim (λ (x : (h .0 ≡ length l) × (dead (run (step s (kindOf b)) l) ≡ false) × (accepts (run (step s (kindOf b)) l) ≡ false)). inl (ap suc (x .0), x .1, x .2))
-      (λ (x : (h .0 < length l) × (dead (run (step s (kindOf b)) (take (h .0) l)) ≡ false) × (dead (run (step s (kindOf b)) (take (suc (h .0)) l)) ≡ true)). inr (omega (arith, x .0), x .1, x .2)) (h .2),
+      (λ (x : (h .0 < length l) × (dead (run (step s (kindOf b)) (take (h .0) l)) ≡ false) × (dead (run (step s (kindOf b)) (take (suc (h .0)) l)) ≡ true)). inr
+      (omega (arith, x .0), x .1, x .2)) (h .2),
 )
 
 scan-says : (l : List ℕ) (s : State) (n : ℕ) → dead s ≡ false → Scanned s l n (scan s l n)
@@ -143,7 +145,8 @@ verdict-long p l = go (scan a-start (take 128 p) 0) (scan-says (take 128 p) a-st
         let k′ : h .0 ≤ 128 = omega arith in
         let t0 : take (h .0) (take 128 p) ≡ take (h .0) p = take-take (h .0) 128 p k′ in
         let t1 : take (suc (h .0)) (take 128 p) ≡ take (suc (h .0)) p = take-take (suc (h .0)) 128 p k in
-        subst (BadAt p) e (b-byte (omega arith) k (subst Viable t0 (viable-alive (take (h .0) (take 128 p)) (x .1))) (λ v. dead-not-viable (take (suc (h .0)) (take 128 p)) (x .2) (subst Viable (sym t1) v))))
+        subst (BadAt p) e (b-byte (omega arith) k (subst Viable t0 (viable-alive (take (h .0) (take 128 p)) (x .1)))
+        (λ v. dead-not-viable (take (suc (h .0)) (take 128 p)) (x .2) (subst Viable (sym t1) v))))
         (h .2)
 
 pub check-short : (p : List ℕ) → length p ≤ 128 → (r : Checked) → scan a-start p 0 ≡ r → Exactly p r

@@ -15,7 +15,10 @@ use Rattle.model.specs.State.{Making}
 use Rattle.model.specs.Demand3.{Seen}
 use Rattle.state.specs.View.{Memory, memory}
 use Rattle.server.specs.Events.{Fresh}
-use Rattle.server.specs.Program.{deliveryReply, doneReply, answeredReply, listedReply, Run, Run.stop, Run.hislip-open as ran-open, Run.hislip-deliver as ran-deliver, Run.hislip-cut as ran-cut, Run.hislip-clock as ran-clock, Run.hislip-answer as ran-answer, Run.hislip-status as ran-status, Run.hislip-patterns as ran-patterns, Program, Run.hislip-watch as ran-watch}
+use Rattle.server.specs.Program.{deliveryReply, doneReply, answeredReply, listedReply, Run, Run.stop, Run.hislip-open as ran-open}
+use Rattle.server.specs.Program.{Run.hislip-deliver as ran-deliver, Run.hislip-cut as ran-cut, Run.hislip-clock as ran-clock}
+use Rattle.server.specs.Program.{Run.hislip-answer as ran-answer, Run.hislip-status as ran-status, Run.hislip-patterns as ran-patterns, Program}
+use Rattle.server.specs.Program.{Run.hislip-watch as ran-watch}
 use Rattle.server.proofs.Program.{program}
 use Rattle.server.proofs.hislip_new.Reads as new-says
 use Rattle.server.proofs.hislip_new.Kinds as new-kinds
@@ -64,16 +67,28 @@ pub data Executed : Memory → List Seen → Memory → Type 0 where
   hislip-answer : {m″ : Memory} {ss : List Seen} (κs : Lfts 5) (a : Dens κs answer-kinds.ps) (r : resT answer-kinds.r κs .Denot) (s : AtExit (endedOf 5 answer-kinds.ps answer-kinds.r) κs)
       → answer-says.Post κs a r s → Executed (memory (s .0 .now) (s .1 .0 .now)) ss m″
       → Executed (memory (a .0 .now) (a .1 .0 .now))
-      (record { event = answer (a .1 .1 .0) (a .1 .1 .1 .0 .now) (not (eqb (a .1 .1 .1 .1 .0) 0)) (a .1 .1 .1 .1 .1 .0 .now) (length (a .1 .1 .1 .1 .1 .1 .0 .now)); reply = answeredReply r; output = take (r .output) (s .1 .1 .1 .1 .1 .1 .0 .now) } ∷ ss) m″
-  hislip-watch-off : {m″ : Memory} {ss : List Seen} (κs : Lfts 2) (a : Dens κs watch-off-kinds.ps) (r : resT watch-off-kinds.r κs .Denot) (s : AtExit (endedOf 2 watch-off-kinds.ps watch-off-kinds.r) κs)
+      (record {
+        event = answer (a .1 .1 .0) (a .1 .1 .1 .0 .now) (not (eqb (a .1 .1 .1 .1 .0) 0)) (a .1 .1 .1 .1 .1 .0 .now)
+            (length (a .1 .1 .1 .1 .1 .1 .0 .now));
+        reply = answeredReply r;
+        output = take (r .output) (s .1 .1 .1 .1 .1 .1 .0 .now);
+      } ∷ ss) m″
+  hislip-watch-off : {m″ : Memory} {ss : List Seen} (κs : Lfts 2) (a : Dens κs watch-off-kinds.ps) (r : resT watch-off-kinds.r κs .Denot)
+      (s : AtExit (endedOf 2 watch-off-kinds.ps watch-off-kinds.r) κs)
       → watch-off-says.Post κs a r s → Executed (memory (s .0 .now) (s .1 .0 .now)) ss m″
       → Executed (memory (a .0 .now) (a .1 .0 .now)) (record { event = setting (watch (a .1 .1 .0) off); reply = doneReply r; output = [] } ∷ ss) m″
-  hislip-watch-above : {m″ : Memory} {ss : List Seen} (κs : Lfts 2) (a : Dens κs watch-above-kinds.ps) (r : resT watch-above-kinds.r κs .Denot) (s : AtExit (endedOf 2 watch-above-kinds.ps watch-above-kinds.r) κs)
+  hislip-watch-above : {m″ : Memory} {ss : List Seen} (κs : Lfts 2) (a : Dens κs watch-above-kinds.ps) (r : resT watch-above-kinds.r κs .Denot)
+      (s : AtExit (endedOf 2 watch-above-kinds.ps watch-above-kinds.r) κs)
       → watch-above-says.Post κs a r s → Executed (memory (s .0 .now) (s .1 .0 .now)) ss m″
       → Executed (memory (a .0 .now) (a .1 .0 .now)) (record { event = setting (watch (a .1 .1 .0) (above (bits (a .1 .1 .1 .0)))); reply = doneReply r; output = [] } ∷ ss) m″
-  hislip-watch-outside : {m″ : Memory} {ss : List Seen} (κs : Lfts 2) (a : Dens κs watch-outside-kinds.ps) (r : resT watch-outside-kinds.r κs .Denot) (s : AtExit (endedOf 2 watch-outside-kinds.ps watch-outside-kinds.r) κs)
+  hislip-watch-outside : {m″ : Memory} {ss : List Seen} (κs : Lfts 2) (a : Dens κs watch-outside-kinds.ps) (r : resT watch-outside-kinds.r κs .Denot)
+      (s : AtExit (endedOf 2 watch-outside-kinds.ps watch-outside-kinds.r) κs)
       → watch-outside-says.Post κs a r s → Executed (memory (s .0 .now) (s .1 .0 .now)) ss m″
-      → Executed (memory (a .0 .now) (a .1 .0 .now)) (record { event = setting (watch (a .1 .1 .0) (outside (bits (a .1 .1 .1 .0)) (bits (a .1 .1 .1 .1 .0)))); reply = doneReply r; output = [] } ∷ ss) m″
+      → Executed (memory (a .0 .now) (a .1 .0 .now)) (record {
+        event = setting (watch (a .1 .1 .0) (outside (bits (a .1 .1 .1 .0)) (bits (a .1 .1 .1 .1 .0))));
+        reply = doneReply r;
+        output = [];
+      } ∷ ss) m″
   hislip-status : {m″ : Memory} {ss : List Seen} (κs : Lfts 2) (a : Dens κs status-kinds.ps) (r : resT status-kinds.r κs .Denot) (s : AtExit (endedOf 2 status-kinds.ps status-kinds.r) κs)
       → status-says.Post κs a r s → Executed (memory (s .0 .now) (s .1 .0 .now)) ss m″
       → Executed (memory (a .0 .now) (a .1 .0 .now)) (record { event = status (a .1 .1 .0); reply = done; output = [] } ∷ ss) m″

@@ -7,7 +7,9 @@ use Rattle.wire.specs.Frame.{Frame, bytesOf, frameBytes, frameOf}
 use Rattle.wire.specs.Message.{encode, headerBytes}
 use Rattle.model.specs.MessageTypes.{Error}
 use Rattle.model.specs.State.{Server}
-use Rattle.model.specs.Interface.{Event, Event.opening, Event.delivery, Event.cut, Event.clock, Event.answer, Event.status, Event.setting, Outcome, Outcome.more-needed, Outcome.skipped, Outcome.held, Outcome.ignored, Outcome.error-sent, Outcome.closed, Outcome.acted, Reply, Reply.refused, Reply.done, Reply.withheld, Reply.took}
+use Rattle.model.specs.Interface.{Event, Event.opening, Event.delivery, Event.cut, Event.clock, Event.answer, Event.status, Event.setting, Outcome}
+use Rattle.model.specs.Interface.{Outcome.more-needed, Outcome.skipped, Outcome.held, Outcome.ignored, Outcome.error-sent, Outcome.closed, Outcome.acted}
+use Rattle.model.specs.Interface.{Reply, Reply.refused, Reply.done, Reply.withheld, Reply.took}
 use Rattle.model.specs.Step.{Line, log, step}
 use Rattle.model.specs.Demand3.{Seen, seen}
 use Rattle.model.specs.Happening.{happened}

@@ -16,7 +16,10 @@ use Rattle.model.specs.Sizes.{noConnection}
 use Rattle.model.specs.State.{Making, Allowed, Allowed.any-command, Server, at, exchangeAt, fresh, live, slotOfNumber, Entry, Rest, freshSensing, sensingAt}
 use Rattle.wire.proofs.ReadFrames.{read-frames}
 use Rattle.model.specs.Lists.{any, tally, keep}
-use Rattle.model.specs.Interface.{Event, Event.opening, Event.delivery, Event.cut, Event.clock, Event.answer, Event.status, Event.setting, Setting.patterns, Outcome, Outcome.more-needed, Outcome.skipped, Outcome.held, Outcome.ignored, Outcome.error-sent, Outcome.closed, Outcome.acted, Reply, Reply.refused, Reply.done, Reply.withheld, Reply.took, outcomeNumber, DeliveryAnswer, deliveryAnswer, DoneAnswer, doneAnswer, AnsweredAnswer, answeredAnswer, Setting.watch}
+use Rattle.model.specs.Interface.{Event, Event.opening, Event.delivery, Event.cut, Event.clock, Event.answer, Event.status, Event.setting, Setting.patterns}
+use Rattle.model.specs.Interface.{Outcome, Outcome.more-needed, Outcome.skipped, Outcome.held, Outcome.ignored, Outcome.error-sent, Outcome.closed}
+use Rattle.model.specs.Interface.{Outcome.acted, Reply, Reply.refused, Reply.done, Reply.withheld, Reply.took, outcomeNumber, DeliveryAnswer, deliveryAnswer}
+use Rattle.model.specs.Interface.{DoneAnswer, doneAnswer, AnsweredAnswer, answeredAnswer, Setting.watch}
 use Rattle.model.specs.Scan.{Scan, Scan.empty, Scan.few, Scan.wrong, Scan.skipping, Scan.long, Scan.part, Scan.whole}
 use Rattle.model.specs.Place.{slotOf, Role, Role.r-none, Role.r-halfOpen, Role.r-synchronous, Role.r-asynchronous}
 use Rattle.model.specs.Checks.{Verdict, Verdict.v-more, Verdict.v-skipped, Verdict.v-held, Verdict.v-ignored, Verdict.v-closed, Verdict.v-acts, Verdict.v-error, Verdict.v-fatal}
@@ -88,7 +91,10 @@ use Rattle.server.specs.declared.listing.Listed.{Listed}
 use Rattle.server.specs.Calls.{Delivered}
 use Rattle.server.specs.Events.{Called, Fresh, Replied, doneNumbers, answeredNumbers}
 use Rattle.server.specs.Listing.{SetsList, listedNumbers}
-use Rattle.server.specs.Program.{outcomeOf, refusedOr, deliveryReply, doneReply, answeredReply, listedReply, listIn, listShown, Run, Run.stop, Run.hislip-patterns, Run.hislip-open, Run.hislip-deliver, Run.hislip-cut, Run.hislip-clock, Run.hislip-answer, Run.hislip-status, trackIn, shownOf, Tied, takenOf, CountsIn, NeverOutIn, OnlyOf, Program, NoWorseSeen, lineSeen, Run.hislip-watch, sensingSeen}
+use Rattle.server.specs.Program.{outcomeOf, refusedOr, deliveryReply, doneReply, answeredReply, listedReply, listIn, listShown, Run, Run.stop}
+use Rattle.server.specs.Program.{Run.hislip-patterns, Run.hislip-open, Run.hislip-deliver, Run.hislip-cut, Run.hislip-clock, Run.hislip-answer}
+use Rattle.server.specs.Program.{Run.hislip-status, trackIn, shownOf, Tied, takenOf, CountsIn, NeverOutIn, OnlyOf, Program, NoWorseSeen, lineSeen}
+use Rattle.server.specs.Program.{Run.hislip-watch, sensingSeen}
 use Rattle.server.proofs.Numbering.{noted-seen, counts-seen, never-seen}
 use Rattle.server.proofs.Watching.{served-same, sensing-lines}
 
@@ -122,7 +128,8 @@ told-took done t n l r e = absurd t
 told-took withheld t n l r e = absurd t
 told-took (took o k s) t n l r e = (ap tells e ∙ ap (λ (x : Outcome). took x k s) (outcome-of o), ap (λ (a : DeliveryAnswer). a .output) e)
 
-told-delivery : (d : Server) (c : ℕ) (bs : List ℕ) (room l : ℕ) (r : Delivery) → numbersOf r ≡ deliveryAnswer ((step d (delivery c bs room)) .reply) (length (bytesOf ((step d (delivery c bs room)) .frames))) l
+told-delivery : (d : Server) (c : ℕ) (bs : List ℕ) (room l : ℕ) (r : Delivery) →
+    numbersOf r ≡ deliveryAnswer ((step d (delivery c bs room)) .reply) (length (bytesOf ((step d (delivery c bs room)) .frames))) l
     → Tells r ((step d (delivery c bs room)) .reply) (length (bytesOf ((step d (delivery c bs room)) .frames)))
 unfolding step answered plan received finish bytesOf
 told-delivery d c bs room l r e = go (refusal d (delivery c bs room)) e
@@ -296,7 +303,8 @@ module _ (v : Making) (m m′ : Memory) (ss : List Seen) (f : Fresh v m) (g : Ru
   in-step n c =
       subst (λ (a : List Seen). NeverOutIn a n (firstNumbering noConnection)) (sym by-log)
       (never-seen (seenEvents ss) (fresh v) n (firstNumbering noConnection)
-      (in-steps v (seenEvents ss) .never n (counts-seen (log (fresh v) (seenEvents ss)) n (firstNumbering noConnection) (subst (λ (a : List Seen). CountsIn a n (firstNumbering noConnection)) by-log c))))
+      (in-steps v (seenEvents ss) .never n (counts-seen (log (fresh v) (seenEvents ss)) n (firstNumbering noConnection)
+      (subst (λ (a : List Seen). CountsIn a n (firstNumbering noConnection)) by-log c))))
 
 -- one call from any memory
 module _ (m m′ : Memory) (s : Seen) (g : Run m (s ∷ []) m′) where
@@ -355,7 +363,8 @@ module _ (v : Making) (m m′ m″ : Memory) (ss : List Seen) (s : Seen) (f : Fr
         sent =
             ap (λ (a : Seen). a .output) o
             ∙ ap bytesOf (q .sent)
-            ∙ ap (λ (a : Server). bytesOf (frameOf ((at (a .locks .entries) (slotOfNumber (a .locks .entries) n)) .synchronous) (answerType end) 0 (q .number) payload ∷ serviceAfter a n payload)) (sym there);
+            ∙ ap (λ (a : Server). bytesOf (frameOf ((at (a .locks .entries) (slotOfNumber (a .locks .entries) n)) .synchronous) (answerType end) 0 (q .number)
+            payload ∷ serviceAfter a n payload)) (sym there);
       }
 
   module _ (possible : AllPossible es) (n : ℕ) (payload shown : List ℕ) (room : ℕ) (x : s .event ≡ answer n payload true shown room) (o : (shownOf v ss n) .overlap ≡ false) (r : owes v es n ≡ 0) where
@@ -363,7 +372,9 @@ module _ (v : Making) (m m′ m″ : Memory) (ss : List Seen) (s : Seen) (f : Fr
     mode = sym (ap (λ (a : Track). a .overlap) (shown-said n)) ∙ o
 
     withheld-then : refusal (view m′) (s .event) ≡ 0 → questionUnread shown ≡ true
-        → (s .reply ≡ withheld) × (s .output ≡ bytesOf (frameOf (asynchronousOf v es n) AsyncInterrupted 0 ((header shown) .param) [] ∷ frameOf (synchronousOf v es n) Interrupted 0 ((header shown) .param) [] ∷ []))
+        → (s .reply ≡ withheld)
+        × (s .output ≡ bytesOf (frameOf (asynchronousOf v es n) AsyncInterrupted 0 ((header shown) .param) []
+        ∷ frameOf (synchronousOf v es n) Interrupted 0 ((header shown) .param) [] ∷ []))
     withheld-then q u =
         let w = next-question v es .withholds n payload shown room possible (ap₂ refusal (sym there) (sym x) ∙ q) mode r u in
         let h = then (answer n payload true shown room) x in
@@ -398,7 +409,8 @@ module _ (v : Making) (m m′ m″ : Memory) (ss : List Seen) (s : Seen) (f : Fr
       subst (λ (a : Allowed). Admits a (payloadOf (header bs) bs)) (sym list-is)
       (allowed-run v es .acts c bs room k n (sym (ap (λ (a : Seen). a .reply) (then (delivery c bs room) x)) ∙ y) o)
 
-  not-allowed-then : (c : ℕ) (bs : List ℕ) (room : ℕ) → s .event ≡ delivery c bs room → refusal (view m′) (delivery c bs room) ≡ 0 → PassesBefore (view m′) c bs → (Admits listed (payloadOf (header bs) bs) → ⊥)
+  not-allowed-then : (c : ℕ) (bs : List ℕ) (room : ℕ) → s .event ≡ delivery c bs room → refusal (view m′) (delivery c bs room) ≡ 0 → PassesBefore (view m′) c bs
+      → (Admits listed (payloadOf (header bs) bs) → ⊥)
       → (s .reply ≡ took error-sent (16 + (header bs) .len) 0) × (s .output ≡ frameBytes (frameOf c Error 128 0 [])) × (view m″ ≡ (answered-128 (view m′) c bs) .server)
   unfolding final
   not-allowed-then c bs room x z w n =
@@ -434,7 +446,8 @@ isolated v m m′ m″ ss rs f g j h g′ u =
     let k = made view (calls g) in
     let d : view m′ ≡ final (fresh v) es = k .1 ∙ ap (λ (x : Server). final x es) (f .shows) in
     let whole : (x : Server) → x ≡ final (fresh v) es → (at (x .locks .entries) j) .exclusive ≡ true → Undisturbed j x fs → Log.OnlyOf ((at (x .locks .entries) j) .number) (log x fs) =
-    λ x e a b. subst (λ (y : Server). (at (y .locks .entries) j) .exclusive ≡ true → Undisturbed j y fs → Log.OnlyOf ((at (y .locks .entries) j) .number) (log y fs)) (sym e) (λ a b. (isolation-run v es j .from-now fs a b) .only-its-own) a b in
+    λ x e a b. subst (λ (y : Server). (at (y .locks .entries) j) .exclusive ≡ true → Undisturbed j y fs →
+    Log.OnlyOf ((at (y .locks .entries) j) .number) (log y fs)) (sym e) (λ a b. (isolation-run v es j .from-now fs a b) .only-its-own) a b in
     subst (OnlyOf ((at (view m′ .locks .entries) j) .number)) (sym (made view (calls g′) .0)) (only-seen _ (log (view m′) fs) (whole (view m′) d h u))
 
 -- the server that a run from a new one leaves
@@ -450,8 +463,14 @@ one-call : (m m′ : Memory) (s : Seen) → Run m (s ∷ []) m′ → (e : Event
     → (s ≡ seen record { event = e; reply = (step (view m) e) .reply; frames = (step (view m) e) .frames }) × (view m′ ≡ (step (view m) e) .server)
 unfolding log final first-of
 one-call m m′ s g e x =
-    let h = made view (calls g) in
-    (ap (λ (ss : List Seen). first-of ss s) (h .0) ∙ ap (λ (y : Event). seen record { event = y; reply = (step (view m) y) .reply; frames = (step (view m) y) .frames }) x, h .1 ∙ ap (λ (y : Event). (step (view m) y) .server) x)
+    let h = made view (calls g) in (
+      ap (λ (ss : List Seen). first-of ss s) (h .0) ∙ ap (λ (y : Event). seen record {
+        event = y;
+        reply = (step (view m) y) .reply;
+        frames = (step (view m) y) .frames;
+      }) x,
+      h .1 ∙ ap (λ (y : Event). (step (view m) y) .server) x,
+    )
 
 abbrev some-byte : List ℕ → ℕ
 some-byte [] = 0
@@ -489,11 +508,20 @@ same-left (call e out out′ reply output p g) z n q = ended g z ∙ p .same-mem
     ended (call {ss = rs} e out out′ reply output p g) z = absurd (let y : suc (length rs) ≡ 0 = ap length z in omega arith)
 
 -- one delivery to each of two memories
-module _ (m m′ n n′ : Memory) (a b : Seen) (g : Run m (a ∷ []) m′) (g′ : Run n (b ∷ []) n′) (c : ℕ) (bs : List ℕ) (room : ℕ) (x : a .event ≡ delivery c bs room) (y : b .event ≡ delivery c bs room) (f : FewerLocks (slotOf (view m) c) (view m) (view n)) where
-  at-first : (a ≡ seen record { event = delivery c bs room; reply = (step (view m) (delivery c bs room)) .reply; frames = (step (view m) (delivery c bs room)) .frames }) × (view m′ ≡ (step (view m) (delivery c bs room)) .server)
+module _ (m m′ n n′ : Memory) (a b : Seen) (g : Run m (a ∷ []) m′) (g′ : Run n (b ∷ []) n′) (c : ℕ) (bs : List ℕ) (room : ℕ) (x : a .event ≡ delivery c bs room)
+    (y : b .event ≡ delivery c bs room) (f : FewerLocks (slotOf (view m) c) (view m) (view n)) where
+  at-first : (a ≡ seen record {
+    event = delivery c bs room;
+    reply = (step (view m) (delivery c bs room)) .reply;
+    frames = (step (view m) (delivery c bs room)) .frames;
+  }) × (view m′ ≡ (step (view m) (delivery c bs room)) .server)
   at-first = one-call m m′ a g (delivery c bs room) x
 
-  at-second : (b ≡ seen record { event = delivery c bs room; reply = (step (view n) (delivery c bs room)) .reply; frames = (step (view n) (delivery c bs room)) .frames }) × (view n′ ≡ (step (view n) (delivery c bs room)) .server)
+  at-second : (b ≡ seen record {
+    event = delivery c bs room;
+    reply = (step (view n) (delivery c bs room)) .reply;
+    frames = (step (view n) (delivery c bs room)) .frames;
+  }) × (view n′ ≡ (step (view n) (delivery c bs room)) .server)
   at-second = one-call n n′ b g′ (delivery c bs room) y
 
   reply-one : a .reply ≡ (step (view m) (delivery c bs room)) .reply
@@ -583,7 +611,8 @@ module _ (v : Making) (m m′ m″ m‴ : Memory) (ss : List Seen) (s : Seen) (r
       subst (λ (ls : List Line). Once c (synchronousOf v before n) (clockIn (map lineSeen ss) + (header bs) .param) none-stands ls) (sym lines-behind) u
 
 -- 02, Q-11: a call, and its frames read off its bytes
-module _ (v : Making) (m m′ m″ : Memory) (ss : List Seen) (s : Seen) (small : v .vendor < 2 ^ 16) (f : Fresh v m) (g : Run m ss m′) (g′ : Run m′ (s ∷ []) m″) (p : AllPossible (seenEvents ss)) (p′ : AllPossible (seenEvents (s ∷ []))) where
+module _ (v : Making) (m m′ m″ : Memory) (ss : List Seen) (s : Seen) (small : v .vendor < 2 ^ 16) (f : Fresh v m) (g : Run m ss m′) (g′ : Run m′ (s ∷ []) m″)
+    (p : AllPossible (seenEvents ss)) (p′ : AllPossible (seenEvents (s ∷ []))) where
   abbrev d₁ : Server
   d₁ = final (fresh v) (seenEvents ss)
 
@@ -601,7 +630,8 @@ module _ (v : Making) (m m′ m″ : Memory) (ss : List Seen) (s : Seen) (small 
   unfolding log
   frames-read =
       ap framesSeen at-once
-      ∙ ap framesFirst (read-lines (log d₁ (e₁ ∷ [])) (fit-behind (seenEvents ss) (e₁ ∷ []) (fresh v) (sent-fits .any-run v (seenEvents ss ++ (e₁ ∷ [])) small (possible-both (seenEvents ss) (e₁ ∷ []) p p′))))
+      ∙ ap framesFirst (read-lines (log d₁ (e₁ ∷ [])) (fit-behind (seenEvents ss) (e₁ ∷ []) (fresh v)
+      (sent-fits .any-run v (seenEvents ss ++ (e₁ ∷ [])) small (possible-both (seenEvents ss) (e₁ ∷ []) p p′))))
 
   served-seen : keep isService (framesSeen s) ≡ servedBy v (seenEvents ss) (happened e₁ (s .reply) [])
   served-seen =
@@ -630,8 +660,11 @@ module _ (v : Making) (m m′ : Memory) (ss : List Seen) (f : Fresh v m) (g : Ru
   seen-grants : v .vendor < 2 ^ 16 → AllPossible (seenEvents ss) → (j : ℕ) → live (at (view m′ .locks .entries) j) ≡ true
       → AsTold (grantsOf (map lineSeen ss) 0 ((at (view m′ .locks .entries) j) .number) noneYet) (at (view m′ .locks .entries) j)
   seen-grants small p j =
-      subst (λ (ls : List Line). live (at (view m′ .locks .entries) j) ≡ true → AsTold (grantsOf ls 0 ((at (view m′ .locks .entries) j) .number) noneYet) (at (view m′ .locks .entries) j)) (sym (read-all small p))
-      (subst (λ (d : Server). live (at (d .locks .entries) j) ≡ true → AsTold (grantsOf (log (fresh v) (seenEvents ss)) 0 ((at (d .locks .entries) j) .number) noneYet) (at (d .locks .entries) j)) (sym (left v m m′ ss f g))
+      subst (λ (ls : List Line). live (at (view m′ .locks .entries) j) ≡ true →
+      AsTold (grantsOf ls 0 ((at (view m′ .locks .entries) j) .number) noneYet) (at (view m′ .locks .entries) j)) (sym (read-all small p))
+      (subst (λ (d : Server). live (at (d .locks .entries) j) ≡ true →
+      AsTold (grantsOf (log (fresh v) (seenEvents ss)) 0 ((at (d .locks .entries) j) .number) noneYet) (at (d .locks .entries) j))
+      (sym (left v m m′ ss f g))
       ((grants-seen v (seenEvents ss)) .shows j))
 
 pub program : Program Fresh Run
@@ -653,9 +686,11 @@ program =
       in-time = λ v m m′ m″ ss s f g g′ p n payload shown room x y o r. in-time v m m′ m″ ss s f g g′ p n payload shown room x o r y;
       withheld-answer = λ v m m′ m″ ss s f g g′ p n payload shown room x q o r u. withheld-then v m m′ m″ ss s f g g′ p n payload shown room x o r q u;
       number-read = λ v m m′ ss f g j a.
-          subst (λ (d : Server). live (at (d .locks .entries) j) ≡ true → Knows (takenOf ss ((at (d .locks .entries) j) .number)) (at (d .locks .entries) j) (exchangeAt (d .rest) j)) (sym (left v m m′ ss f g))
+          subst (λ (d : Server). live (at (d .locks .entries) j) ≡ true →
+          Knows (takenOf ss ((at (d .locks .entries) j) .number)) (at (d .locks .entries) j) (exchangeAt (d .rest) j)) (sym (left v m m′ ss f g))
           (λ a. let d : Server = final (fresh v) (seenEvents ss) in
-          subst (λ (p : Numbering). Knows p (at (d .locks .entries) j) (exchangeAt (d .rest) j)) (sym (took-seen v m m′ ss f g ((at (d .locks .entries) j) .number))) (in-steps v (seenEvents ss) .reads j a)) a;
+          subst (λ (p : Numbering). Knows p (at (d .locks .entries) j) (exchangeAt (d .rest) j))
+          (sym (took-seen v m m′ ss f g ((at (d .locks .entries) j) .number))) (in-steps v (seenEvents ss) .reads j a)) a;
       number-carried = carried;
       out-of-step = out-of-step;
       in-step = in-step;
@@ -675,7 +710,8 @@ program =
           subst (λ (d : Server). live (at (d .locks .entries) j) ≡ true → sensingAt (d .rest) j ≡ sensingSeen ss ((at (d .locks .entries) j) .number) freshSensing) (sym (left v m m′ ss f g))
           (λ a. let d : Server = final (fresh v) (seenEvents ss) in
           watches v (seenEvents ss) .known j a
-          ∙ sym (ap (λ (x : List Seen). sensingSeen x ((at (d .locks .entries) j) .number) freshSensing) (by-log v m m′ ss f g) ∙ sensing-lines (log (fresh v) (seenEvents ss)) ((at (d .locks .entries) j) .number) freshSensing));
+          ∙ sym (ap (λ (x : List Seen). sensingSeen x ((at (d .locks .entries) j) .number) freshSensing) (by-log v m m′ ss f g)
+          ∙ sensing-lines (log (fresh v) (seenEvents ss)) ((at (d .locks .entries) j) .number) freshSensing));
       served = λ v m m′ m″ ss s small f g g′ p p′. served-seen v m m′ m″ ss s small f g g′ p p′;
       holders-shown = λ v m m′ ss f g. shown-holders v m m′ ss f g;
       grants-seen = λ v m m′ ss small f g p j. seen-grants v m m′ ss f g small p j;

@@ -98,4 +98,5 @@ module _ {M : Type 1} (𝓤 : URA M) (H : Heap 𝓤) (A : Atoms 𝓤) (W : Given
       qed W (‵ (row T.the-row fullShare xs l 0) ∷ []) ∵ feqI ! ℕ (length xs) 32 e $ fjoin ! $ use1 W (‵ (partAt Rows fullShare xs l 0)) (array-whole 𝓤 H A W T.the-row fullShare 32 xs l 0) $
       fpick ! (λ vs. fsplit ! $ move ! (1 ∷ []) $ peeks ! Rows (Is Rows) (shows 𝓤 H A Rows) xs vs (λ is. drop ! $
       rewrite ! 0 (λ (us : List Val). ‵ (cellAt fullShare (Rows .mir) us l 0)) (rows-tells xs vs is) refl $
-      use1 W (‵ (fat fullShare rows-mir l 0 (rows-val xs))) (W .laws .raw-at fullShare rows-mir l 0 (rows-val xs)) $ use1 W (‵ (froom rows-mir l 0)) (W .laws .at-room rows-mir l 0 (rows-val xs)) $ done !))
+      use1 W (‵ (fat fullShare rows-mir l 0 (rows-val xs))) (W .laws .raw-at fullShare rows-mir l 0 (rows-val xs)) $ use1 W (‵ (froom rows-mir l 0))
+      (W .laws .at-room rows-mir l 0 (rows-val xs)) $ done !))

@@ -4,7 +4,9 @@ use mathlib.Core.List.{List, [], _∷_, map}
 use Prim.Native.Nat.{ℕ}
 use Rattle.wire.specs.Frame.{Frame}
 use Rattle.model.specs.State.{Making, Sensing}
-use Rattle.model.specs.Interface.{Event, Event.opening, Event.delivery, Event.cut, Event.clock, Event.answer, Event.status, Event.setting, Outcome.more-needed, Outcome.skipped, Outcome.held, Outcome.ignored, Outcome.error-sent, Outcome.closed, Outcome.acted, Reply, Reply.refused, Reply.done, Reply.withheld, Reply.took}
+use Rattle.model.specs.Interface.{Event, Event.opening, Event.delivery, Event.cut, Event.clock, Event.answer, Event.status, Event.setting, Outcome.more-needed}
+use Rattle.model.specs.Interface.{Outcome.skipped, Outcome.held, Outcome.ignored, Outcome.error-sent, Outcome.closed, Outcome.acted, Reply, Reply.refused}
+use Rattle.model.specs.Interface.{Reply.done, Reply.withheld, Reply.took}
 use Rattle.model.specs.Step.{Line}
 use Rattle.model.specs.Demand3.{seen}
 use Rattle.model.specs.Happening.{Happening, happened}
@@ -12,7 +14,8 @@ use Rattle.model.specs.Watching.{senses, sensingIn, servedBy}
 use Rattle.server.specs.Program.{sensingSeen}
 
 -- what goes by the happening, but not by what was heard in its frames
-by-reply : {A : Type 0} (k : Happening → A) → ((c : ℕ) (bs : List ℕ) (room j n : ℕ) (fs : List Frame) → k (happened (delivery c bs room) (took error-sent j n) fs) ≡ k (happened (delivery c bs room) (took error-sent j n) []))
+by-reply : {A : Type 0} (k : Happening → A) → ((c : ℕ) (bs : List ℕ) (room j n : ℕ) (fs : List Frame) →
+    k (happened (delivery c bs room) (took error-sent j n) fs) ≡ k (happened (delivery c bs room) (took error-sent j n) []))
     → ((c : ℕ) (bs : List ℕ) (room j n : ℕ) (fs : List Frame) → k (happened (delivery c bs room) (took closed j n) fs) ≡ k (happened (delivery c bs room) (took closed j n) []))
     → ((c : ℕ) (bs : List ℕ) (room j n : ℕ) (fs : List Frame) → k (happened (delivery c bs room) (took acted j n) fs) ≡ k (happened (delivery c bs room) (took acted j n) []))
     → (e : Event) (y : Reply) (fs : List Frame) → k (happened e y fs) ≡ k (happened e y [])

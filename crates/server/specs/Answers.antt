@@ -52,11 +52,13 @@ module _ (d : Server) (i n : ℕ) where
   unfolding refusedAt answerRow
   refused-long l a q = rw (l, a, lt-ltb payloadLimit n q)
 
-  pub refused-over : live (at (d .locks .entries) i) ≡ true → mayAnswer (at (d .locks .entries) i) (exchangeAt (d .rest) i) ≡ true → n ≤ payloadLimit → (exchangeAt (d .rest) i) .clientSize < n → refusedAt d i n ≡ 6
+  pub refused-over : live (at (d .locks .entries) i) ≡ true → mayAnswer (at (d .locks .entries) i) (exchangeAt (d .rest) i) ≡ true → n ≤ payloadLimit →
+      (exchangeAt (d .rest) i) .clientSize < n → refusedAt d i n ≡ 6
   unfolding refusedAt answerRow
   refused-over l a q r = rw (l, a, le-ltb payloadLimit n q, lt-ltb ((exchangeAt (d .rest) i) .clientSize) n r)
 
-  pub not-refused : live (at (d .locks .entries) i) ≡ true → mayAnswer (at (d .locks .entries) i) (exchangeAt (d .rest) i) ≡ true → n ≤ payloadLimit → n ≤ (exchangeAt (d .rest) i) .clientSize → refusedAt d i n ≡ 0
+  pub not-refused : live (at (d .locks .entries) i) ≡ true → mayAnswer (at (d .locks .entries) i) (exchangeAt (d .rest) i) ≡ true → n ≤ payloadLimit →
+      n ≤ (exchangeAt (d .rest) i) .clientSize → refusedAt d i n ≡ 0
   unfolding refusedAt answerRow
   not-refused l a q r = rw (l, a, le-ltb payloadLimit n q, le-ltb ((exchangeAt (d .rest) i) .clientSize) n r)
 
@@ -113,7 +115,8 @@ module _ (d : Server) (i : ℕ) (end : Bool) (p sh : List ℕ) (r : Answered) (d
       let z : answerFrame d i end p ∷ serviceAt d i p ≡ (answerFrame d i end p ∷ serviceAt d i p) ++ [] = sym (append-nil (answerFrame d i end p ∷ serviceAt d i p)) in
       gives false e (a .server) (a .buffer ∙ ap (written out) z) (f ∙ ap (λ (x : ℕ). record { refusal = 0; withheld = 0; output = x }) (a .place ∙ ap (λ (fs : List Frame). length (bytesOf fs)) z))
 
-pub answer-call : (n i : ℕ) (p : List ℕ) (end : Bool) (sh : List ℕ) (room : ℕ) (r : Answered) (m m′ : Memory) (out out′ : List ℕ) → slotOfNumber (view m .locks .entries) n ≡ i → refusal (view m) (answer n p end sh room) ≡ 0
+pub answer-call : (n i : ℕ) (p : List ℕ) (end : Bool) (sh : List ℕ) (room : ℕ) (r : Answered) (m m′ : Memory) (out out′ : List ℕ) →
+    slotOfNumber (view m .locks .entries) n ≡ i → refusal (view m) (answer n p end sh room) ≡ 0
     → Gives (view m) i end p sh r (view m′) out out′ → (Tidy m → Tidy m′) → Replied (answer n p end sh room) r m m′ out out′
 answer-call n i p end sh room r m m′ out out′ e q a t =
     let b : Bool = withheldAt (view m) i end sh in

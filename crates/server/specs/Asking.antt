@@ -45,8 +45,10 @@ module _ (d : Server) (n i : ℕ) (f : slotOfNumber (d .locks .entries) n ≡ i)
   nobody-told e q = q ∙ sym (told-by false e)
 
   pub none-told : (r : Recorded) → live (at (d .locks .entries) i) ≡ true → r ≡ (sensingAt (d .rest) i) .recorded → r .seen ≡ false → x ≡ noReadings 0 → x ≡ readingsAnswer d n
-  none-told r e q s z = z ∙ sym (told-by true e ∙ ap readingsTold (sym q) ∙ ap (λ (b : Bool). cond b (record { refusal = 0; seen = 1; last = r .last; lowest = r .lowest; highest = r .highest }) (noReadings 0)) s)
+  none-told r e q s z = z ∙ sym (told-by true e ∙ ap readingsTold (sym q)
+      ∙ ap (λ (b : Bool). cond b (record { refusal = 0; seen = 1; last = r .last; lowest = r .lowest; highest = r .highest }) (noReadings 0)) s)
 
   pub some-told : (r : Recorded) → live (at (d .locks .entries) i) ≡ true → r ≡ (sensingAt (d .rest) i) .recorded → r .seen ≡ true
       → x ≡ record { refusal = 0; seen = 1; last = r .last; lowest = r .lowest; highest = r .highest } → x ≡ readingsAnswer d n
-  some-told r e q s z = z ∙ sym (told-by true e ∙ ap readingsTold (sym q) ∙ ap (λ (b : Bool). cond b (record { refusal = 0; seen = 1; last = r .last; lowest = r .lowest; highest = r .highest }) (noReadings 0)) s)
+  some-told r e q s z = z ∙ sym (told-by true e ∙ ap readingsTold (sym q)
+      ∙ ap (λ (b : Bool). cond b (record { refusal = 0; seen = 1; last = r .last; lowest = r .lowest; highest = r .highest }) (noReadings 0)) s)

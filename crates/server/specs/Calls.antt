@@ -40,7 +40,14 @@ step-taken : (d : Server) (e : Event) → refusal d e ≡ 0 → step d e ≡ fin
 unfolding step answered
 step-taken d e q = ap (λ (k : ℕ). answered k d e) q
 
-pub refused-delivery : (e : Event) (n : ℕ) (r : Delivery) (m : Memory) (out : List ℕ) → refusal (view m) e ≡ suc n → r ≡ record { refusal = suc n; outcome = 0; session = 0; taken = 0; output = 0; missing = 0 }
+pub refused-delivery : (e : Event) (n : ℕ) (r : Delivery) (m : Memory) (out : List ℕ) → refusal (view m) e ≡ suc n → r ≡ record {
+  refusal = suc n;
+  outcome = 0;
+  session = 0;
+  taken = 0;
+  output = 0;
+  missing = 0;
+}
     → Delivered e r m m out out
 unfolding bytesOf
 refused-delivery e n r m out q f =
@@ -54,4 +61,6 @@ pub taken-delivery : (c : ℕ) (bs : List ℕ) (room : ℕ) (r : Delivery) (m m�
     → Delivered (delivery c bs room) r m m′ out out′
 unfolding plan
 taken-delivery c bs room r m m′ out out′ q p =
-    delivered (delivery c bs room) r m m′ out out′ (subst (λ (x : Result). DidWith (ifMore (x .reply) (lackingIn (view m) (delivery c bs room))) x r m m′ out out′) (sym (step-taken (view m) (delivery c bs room) q)) p)
+    delivered (delivery c bs room) r m m′ out out′
+    (subst (λ (x : Result). DidWith (ifMore (x .reply) (lackingIn (view m) (delivery c bs room))) x r m m′ out out′)
+    (sym (step-taken (view m) (delivery c bs room) q)) p)

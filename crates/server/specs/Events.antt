@@ -88,7 +88,8 @@ refused-call e n r m out q f =
     }
 
 -- a call that is taken: the new server, the frames, and the numbers
-pub taken-call : (e : Event) (d′ : Server) (fs : List Frame) (r : Done) (m m′ : Memory) (out out′ : List ℕ) → refusal (view m) e ≡ 0 → finish (view m) (plan (view m) e) ≡ record { server = d′; reply = done; frames = fs }
+pub taken-call : (e : Event) (d′ : Server) (fs : List Frame) (r : Done) (m m′ : Memory) (out out′ : List ℕ) → refusal (view m) e ≡ 0 →
+    finish (view m) (plan (view m) e) ≡ record { server = d′; reply = done; frames = fs }
     → view m′ ≡ d′ → out′ ≡ written out fs → r ≡ record { refusal = 0; output = length (bytesOf fs) } → (Tidy m → Tidy m′) → Called e r m m′ out out′
 unfolding step answered
 taken-call e d′ fs r m m′ out out′ q p v b f t =
@@ -143,14 +144,26 @@ module _ (d : Server) (t room : ℕ) where
   clock-taken h l o = enough-room d (clock t room) room (untimely d t) (clock-causes d room t) h ∙ rw (le-ltb clockLimit t l, le-ltb t (d .locks .clock) o)
 
 -- a cut: the session closes, and those that wait are looked at
-pub cut-finishes : (d : Server) (c room : ℕ) → finish d (plan d (cut c room)) ≡ record { server = record { locks = (grantPass ((closedServer d c (slotOf d c)) .locks)) .locks; rest = closing d c }; reply = done; frames = map lockFrame ((grantPass ((closedServer d c (slotOf d c)) .locks)) .answers) }
+pub cut-finishes : (d : Server) (c room : ℕ) → finish d (plan d (cut c room)) ≡ record {
+  server = record { locks = (grantPass ((closedServer d c (slotOf d c)) .locks)) .locks; rest = closing d c };
+  reply = done;
+  frames = map lockFrame ((grantPass ((closedServer d c (slotOf d c)) .locks)) .answers);
+}
 unfolding finish plan change
 cut-finishes d c room = refl
 
 -- a clock reading: deadlines that are reached
-pub clock-finishes : (d : Server) (t room : ℕ) → finish d (plan d (clock t room)) ≡ record { server = record { locks = (change (d .locks) (reading t)) .locks; rest = d .rest }; reply = done; frames = map lockFrame ((change (d .locks) (reading t)) .answers) }
+pub clock-finishes : (d : Server) (t room : ℕ) → finish d (plan d (clock t room)) ≡ record {
+  server = record { locks = (change (d .locks) (reading t)) .locks; rest = d .rest };
+  reply = done;
+  frames = map lockFrame ((change (d .locks) (reading t)) .answers);
+}
 unfolding finish plan
-clock-finishes d t room = ap (λ (fs : List Frame). record { server = record { locks = (change (d .locks) (reading t)) .locks; rest = d .rest }; reply = done; frames = fs }) (append-nil (map lockFrame ((change (d .locks) (reading t)) .answers)))
+clock-finishes d t room = ap (λ (fs : List Frame). record {
+  server = record { locks = (change (d .locks) (reading t)) .locks; rest = d .rest };
+  reply = done;
+  frames = fs;
+}) (append-nil (map lockFrame ((change (d .locks) (reading t)) .answers)))
 
 -- a status change is never turned away, and sends nothing
 pub status-call : (b : ℕ) (m m′ : Memory) → view m′ ≡ onRest (view m) (λ (x : Rest). withStatus x b) → Post view (status b) m m′ [] [] done 0
@@ -171,17 +184,23 @@ empty-output r e = e
 pub so-much : (r : Done) (end : ℕ) (fs : List Frame) → r ≡ record { refusal = 0; output = end } → end ≡ 0 + length (bytesOf fs) → r ≡ record { refusal = 0; output = length (bytesOf fs) }
 so-much r end fs e p = e ∙ ap (λ (x : ℕ). record { refusal = 0; output = x }) (p ∙ zero-add (length (bytesOf fs)))
 
-pub cut-call : (c i room : ℕ) (r : Done) (m m′ : Memory) (out out′ : List ℕ) (end : ℕ) → refusal (view m) (cut c room) ≡ 0 → slotOf (view m) c ≡ i → ClosesPlace (view m) c i m′ out out′ 0 end → r ≡ record { refusal = 0; output = end } → (Tidy m → Tidy m′)
+pub cut-call : (c i room : ℕ) (r : Done) (m m′ : Memory) (out out′ : List ℕ) (end : ℕ) → refusal (view m) (cut c room) ≡ 0 → slotOf (view m) c ≡ i →
+    ClosesPlace (view m) c i m′ out out′ 0 end → r ≡ record { refusal = 0; output = end } → (Tidy m → Tidy m′)
     → Called (cut c room) r m m′ out out′
 cut-call c i room r m m′ out out′ end q e p f t =
     let d : Server = view m in
     let gs : List Frame = map lockFrame ((grantPass ((closedServer d c i) .locks)) .answers) in
     taken-call (cut c room) (record { locks = (grantPass ((closedServer d c i) .locks)) .locks; rest = closing d c }) gs r m m′ out out′ q
     (cut-finishes d c room
-    ∙ ap (λ (j : ℕ). record { server = record { locks = (grantPass ((closedServer d c j) .locks)) .locks; rest = closing d c }; reply = done; frames = map lockFrame ((grantPass ((closedServer d c j) .locks)) .answers) }) e)
+    ∙ ap (λ (j : ℕ). record {
+      server = record { locks = (grantPass ((closedServer d c j) .locks)) .locks; rest = closing d c };
+      reply = done;
+      frames = map lockFrame ((grantPass ((closedServer d c j) .locks)) .answers);
+    }) e)
     (p .server) (p .buffer) (so-much r end gs f (p .place)) t
 
-pub clock-call : (t room : ℕ) (r : Done) (m m′ : Memory) (out out′ : List ℕ) (end : ℕ) → refusal (view m) (clock t room) ≡ 0 → Met (change (view m .locks) (reading t)) m m′ out out′ 0 end → r ≡ record { refusal = 0; output = end }
+pub clock-call : (t room : ℕ) (r : Done) (m m′ : Memory) (out out′ : List ℕ) (end : ℕ) → refusal (view m) (clock t room) ≡ 0 →
+    Met (change (view m .locks) (reading t)) m m′ out out′ 0 end → r ≡ record { refusal = 0; output = end }
     → Called (clock t room) r m m′ out out′
 clock-call t room r m m′ out out′ end q p f =
     let d : Server = view m in

@@ -84,7 +84,8 @@ module _ (w s : List ℕ) where
   rows-next i h =
       let es : List Entry = locksOf w s .entries in
       let f : i + 1 ≡ suc i = omega arith in
-      sym (ap (λ (l : List Entry). map asRow (holdersOf l)) (drop-cons es i blank (omega (arith, slots-are w s))) ∙ rows-cons (at es i) (drop (suc i) es) ∙ ap (λ (j : ℕ). oneRow (at es i) (rowsFrom es j)) (sym f))
+      sym (ap (λ (l : List Entry). map asRow (holdersOf l)) (drop-cons es i blank (omega (arith, slots-are w s))) ∙ rows-cons (at es i) (drop (suc i) es)
+      ∙ ap (λ (j : ℕ). oneRow (at es i) (rowsFrom es j)) (sym f))
 
   pub rows-none : (l : List Row) → take 0 l ≡ rowsFrom (locksOf w s .entries) sessionLimit
   rows-none l =
@@ -112,7 +113,8 @@ module _ (n i : ℕ) (out : List Row) (carried d : Row) (more : i < n) (within :
       let t : take (i + 1) out ≡ take i out ++ (getD out i d ∷ []) = rw f (take-suc out i d within) in
       sym (turn
       ∙ rw (le-ltb (carried .session) (getD out i d .session) l)
-      (sym (ap (λ (z : List Row). z ++ putBy rowKey carried (take (n - (i + 1)) (drop (i + 1) out))) t ∙ append-snoc (take i out) (getD out i d) (putBy rowKey carried (take (n - (i + 1)) (drop (i + 1) out))))))
+      (sym (ap (λ (z : List Row). z ++ putBy rowKey carried (take (n - (i + 1)) (drop (i + 1) out))) t
+      ∙ append-snoc (take i out) (getD out i d) (putBy rowKey carried (take (n - (i + 1)) (drop (i + 1) out))))))
 
   pub put-swaps : carried .session < getD out i d .session
       → take (i + 1) (set out i carried) ++ putBy rowKey (getD out i d) (take (n - (i + 1)) (drop (i + 1) (set out i carried)))

@@ -10,7 +10,9 @@ use lib.ListN.{length, take}
 use Rattle.wire.specs.Class.{one-of}
 use Rattle.wire.specs.Frame.{frameOf, frameBytes, bytesOf}
 use Rattle.wire.specs.Message.{header, payloadOf}
-use Rattle.model.specs.Interface.{Event.opening, Event.delivery, Event.cut, Event.clock, Event.answer, Event.status, Event.setting, Setting.patterns, Outcome, Outcome.more-needed, Outcome.skipped, Outcome.held, Outcome.ignored, Outcome.error-sent, Outcome.closed, Outcome.acted, Reply, Reply.refused, Reply.done, Reply.withheld, Reply.took, Setting.watch}
+use Rattle.model.specs.Interface.{Event.opening, Event.delivery, Event.cut, Event.clock, Event.answer, Event.status, Event.setting, Setting.patterns, Outcome}
+use Rattle.model.specs.Interface.{Outcome.more-needed, Outcome.skipped, Outcome.held, Outcome.ignored, Outcome.error-sent, Outcome.closed, Outcome.acted}
+use Rattle.model.specs.Interface.{Reply, Reply.refused, Reply.done, Reply.withheld, Reply.took, Setting.watch}
 use Rattle.model.specs.Sizes.{noConnection}
 use Rattle.model.specs.Lists.{tally, keep}
 use Rattle.model.specs.State.{Asked.some, Allowed, Allowed.any-command, Kind, Making, at, exchangeAt, fresh, live, slotOfNumber, Server, Sensing, freshSensing, sensingAt}
@@ -95,7 +97,8 @@ pub data Run : Memory → List Seen → Memory → Type 0 where
       → Run m (record { event = cut c (length out); reply = doneReply r; output = take (r .output) out′ } ∷ ss) m″
   hislip-clock : {m m′ m″ : Memory} {ss : List Seen} (t : ℕ) (out out′ : List ℕ) (r : Done) → Called (clock t (length out)) r m m′ out out′ → Run m′ ss m″
       → Run m (record { event = clock t (length out); reply = doneReply r; output = take (r .output) out′ } ∷ ss) m″
-  hislip-answer : {m m′ m″ : Memory} {ss : List Seen} (n : ℕ) (payload : List ℕ) (end : ℕ) (shown out out′ : List ℕ) (r : Answered) → Replied (answer n payload (not (eqb end 0)) shown (length out)) r m m′ out out′ → Run m′ ss m″
+  hislip-answer : {m m′ m″ : Memory} {ss : List Seen} (n : ℕ) (payload : List ℕ) (end : ℕ) (shown out out′ : List ℕ) (r : Answered) →
+      Replied (answer n payload (not (eqb end 0)) shown (length out)) r m m′ out out′ → Run m′ ss m″
       → Run m (record { event = answer n payload (not (eqb end 0)) shown (length out); reply = answeredReply r; output = take (r .output) out′ } ∷ ss) m″
   -- 02, Q-11: by whichever of the three functions
   hislip-watch : {m m′ m″ : Memory} {ss : List Seen} (n : ℕ) (l : Limits) (r : Done) → Called (setting (watch n l)) r m m′ [] [] → Run m′ ss m″
@@ -206,7 +209,8 @@ pub record Program (New : Making → Memory → Type 0) (Ran : Memory → List S
   -- the frames, and among them the lock answers, are read off the bytes that the host saw
   pub reads-back : (v : Making) (m m′ : Memory) (ss : List Seen) → v .vendor < 2 ^ 16 → New v m → Ran m ss m′ → AllPossible (seenEvents ss) → ReadBack v ss
   -- after the list: a delivery acts exactly where the table of forms permits it; what opens and joins a session, and how
-  pub acts-exactly : (v : Making) (m m′ : Memory) (ss : List Seen) → New v m → Ran m ss m′ → (c : ℕ) (bs : List ℕ) (room : ℕ) → ActsExactly (view m′) (lastInLog (log (fresh v) (seenEvents ss)) 0) c bs room
+  pub acts-exactly : (v : Making) (m m′ : Memory) (ss : List Seen) → New v m → Ran m ss m′ → (c : ℕ) (bs : List ℕ) (room : ℕ) →
+      ActsExactly (view m′) (lastInLog (log (fresh v) (seenEvents ss)) 0) c bs room
   pub opens : (v : Making) (m m′ : Memory) (ss : List Seen) → New v m → Ran m ss m′ → (c : ℕ) (bs : List ℕ) (room : ℕ) → Opens (view m′) v c bs room
   -- from any memory: which call changed which field, and to what
   pub locality : (m m′ : Memory) (ss : List Seen) → Ran m ss m′ → LocalRun (view m) (seenEvents ss)
@@ -272,7 +276,8 @@ pub record Program (New : Making → Memory → Type 0) (Ran : Memory → List S
   pub sensing-seen : (v : Making) (m m′ : Memory) (ss : List Seen) → New v m → Ran m ss m′ → (j : ℕ) → live (at (view m′ .locks .entries) j) ≡ true
       → sensingAt (view m′ .rest) j ≡ sensingSeen ss ((at (view m′ .locks .entries) j) .number) freshSensing
   -- every request for service: of an answer that is sent, exactly if its readings are the first to trip the watch since it was set
-  pub served : (v : Making) (m m′ m″ : Memory) (ss : List Seen) (s : Seen) → v .vendor < 2 ^ 16 → New v m → Ran m ss m′ → Ran m′ (s ∷ []) m″ → AllPossible (seenEvents ss) → AllPossible (seenEvents (s ∷ []))
+  pub served : (v : Making) (m m′ m″ : Memory) (ss : List Seen) (s : Seen) → v .vendor < 2 ^ 16 → New v m → Ran m ss m′ → Ran m′ (s ∷ []) m″ →
+      AllPossible (seenEvents ss) → AllPossible (seenEvents (s ∷ []))
       → keep isService (framesSeen s) ≡ servedBy v (seenEvents ss) (happened (s .event) (s .reply) [])
   -- 02, Q-9: the rows that `hislip_holders` writes are the lock model's holders, each once, ascending by SessionID
   pub holders-shown : (v : Making) (m m′ : Memory) (ss : List Seen) → New v m → Ran m ss m′

@@ -182,7 +182,8 @@ pub fn fill_slice(rows: &mut [Row], src: [Row; 32], n: usize)
 // Who holds what, since when, in the list that the host lends: ascending by SessionID; further rows are untouched. Proved by hand.
 #[no_mangle]
 pub extern "C" fn hislip_holders(words: &Words, strings: &Strings, rows: &mut [Row]) -> Counted
-    ensures { λ r. ⌜ (r ≡ countedOf (holdersAnswer (view (memory (now (words .entry)) (now (strings .entry)))) (length (now (rows .entry))))) × (now (rows .exit) ≡ listFilled (rowsIn (view (memory (now (words .entry)) (now (strings .entry))))) (now (rows .entry))) ⌝ }
+    ensures { λ r. ⌜ (r ≡ countedOf (holdersAnswer (view (memory (now (words .entry)) (now (strings .entry)))) (length (now (rows .entry)))))
+        × (now (rows .exit) ≡ listFilled (rowsIn (view (memory (now (words .entry)) (now (strings .entry))))) (now (rows .entry))) ⌝ }
 {
     let room = rows.len();
     let t = told(words, strings, room);

@@ -103,7 +103,8 @@ pub extern "C" fn hislip_cut(
     connection: u32,
     out: &mut [u8],
 ) -> Done
-    ensures { λ r. ⌜ Called (cut connection (length (now (out .entry)))) r (memory (now (words .entry)) (now (strings .entry))) (memory (now (words .exit)) (now (strings .exit))) (now (out .entry)) (now (out .exit)) ⌝ }
+    ensures { λ r. ⌜ Called (cut connection (length (now (out .entry)))) r (memory (now (words .entry)) (now (strings .entry)))
+        (memory (now (words .exit)) (now (strings .exit))) (now (out .entry)) (now (out .exit)) ⌝ }
 {
     if out.len() < OUTPUT_MINIMUM {
         return told(7, 0);
@@ -128,7 +129,8 @@ pub extern "C" fn hislip_clock(
     milliseconds: u64,
     out: &mut [u8],
 ) -> Done
-    ensures { λ r. ⌜ Called (clock milliseconds (length (now (out .entry)))) r (memory (now (words .entry)) (now (strings .entry))) (memory (now (words .exit)) (now (strings .exit))) (now (out .entry)) (now (out .exit)) ⌝ }
+    ensures { λ r. ⌜ Called (clock milliseconds (length (now (out .entry)))) r (memory (now (words .entry)) (now (strings .entry)))
+        (memory (now (words .exit)) (now (strings .exit))) (now (out .entry)) (now (out .exit)) ⌝ }
 {
     if out.len() < OUTPUT_MINIMUM {
         return told(7, 0);
@@ -146,7 +148,8 @@ pub extern "C" fn hislip_clock(
 // The instrument's status byte changes.
 #[no_mangle]
 pub extern "C" fn hislip_status(words: &mut Words, strings: &mut Strings, status: u8)
-    ensures { λ _. ⌜ Post view (Event.status status) (memory (now (words .entry)) (now (strings .entry))) (memory (now (words .exit)) (now (strings .exit))) [] [] done 0 × (Tidy (memory (now (words .entry)) (now (strings .entry))) → Tidy (memory (now (words .exit)) (now (strings .exit)))) ⌝ }
+    ensures { λ _. ⌜ Post view (Event.status status) (memory (now (words .entry)) (now (strings .entry))) (memory (now (words .exit)) (now (strings .exit))) []
+        [] done 0 × (Tidy (memory (now (words .entry)) (now (strings .entry))) → Tidy (memory (now (words .exit)) (now (strings .exit)))) ⌝ }
 {
     events::set_status(words, status);
 }
@@ -213,7 +216,9 @@ fn give_answer(
     shown: &[u8],
 ) -> Answered
     requires { ⌜ (i < sessionLimit) × (length (now payload) ≤ payloadLimit) × (outputMinimum ≤ length (now out)) ⌝ }
-    ensures { λ r. ⌜ ((s : List ℕ) → Gives (view (memory (now (words .entry)) s)) i end (now (payload .entry)) (now (shown .entry)) r (view (memory (now (words .exit)) s)) (now (out .entry)) (now (out .exit))) × ((s : List ℕ) → Tidy (memory (now (words .entry)) s) → Tidy (memory (now (words .exit)) s)) ⌝ }
+    ensures { λ r. ⌜ ((s : List ℕ) → Gives (view (memory (now (words .entry)) s)) i end (now (payload .entry)) (now (shown .entry)) r
+        (view (memory (now (words .exit)) s)) (now (out .entry)) (now (out .exit)))
+        × ((s : List ℕ) → Tidy (memory (now (words .entry)) s) → Tidy (memory (now (words .exit)) s)) ⌝ }
 {
     if interrupted::withholds(words, i, end, shown) {
         let n = interrupted::withhold(words, out, i, shown);
@@ -257,7 +262,8 @@ pub extern "C" fn hislip_answer(
     shown: &[u8],
     out: &mut [u8],
 ) -> Answered
-    ensures { λ r. ⌜ Replied (answer session (now (payload .entry)) (not (eqb end 0)) (now (shown .entry)) (length (now (out .entry)))) r (memory (now (words .entry)) (now (strings .entry))) (memory (now (words .exit)) (now (strings .exit))) (now (out .entry)) (now (out .exit)) ⌝ }
+    ensures { λ r. ⌜ Replied (answer session (now (payload .entry)) (not (eqb end 0)) (now (shown .entry)) (length (now (out .entry)))) r
+        (memory (now (words .entry)) (now (strings .entry))) (memory (now (words .exit)) (now (strings .exit))) (now (out .entry)) (now (out .exit)) ⌝ }
 {
     if out.len() < OUTPUT_MINIMUM {
         return replied(7, 0, 0);

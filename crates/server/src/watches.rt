@@ -76,7 +76,8 @@ pub extern "C" fn hislip_watch_outside(
     low: f32,
     high: f32,
 ) -> Done
-    ensures { λ r. ⌜ Called (setting (watch session (outside (bits low) (bits high)))) r (memory (now (words .entry)) (now (strings .entry))) (memory (now (words .exit)) (now (strings .exit))) [] [] ⌝ }
+    ensures { λ r. ⌜ Called (setting (watch session (outside (bits low) (bits high)))) r (memory (now (words .entry)) (now (strings .entry)))
+        (memory (now (words .exit)) (now (strings .exit))) [] [] ⌝ }
 {
     set_watch(words, strings, session, Watch::Outside(low, high))
 }

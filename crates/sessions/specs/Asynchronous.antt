@@ -70,7 +70,14 @@ pub did-with : (d : Server) (i n len size : ℕ) (q : Rest) (fs : List Frame) (v
 unfolding finish
 did-with d i n len size q fs v told m m′ out out′ xs t e f y b z u =
     record {
-      numbers = ap numbersOf t ∙ (λ j. record { refusal = 0; outcome = 6; session = ap (λ (x : Entry). x .number) e j; taken = 16 + len; output = (z ∙ ap (λ (x : List Frame). length (bytesOf x)) (sym f)) j; missing = 0 });
+      numbers = ap numbersOf t ∙ (λ j. record {
+        refusal = 0;
+        outcome = 6;
+        session = ap (λ (x : Entry). x .number) e j;
+        taken = 16 + len;
+        output = (z ∙ ap (λ (x : List Frame). length (bytesOf x)) (sym f)) j;
+        missing = 0;
+      });
       server = y;
       buffer = b ∙ ap (written out) (sym f);
       same-memory = λ y. absurd (true≢false (sym y));

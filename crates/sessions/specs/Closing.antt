@@ -11,7 +11,8 @@ use lib.Seq.{set-out}
 use borrow.Author.Tests.{eq-eqb, ne-eqb}
 use Rattle.model.specs.Sizes.{sessionLimit, connectionLimit, noConnection}
 use Rattle.model.specs.Lists.{all, position, keep}
-use Rattle.model.specs.State.{Entry, Waiting, Locks, Exchange, Connection, Rest, Server, at, blank, live, freshExchange, openExchange, closedConnection, exchangeAt, withConnections, withExchange, freshSensing, withSensing}
+use Rattle.model.specs.State.{Entry, Waiting, Locks, Exchange, Connection, Rest, Server, at, blank, live, freshExchange, openExchange, closedConnection}
+use Rattle.model.specs.State.{exchangeAt, withConnections, withExchange, freshSensing, withSensing}
 use Rattle.wire.specs.MessageId.{start}
 use Rattle.model.specs.Exchange.{withCount}
 use Rattle.model.specs.Place.{isOnConnection, placeOf, slotIn, slotOf}
@@ -66,7 +67,16 @@ pub renewed : (i v : ℕ) (d d₁ d₂ d₃ d₄ d₅ d₆ d₇ d₈ : Server) �
     → d₇ ≡ onExchange d₆ i (exchangeWith 8 start) → d₈ ≡ onExchange d₇ i (withCount start false) → d₈ ≡ onRest d (λ (r : Rest). withExchange r i (openExchange (eqb v 1)))
 renewed i v d d₁ d₂ d₃ d₄ d₅ d₆ d₇ d₈ e₁ e₂ e₃ e₄ e₅ e₆ e₇ e₈ =
     rw (e₈, e₇, e₆, e₅, e₄, e₃, e₂, e₁, upd-upd, upd-upd, upd-upd, upd-upd, upd-upd, upd-upd, upd-upd)
-    (ap (λ (l : List Exchange). onRest d (λ (r : Rest). record { exchanges = l; sensings = r .sensings; connections = r .connections; lastIssued = r .lastIssued; made = r .made; status = r .status; remoteLocal = r .remoteLocal; allowed = r .allowed }))
+    (ap (λ (l : List Exchange). onRest d (λ (r : Rest). record {
+      exchanges = l;
+      sensings = r .sensings;
+      connections = r .connections;
+      lastIssued = r .lastIssued;
+      made = r .made;
+      status = r .status;
+      remoteLocal = r .remoteLocal;
+      allowed = r .allowed;
+    }))
     (sym (upd-set (d .rest .exchanges) i freshExchange (λ (x : Exchange). openExchange (eqb v 1)))))
 
 -- what a search finds passes
@@ -146,8 +156,18 @@ module _ (w s : List ℕ) (c i : ℕ) (found : slotIn (locksOf w s .entries) c �
       e
       ∙ (λ k. record { locks = sym (close-past w s i h) k; rest = r })
       ∙ ap (λ (x : Rest). record { locks = (change (locksOf w s) (close i)) .locks; rest = x })
-      ((λ k. record { exchanges = sym (set-out (r .exchanges) i freshExchange l) k; sensings = sym (set-out (r .sensings) i freshSensing n) k; connections = r .connections; lastIssued = r .lastIssued; made = r .made; status = r .status; remoteLocal = r .remoteLocal; allowed = r .allowed })
-      ∙ ap₂ (λ (x : List ℕ) (j : ℕ). withSensing (withExchange (withConnections (view (memory w s) .rest) (shutAll (restOf w .connections) x)) j freshExchange) j freshSensing) (sym (channels-none w s c i found h)) (sym found))
+      ((λ k. record {
+        exchanges = sym (set-out (r .exchanges) i freshExchange l) k;
+        sensings = sym (set-out (r .sensings) i freshSensing n) k;
+        connections = r .connections;
+        lastIssued = r .lastIssued;
+        made = r .made;
+        status = r .status;
+        remoteLocal = r .remoteLocal;
+        allowed = r .allowed;
+      })
+      ∙ ap₂ (λ (x : List ℕ) (j : ℕ). withSensing (withExchange (withConnections (view (memory w s) .rest) (shutAll (restOf w .connections) x)) j freshExchange)
+      j freshSensing) (sym (channels-none w s c i found h)) (sym found))
 
   -- a session: its connections, its exchange, its readings (02, Q-11), its slot and its request
   pub closed-session : i < sessionLimit → (d₁ d₁′ d₂ d₃ : Server)
@@ -158,11 +178,13 @@ module _ (w s : List ℕ) (c i : ℕ) (found : slotIn (locksOf w s .entries) c �
       → d₃ ≡ closedServer (view (memory w s)) c i
   closed-session h d₁ d₁′ d₂ d₃ e₁ e₁′ e₂ l r =
       let d : Server = view (memory w s) in
-      let f : d₂ ≡ onRest (onRest (onRest d (λ (r : Rest). withConnections r (shutAll (r .connections) (channels d c)))) (λ (r : Rest). withExchange r i freshExchange)) (λ (r : Rest). withSensing r i freshSensing) =
+      let f : d₂ ≡ onRest (onRest (onRest d (λ (r : Rest). withConnections r (shutAll (r .connections) (channels d c))))
+      (λ (r : Rest). withExchange r i freshExchange)) (λ (r : Rest). withSensing r i freshSensing) =
       e₂ ∙ ap (λ (x : Server). onRest x (λ (r : Rest). withSensing r i freshSensing)) (e₁′ ∙ ap (λ (x : Server). onRest x (λ (r : Rest). withExchange r i freshExchange)) e₁) in
       λ k. record {
         locks = (l ∙ ap (λ (x : Server). (change (x .locks) (close i)) .locks) f) k;
-        rest = (r ∙ ap (λ (x : Server). x .rest) f ∙ ap (λ (j : ℕ). withSensing (withExchange (withConnections (d .rest) (shutAll (d .rest .connections) (channels d c))) j freshExchange) j freshSensing) (sym found)) k;
+        rest = (r ∙ ap (λ (x : Server). x .rest) f ∙ ap (λ (j : ℕ). withSensing
+            (withExchange (withConnections (d .rest) (shutAll (d .rest .connections) (channels d c))) j freshExchange) j freshSensing) (sym found)) k;
       }
 
 -- what closing a connection's place does: the session is closed, and those that wait are looked at; r is the place behind the frames

@@ -83,7 +83,19 @@ session-entered d d₁ d₂ d₃ l i n b h p q o e₂ e₃ =
     ∙ ap (λ (x : Server). onRest x (singleWith 3 n)) e₂
     ∙ ap (λ (x : Bool). onRest d₁ (λ (r : Rest). singleWith 3 n (withExchange r i (openExchange x)))) (sym o)
     ∙ (λ k. record { locks = p k; rest = singleWith 3 n (withExchange (q k) i (openExchange (q k .made .prefersOverlap))) })
-    ∙ ap (λ (x : ℕ). record { locks = l; rest = record { exchanges = set (r .exchanges) i (openExchange (r .made .prefersOverlap)); sensings = r .sensings; connections = r .connections; lastIssued = x; made = r .made; status = r .status; remoteLocal = r .remoteLocal; allowed = r .allowed } })
+    ∙ ap (λ (x : ℕ). record {
+      locks = l;
+      rest = record {
+        exchanges = set (r .exchanges) i (openExchange (r .made .prefersOverlap));
+        sensings = r .sensings;
+        connections = r .connections;
+        lastIssued = x;
+        made = r .made;
+        status = r .status;
+        remoteLocal = r .remoteLocal;
+        allowed = r .allowed;
+      };
+    })
     (mod-eq-of-lt h)
 
 -- Initialize: from the slot and the number that were found

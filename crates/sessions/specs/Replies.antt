@@ -47,8 +47,18 @@ pub connection-written : (x v l : ℕ) (d d₁ d₂ : Server) → d₁ ≡ onCon
 connection-written x v l d d₁ d₂ e₁ e₂ =
     e₂
     ∙ ap (λ (y : Server). onConnection y x (connectionWith 1 l)) e₁
-    ∙ ap (λ (z : List Connection). onRest d (λ (r : Rest). record { exchanges = r .exchanges; sensings = r .sensings; connections = z; lastIssued = r .lastIssued; made = r .made; status = r .status; remoteLocal = r .remoteLocal; allowed = r .allowed }))
-    (upd-upd (d .rest .connections) x (connectionWith 0 v) (connectionWith 1 l) ∙ sym (upd-set (d .rest .connections) x (record { isOpen = flag v; remainder = l }) (λ (y : Connection). record { isOpen = flag v; remainder = l })))
+    ∙ ap (λ (z : List Connection). onRest d (λ (r : Rest). record {
+      exchanges = r .exchanges;
+      sensings = r .sensings;
+      connections = z;
+      lastIssued = r .lastIssued;
+      made = r .made;
+      status = r .status;
+      remoteLocal = r .remoteLocal;
+      allowed = r .allowed;
+    }))
+    (upd-upd (d .rest .connections) x (connectionWith 0 v) (connectionWith 1 l)
+    ∙ sym (upd-set (d .rest .connections) x (record { isOpen = flag v; remainder = l }) (λ (y : Connection). record { isOpen = flag v; remainder = l })))
 
 -- frames in a row
 pub bytes-append : (xs ys : List Frame) → bytesOf (xs ++ ys) ≡ bytesOf xs ++ bytesOf ys
@@ -107,7 +117,8 @@ module _ (out out′ : List ℕ) (code x : ℕ) (xs : List ℕ) where
   pub fatal-one-length : xs ≡ x ∷ [] → 17 ≡ length (bytesOf (fatals code xs))
   fatal-one-length e = sym (length-one x FatalError code 0) ∙ ap (λ (l : List ℕ). length (bytesOf (fatals code l))) (sym e)
 
-  pub fatal-two : (out₁ : List ℕ) (y : ℕ) → xs ≡ x ∷ y ∷ [] → 17 ≤ length out → out₁ ≡ splice out 0 (frameBytes (frameOf x FatalError code 0 [])) → out′ ≡ splice out₁ 17 (frameBytes (frameOf y FatalError code 0 []))
+  pub fatal-two : (out₁ : List ℕ) (y : ℕ) → xs ≡ x ∷ y ∷ [] → 17 ≤ length out → out₁ ≡ splice out 0 (frameBytes (frameOf x FatalError code 0 [])) →
+      out′ ≡ splice out₁ 17 (frameBytes (frameOf y FatalError code 0 []))
       → out′ ≡ splice out 0 (bytesOf (fatals code xs))
   fatal-two out₁ y e h p q =
       two-frames out out₁ out′ (frameOf x FatalError code 0 []) (frameOf y FatalError code 0 []) (length-frame (frameOf x FatalError code 0 [])) h p q

@@ -18,7 +18,9 @@ use Rattle.model.specs.Interface.{Reply.took, Outcome.acted}
 use Rattle.model.specs.Exchange.{afterRmt, withAnswering, noteRmt, ask, bit0, leaveClear, outOfTurn, stepped, tested}
 use Rattle.model.specs.Place.{Role.r-synchronous}
 use Rattle.model.specs.Locks.{LockEvent.nothing, LockEvent.command}
-use Rattle.model.specs.Acts.{Plan, say, SynchronousKind, SynchronousKind.k-data, SynchronousKind.k-dataEnd, SynchronousKind.k-trigger, SynchronousKind.k-clearComplete, synchronousKind, synchronousExchange, interruptions, synchronousFirst, synchronousSaid, synchronousEvent, acts}
+use Rattle.model.specs.Acts.{Plan, say, SynchronousKind, SynchronousKind.k-data, SynchronousKind.k-dataEnd, SynchronousKind.k-trigger}
+use Rattle.model.specs.Acts.{SynchronousKind.k-clearComplete, synchronousKind, synchronousExchange, interruptions, synchronousFirst, synchronousSaid}
+use Rattle.model.specs.Acts.{synchronousEvent, acts}
 use Rattle.state.specs.Grid.{upd, upd-upd, upd-set}
 use Rattle.state.specs.Change.{onRest, onExchange, exchangeWith}
 use Rattle.state.specs.View.{Memory, view, askedOf}
@@ -34,13 +36,32 @@ withSlot i g r = withExchange r i (g (exchangeAt r i))
 -- a change of one exchange, as the state has it and as the model has it
 pub slot-changed : (d : Server) (i : ℕ) (g : Exchange → Exchange) → onExchange d i g ≡ onRest d (withSlot i g)
 slot-changed d i g =
-    ap (λ (l : List Exchange). onRest d (λ (r : Rest). record { exchanges = l; sensings = r .sensings; connections = r .connections; lastIssued = r .lastIssued; made = r .made; status = r .status; remoteLocal = r .remoteLocal; allowed = r .allowed })) (sym (upd-set (d .rest .exchanges) i freshExchange g))
+    ap (λ (l : List Exchange). onRest d (λ (r : Rest). record {
+      exchanges = l;
+      sensings = r .sensings;
+      connections = r .connections;
+      lastIssued = r .lastIssued;
+      made = r .made;
+      status = r .status;
+      remoteLocal = r .remoteLocal;
+      allowed = r .allowed;
+    })) (sym (upd-set (d .rest .exchanges) i freshExchange g))
 
 -- two changes of one exchange
 pub slot-twice : (d d₁ d₂ : Server) (i : ℕ) (f g : Exchange → Exchange) → d₁ ≡ onExchange d i f → d₂ ≡ onRest d₁ (withSlot i g) → d₂ ≡ onRest d (withSlot i (λ (x : Exchange). g (f x)))
 slot-twice d d₁ d₂ i f g e₁ e₂ =
     e₂ ∙ sym (slot-changed d₁ i g) ∙ ap (λ (x : Server). onExchange x i g) e₁
-    ∙ ap (λ (l : List Exchange). onRest d (λ (r : Rest). record { exchanges = l; sensings = r .sensings; connections = r .connections; lastIssued = r .lastIssued; made = r .made; status = r .status; remoteLocal = r .remoteLocal; allowed = r .allowed })) (upd-upd (d .rest .exchanges) i f g)
+    ∙ ap (λ (l : List Exchange). onRest d (λ (r : Rest). record {
+      exchanges = l;
+      sensings = r .sensings;
+      connections = r .connections;
+      lastIssued = r .lastIssued;
+      made = r .made;
+      status = r .status;
+      remoteLocal = r .remoteLocal;
+      allowed = r .allowed;
+    }))
+    (upd-upd (d .rest .exchanges) i f g)
     ∙ slot-changed d i (λ (x : Exchange). g (f x))
 
 pub slot-then : (d d₁ d₂ : Server) (i : ℕ) (f g : Exchange → Exchange) → d₁ ≡ onRest d (withSlot i f) → d₂ ≡ onExchange d₁ i g → d₂ ≡ onRest d (withSlot i (λ (x : Exchange). g (f x)))
@@ -131,22 +152,28 @@ module _ (d : Server) (i c : ℕ) (h : Header) (p : List ℕ) where
   turnFrames = cond (outOfTurn (h .code) (exchangeAt (d .rest) i)) (interruptions (at (d .locks .entries) i) (h .param)) []
 
   pub plan-command : isCommand (h .kind) ≡ true
-      → acts r-synchronous d i c h p ≡ planFirst d i (h .len) (withSlot i (λ (e : Exchange). stepped (commandNotes (h .kind) (h .code) (h .param) (tested (h .code) e))) (d .rest)) turnFrames (command i (h .param))
+      → acts r-synchronous d i c h p ≡ planFirst d i (h .len)
+      (withSlot i (λ (e : Exchange). stepped (commandNotes (h .kind) (h .code) (h .param) (tested (h .code) e))) (d .rest)) turnFrames
+      (command i (h .param))
   unfolding acts synchronousExchange synchronousSaid
   plan-command = by (eqb (h .kind) Data) (eqb (h .kind) DataEND) (eqb (h .kind) Trigger)
     where
       by : (x y z : Bool) → (x || (y || z)) ≡ true
-          → planBy (kinds x y z) ≡ planFirst d i (h .len) (withSlot i (λ (e : Exchange). stepped (cond x (noteRmt (h .code) (tested (h .code) e)) (ask (h .code) (h .param) (tested (h .code) e)))) (d .rest)) turnFrames (command i (h .param))
+          → planBy (kinds x y z) ≡ planFirst d i (h .len) (withSlot i
+          (λ (e : Exchange). stepped (cond x (noteRmt (h .code) (tested (h .code) e)) (ask (h .code) (h .param) (tested (h .code) e)))) (d .rest))
+          turnFrames (command i (h .param))
       by true y z q = refl
       by false true z q = refl
       by false false true q = refl
       by false false false q = absurd (true≢false (sym q))
 
-  pub plan-complete : isCommand (h .kind) ≡ false → acts r-synchronous d i c h p ≡ planWith d i (h .len) (withSlot i (leaveClear (h .code)) (d .rest)) (say c DeviceClearAcknowledge (bit0 (h .code)) 0) nothing
+  pub plan-complete : isCommand (h .kind) ≡ false → acts r-synchronous d i c h p ≡ planWith d i (h .len) (withSlot i (leaveClear (h .code)) (d .rest))
+      (say c DeviceClearAcknowledge (bit0 (h .code)) 0) nothing
   unfolding acts synchronousExchange synchronousSaid
   plan-complete = by (eqb (h .kind) Data) (eqb (h .kind) DataEND) (eqb (h .kind) Trigger)
     where
-      by : (x y z : Bool) → (x || (y || z)) ≡ false → planBy (kinds x y z) ≡ planWith d i (h .len) (withSlot i (leaveClear (h .code)) (d .rest)) (say c DeviceClearAcknowledge (bit0 (h .code)) 0) nothing
+      by : (x y z : Bool) → (x || (y || z)) ≡ false → planBy (kinds x y z) ≡ planWith d i (h .len) (withSlot i (leaveClear (h .code)) (d .rest))
+          (say c DeviceClearAcknowledge (bit0 (h .code)) 0) nothing
       by true y z q = absurd (true≢false q)
       by false true z q = absurd (true≢false q)
       by false false true q = absurd (true≢false q)

@@ -30,7 +30,8 @@ use state::tables;
 
 // Connection x is closed, and what is left to skip of it is dropped.
 fn shut_connection(w: &mut Words, x: u64)
-    ensures { λ _. ⌜ ((s : List ℕ) → view (memory (now (w .exit)) s) ≡ onRest (view (memory (now (w .entry)) s)) (shut x)) × ((s : List ℕ) → Tidy (memory (now (w .entry)) s) → Tidy (memory (now (w .exit)) s)) ⌝ }
+    ensures { λ _. ⌜ ((s : List ℕ) → view (memory (now (w .exit)) s) ≡ onRest (view (memory (now (w .entry)) s)) (shut x))
+        × ((s : List ℕ) → Tidy (memory (now (w .entry)) s) → Tidy (memory (now (w .exit)) s)) ⌝ }
 {
     if x >= CONNECTIONS {
         return;
@@ -42,7 +43,9 @@ fn shut_connection(w: &mut Words, x: u64)
 // Slot i's exchange is as of a session that opens, in overlap mode where the word of its mode is 1.
 pub fn renew_exchange(w: &mut Words, i: usize, mode: u64)
     requires { ⌜ i < sessionLimit ⌝ }
-    ensures { λ _. ⌜ ((s : List ℕ) → view (memory (now (w .exit)) s) ≡ onRest (view (memory (now (w .entry)) s)) (λ r. withExchange r i (openExchange (eqb mode 1)))) × ((s : List ℕ) → mode ≤ 1 → Tidy (memory (now (w .entry)) s) → Tidy (memory (now (w .exit)) s)) ⌝ }
+    ensures { λ _. ⌜ ((s : List ℕ) → view (memory (now (w .exit)) s) ≡ onRest (view (memory (now (w .entry)) s))
+        (λ r. withExchange r i (openExchange (eqb mode 1)))) × ((s : List ℕ) → mode ≤ 1 → Tidy (memory (now (w .entry)) s) → Tidy (memory (now (w .exit)) s))
+        ⌝ }
 {
     tables::set_exchange(w, i, tables::IN_CLEAR, 0);
     tables::set_exchange(w, i, tables::ASKED, 0);
@@ -57,7 +60,12 @@ pub fn renew_exchange(w: &mut Words, i: usize, mode: u64)
 // The connections of slot i's session are closed.
 fn shut_channels(w: &mut Words, i: usize)
     requires { ⌜ i < sessionLimit ⌝ }
-    ensures { λ _. ⌜ ((s : List ℕ) → view (memory (now (w .exit)) s) ≡ onRest (view (memory (now (w .entry)) s)) (λ r. withConnections r (shutAll (r .connections) ((at (locksOf (now (w .entry)) s .entries) i) .synchronous ∷ cond (eqb ((at (locksOf (now (w .entry)) s .entries) i) .asynchronous) noConnection) [] ((at (locksOf (now (w .entry)) s .entries) i) .asynchronous ∷ []))))) × ((s : List ℕ) → Tidy (memory (now (w .entry)) s) → Tidy (memory (now (w .exit)) s)) ⌝ }
+    ensures { λ _. ⌜ ((s : List ℕ) → view (memory (now (w .exit)) s) ≡ onRest (view (memory (now (w .entry)) s))
+        (λ r. withConnections r
+        (shutAll (r .connections) ((at (locksOf (now (w .entry)) s .entries) i) .synchronous
+        ∷ cond (eqb ((at (locksOf (now (w .entry)) s .entries) i) .asynchronous) noConnection) []
+        ((at (locksOf (now (w .entry)) s .entries) i) .asynchronous ∷ [])))))
+        × ((s : List ℕ) → Tidy (memory (now (w .entry)) s) → Tidy (memory (now (w .exit)) s)) ⌝ }
 {
     let x = tables::entry(w, i, tables::SYNCHRONOUS) % 256;
     let y = tables::entry(w, i, tables::ASYNCHRONOUS) % 256;
@@ -71,7 +79,8 @@ fn shut_channels(w: &mut Words, i: usize)
 // Connection c is closed, with its session in slot i if it has one (past the slots: none).
 fn close_parts(w: &mut Words, strings: &mut Strings, c: u64, i: usize)
     requires { ⌜ ((s : List ℕ) → slotIn (locksOf (now w) s .entries) c ≡ i) ⌝ }
-    ensures { λ _. ⌜ (view (memory (now (w .exit)) (now (strings .exit))) ≡ closedServer (view (memory (now (w .entry)) (now (strings .entry)))) c i) × (Tidy (memory (now (w .entry)) (now (strings .entry))) → Tidy (memory (now (w .exit)) (now (strings .exit)))) ⌝ }
+    ensures { λ _. ⌜ (view (memory (now (w .exit)) (now (strings .exit))) ≡ closedServer (view (memory (now (w .entry)) (now (strings .entry)))) c i)
+        × (Tidy (memory (now (w .entry)) (now (strings .entry))) → Tidy (memory (now (w .exit)) (now (strings .exit)))) ⌝ }
 {
     if i >= SESSION_LIMIT {
         shut_connection(w, c);
@@ -93,7 +102,8 @@ pub fn close_place(
     i: usize,
 ) -> usize
     requires { ⌜ (at + answersRoom ≤ length (now out)) × ((s : List ℕ) → slotIn (locksOf (now w) s .entries) c ≡ i) ⌝ }
-    ensures { λ r. ⌜ ClosesPlace (view (memory (now (w .entry)) (now (strings .entry)))) c i (memory (now (w .exit)) (now (strings .exit))) (now (out .entry)) (now (out .exit)) at r × (Tidy (memory (now (w .entry)) (now (strings .entry))) → Tidy (memory (now (w .exit)) (now (strings .exit)))) ⌝ }
+    ensures { λ r. ⌜ ClosesPlace (view (memory (now (w .entry)) (now (strings .entry)))) c i (memory (now (w .exit)) (now (strings .exit))) (now (out .entry))
+        (now (out .exit)) at r × (Tidy (memory (now (w .entry)) (now (strings .entry))) → Tidy (memory (now (w .exit)) (now (strings .exit)))) ⌝ }
 {
     close_parts(w, strings, c, i);
     grant_pass::pass_waiting(w, strings, out, at)

@@ -31,7 +31,9 @@ use wire::types;
 // Session n opens in slot i over connection c, in the mode that the host prefers.
 fn enter_session(w: &mut Words, strings: &mut Strings, i: usize, n: u64, c: u64)
     requires { ⌜ (i < sessionLimit) × (n < 65536) × (n ≡ 0 → ⊥) × (c < connectionLimit) × Unshown (now w) c × (rowWord (now w) i 0 ≡ 0) ⌝ }
-    ensures { λ _. ⌜ (view (memory (now (w .exit)) (now (strings .exit))) ≡ changed (view (memory (now (w .entry)) (now (strings .entry)))) (enter i n c) (withSession (view (memory (now (w .entry)) (now (strings .entry))) .rest) i n)) × (Tidy (memory (now (w .entry)) (now (strings .entry))) → Tidy (memory (now (w .exit)) (now (strings .exit)))) ⌝ }
+    ensures { λ _. ⌜ (view (memory (now (w .exit)) (now (strings .exit))) ≡ changed (view (memory (now (w .entry)) (now (strings .entry)))) (enter i n c)
+        (withSession (view (memory (now (w .entry)) (now (strings .entry))) .rest) i n))
+        × (Tidy (memory (now (w .entry)) (now (strings .entry))) → Tidy (memory (now (w .exit)) (now (strings .exit)))) ⌝ }
 {
     sessions::enter_slot(w, strings, i, n, c);
     let mode = tables::single(w, tables::PREFERENCE);
@@ -60,7 +62,9 @@ pub fn initialize(
     len: u64,
 ) -> Delivery
     requires { ⌜ (c < connectionLimit) × (len ≤ payloadLimit) × (outputMinimum ≤ length (now out)) × ((s : List ℕ) → slotOfNumber (locksOf (now w) s .entries) 0 < sessionLimit) × Unshown (now w) c ⌝ }
-    ensures { λ r. ⌜ Did (finish (view (memory (now (w .entry)) (now (strings .entry)))) (opens true (view (memory (now (w .entry)) (now (strings .entry)))) c (record { kind = 0; code = 0; param = param; len = len }))) r (memory (now (w .entry)) (now (strings .entry))) (memory (now (w .exit)) (now (strings .exit))) (now (out .entry)) (now (out .exit)) ⌝ }
+    ensures { λ r. ⌜ Did (finish (view (memory (now (w .entry)) (now (strings .entry))))
+        (opens true (view (memory (now (w .entry)) (now (strings .entry)))) c (record { kind = 0; code = 0; param = param; len = len }))) r
+        (memory (now (w .entry)) (now (strings .entry))) (memory (now (w .exit)) (now (strings .exit))) (now (out .entry)) (now (out .exit)) ⌝ }
 {
     let i = search::slot_of_number(w, 0);
     let n = session_id::next_session_id(w);
@@ -80,8 +84,12 @@ pub fn initialize(
 
 // AsyncInitialize that acts: the second connection of the session with the number in the parameter.
 pub fn async_initialize(w: &mut Words, out: &mut [u8], c: u64, param: u32, len: u64) -> Delivery
-    requires { ⌜ (c < connectionLimit) × (len ≤ payloadLimit) × (outputMinimum ≤ length (now out)) × ((s : List ℕ) → slotOfNumber (locksOf (now w) s .entries) param < sessionLimit) × ((s : List ℕ) → halfOpen (at (locksOf (now w) s .entries) (slotOfNumber (locksOf (now w) s .entries) param)) ≡ true) × Unshown (now w) c ⌝ }
-    ensures { λ r. ⌜ ((s : List ℕ) → Did (finish (view (memory (now (w .entry)) s)) (opens false (view (memory (now (w .entry)) s)) c (record { kind = 17; code = 0; param = param; len = len }))) r (memory (now (w .entry)) s) (memory (now (w .exit)) s) (now (out .entry)) (now (out .exit))) ⌝ }
+    requires { ⌜ (c < connectionLimit) × (len ≤ payloadLimit) × (outputMinimum ≤ length (now out))
+        × ((s : List ℕ) → slotOfNumber (locksOf (now w) s .entries) param < sessionLimit)
+        × ((s : List ℕ) → halfOpen (at (locksOf (now w) s .entries) (slotOfNumber (locksOf (now w) s .entries) param)) ≡ true) × Unshown (now w) c ⌝ }
+    ensures { λ r. ⌜ ((s : List ℕ) → Did (finish (view (memory (now (w .entry)) s))
+        (opens false (view (memory (now (w .entry)) s)) c (record { kind = 17; code = 0; param = param; len = len }))) r (memory (now (w .entry)) s)
+        (memory (now (w .exit)) s) (now (out .entry)) (now (out .exit))) ⌝ }
 {
     let i = search::slot_of_number(w, param as u64);
     let vendor = (tables::single(w, tables::VENDOR) % 65536) as u32;
@@ -100,8 +108,14 @@ pub fn act_opening(
     param: u32,
     len: u64,
 ) -> Delivery
-    requires { ⌜ (c < connectionLimit) × (len ≤ payloadLimit) × (outputMinimum ≤ length (now out)) × ((s : List ℕ) → kind ≡ 0 → slotOfNumber (locksOf (now w) s .entries) 0 < sessionLimit) × ((s : List ℕ) → (kind ≡ 0 → ⊥) → slotOfNumber (locksOf (now w) s .entries) param < sessionLimit) × ((s : List ℕ) → (kind ≡ 0 → ⊥) → halfOpen (at (locksOf (now w) s .entries) (slotOfNumber (locksOf (now w) s .entries) param)) ≡ true) × Unshown (now w) c ⌝ }
-    ensures { λ r. ⌜ ((p : List ℕ) (i code : ℕ) → Did (finish (view (memory (now (w .entry)) (now (strings .entry)))) (acts r-none (view (memory (now (w .entry)) (now (strings .entry)))) i c (record { kind = kind; code = code; param = param; len = len }) p)) r (memory (now (w .entry)) (now (strings .entry))) (memory (now (w .exit)) (now (strings .exit))) (now (out .entry)) (now (out .exit))) ⌝ }
+    requires { ⌜ (c < connectionLimit) × (len ≤ payloadLimit) × (outputMinimum ≤ length (now out))
+        × ((s : List ℕ) → kind ≡ 0 → slotOfNumber (locksOf (now w) s .entries) 0 < sessionLimit)
+        × ((s : List ℕ) → (kind ≡ 0 → ⊥) → slotOfNumber (locksOf (now w) s .entries) param < sessionLimit)
+        × ((s : List ℕ) → (kind ≡ 0 → ⊥) → halfOpen (at (locksOf (now w) s .entries) (slotOfNumber (locksOf (now w) s .entries) param)) ≡ true)
+        × Unshown (now w) c ⌝ }
+    ensures { λ r. ⌜ ((p : List ℕ) (i code : ℕ) → Did (finish (view (memory (now (w .entry)) (now (strings .entry))))
+        (acts r-none (view (memory (now (w .entry)) (now (strings .entry)))) i c (record { kind = kind; code = code; param = param; len = len }) p)) r
+        (memory (now (w .entry)) (now (strings .entry))) (memory (now (w .exit)) (now (strings .exit))) (now (out .entry)) (now (out .exit))) ⌝ }
 {
     if kind == types::INITIALIZE {
         return initialize(w, strings, out, c, param, len);

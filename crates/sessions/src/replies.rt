@@ -29,7 +29,8 @@ use wire::types;
 // Connection c is open, with so many bytes to skip.
 pub fn keep_open(w: &mut Words, c: u64, left: u64)
     requires { ⌜ c < connectionLimit ⌝ }
-    ensures { λ _. ⌜ ((s : List ℕ) → view (memory (now (w .exit)) s) ≡ onRest (view (memory (now (w .entry)) s)) (λ r. withConnection r c (openConnection left))) × ((s : List ℕ) → Tidy (memory (now (w .entry)) s) → Tidy (memory (now (w .exit)) s)) ⌝ }
+    ensures { λ _. ⌜ ((s : List ℕ) → view (memory (now (w .exit)) s) ≡ onRest (view (memory (now (w .entry)) s))
+        (λ r. withConnection r c (openConnection left))) × ((s : List ℕ) → Tidy (memory (now (w .entry)) s) → Tidy (memory (now (w .exit)) s)) ⌝ }
 {
     tables::set_connection(w, c as usize, tables::IS_OPEN, 1);
     tables::set_connection(w, c as usize, tables::REMAINDER, left);
@@ -45,7 +46,8 @@ pub fn send_error(
     left: u64,
 ) -> Delivery
     requires { ⌜ (c < connectionLimit) × (outputMinimum ≤ length (now out)) ⌝ }
-    ensures { λ r. ⌜ ((s : List ℕ) → Did (finish (view (memory (now (w .entry)) s)) (errorPlan (view (memory (now (w .entry)) s)) c code taken left)) r (memory (now (w .entry)) s) (memory (now (w .exit)) s) (now (out .entry)) (now (out .exit))) ⌝ }
+    ensures { λ r. ⌜ ((s : List ℕ) → Did (finish (view (memory (now (w .entry)) s)) (errorPlan (view (memory (now (w .entry)) s)) c code taken left)) r
+        (memory (now (w .entry)) s) (memory (now (w .exit)) s) (now (out .entry)) (now (out .exit))) ⌝ }
 {
     keep_open(w, c, left);
     frame::put_frame(out, 0, c as u8, types::ERROR, code, 0);
@@ -55,7 +57,8 @@ pub fn send_error(
 // So many bytes of the remainder are skipped.
 pub fn skip(w: &mut Words, c: u64, remainder: u64, taken: u64) -> Delivery
     requires { ⌜ (c < connectionLimit) × (taken ≤ remainder) × (remainder ≡ (connectionAt (restOf (now w)) c) .remainder) ⌝ }
-    ensures { λ r. ⌜ ((s out : List ℕ) → Did (finish (view (memory (now (w .entry)) s)) (skipPlan (view (memory (now (w .entry)) s)) c taken)) r (memory (now (w .entry)) s) (memory (now (w .exit)) s) out out) ⌝ }
+    ensures { λ r. ⌜ ((s out : List ℕ) → Did (finish (view (memory (now (w .entry)) s)) (skipPlan (view (memory (now (w .entry)) s)) c taken)) r
+        (memory (now (w .entry)) s) (memory (now (w .exit)) s) out out) ⌝ }
 {
     keep_open(w, c, remainder - taken);
     answer::quiet(outcome::SKIPPED, taken)
@@ -64,7 +67,9 @@ pub fn skip(w: &mut Words, c: u64, remainder: u64, taken: u64) -> Delivery
 // The FatalError to each connection of the session in slot i, or to connection c alone; the place behind it.
 fn put_fatal(w: &Words, out: &mut [u8], c: u64, i: usize, code: u8) -> usize
     requires { ⌜ (c < connectionLimit) × (outputMinimum ≤ length (now out)) × ((s : List ℕ) → slotIn (locksOf (now w) s .entries) c ≡ i) ⌝ }
-    ensures { λ r. ⌜ (r ≤ 34) × ((s : List ℕ) → now (out .exit) ≡ splice (now (out .entry)) 0 (bytesOf (fatals code (channels (view (memory (now (w .entry)) s)) c)))) × ((s : List ℕ) → r ≡ length (bytesOf (fatals code (channels (view (memory (now (w .entry)) s)) c)))) ⌝ }
+    ensures { λ r. ⌜ (r ≤ 34) × ((s : List ℕ) → now (out .exit) ≡ splice (now (out .entry)) 0
+        (bytesOf (fatals code (channels (view (memory (now (w .entry)) s)) c))))
+        × ((s : List ℕ) → r ≡ length (bytesOf (fatals code (channels (view (memory (now (w .entry)) s)) c)))) ⌝ }
 {
     if i >= SESSION_LIMIT {
         frame::put_frame(out, 0, c as u8, types::FATAL_ERROR, code, 0);
@@ -99,7 +104,10 @@ pub fn send_fatal(
     code: u8,
 ) -> Delivery
     requires { ⌜ (c < connectionLimit) × (outputMinimum ≤ length (now out)) × ((s : List ℕ) → slotIn (locksOf (now w) s .entries) c ≡ i) ⌝ }
-    ensures { λ r. ⌜ Did (finish (view (memory (now (w .entry)) (now (strings .entry)))) (closePlan (view (memory (now (w .entry)) (now (strings .entry)))) c i (fatals code (channels (view (memory (now (w .entry)) (now (strings .entry)))) c)))) r (memory (now (w .entry)) (now (strings .entry))) (memory (now (w .exit)) (now (strings .exit))) (now (out .entry)) (now (out .exit)) ⌝ }
+    ensures { λ r. ⌜ Did (finish (view (memory (now (w .entry)) (now (strings .entry))))
+        (closePlan (view (memory (now (w .entry)) (now (strings .entry)))) c i
+        (fatals code (channels (view (memory (now (w .entry)) (now (strings .entry)))) c)))) r (memory (now (w .entry)) (now (strings .entry)))
+        (memory (now (w .exit)) (now (strings .exit))) (now (out .entry)) (now (out .exit)) ⌝ }
 {
     let session = number_of(w, i);
     let at = put_fatal(w, out, c, i, code);
@@ -116,7 +124,9 @@ pub fn close_silently(
     i: usize,
 ) -> Delivery
     requires { ⌜ (c < connectionLimit) × (outputMinimum ≤ length (now out)) × ((s : List ℕ) → slotIn (locksOf (now w) s .entries) c ≡ i) ⌝ }
-    ensures { λ r. ⌜ Did (finish (view (memory (now (w .entry)) (now (strings .entry)))) (closePlan (view (memory (now (w .entry)) (now (strings .entry)))) c i [])) r (memory (now (w .entry)) (now (strings .entry))) (memory (now (w .exit)) (now (strings .exit))) (now (out .entry)) (now (out .exit)) ⌝ }
+    ensures { λ r. ⌜ Did (finish (view (memory (now (w .entry)) (now (strings .entry))))
+        (closePlan (view (memory (now (w .entry)) (now (strings .entry)))) c i [])) r (memory (now (w .entry)) (now (strings .entry)))
+        (memory (now (w .exit)) (now (strings .exit))) (now (out .entry)) (now (out .exit)) ⌝ }
 {
     let session = number_of(w, i);
     let end = closing::close_place(w, strings, out, 0, c, i);

@@ -2,7 +2,8 @@
 use mathlib.Core.Path.{_≡_, refl, sym, ap, ap₂, _∙_, subst}
 use mathlib.Core.Logic.{_⊎_, inl, inr, ⊎-elim}
 use Prim.Native.Nat.{ℕ, zero, suc, _+_, _*_, _-_, _/_, _%_, _^_, _≤_, _<_, max}
-use native.Mathlib.Nat.{mod-eq-of-lt, mod-lt, pow-suc, pow-succ', one-le-pow, add-mul-div-left, div-div-eq-div-mul, div-add-mod, mul-div-cancel-left, mul-le-mul-left, mul-one, max-zero, add-mul-mod-self-left}
+use native.Mathlib.Nat.{mod-eq-of-lt, mod-lt, pow-suc, pow-succ', one-le-pow, add-mul-div-left, div-div-eq-div-mul, div-add-mod, mul-div-cancel-left}
+use native.Mathlib.Nat.{mul-le-mul-left, mul-one, max-zero, add-mul-mod-self-left}
 use native.Mathlib.Omega.{arith}
 use lib.Arith.{mod-mul}
 use lib.Bits.{bitOr, or-step, or-zero-r}

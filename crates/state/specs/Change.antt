@@ -12,15 +12,20 @@ use lib.ListN.{length, getD, set, take}
 use lib.Seq.{getD-set-same, getD-set-other}
 use borrow.Author.Tests.{eqb-true, eqb-false}
 use Rattle.model.specs.Sizes.{sessionLimit, connectionLimit, stringLimit, listLimit}
-use Rattle.model.specs.State.{Entry, Waiting, Locks, Exchange, Connection, RemoteLocal, Allowed, Allowed.any-command, Rest, Server, withAllowed, blank, at, freshExchange, closedConnection, exchangeAt, connectionAt, Sensing, freshSensing, sensingAt}
+use Rattle.model.specs.State.{Entry, Waiting, Locks, Exchange, Connection, RemoteLocal, Allowed, Allowed.any-command, Rest, Server, withAllowed, blank, at}
+use Rattle.model.specs.State.{freshExchange, closedConnection, exchangeAt, connectionAt, Sensing, freshSensing, sensingAt}
 use Rattle.readings.specs.Record.{Recorded}
 use Rattle.model.specs.Exchange.{withAnswering, withClear, withClientSize, withMode, withCount, withExpectation, withNumber}
 use Rattle.model.specs.Locks.{withRow, withOrder, withGranted}
 use Rattle.state.specs.Table.{tab, tab-same, tab-set, getD-tab, apart}
 use Rattle.state.specs.Grid.{upd, upd-set, part, grid, grid-set, grid-off, getD-grid, word-of}
 use Rattle.state.specs.Bits.{bit}
-use Rattle.state.specs.Layout.{LOCKS, CLOCK, VENDOR, PREFERENCE, STATUS, LAST, ENABLE, LOCKOUT, REMOTE, HOLDER, SHARERS, KEY, COUNT, ENTRIES, ENTRY, ORDERS, ORDER, EXCHANGES, EXCHANGE, CONNECTIONS, CONNECTION, HOME, LISTED, REQUESTS, REQUEST, QUEUE, WORDS, LIST, SENSINGS, SENSING}
-use Rattle.state.specs.View.{Memory, memory, standingOf, word, flag, keyOf, rowWord, homeAt, homeOf, fieldOf, orderWord, entryFrom, entryAt, entriesOf, slotAt, requestAt, waitingOf, locksOf, askedOf, exchangeFrom, exchangeOf, connectionFrom, connectionOf, restFrom, restOf, allowedFrom, allowedOf, view, watchOf, numeral, sensingFrom, sensingOf}
+use Rattle.state.specs.Layout.{LOCKS, CLOCK, VENDOR, PREFERENCE, STATUS, LAST, ENABLE, LOCKOUT, REMOTE, HOLDER, SHARERS, KEY, COUNT, ENTRIES, ENTRY}
+use Rattle.state.specs.Layout.{ORDERS, ORDER, EXCHANGES, EXCHANGE, CONNECTIONS, CONNECTION, HOME, LISTED, REQUESTS, REQUEST, QUEUE, WORDS, LIST}
+use Rattle.state.specs.Layout.{SENSINGS, SENSING}
+use Rattle.state.specs.View.{Memory, memory, standingOf, word, flag, keyOf, rowWord, homeAt, homeOf, fieldOf, orderWord, entryFrom, entryAt, entriesOf}
+use Rattle.state.specs.View.{slotAt, requestAt, waitingOf, locksOf, askedOf, exchangeFrom, exchangeOf, connectionFrom, connectionOf, restFrom, restOf}
+use Rattle.state.specs.View.{allowedFrom, allowedOf, view, watchOf, numeral, sensingFrom, sensingOf}
 use Rattle.state.specs.Confirmed.{field-same, field-small}
 
 -- the word of a field, in the row of a slot or of a connection
@@ -78,11 +83,56 @@ flagsWith (suc zero) v x = record { enable = x .enable; lockout = flag v; remote
 flagsWith (suc (suc f)) v x = record { enable = x .enable; lockout = x .lockout; remote = flag v }
 
 abbrev pub singleWith : ℕ → ℕ → Rest → Rest
-singleWith zero v r = record { exchanges = r .exchanges; sensings = r .sensings; connections = r .connections; lastIssued = r .lastIssued; made = record { vendor = v % 65536; prefersOverlap = r .made .prefersOverlap }; status = r .status; remoteLocal = r .remoteLocal; allowed = r .allowed }
-singleWith (suc zero) v r = record { exchanges = r .exchanges; sensings = r .sensings; connections = r .connections; lastIssued = r .lastIssued; made = record { vendor = r .made .vendor; prefersOverlap = flag v }; status = r .status; remoteLocal = r .remoteLocal; allowed = r .allowed }
-singleWith (suc (suc zero)) v r = record { exchanges = r .exchanges; sensings = r .sensings; connections = r .connections; lastIssued = r .lastIssued; made = r .made; status = v % 256; remoteLocal = r .remoteLocal; allowed = r .allowed }
-singleWith (suc (suc (suc zero))) v r = record { exchanges = r .exchanges; sensings = r .sensings; connections = r .connections; lastIssued = v % 65536; made = r .made; status = r .status; remoteLocal = r .remoteLocal; allowed = r .allowed }
-singleWith (suc (suc (suc (suc f)))) v r = record { exchanges = r .exchanges; sensings = r .sensings; connections = r .connections; lastIssued = r .lastIssued; made = r .made; status = r .status; remoteLocal = flagsWith f v (r .remoteLocal); allowed = r .allowed }
+singleWith zero v r = record {
+  exchanges = r .exchanges;
+  sensings = r .sensings;
+  connections = r .connections;
+  lastIssued = r .lastIssued;
+  made = record { vendor = v % 65536; prefersOverlap = r .made .prefersOverlap };
+  status = r .status;
+  remoteLocal = r .remoteLocal;
+  allowed = r .allowed;
+}
+singleWith (suc zero) v r = record {
+  exchanges = r .exchanges;
+  sensings = r .sensings;
+  connections = r .connections;
+  lastIssued = r .lastIssued;
+  made = record { vendor = r .made .vendor; prefersOverlap = flag v };
+  status = r .status;
+  remoteLocal = r .remoteLocal;
+  allowed = r .allowed;
+}
+singleWith (suc (suc zero)) v r = record {
+  exchanges = r .exchanges;
+  sensings = r .sensings;
+  connections = r .connections;
+  lastIssued = r .lastIssued;
+  made = r .made;
+  status = v % 256;
+  remoteLocal = r .remoteLocal;
+  allowed = r .allowed;
+}
+singleWith (suc (suc (suc zero))) v r = record {
+  exchanges = r .exchanges;
+  sensings = r .sensings;
+  connections = r .connections;
+  lastIssued = v % 65536;
+  made = r .made;
+  status = r .status;
+  remoteLocal = r .remoteLocal;
+  allowed = r .allowed;
+}
+singleWith (suc (suc (suc (suc f)))) v r = record {
+  exchanges = r .exchanges;
+  sensings = r .sensings;
+  connections = r .connections;
+  lastIssued = r .lastIssued;
+  made = r .made;
+  status = r .status;
+  remoteLocal = flagsWith f v (r .remoteLocal);
+  allowed = r .allowed;
+}
 
 abbrev pub withClock : Server → ℕ → Server
 withClock d t = record { locks = record { clock = t; entries = d .locks .entries; waiting = d .locks .waiting }; rest = d .rest }
@@ -418,7 +468,9 @@ module _ (w key : List ℕ) (i f v : ℕ) (h : i < sessionLimit) (l : f < ORDER)
   order-other : (j : ℕ) → j < sessionLimit → (j ≡ i → ⊥) → entryAt ordered key j ≡ entryAt w key j
   unfolding entryAt
   order-other j m o =
-      let n : (g : ℕ) → g < ORDER → orderWord ordered j g ≡ orderWord w j g = (λ g x. off w (ORDERS + i * ORDER + f) v (ORDERS + j * ORDER + g) (λ e. ⊎-elim (λ (y : j < i). omega arith) (λ (y : i < j). omega arith) (apart j i o))) in
+      let n : (g : ℕ) → g < ORDER → orderWord ordered j g ≡ orderWord w j g =
+      (λ g x. off w (ORDERS + i * ORDER + f) v (ORDERS + j * ORDER + g)
+      (λ e. ⊎-elim (λ (y : j < i). omega arith) (λ (y : i < j). omega arith) (apart j i o))) in
       entry-with j (orderWord w j) m n
 
 -- a memory whose table differs in slot i alone
@@ -488,7 +540,8 @@ module _ (w : List ℕ) (i : ℕ) where
   connection-read f h l =
       let b : ℕ = CONNECTIONS + i * CONNECTION in
       let r : ℕ → ℕ = word (part w b CONNECTION) in
-      ap₂ (connectionWith f) (sym (word-of w b CONNECTION f (omega arith))) (connection-at h) ∙ sym (connection-by r f (r f) l) ∙ connection-same (λ (g : ℕ). cond (eqb g f) (r f) (r g)) r (λ g x. again r f g) ∙ sym (connection-at h)
+      ap₂ (connectionWith f) (sym (word-of w b CONNECTION f (omega arith))) (connection-at h) ∙ sym (connection-by r f (r f) l)
+      ∙ connection-same (λ (g : ℕ). cond (eqb g f) (r f) (r g)) r (λ g x. again r f g) ∙ sym (connection-at h)
 
   pub entry-at : (s : List ℕ) → i < sessionLimit → at (locksOf w s .entries) i ≡ entryAt w (keyOf w s) i
   unfolding locksOf entriesOf
@@ -497,8 +550,10 @@ module _ (w : List ℕ) (i : ℕ) where
   entry-again : (key : List ℕ) (f : ℕ) → f < ENTRY → entryWith f (fieldOf w i f) (entryAt w key i) ≡ entryAt w key i
   unfolding entryAt
   entry-again key zero l = refl
-  entry-again key (suc zero) l = λ k. entryFrom (λ (f : ℕ). cond (eqb f 1) (mod-eq-of-lt (field-small w i 0) k) (fieldOf w i f)) (orderWord w i) ((entryAt w key i) .exclusive) ((entryAt w key i) .shared)
-  entry-again key (suc (suc zero)) l = λ k. entryFrom (λ (f : ℕ). cond (eqb f 2) (mod-eq-of-lt (field-small w i 1) k) (fieldOf w i f)) (orderWord w i) ((entryAt w key i) .exclusive) ((entryAt w key i) .shared)
+  entry-again key (suc zero) l = λ k. entryFrom (λ (f : ℕ). cond (eqb f 1) (mod-eq-of-lt (field-small w i 0) k) (fieldOf w i f)) (orderWord w i)
+      ((entryAt w key i) .exclusive) ((entryAt w key i) .shared)
+  entry-again key (suc (suc zero)) l = λ k. entryFrom (λ (f : ℕ). cond (eqb f 2) (mod-eq-of-lt (field-small w i 1) k) (fieldOf w i f)) (orderWord w i)
+      ((entryAt w key i) .exclusive) ((entryAt w key i) .shared)
   entry-again key (suc (suc (suc f))) l = absurd (omega arith)
 
   pub entry-read : (s : List ℕ) (f : ℕ) → i < sessionLimit → f < ENTRY → entryWith f (fieldOf w i f) (at (locksOf w s .entries) i) ≡ at (locksOf w s .entries) i
@@ -525,7 +580,8 @@ module _ (w s : List ℕ) (v : ℕ) (long : length w ≡ WORDS) where
       λ k. record {
         locks = record {
           clock = (ap (λ (x : ℕ). x % 2 ^ 63) (here w CLOCK v (omega arith)) ∙ mod-eq-of-lt h) k;
-          entries = (ap (entriesOf (set w CLOCK v)) (key-off w s CLOCK v (omega arith)) ∙ entries-off w (keyOf w s) CLOCK v (omega arith) (omega arith) (past-homes w CLOCK (omega arith)) (inl (omega arith))) k;
+          entries = (ap (entriesOf (set w CLOCK v)) (key-off w s CLOCK v (omega arith))
+              ∙ entries-off w (keyOf w s) CLOCK v (omega arith) (omega arith) (past-homes w CLOCK (omega arith)) (inl (omega arith))) k;
           waiting = waiting-off w s CLOCK v (omega arith) (omega arith) k;
         };
         rest = rest-off w s s CLOCK v (omega arith) refl k;
@@ -576,7 +632,10 @@ module _ (w : List ℕ) (v : ℕ) (long : length w ≡ WORDS) where
   with-list (suc (suc (suc (suc f)))) h x = refl
 
   pub single-stored : (s : List ℕ) (f : ℕ) → f < EXCHANGES → view (memory (set w f v) s) ≡ onRest (view (memory w s)) (singleWith f v)
-  single-stored s f h = λ k. record { locks = locks-off w s f v (omega arith) (λ c x e. omega arith) k; rest = ((λ j. withAllowed (rest-row f h j) (allowed-off w s s f v (omega arith) refl j)) ∙ with-list f h (allowedOf w s)) k }
+  single-stored s f h = λ k. record {
+    locks = locks-off w s f v (omega arith) (λ c x e. omega arith) k;
+    rest = ((λ j. withAllowed (rest-row f h j) (allowed-off w s s f v (omega arith) refl j)) ∙ with-list f h (allowedOf w s)) k;
+  }
 
 pub single-read : (w : List ℕ) (f : ℕ) → f < EXCHANGES → singleWith f (word w f) (restOf w) ≡ restOf w
 unfolding restOf

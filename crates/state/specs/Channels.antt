@@ -14,7 +14,8 @@ use Rattle.model.specs.Locks.{withRow, joined}
 use Rattle.state.specs.Table.{tab-same}
 use Rattle.state.specs.Grid.{upd, upd-same, grid, grid-set, grid-off}
 use Rattle.state.specs.Bits.{bit}
-use Rattle.state.specs.Layout.{CLOCK, VENDOR, PREFERENCE, STATUS, LAST, ENABLE, LOCKOUT, REMOTE, HOLDER, SHARERS, ENTRIES, ENTRY, ORDERS, ORDER, EXCHANGES, EXCHANGE, CONNECTIONS, CONNECTION, HOME, WORDS, SENSINGS, SENSING}
+use Rattle.state.specs.Layout.{CLOCK, VENDOR, PREFERENCE, STATUS, LAST, ENABLE, LOCKOUT, REMOTE, HOLDER, SHARERS, ENTRIES, ENTRY, ORDERS, ORDER}
+use Rattle.state.specs.Layout.{EXCHANGES, EXCHANGE, CONNECTIONS, CONNECTION, HOME, WORDS, SENSINGS, SENSING}
 use Rattle.state.specs.View.{memory, word, flag, keyOf, orderWord, rowWord, homeIn, homeAt, homeOf, fieldOf, entryAt, entriesOf, locksOf, exchangeOf, connectionOf, restOf, view, sensingOf}
 use Rattle.state.specs.Confirmed.{field-same, field-else, field-number, field-free, field-past, field-shown, Shows, shows}
 use Rattle.state.specs.Change.{onEntry, off, here, entry-same, connection-same, key-off, waiting-off, allowed-off, rest-off, entries-change}
@@ -81,7 +82,8 @@ module _ (w w′ key : List ℕ) (j : ℕ) (holder : word w′ HOLDER ≡ word w
   entry-rowed : (n a b : ℕ) → fieldOf w′ j 0 ≡ n → fieldOf w′ j 1 ≡ a → fieldOf w′ j 2 ≡ b → entryAt w′ key j ≡ withRow n a b (entryAt w key j)
   unfolding entryAt
   entry-rowed n a b p q r =
-      entry-same (fieldOf w′ j) (fieldOf w′ j) (orderWord w′ j) (orderWord w j) _ _ _ _ (λ f l. refl) (λ f l. order f) (ap (λ (x : ℕ). eqb x (j + 1)) holder) (ap (λ (x : ℕ). cond (eqb (bit x j) 1) key []) sharers)
+      entry-same (fieldOf w′ j) (fieldOf w′ j) (orderWord w′ j) (orderWord w j) _ _ _ _ (λ f l. refl) (λ f l. order f) (ap (λ (x : ℕ). eqb x (j + 1)) holder)
+      (ap (λ (x : ℕ). cond (eqb (bit x j) 1) key []) sharers)
       ∙ λ k. withRow (p k) (q k) (r k) (entryAt w key j)
 
   entry-kept : ((f : ℕ) → f < ENTRY → fieldOf w′ j f ≡ fieldOf w j f) → entryAt w′ key j ≡ entryAt w key j
@@ -168,7 +170,8 @@ module _ (w s : List ℕ) (i n c : ℕ) (long : length w ≡ WORDS) (h : i < ses
       ∙ ap (λ (x : Server). withEntries x es) (row-stored w s i 0 n h (lit< tt))
       ∙ ap (λ (x : List Entry). withEntries d x)
       (entries-change w w₄ key key i (withRow n c noConnection) h
-      (entry-rowed w w₄ key i (same HOLDER (omega arith) (omega arith)) (same SHARERS (omega arith) (omega arith)) (λ f. same (ORDERS + i * ORDER + f) (omega arith) (omega arith)) n c noConnection (field-number w₄ i ∙ number-here) first-shown second-none)
+      (entry-rowed w w₄ key i (same HOLDER (omega arith) (omega arith)) (same SHARERS (omega arith) (omega arith))
+      (λ f. same (ORDERS + i * ORDER + f) (omega arith) (omega arith)) n c noConnection (field-number w₄ i ∙ number-here) first-shown second-none)
       (λ j l o.
       entry-kept w w₄ key j (same HOLDER (omega arith) (omega arith)) (same SHARERS (omega arith) (omega arith)) (λ f. same (ORDERS + j * ORDER + f) (omega arith) (omega arith))
       (keeps w w₄ c j few l lone
@@ -213,7 +216,14 @@ module _ (w s : List ℕ) (i n c : ℕ) (long : length w ≡ WORDS) (h : i < ses
               let n : noConnection ≡ x = sym (field-free w i (y .field) (omega (arith, y .some)) free) ∙ ap (λ (k : ℕ). fieldOf w k (y .field)) (sym z) ∙ y .is in
               absurd (omega arith)
           by false e =
-              inr record { slot = y .slot; field = y .field; few = y .few; some = y .some; small = y .small; is = others-show (y .slot) (y .field) (y .few) (y .small) (eqb-false (y .slot) i e) ∙ y .is }
+              inr record {
+                slot = y .slot;
+                field = y .field;
+                few = y .few;
+                some = y .some;
+                small = y .small;
+                is = others-show (y .slot) (y .field) (y .few) (y .small) (eqb-false (y .slot) i e) ∙ y .is;
+              }
 
       home : (x : ℕ) → x < connectionLimit → (b : Bool) → eqb x c ≡ b → TidyHome w₄ x
       home x l true e = inr record { slot = i; field = 1; few = h; some = lit< tt; small = lit< tt; is = first-shown ∙ sym (eqb-true x c e) }
@@ -260,9 +270,11 @@ module _ (w s : List ℕ) (i c : ℕ) (long : length w ≡ WORDS) (h : i < sessi
       ∙ ap (λ (x : Server). withEntries x es) (row-stored w s i 2 c h (lit< tt))
       ∙ ap (λ (x : List Entry). withEntries d x)
       (entries-change w v₂ key key i (joined c) h
-      (entry-rowed w v₂ key i (still HOLDER (omega arith) (omega arith)) (still SHARERS (omega arith) (omega arith)) (λ f. still (ORDERS + i * ORDER + f) (omega arith) (omega arith)) (fieldOf w i 0) (fieldOf w i 1) c
+      (entry-rowed w v₂ key i (still HOLDER (omega arith) (omega arith)) (still SHARERS (omega arith) (omega arith))
+      (λ f. still (ORDERS + i * ORDER + f) (omega arith) (omega arith)) (fieldOf w i 0) (fieldOf w i 1) c
       (field-number v₂ i ∙ alive ∙ sym (field-number w i))
-      (field-else w v₂ i c 0 few alive (still (ENTRIES + i * ENTRY + 1) (omega arith) (omega arith)) other-homes (lone i 0 h (lit< tt)) (λ e. let y : homeIn i 2 ≡ homeIn i 1 = sym housed ∙ e in omega arith))
+      (field-else w v₂ i c 0 few alive (still (ENTRIES + i * ENTRY + 1) (omega arith) (omega arith)) other-homes (lone i 0 h (lit< tt))
+      (λ e. let y : homeIn i 2 ≡ homeIn i 1 = sym housed ∙ e in omega arith))
       (field-shown v₂ i 2 (omega arith) (λ e. lives (sym alive ∙ e)) (omega (arith, named)) (ap (homeOf v₂) named ∙ housed) ∙ named))
       (λ j l o.
       entry-kept w v₂ key j (still HOLDER (omega arith) (omega arith)) (still SHARERS (omega arith) (omega arith)) (λ f. still (ORDERS + j * ORDER + f) (omega arith) (omega arith))
@@ -280,7 +292,8 @@ module _ (w s : List ℕ) (i c : ℕ) (long : length w ≡ WORDS) (h : i < sessi
       (λ f y e. o (let x : homeIn i 2 ≡ homeIn j (suc f) = sym housed ∙ e in let z : j ≡ i = omega arith in z)) g m
 
   first-still : fieldOf v₂ i 1 ≡ fieldOf w i 1
-  first-still = field-else w v₂ i c 0 few alive (still (ENTRIES + i * ENTRY + 1) (omega arith) (omega arith)) other-homes (lone i 0 h (lit< tt)) (λ e. let y : homeIn i 2 ≡ homeIn i 1 = sym housed ∙ e in omega arith)
+  first-still = field-else w v₂ i c 0 few alive (still (ENTRIES + i * ENTRY + 1) (omega arith) (omega arith)) other-homes (lone i 0 h (lit< tt))
+      (λ e. let y : homeIn i 2 ≡ homeIn i 1 = sym housed ∙ e in omega arith)
 
   second-now : fieldOf v₂ i 2 ≡ c
   second-now = field-shown v₂ i 2 (omega arith) (λ e. lives (sym alive ∙ e)) (omega (arith, named)) (ap (homeOf v₂) named ∙ housed) ∙ named
@@ -317,7 +330,14 @@ module _ (w s : List ℕ) (i c : ℕ) (long : length w ≡ WORDS) (h : i < sessi
           by : (b : Bool) → eqb (y .slot) i ≡ b → TidyHome v₂ x
           by true e = here-still x (y .field) l (y .some) (y .small) (ap (λ (k : ℕ). fieldOf w k (y .field)) (sym (eqb-true (y .slot) i e)) ∙ y .is)
           by false e =
-              inr record { slot = y .slot; field = y .field; few = y .few; some = y .some; small = y .small; is = others-still (y .slot) (y .field) (y .few) (y .small) (eqb-false (y .slot) i e) ∙ y .is }
+              inr record {
+                slot = y .slot;
+                field = y .field;
+                few = y .few;
+                some = y .some;
+                small = y .small;
+                is = others-still (y .slot) (y .field) (y .few) (y .small) (eqb-false (y .slot) i e) ∙ y .is;
+              }
 
       home : (x : ℕ) → x < connectionLimit → (b : Bool) → eqb x c ≡ b → TidyHome v₂ x
       home x l true e = inr record { slot = i; field = 2; few = h; some = lit< tt; small = lit< tt; is = second-now ∙ sym (eqb-true x c e) }
@@ -432,17 +452,20 @@ opened-in-order w x₁ x₂ x₃ x₄ s i n c k e₁ e₂ e₃ e₄ e long h som
     ∙ ap (λ (x : List ℕ). set x (homeAt c) (homeIn i 1)) (e₃ ∙ ap (λ (x : List ℕ). set x (ENTRIES + i * ENTRY + 2) noConnection) (e₂ ∙ ap (λ (x : List ℕ). set x (ENTRIES + i * ENTRY + 1) c) e₁))))
     (opened-tidy w s i n c long h some few lone free t)
 
-pub joined-in-order : (w x₁ x₂ s : List ℕ) (i c k : ℕ) → x₁ ≡ set w (ENTRIES + i * ENTRY + 2) c → x₂ ≡ set x₁ (homeAt c) k → k ≡ homeIn i 2 → length w ≡ WORDS → i < sessionLimit → (rowWord w i 0 ≡ 0 → ⊥) → c < connectionLimit → Unshown w c
+pub joined-in-order : (w x₁ x₂ s : List ℕ) (i c k : ℕ) → x₁ ≡ set w (ENTRIES + i * ENTRY + 2) c → x₂ ≡ set x₁ (homeAt c) k → k ≡ homeIn i 2 → length w ≡ WORDS →
+    i < sessionLimit → (rowWord w i 0 ≡ 0 → ⊥) → c < connectionLimit → Unshown w c
     → fieldOf w i 2 ≡ noConnection → Tidy (memory w s) → Tidy (memory x₂ s)
 joined-in-order w x₁ x₂ s i c k e₁ e₂ e long h lives few lone none t =
     subst (λ (x : List ℕ). Tidy (memory x s)) (sym (e₂ ∙ ap (set x₁ (homeAt c)) e ∙ ap (λ (x : List ℕ). set x (homeAt c) (homeIn i 2)) e₁)) (joined-tidy w s i c long h lives few lone none t)
 
-pub joined-by : (w x₁ x₂ s : List ℕ) (i c k : ℕ) → x₁ ≡ set w (ENTRIES + i * ENTRY + 2) c → x₂ ≡ set x₁ (homeAt c) k → k ≡ homeIn i 2 → length w ≡ WORDS → i < sessionLimit → (rowWord w i 0 ≡ 0 → ⊥) → c < connectionLimit → Unshown w c
+pub joined-by : (w x₁ x₂ s : List ℕ) (i c k : ℕ) → x₁ ≡ set w (ENTRIES + i * ENTRY + 2) c → x₂ ≡ set x₁ (homeAt c) k → k ≡ homeIn i 2 → length w ≡ WORDS →
+    i < sessionLimit → (rowWord w i 0 ≡ 0 → ⊥) → c < connectionLimit → Unshown w c
     → view (memory x₂ s) ≡ onEntry (view (memory w s)) i (joined c)
 joined-by w x₁ x₂ s i c k e₁ e₂ e long h lives few lone =
     ap (λ (x : List ℕ). view (memory x s)) (e₂ ∙ ap (set x₁ (homeAt c)) e ∙ ap (λ (x : List ℕ). set x (homeAt c) (homeIn i 2)) e₁) ∙ session-joined w s i c long h lives few lone
 
-pub cleared-by : (w₀ w x : List ℕ) (i f : ℕ) → ((s : List ℕ) → view (memory w s) ≡ view (memory w₀ s)) → x ≡ set w (ENTRIES + i * ENTRY + f) 0 → length w ≡ WORDS → i < sessionLimit → rowWord w i 0 ≡ 0 → 0 < f → f < ENTRY
+pub cleared-by : (w₀ w x : List ℕ) (i f : ℕ) → ((s : List ℕ) → view (memory w s) ≡ view (memory w₀ s)) → x ≡ set w (ENTRIES + i * ENTRY + f) 0 →
+    length w ≡ WORDS → i < sessionLimit → rowWord w i 0 ≡ 0 → 0 < f → f < ENTRY
     → ((s : List ℕ) → view (memory x s) ≡ view (memory w₀ s)) × (rowWord x i 0 ≡ 0)
 cleared-by w₀ w x i f k e long h free o l =
     (λ s. ap (λ (y : List ℕ). view (memory y s)) e ∙ row-cleared w s i f long h free o l ∙ k s, ap (λ (y : List ℕ). rowWord y i 0) e ∙ still-free w [] i f long h free o l)

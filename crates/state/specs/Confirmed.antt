@@ -79,7 +79,8 @@ module _ (w w′ : List ℕ) (i : ℕ) where
       (λ t. confirmed (p t) (q t) (homeOf w′ (q t)) k) ∙ by (ltb c connectionLimit) refl
     where
       by : (b : Bool) → ltb (rowWord w i (suc f)) connectionLimit ≡ b
-          → confirmed (rowWord w i 0) (rowWord w i (suc f)) (homeOf w′ (rowWord w i (suc f))) (homeIn i (suc f)) ≡ confirmed (rowWord w i 0) (rowWord w i (suc f)) (homeOf w (rowWord w i (suc f))) (homeIn i (suc f))
+          → confirmed (rowWord w i 0) (rowWord w i (suc f)) (homeOf w′ (rowWord w i (suc f))) (homeIn i (suc f)) ≡ confirmed (rowWord w i 0)
+          (rowWord w i (suc f)) (homeOf w (rowWord w i (suc f))) (homeIn i (suc f))
       by true e = ap (λ (h : ℕ). confirmed (rowWord w i 0) (rowWord w i (suc f)) h (homeIn i (suc f))) (r (ltb-true (rowWord w i (suc f)) connectionLimit e))
       by false e =
           let l : connectionLimit ≤ rowWord w i (suc f) = ltb-false (rowWord w i (suc f)) connectionLimit e in

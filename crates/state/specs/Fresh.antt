@@ -77,7 +77,19 @@ pub fresh-view : (v : Making) → v .vendor < 2 ^ 16 → view (memory (freshWord
 unfolding locksOf restOf allowedOf keyOf entriesOf entryAt fieldOf waitingOf grid tab watchOf numeral notNumber
 fresh-view v h =
     let r : Rest = fresh v .rest in
-    ap₂ (λ (x : ℕ) (b : Bool). record { locks = fresh v .locks; rest = record { exchanges = r .exchanges; sensings = r .sensings; connections = r .connections; lastIssued = 0; made = record { vendor = x; prefersOverlap = b }; status = 0; remoteLocal = r .remoteLocal; allowed = any-command } })
+    ap₂ (λ (x : ℕ) (b : Bool). record {
+      locks = fresh v .locks;
+      rest = record {
+        exchanges = r .exchanges;
+        sensings = r .sensings;
+        connections = r .connections;
+        lastIssued = 0;
+        made = record { vendor = x; prefersOverlap = b };
+        status = 0;
+        remoteLocal = r .remoteLocal;
+        allowed = any-command;
+      };
+    })
     (mod-eq-of-lt h) (flag-back (v .prefersOverlap))
 
 -- copying element by element: a turn, and the end

@@ -24,14 +24,21 @@ module _ (w key : List ℕ) (j : ℕ) (long : length w ≡ WORDS) where
   entry-holder : (v : ℕ) → entryAt (set w HOLDER v) key j ≡ entryFrom (fieldOf w j) (orderWord w j) (eqb v (j + 1)) ((entryAt w key j) .shared)
   unfolding entryAt
   entry-holder v =
-      let t : (f : ℕ) → f < ENTRY → fieldOf (set w HOLDER v) j f ≡ fieldOf w j f = field-same w (set w HOLDER v) j (λ g l. off w HOLDER v (ENTRIES + j * ENTRY + g) (omega arith)) (λ c l. off w HOLDER v (homeAt c) (omega arith)) in
-      entry-same _ (fieldOf w j) (orderWord (set w HOLDER v) j) (orderWord w j) _ _ _ _ t (λ f l. off w HOLDER v (ORDERS + j * ORDER + f) (omega arith)) (ap (λ (x : ℕ). eqb x (j + 1)) (here w HOLDER v (omega arith))) (ap (λ (x : ℕ). cond (eqb (bit x j) 1) key []) (off w HOLDER v SHARERS (omega arith)))
+      let t : (f : ℕ) → f < ENTRY → fieldOf (set w HOLDER v) j f ≡ fieldOf w j f =
+      field-same w (set w HOLDER v) j (λ g l. off w HOLDER v (ENTRIES + j * ENTRY + g) (omega arith)) (λ c l. off w HOLDER v (homeAt c) (omega arith)) in
+      entry-same _ (fieldOf w j) (orderWord (set w HOLDER v) j) (orderWord w j) _ _ _ _ t (λ f l. off w HOLDER v (ORDERS + j * ORDER + f) (omega arith))
+      (ap (λ (x : ℕ). eqb x (j + 1)) (here w HOLDER v (omega arith)))
+      (ap (λ (x : ℕ). cond (eqb (bit x j) 1) key []) (off w HOLDER v SHARERS (omega arith)))
 
   entry-sharers : (v : ℕ) → entryAt (set w SHARERS v) key j ≡ entryFrom (fieldOf w j) (orderWord w j) ((entryAt w key j) .exclusive) (cond (eqb (bit v j) 1) key [])
   unfolding entryAt
   entry-sharers v =
-      let t : (f : ℕ) → f < ENTRY → fieldOf (set w SHARERS v) j f ≡ fieldOf w j f = field-same w (set w SHARERS v) j (λ g l. off w SHARERS v (ENTRIES + j * ENTRY + g) (omega arith)) (λ c l. off w SHARERS v (homeAt c) (omega arith)) in
-      entry-same _ (fieldOf w j) (orderWord (set w SHARERS v) j) (orderWord w j) _ _ _ _ t (λ f l. off w SHARERS v (ORDERS + j * ORDER + f) (omega arith)) (ap (λ (x : ℕ). eqb x (j + 1)) (off w SHARERS v HOLDER (omega arith))) (ap (λ (x : ℕ). cond (eqb (bit x j) 1) key []) (here w SHARERS v (omega arith)))
+      let t : (f : ℕ) → f < ENTRY → fieldOf (set w SHARERS v) j f ≡ fieldOf w j f =
+      field-same w (set w SHARERS v) j (λ g l. off w SHARERS v (ENTRIES + j * ENTRY + g) (omega arith)) (λ c l. off w SHARERS v (homeAt c) (omega arith))
+      in
+      entry-same _ (fieldOf w j) (orderWord (set w SHARERS v) j) (orderWord w j) _ _ _ _ t (λ f l. off w SHARERS v (ORDERS + j * ORDER + f) (omega arith))
+      (ap (λ (x : ℕ). eqb x (j + 1)) (off w SHARERS v HOLDER (omega arith)))
+      (ap (λ (x : ℕ). cond (eqb (bit x j) 1) key []) (here w SHARERS v (omega arith)))
 
   -- slot j as its words have it, with these locks
   entry-as : (x : Bool) (y : List ℕ) → (entryAt w key j) .exclusive ≡ x → (entryAt w key j) .shared ≡ y
@@ -142,7 +149,8 @@ module _ (w s : List ℕ) (i : ℕ) (h : i < sessionLimit) (long : length w ≡ 
   pub shared-dropped : view (memory (set w SHARERS (without (word w SHARERS) i)) s) ≡ onEntry (view (memory w s)) i withoutShared
   shared-dropped =
       sharers-stored (without (word w SHARERS) i) withoutShared
-      (ap (λ (x : Bool). entryFrom (fieldOf w i) (orderWord w i) ((entryAt w (keyOf w s) i) .exclusive) (cond x (keyOf w s) [])) (ne-eqb (bit (without (word w SHARERS) i) i) 1 (let z : bit (without (word w SHARERS) i) i ≡ 0 = without-same (word w SHARERS) i in omega arith))
+      (ap (λ (x : Bool). entryFrom (fieldOf w i) (orderWord w i) ((entryAt w (keyOf w s) i) .exclusive) (cond x (keyOf w s) []))
+      (ne-eqb (bit (without (word w SHARERS) i) i) 1 (let z : bit (without (word w SHARERS) i) i ≡ 0 = without-same (word w SHARERS) i in omega arith))
       ∙ as-unshared w (keyOf w s) i)
       (λ j l n. without-other (word w SHARERS) i j n)
 
@@ -159,7 +167,8 @@ module _ (w s : List ℕ) (i : ℕ) (h : i < sessionLimit) (long : length w ≡ 
   pub sharer-joined : view (memory (set w SHARERS (with-bit sessionLimit (word w SHARERS) i)) s) ≡ onEntry (view (memory w s)) i (give (keyOf w s))
   sharer-joined =
       sharers-stored (with-bit sessionLimit (word w SHARERS) i) (give (keyOf w s))
-      (ap (λ (x : Bool). entryFrom (fieldOf w i) (orderWord w i) ((entryAt w (keyOf w s) i) .exclusive) (cond x (keyOf w s) [])) (eq-eqb (bit (with-bit sessionLimit (word w SHARERS) i) i) 1 (with-same sessionLimit (word w SHARERS) i h))
+      (ap (λ (x : Bool). entryFrom (fieldOf w i) (orderWord w i) ((entryAt w (keyOf w s) i) .exclusive) (cond x (keyOf w s) []))
+      (eq-eqb (bit (with-bit sessionLimit (word w SHARERS) i) i) 1 (with-same sessionLimit (word w SHARERS) i h))
       ∙ as-joined (keyOf w s) some-key)
       (λ j l n. with-other sessionLimit (word w SHARERS) i h j l n)
 

@@ -11,11 +11,13 @@ use lib.ListN.{length, set, length-set}
 use borrow.Author.Tests.{eqb-true, eqb-false, ne-eqb}
 use Rattle.model.specs.Sizes.{sessionLimit, connectionLimit, stringLimit, listLimit}
 use Rattle.state.specs.Bits.{with-bit, with-small, with-some}
-use Rattle.state.specs.Layout.{EXCHANGES, EXCHANGE, CONNECTIONS, CONNECTION, HOME, LISTED, LOCKS, CLOCK, HOLDER, SHARERS, KEY, COUNT, ENTRIES, ENTRY, ORDERS, ORDER, REQUESTS, REQUEST, QUEUE, WORDS, LIST, STRINGS, SENSINGS, SENSING}
+use Rattle.state.specs.Layout.{EXCHANGES, EXCHANGE, CONNECTIONS, CONNECTION, HOME, LISTED, LOCKS, CLOCK, HOLDER, SHARERS, KEY, COUNT, ENTRIES, ENTRY}
+use Rattle.state.specs.Layout.{ORDERS, ORDER, REQUESTS, REQUEST, QUEUE, WORDS, LIST, STRINGS, SENSINGS, SENSING}
 use Rattle.state.specs.View.{memory, word, rowWord, homeAt, homeOf, fieldOf, slotAt}
 use Rattle.state.specs.Confirmed.{field-same}
 use Rattle.state.specs.Change.{off, here}
-use Rattle.state.specs.Tidy.{Tidy, TidyOver, Counted, Away, InRange, SingleRange, ExchangeRange, ConnectionRange, OrderRange, TidySingles, TidyRow, TidyHome, Shown, TidyRequest, TidyQueue, TidyKey, TidyList, SensingRange}
+use Rattle.state.specs.Tidy.{Tidy, TidyOver, Counted, Away, InRange, SingleRange, ExchangeRange, ConnectionRange, OrderRange, TidySingles, TidyRow}
+use Rattle.state.specs.Tidy.{TidyHome, Shown, TidyRequest, TidyQueue, TidyKey, TidyList, SensingRange}
 
 -- from memory w, s in order: the parts of w′, s′
 module _ (In : ℕ → Type 0) (w w′ s s′ : List ℕ) (t : TidyOver In (memory w s)) where
@@ -335,9 +337,12 @@ module _ (w w′ s : List ℕ) (t : Tidy (memory w s)) (long : length w′ ≡ W
         long = long;
         room = t .room;
         values = kept-values (Counted w) w w′ s s t (λ p h. same p (inl (omega arith)) (λ c l e. omega arith));
-        exchanges = kept-range (Counted w) w w′ s s t ExchangeRange EXCHANGES EXCHANGE EXCHANGE sessionLimit (λ i f h l. same (EXCHANGES + i * EXCHANGE + f) (inl (omega arith)) (λ c m e. omega arith)) (t .exchanges);
-        sensings = kept-range (Counted w) w w′ s s t SensingRange SENSINGS SENSING SENSING sessionLimit (λ i f h l. same (SENSINGS + i * SENSING + f) (inl (omega arith)) (λ c m e. omega arith)) (t .sensings);
-        connections = kept-range (Counted w) w w′ s s t ConnectionRange CONNECTIONS CONNECTION HOME connectionLimit (λ i f h l. same (CONNECTIONS + i * CONNECTION + f) (inl (omega arith)) (λ c m e. omega arith)) (t .connections);
+        exchanges = kept-range (Counted w) w w′ s s t ExchangeRange EXCHANGES EXCHANGE EXCHANGE sessionLimit
+            (λ i f h l. same (EXCHANGES + i * EXCHANGE + f) (inl (omega arith)) (λ c m e. omega arith)) (t .exchanges);
+        sensings = kept-range (Counted w) w w′ s s t SensingRange SENSINGS SENSING SENSING sessionLimit
+            (λ i f h l. same (SENSINGS + i * SENSING + f) (inl (omega arith)) (λ c m e. omega arith)) (t .sensings);
+        connections = kept-range (Counted w) w w′ s s t ConnectionRange CONNECTIONS CONNECTION HOME connectionLimit
+            (λ i f h l. same (CONNECTIONS + i * CONNECTION + f) (inl (omega arith)) (λ c m e. omega arith)) (t .connections);
         orders = kept-range (Counted w) w w′ s s t OrderRange ORDERS ORDER ORDER sessionLimit (λ i f h l. same (ORDERS + i * ORDER + f) (inr (omega arith)) (λ c m e. omega arith)) (t .orders);
         singles = kept-singles (Counted w) w w′ s s t (same CLOCK (inl (omega arith)) (λ c l e. omega arith)) (same HOLDER (inl (omega arith)) (λ c l e. omega arith))
             (subst (λ (x : ℕ). x < 2 ^ sessionLimit) (sym sharers) (t .singles .sharers)) (subst (λ (x : ℕ). x ≤ sessionLimit) (sym count) (t .singles .count));

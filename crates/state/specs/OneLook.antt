@@ -36,7 +36,8 @@ module _ (w s : List ℕ) (i : ℕ) (h : i < sessionLimit) where
   asynchronous-at = ap (λ (e : Entry). e .asynchronous) (entry-at w i s h)
 
 -- a session found by its number
-pub lives-there : (w s : List ℕ) (n i : ℕ) → slotOfNumber (locksOf w s .entries) n ≡ i → i < sessionLimit → live (at (locksOf w s .entries) (slotOfNumber (locksOf w s .entries) n)) ≡ true → rowWord w i 0 ≡ 0 → ⊥
+pub lives-there : (w s : List ℕ) (n i : ℕ) → slotOfNumber (locksOf w s .entries) n ≡ i → i < sessionLimit →
+    live (at (locksOf w s .entries) (slotOfNumber (locksOf w s .entries) n)) ≡ true → rowWord w i 0 ≡ 0 → ⊥
 lives-there w s n i e h l z =
     let x : Entry = at (locksOf w s .entries) i in
     true≢false (sym l ∙ ap (λ (j : ℕ). live (at (locksOf w s .entries) j)) e ∙ ap not (eq-eqb (x .number) 0 (number-at w s i h ∙ z)))

@@ -58,7 +58,9 @@ module _ (w s : List ℕ) (p : Entry → Bool) where
       let e : p (entryAt w (keyOf w s) i) ≡ false = ap p (sym (entry-at w i s h)) ∙ q in
       let n : sessionLimit - i ≡ suc (sessionLimit - (i + 1)) = omega arith in
       let m : suc i ≡ i + 1 = omega arith in
-      let z : from i ≡ suc (from (i + 1)) = ap (λ (m : ℕ). position p (tab (entryAt w (keyOf w s)) i m)) n ∙ further p (entryAt w (keyOf w s)) i (sessionLimit - (i + 1)) e ∙ ap (λ (k : ℕ). suc (position p (tab (entryAt w (keyOf w s)) k (sessionLimit - (i + 1))))) m in
+      let z : from i ≡ suc (from (i + 1)) = ap (λ (m : ℕ). position p (tab (entryAt w (keyOf w s)) i m)) n
+      ∙ further p (entryAt w (keyOf w s)) i (sessionLimit - (i + 1)) e
+      ∙ ap (λ (k : ℕ). suc (position p (tab (entryAt w (keyOf w s)) k (sessionLimit - (i + 1))))) m in
       omega arith
 
   pub search-ends : (i : ℕ) → sessionLimit ≤ i → i ≤ sessionLimit → i + from i ≡ i

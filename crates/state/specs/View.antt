@@ -6,11 +6,14 @@ use Prim.Native.Nat.{ℕ, zero, suc, _+_, _*_, _-_, _%_, _^_, min, _/_}
 use lib.Dec.{eqb, ltb}
 use lib.ListN.{getD, take}
 use Rattle.model.specs.Sizes.{sessionLimit, connectionLimit, stringLimit, listLimit, noConnection}
-use Rattle.model.specs.State.{Entry, Kind.exclusive-lock, Kind.shared-lock, Standing, Standing.no-release, Standing.release-of, Waiting, Locks, Asked, Asked.none, Asked.some, Exchange, Connection, RemoteLocal, Allowed, Allowed.any-command, Allowed.only, Rest, Server, withAllowed, Sensing}
+use Rattle.model.specs.State.{Entry, Kind.exclusive-lock, Kind.shared-lock, Standing, Standing.no-release, Standing.release-of, Waiting, Locks, Asked}
+use Rattle.model.specs.State.{Asked.none, Asked.some, Exchange, Connection, RemoteLocal, Allowed, Allowed.any-command, Allowed.only, Rest, Server, withAllowed}
+use Rattle.model.specs.State.{Sensing}
 use Rattle.state.specs.Table.{tab}
 use Rattle.state.specs.Grid.{part, grid}
 use Rattle.state.specs.Bits.{bit}
-use Rattle.state.specs.Layout.{CLOCK, VENDOR, PREFERENCE, STATUS, LAST, ENABLE, LOCKOUT, REMOTE, HOLDER, SHARERS, KEY, COUNT, ENTRIES, ENTRY, ORDERS, ORDER, EXCHANGES, EXCHANGE, CONNECTIONS, CONNECTION, HOME, LISTED, REQUESTS, REQUEST, QUEUE, LIST, SENSINGS, SENSING}
+use Rattle.state.specs.Layout.{CLOCK, VENDOR, PREFERENCE, STATUS, LAST, ENABLE, LOCKOUT, REMOTE, HOLDER, SHARERS, KEY, COUNT, ENTRIES, ENTRY, ORDERS}
+use Rattle.state.specs.Layout.{ORDER, EXCHANGES, EXCHANGE, CONNECTIONS, CONNECTION, HOME, LISTED, REQUESTS, REQUEST, QUEUE, LIST, SENSINGS, SENSING}
 use Rattle.readings.specs.Bits.{notNumber}
 use Rattle.readings.specs.Watch.{Limits, Limits.off, Limits.above, Limits.outside}
 
@@ -65,7 +68,16 @@ standingOf x = cond (eqb x 0) no-release (release-of (cond (ltb (x - 1) (2 ^ 32)
 
 -- slot i: its SessionID and connections, and its order; exclusive and shared stand in words that all slots have in common
 abbrev pub entryFrom : (ℕ → ℕ) → (ℕ → ℕ) → Bool → List ℕ → Entry
-entryFrom t r x y = record { number = t 0; synchronous = t 1; asynchronous = t 2; exclusive = x; shared = y; last = r 0 % 2 ^ 32; standing = standingOf (r 1); locksGranted = record { grantedAt = r 2; grants = r 3 } }
+entryFrom t r x y = record {
+  number = t 0;
+  synchronous = t 1;
+  asynchronous = t 2;
+  exclusive = x;
+  shared = y;
+  last = r 0 % 2 ^ 32;
+  standing = standingOf (r 1);
+  locksGranted = record { grantedAt = r 2; grants = r 3 };
+}
 
 unfoldable pub entryAt : List ℕ → List ℕ → ℕ → Entry
 entryAt w key i = entryFrom (fieldOf w i) (orderWord w i) (eqb (word w HOLDER) (i + 1)) (cond (eqb (bit (word w SHARERS) i) 1) key [])

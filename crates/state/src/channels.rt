@@ -42,7 +42,8 @@ fn set_home(w: &mut Words, c: u64, v: u64)
 // Session n opens in slot i over connection c.
 pub fn open_session(w: &mut Words, i: usize, n: u64, c: u64)
     requires { ⌜ (i < sessionLimit) × (n ≡ 0 → ⊥) × (c < connectionLimit) × Unshown (now w) c ⌝ }
-    ensures { λ _. ⌜ ((s : List ℕ) → view (memory (now (w .exit)) s) ≡ onEntry (view (memory (now (w .entry)) s)) i (withRow n c noConnection)) × ((s : List ℕ) → rowWord (now (w .entry)) i 0 ≡ 0 → Tidy (memory (now (w .entry)) s) → Tidy (memory (now (w .exit)) s)) ⌝ }
+    ensures { λ _. ⌜ ((s : List ℕ) → view (memory (now (w .exit)) s) ≡ onEntry (view (memory (now (w .entry)) s)) i (withRow n c noConnection))
+        × ((s : List ℕ) → rowWord (now (w .entry)) i 0 ≡ 0 → Tidy (memory (now (w .entry)) s) → Tidy (memory (now (w .exit)) s)) ⌝ }
 {
     set_row(w, i, NUMBER, n);
     set_row(w, i, SYNCHRONOUS, c);
@@ -53,7 +54,8 @@ pub fn open_session(w: &mut Words, i: usize, n: u64, c: u64)
 // Connection c is the second of slot i, which is live.
 pub fn join_session(w: &mut Words, i: usize, c: u64)
     requires { ⌜ (i < sessionLimit) × (rowWord (now w) i 0 ≡ 0 → ⊥) × (c < connectionLimit) × Unshown (now w) c ⌝ }
-    ensures { λ _. ⌜ ((s : List ℕ) → view (memory (now (w .exit)) s) ≡ onEntry (view (memory (now (w .entry)) s)) i (joined c)) × ((s : List ℕ) → fieldOf (now (w .entry)) i 2 ≡ noConnection → Tidy (memory (now (w .entry)) s) → Tidy (memory (now (w .exit)) s)) ⌝ }
+    ensures { λ _. ⌜ ((s : List ℕ) → view (memory (now (w .exit)) s) ≡ onEntry (view (memory (now (w .entry)) s)) i (joined c))
+        × ((s : List ℕ) → fieldOf (now (w .entry)) i 2 ≡ noConnection → Tidy (memory (now (w .entry)) s) → Tidy (memory (now (w .exit)) s)) ⌝ }
 {
     set_row(w, i, ASYNCHRONOUS, c);
     set_home(w, c, tables::home_in(i, ASYNCHRONOUS));
@@ -86,7 +88,8 @@ fn clear_place(w: &mut Words, i: usize, f: usize)
 // The session of slot i closes: nothing of its row and its connections' homes is left.
 pub fn close_session(w: &mut Words, i: usize)
     requires { ⌜ i < sessionLimit ⌝ }
-    ensures { λ _. ⌜ ((s : List ℕ) → view (memory (now (w .exit)) s) ≡ onEntry (view (memory (now (w .entry)) s)) i (withRow 0 noConnection noConnection)) × ((s : List ℕ) → Tidy (memory (now (w .entry)) s) → Tidy (memory (now (w .exit)) s)) ⌝ }
+    ensures { λ _. ⌜ ((s : List ℕ) → view (memory (now (w .exit)) s) ≡ onEntry (view (memory (now (w .entry)) s)) i (withRow 0 noConnection noConnection))
+        × ((s : List ℕ) → Tidy (memory (now (w .entry)) s) → Tidy (memory (now (w .exit)) s)) ⌝ }
 {
     set_row(w, i, NUMBER, 0);
     clear_place(w, i, SYNCHRONOUS);

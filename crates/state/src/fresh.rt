@@ -99,7 +99,8 @@ fn start_in(w: &mut [u64], strings: &mut [u8], vendor: u16, overlap: bool)
 
 // Makes a fresh server in the lent memory, which prefers overlap mode or not.
 pub fn start(w: &mut Words, strings: &mut Strings, vendor: u16, overlap: bool)
-    ensures { λ _. ⌜ (now (w .exit) ≡ freshWords (record { vendor = vendor; prefersOverlap = overlap })) × (now (strings .exit) ≡ freshStrings) × (view (memory (now (w .exit)) (now (strings .exit))) ≡ fresh (record { vendor = vendor; prefersOverlap = overlap })) ⌝ }
+    ensures { λ _. ⌜ (now (w .exit) ≡ freshWords (record { vendor = vendor; prefersOverlap = overlap })) × (now (strings .exit) ≡ freshStrings)
+        × (view (memory (now (w .exit)) (now (strings .exit))) ≡ fresh (record { vendor = vendor; prefersOverlap = overlap })) ⌝ }
 {
     start_in(w, strings, vendor, overlap);
 }

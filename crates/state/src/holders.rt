@@ -109,7 +109,8 @@ pub fn nobody_shares(w: &Words) -> bool
 // Slot i gets the exclusive lock, which nobody else holds.
 pub fn give_exclusive(w: &mut Words, i: usize)
     requires { ⌜ (i < sessionLimit) × NoOther (now w) i ⌝ }
-    ensures { λ _. ⌜ ((s : List ℕ) → view (memory (now (w .exit)) s) ≡ onEntry (view (memory (now (w .entry)) s)) i (give [])) × ((s : List ℕ) → Tidy (memory (now (w .entry)) s) → Tidy (memory (now (w .exit)) s)) ⌝ }
+    ensures { λ _. ⌜ ((s : List ℕ) → view (memory (now (w .exit)) s) ≡ onEntry (view (memory (now (w .entry)) s)) i (give []))
+        × ((s : List ℕ) → Tidy (memory (now (w .entry)) s) → Tidy (memory (now (w .exit)) s)) ⌝ }
 {
     store(w, HOLDER, i as u64 + 1);
 }
@@ -117,7 +118,8 @@ pub fn give_exclusive(w: &mut Words, i: usize)
 // Slot i holds the exclusive lock no more, if it did.
 pub fn drop_exclusive(w: &mut Words, i: usize)
     requires { ⌜ i < sessionLimit ⌝ }
-    ensures { λ _. ⌜ ((s : List ℕ) → view (memory (now (w .exit)) s) ≡ onEntry (view (memory (now (w .entry)) s)) i withoutExclusive) × ((s : List ℕ) → Tidy (memory (now (w .entry)) s) → Tidy (memory (now (w .exit)) s)) ⌝ }
+    ensures { λ _. ⌜ ((s : List ℕ) → view (memory (now (w .exit)) s) ≡ onEntry (view (memory (now (w .entry)) s)) i withoutExclusive)
+        × ((s : List ℕ) → Tidy (memory (now (w .entry)) s) → Tidy (memory (now (w .exit)) s)) ⌝ }
 {
     sized(w);
     if w[HOLDER] == i as u64 + 1 {
@@ -128,7 +130,8 @@ pub fn drop_exclusive(w: &mut Words, i: usize)
 // Slot i joins those that share, with their string.
 pub fn join_sharers(w: &mut Words, i: usize)
     requires { ⌜ i < sessionLimit ⌝ }
-    ensures { λ _. ⌜ ((s : List ℕ) → view (memory (now (w .exit)) s) ≡ onEntry (view (memory (now (w .entry)) s)) i (give (keyOf (now (w .entry)) s))) × ((s : List ℕ) → Tidy (memory (now (w .entry)) s) → Tidy (memory (now (w .exit)) s)) ⌝ }
+    ensures { λ _. ⌜ ((s : List ℕ) → view (memory (now (w .exit)) s) ≡ onEntry (view (memory (now (w .entry)) s)) i (give (keyOf (now (w .entry)) s)))
+        × ((s : List ℕ) → Tidy (memory (now (w .entry)) s) → Tidy (memory (now (w .exit)) s)) ⌝ }
 {
     let m = put_in(w[SHARERS], i);
     store(w, SHARERS, m);
@@ -137,7 +140,8 @@ pub fn join_sharers(w: &mut Words, i: usize)
 // The same where nobody shares: slot i is the only one.
 pub fn first_sharer(w: &mut Words, i: usize)
     requires { ⌜ (i < sessionLimit) × (word (now w) SHARERS % 2 ^ sessionLimit ≡ 0) ⌝ }
-    ensures { λ _. ⌜ ((s : List ℕ) → view (memory (now (w .exit)) s) ≡ onEntry (view (memory (now (w .entry)) s)) i (give (keyOf (now (w .entry)) s))) × (now (w .exit) ≡ set (now (w .entry)) SHARERS (2 ^ i)) × (2 ^ i < 2 ^ sessionLimit) ⌝ }
+    ensures { λ _. ⌜ ((s : List ℕ) → view (memory (now (w .exit)) s) ≡ onEntry (view (memory (now (w .entry)) s)) i (give (keyOf (now (w .entry)) s)))
+        × (now (w .exit) ≡ set (now (w .entry)) SHARERS (2 ^ i)) × (2 ^ i < 2 ^ sessionLimit) ⌝ }
 {
     let m = power_of(i);
     store(w, SHARERS, m);

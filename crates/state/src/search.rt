@@ -79,7 +79,8 @@ fn role_at(w: &Words, i: usize, h: u64) -> u8
 // The place of a connection: one look, where its home is, confirmed by the slot.
 pub fn place_of(w: &Words, c: u64) -> Place
     requires { ⌜ c < connectionLimit ⌝ }
-    ensures { λ r. ⌜ (r .slot ≤ sessionLimit) × ((s : List ℕ) → (placeOf (locksOf (now (w .entry)) s .entries) c) .slot ≡ r .slot) × ((s : List ℕ) → roleNumber ((placeOf (locksOf (now (w .entry)) s .entries) c) .role) ≡ r .role) × (r .role ≡ 0 → Unshown (now (w .entry)) c) ⌝ }
+    ensures { λ r. ⌜ (r .slot ≤ sessionLimit) × ((s : List ℕ) → (placeOf (locksOf (now (w .entry)) s .entries) c) .slot ≡ r .slot)
+        × ((s : List ℕ) → roleNumber ((placeOf (locksOf (now (w .entry)) s .entries) c) .role) ≡ r .role) × (r .role ≡ 0 → Unshown (now (w .entry)) c) ⌝ }
 {
     let h = tables::home(w, c);
     if h == 0 {

@@ -2,7 +2,8 @@
 // Reading: the word at its place; stored again it would change nothing. Storing: the row changes in that field, and nothing else does.
 ghost use Prim.Native.Nat.{ℕ, _*_, _+_, _-_, _<_, _≤_, _^_};
 ghost use Rattle.model.specs.State.{at, connectionAt, exchangeAt};
-ghost use Rattle.state.specs.Change.{connectionWith, connectionWord, entryWith, exchangeWith, exchangeWord, onConnection, onEntry, onExchange, onRest, onSensing, orderWith, sensingWith, sensingWord, singleWith, withClock};
+ghost use Rattle.state.specs.Change.{connectionWith, connectionWord, entryWith, exchangeWith, exchangeWord, onConnection, onEntry, onExchange, onRest};
+ghost use Rattle.state.specs.Change.{onSensing, orderWith, sensingWith, sensingWord, singleWith, withClock};
 ghost use Rattle.state.specs.Tidy.{ConnectionRange, ExchangeRange, OrderRange, SensingRange, SingleRange, Tidy};
 ghost use Rattle.state.specs.View.{fieldOf, homeIn, homeOf, locksOf, memory, orderWord, restOf, rowWord, view, word};
 ghost use lib.ListN.{length};
@@ -123,7 +124,8 @@ pub fn exchange(w: &Words, i: usize, f: usize) -> u64
 
 pub fn set_exchange(w: &mut Words, i: usize, f: usize, v: u64)
     requires { ⌜ (i < sessionLimit) × (f < 9) ⌝ }
-    ensures { λ _. ⌜ ((s : List ℕ) → view (memory (now (w .exit)) s) ≡ onExchange (view (memory (now (w .entry)) s)) i (exchangeWith f v)) × ((s : List ℕ) → ExchangeRange f v → Tidy (memory (now (w .entry)) s) → Tidy (memory (now (w .exit)) s)) ⌝ }
+    ensures { λ _. ⌜ ((s : List ℕ) → view (memory (now (w .exit)) s) ≡ onExchange (view (memory (now (w .entry)) s)) i (exchangeWith f v))
+        × ((s : List ℕ) → ExchangeRange f v → Tidy (memory (now (w .entry)) s) → Tidy (memory (now (w .exit)) s)) ⌝ }
 {
     store(w, EXCHANGES + i * EXCHANGE + f, v);
 }
@@ -138,7 +140,8 @@ pub fn sensing(w: &Words, i: usize, f: usize) -> u64
 
 pub fn set_sensing(w: &mut Words, i: usize, f: usize, v: u64)
     requires { ⌜ (i < sessionLimit) × (f < 6) ⌝ }
-    ensures { λ _. ⌜ ((s : List ℕ) → view (memory (now (w .exit)) s) ≡ onSensing (view (memory (now (w .entry)) s)) i (sensingWith f v)) × ((s : List ℕ) → SensingRange f v → Tidy (memory (now (w .entry)) s) → Tidy (memory (now (w .exit)) s)) ⌝ }
+    ensures { λ _. ⌜ ((s : List ℕ) → view (memory (now (w .exit)) s) ≡ onSensing (view (memory (now (w .entry)) s)) i (sensingWith f v))
+        × ((s : List ℕ) → SensingRange f v → Tidy (memory (now (w .entry)) s) → Tidy (memory (now (w .exit)) s)) ⌝ }
 {
     store(w, SENSINGS + i * SENSING + f, v);
 }
@@ -153,7 +156,8 @@ pub fn connection(w: &Words, i: usize, f: usize) -> u64
 
 pub fn set_connection(w: &mut Words, i: usize, f: usize, v: u64)
     requires { ⌜ (i < connectionLimit) × (f < 2) ⌝ }
-    ensures { λ _. ⌜ ((s : List ℕ) → view (memory (now (w .exit)) s) ≡ onConnection (view (memory (now (w .entry)) s)) i (connectionWith f v)) × ((s : List ℕ) → ConnectionRange f v → Tidy (memory (now (w .entry)) s) → Tidy (memory (now (w .exit)) s)) ⌝ }
+    ensures { λ _. ⌜ ((s : List ℕ) → view (memory (now (w .exit)) s) ≡ onConnection (view (memory (now (w .entry)) s)) i (connectionWith f v))
+        × ((s : List ℕ) → ConnectionRange f v → Tidy (memory (now (w .entry)) s) → Tidy (memory (now (w .exit)) s)) ⌝ }
 {
     store(w, CONNECTIONS + i * CONNECTION + f, v);
 }
@@ -220,7 +224,8 @@ pub fn order(w: &Words, i: usize, f: usize) -> u64
 
 pub fn set_order(w: &mut Words, i: usize, f: usize, v: u64)
     requires { ⌜ (i < sessionLimit) × (f < 4) ⌝ }
-    ensures { λ _. ⌜ ((s : List ℕ) → view (memory (now (w .exit)) s) ≡ onEntry (view (memory (now (w .entry)) s)) i (orderWith f v)) × ((s : List ℕ) → OrderRange f v → Tidy (memory (now (w .entry)) s) → Tidy (memory (now (w .exit)) s)) ⌝ }
+    ensures { λ _. ⌜ ((s : List ℕ) → view (memory (now (w .exit)) s) ≡ onEntry (view (memory (now (w .entry)) s)) i (orderWith f v))
+        × ((s : List ℕ) → OrderRange f v → Tidy (memory (now (w .entry)) s) → Tidy (memory (now (w .exit)) s)) ⌝ }
 {
     store(w, ORDERS + i * ORDER + f, v);
 }
@@ -235,7 +240,8 @@ pub fn single(w: &Words, f: usize) -> u64
 
 pub fn set_single(w: &mut Words, f: usize, v: u64)
     requires { ⌜ f < 7 ⌝ }
-    ensures { λ _. ⌜ ((s : List ℕ) → view (memory (now (w .exit)) s) ≡ onRest (view (memory (now (w .entry)) s)) (singleWith f v)) × ((s : List ℕ) → SingleRange f v → Tidy (memory (now (w .entry)) s) → Tidy (memory (now (w .exit)) s)) ⌝ }
+    ensures { λ _. ⌜ ((s : List ℕ) → view (memory (now (w .exit)) s) ≡ onRest (view (memory (now (w .entry)) s)) (singleWith f v))
+        × ((s : List ℕ) → SingleRange f v → Tidy (memory (now (w .entry)) s) → Tidy (memory (now (w .exit)) s)) ⌝ }
 {
     store(w, f, v);
 }
@@ -252,7 +258,8 @@ pub fn clock(w: &Words) -> u64
 
 pub fn set_clock(w: &mut Words, t: u64)
     requires { ⌜ t < 9223372036854775808 ⌝ }
-    ensures { λ _. ⌜ ((s : List ℕ) → view (memory (now (w .exit)) s) ≡ withClock (view (memory (now (w .entry)) s)) t) × ((s : List ℕ) → Tidy (memory (now (w .entry)) s) → Tidy (memory (now (w .exit)) s)) ⌝ }
+    ensures { λ _. ⌜ ((s : List ℕ) → view (memory (now (w .exit)) s) ≡ withClock (view (memory (now (w .entry)) s)) t)
+        × ((s : List ℕ) → Tidy (memory (now (w .entry)) s) → Tidy (memory (now (w .exit)) s)) ⌝ }
 {
     store(w, CLOCK, t);
 }

@@ -16,7 +16,8 @@ use Rattle.crc.specs.Crc.{crcOf}
 use Rattle.journal.specs.Journal.{choose, bodyLimit, mark, lengthOf, bodyOf}
 use Rattle.journal.specs.Bytes.{yes-is, no-is, and-is, and-not, not-and}
 use Rattle.record.specs.Layout.{Event, decode}
-use Rattle.verifier.specs.Judge.{Fault, inLength, inDistance, inSum, inLayout, inParcels, inTrailer, Verdict, accepted, wrong, Deed, Place, Next, goes, stops, same, isBack, byStep, trailerOf, first, byEvent, entryOf}
+use Rattle.verifier.specs.Judge.{Fault, inLength, inDistance, inSum, inLayout, inParcels, inTrailer, Verdict, accepted, wrong, Deed, Place, Next, goes}
+use Rattle.verifier.specs.Judge.{stops, same, isBack, byStep, trailerOf, first, byEvent, entryOf}
 use Rattle.verifier.specs.Feed.{Reading, reading, done, byNext, settle, finish}
 use Rattle.verifier.specs.Pieces.{few-not-back}
 

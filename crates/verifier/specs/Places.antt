@@ -15,7 +15,9 @@ use Rattle.journal.specs.Bytes.{yes-is, no-is, and-is, and-left, and-right, and
 use Rattle.journal.specs.Entry.{length-entry, says-length, holds-body, whole-entry, Whole, passed, entry-again, read-fine}
 use Rattle.record.specs.Layout.{Event, Read, found, none, Fits, encode, bodyBytes, decode}
 use Rattle.record.specs.RoundTrip.{read-again, read-written}
-use Rattle.verifier.specs.Judge.{Fault, inLength, inDistance, inSum, inLayout, inParcels, inTrailer, Verdict, accepted, wrong, Deed, refused, gave, Went, on, fault, Place, Next, goes, stops, same, isBack, enough, byStep, trailerOf, andOn, byDeed, first, byEvent, entryOf, placeOf, judgeOn, judge}
+use Rattle.verifier.specs.Judge.{Fault, inLength, inDistance, inSum, inLayout, inParcels, inTrailer, Verdict, accepted, wrong, Deed, refused, gave, Went}
+use Rattle.verifier.specs.Judge.{on, fault, Place, Next, goes, stops, same, isBack, enough, byStep, trailerOf, andOn, byDeed, first, byEvent, entryOf}
+use Rattle.verifier.specs.Judge.{placeOf, judgeOn, judge}
 use Rattle.verifier.specs.Pieces.{length-front, enough-is, at-stop, at-goes, place-entry, place-back}
 use Rattle.verifier.specs.Right.{Yields, Right}
 

@@ -18,7 +18,8 @@ use Rattle.journal.specs.Forward.{count-entries}
 use Rattle.journal.specs.Writer.{Done, place, closeOf}
 use Rattle.journal.specs.Holds.{Holds, IsClosed, close-closes}
 use Rattle.record.specs.Layout.{Event, decode}
-use Rattle.verifier.specs.Judge.{Fault, inLength, inDistance, inSum, inTrailer, Verdict, accepted, wrong, Deed, Went, on, fault, Place, Next, goes, stops, isBack, enough, byStep, trailerOf, first, byEvent, entryOf, placeOf, judgeOn, judge}
+use Rattle.verifier.specs.Judge.{Fault, inLength, inDistance, inSum, inTrailer, Verdict, accepted, wrong, Deed, Went, on, fault, Place, Next, goes}
+use Rattle.verifier.specs.Judge.{stops, isBack, enough, byStep, trailerOf, first, byEvent, entryOf, placeOf, judgeOn, judge}
 use Rattle.verifier.specs.Feed.{Reading, reading, done, byNext, settle, feedByte, feed}
 use Rattle.verifier.specs.Pieces.{enough-is, at-stop, at-goes, place-entry, place-back}
 use Rattle.verifier.specs.Right.{Yields, Right, none, more}

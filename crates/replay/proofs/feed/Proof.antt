@@ -48,13 +48,39 @@ part-turn-end : tie.Need-part-turn-end Inv-loop μ-loop
 part-turn-end c = omega (arith, c .before .before .before .before .portion .ensures, c .before .before .before .before .before .before .before .before .loop-test .taken)
 
 turn-requires : tie.Need-turn-requires Inv-loop μ-loop
-turn-requires c κs = let l = c .before .before .before .before .before .before .before .before .before .before .loop in turn-ready _ _ _ _ _ _ _ (l .i) (l .inv .1) (c .before .before .before .before .before .before .before .before .before .loop-test .taken) (c .before .before .before .before .before .before .before .if1 .left) (c .before .before .before .before .before .portion .result) _ (c .before .before .before .before .before .portion .ensures) refl (l .out) (c .before .before .before .before .before .before .before .before .before .before .before .before .before .before .pre .1) (l .inv .2 ∙ c .before .before .before .before .before .before .before .before .before .before .before .before .before .before .pre .2)
+turn-requires c κs = let l = c .before .before .before .before .before .before .before .before .before .before .loop in
+    turn-ready _ _ _ _ _ _ _ (l .i) (l .inv .1) (c .before .before .before .before .before .before .before .before .before .loop-test .taken)
+    (c .before .before .before .before .before .before .before .if1 .left) (c .before .before .before .before .before .portion .result) _
+    (c .before .before .before .before .before .portion .ensures) refl (l .out)
+    (c .before .before .before .before .before .before .before .before .before .before .before .before .before .before .pre .1)
+    (l .inv .2 ∙ c .before .before .before .before .before .before .before .before .before .before .before .before .before .before .pre .2)
 
 loop-less : tie.Need-loop-less Inv-loop μ-loop
-loop-less c = let l = c .before .before .before .before .before .before .before .before .before .before .before .before .before .before .before .loop in let f = further _ _ _ _ _ _ _ (l .i) (l .inv .1) (c .before .before .before .before .before .before .before .before .before .before .before .before .before .before .loop-test .taken) (c .before .before .before .before .before .before .before .before .before .before .before .before .if1 .left) (c .before .before .before .before .before .before .before .before .before .before .portion .result) _ (c .before .before .before .before .before .before .before .before .before .before .portion .ensures) refl in omega (arith, f)
+loop-less c = let l = c .before .before .before .before .before .before .before .before .before .before .before .before .before .before .before .loop in let f =
+    further _ _ _ _ _ _ _ (l .i) (l .inv .1)
+    (c .before .before .before .before .before .before .before .before .before .before .before .before .before .before .loop-test .taken)
+    (c .before .before .before .before .before .before .before .before .before .before .before .before .if1 .left)
+    (c .before .before .before .before .before .before .before .before .before .before .portion .result) _
+    (c .before .before .before .before .before .before .before .before .before .before .portion .ensures) refl in omega (arith, f)
 
 loop-again : tie.Need-loop-again Inv-loop μ-loop
-loop-again c = let l = c .before .before .before .before .before .before .before .before .before .before .before .before .before .before .before .loop in let f = further _ _ _ _ _ _ _ (l .i) (l .inv .1) (c .before .before .before .before .before .before .before .before .before .before .before .before .before .before .loop-test .taken) (c .before .before .before .before .before .before .before .before .before .before .before .before .if1 .left) (c .before .before .before .before .before .before .before .before .before .before .portion .result) _ (c .before .before .before .before .before .before .before .before .before .before .portion .ensures) refl in (f .1, fed-more _ _ _ _ _ _ _ (l .i) (l .inv .1) (c .before .before .before .before .before .before .before .before .before .before .before .before .before .before .loop-test .taken) (c .before .before .before .before .before .before .before .before .before .before .before .before .if1 .left) (c .before .before .before .before .before .before .before .before .before .before .portion .result) _ (c .before .before .before .before .before .before .before .before .before .before .portion .ensures) refl _ _ _ (c .before .before .before .before .turn .ensures), c .before .before .before .before .turn .kept .1 .1 .1 .1 .0 ∙ l .inv .2, c .before .before .before .before .turn .kept .1 .0 ∙ l .inv .3)
+loop-again c = let l = c .before .before .before .before .before .before .before .before .before .before .before .before .before .before .before .loop in
+    let f = further _ _ _ _ _ _ _ (l .i) (l .inv .1)
+    (c .before .before .before .before .before .before .before .before .before .before .before .before .before .before .loop-test .taken)
+    (c .before .before .before .before .before .before .before .before .before .before .before .before .if1 .left)
+    (c .before .before .before .before .before .before .before .before .before .before .portion .result) _
+    (c .before .before .before .before .before .before .before .before .before .before .portion .ensures) refl in (
+      f .1,
+      fed-more _ _ _ _ _ _ _ (l .i) (l .inv .1)
+          (c .before .before .before .before .before .before .before .before .before .before .before .before .before .before .loop-test .taken)
+          (c .before .before .before .before .before .before .before .before .before .before .before .before .if1 .left)
+          (c .before .before .before .before .before .before .before .before .before .before .portion .result) _
+          (c .before .before .before .before .before .before .before .before .before .before .portion .ensures) refl _ _ _
+          (c .before .before .before .before .turn .ensures),
+      c .before .before .before .before .turn .kept .1 .1 .1 .1 .0
+          ∙ l .inv .2,
+      c .before .before .before .before .turn .kept .1 .0 ∙ l .inv .3,
+    )
 
 same-length-3 : tie.Need-same-length-3 Inv-loop μ-loop
 same-length-3 c = search needs

@@ -13,19 +13,24 @@ use Rattle.server.proofs.give_answer.Tie as tie
 -- a whole header is shown
 withhold-requires : tie.Need-withhold-requires
 withhold-requires c κs = let a = c .before .before .before .before .before .before .before .before .args in
-    let h : 16 ≤ length (a .shown .now) = header-shown (view (memory (a .words .now) [])) (a .i) (a .«end») (a .shown .now) (c .before .before .before .withholds .ensures [] ∙ c .before .before .if1 .taken) in
+    let h : 16 ≤ length (a .shown .now) = header-shown (view (memory (a .words .now) [])) (a .i) (a .«end») (a .shown .now)
+    (c .before .before .before .withholds .ensures [] ∙ c .before .before .if1 .taken) in
     search (needs, h)
 
 returns : tie.Need-returns
 returns c = let a = c .before .before .before .before .before .before .before .before .before .before .before .before .args in (
-  λ s. gives-withheld (view (memory (a .words .now) s)) (a .i) (a .«end») (a .payload .now) (a .shown .now) _ _ _ _ (c .before .before .before .withhold .result) (c .before .before .before .before .before .before .before .withholds .ensures s ∙ c .before .before .before .before .before .before .if1 .taken)
+  λ s. gives-withheld (view (memory (a .words .now) s)) (a .i) (a .«end») (a .payload .now) (a .shown .now) _ _ _ _
+      (c .before .before .before .withhold .result) (c .before .before .before .before .before .before .before .withholds .ensures s
+      ∙ c .before .before .before .before .before .before .if1 .taken)
       (c .before .before .before .withhold .ensures .0 s) (c .replied .ensures),
   c .before .before .before .withhold .ensures .1,
 )
 
 returns-2 : tie.Need-returns-2
 returns-2 c = let a = c .before .before .before .before .before .before .before .before .before .before .before .before .args in (
-  λ s. gives-sent (view (memory (a .words .now) s)) (a .i) (a .«end») (a .payload .now) (a .shown .now) _ _ _ _ (c .before .before .before .send-readings .result) (c .before .before .before .before .before .before .before .withholds .ensures s ∙ c .before .before .before .before .before .before .if1 .left)
+  λ s. gives-sent (view (memory (a .words .now) s)) (a .i) (a .«end») (a .payload .now) (a .shown .now) _ _ _ _
+      (c .before .before .before .send-readings .result) (c .before .before .before .before .before .before .before .withholds .ensures s
+      ∙ c .before .before .before .before .before .before .if1 .left)
       (c .before .before .before .send-readings .ensures .0 s) (c .replied2 .ensures),
   c .before .before .before .send-readings .ensures .1,
 )

@@ -23,7 +23,8 @@ returns c = let a = c .before .before .before .before .before .args in
     let out = a .out .now in
     let room = length out in
     let end = not (eqb (a .end) 0) in
-    refused-answer (answer (a .session) p end sh room) 6 _ m out (answer-short-room d (a .session) (slotOfNumber (d .locks .entries) (a .session)) p end sh room refl (c .before .if1 .taken)) (c .replied .ensures)
+    refused-answer (answer (a .session) p end sh room) 6 _ m out
+    (answer-short-room d (a .session) (slotOfNumber (d .locks .entries) (a .session)) p end sh room refl (c .before .if1 .taken)) (c .replied .ensures)
 
 returns-2 : tie.Need-returns-2
 returns-2 c = let a = c .before .before .before .before .before .before .before .before .before .before .args in
@@ -60,9 +61,12 @@ returns-3 c = let a = c .before .before .before .before .before .before .before 
     let end = not (eqb (a .end) 0) in
     let i = c .before .before .before .before .before .before .before .before .before .slot-of-number .result in
     let found = c .before .before .before .before .before .before .before .before .before .slot-of-number .ensures .1 s in
-    let q = answer-refused d (a .session) i p end sh room found (c .before .before .before .before .before .before .before .before .before .before .before .if1 .left) ∙ c .before .before .before .before .before .before .before .answer-refusal .ensures .0 s in
+    let q = answer-refused d (a .session) i p end sh room found
+    (c .before .before .before .before .before .before .before .before .before .before .before .if1 .left)
+    ∙ c .before .before .before .before .before .before .before .answer-refusal .ensures .0 s in
     answer-call (a .session) i p end sh room _ m _ out _ found (q ∙ c .before .before .before .before .before .before .if2 .left)
-    (same-end d _ i end (c .before .before .before .before .before .is-set .result) p sh _ out _ (c .before .before .before .before .before .is-set .ensures) (c .before .before .give-answer .ensures .0 s))
+    (same-end d _ i end (c .before .before .before .before .before .is-set .result) p sh _ out _ (c .before .before .before .before .before .is-set .ensures)
+    (c .before .before .give-answer .ensures .0 s))
     (c .before .before .give-answer .ensures .1 s)
 
 pub hislip-answer-spec : {M : Type 1} → statement M

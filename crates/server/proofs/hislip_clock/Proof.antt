@@ -17,7 +17,8 @@ returns c = let a = c .before .before .before .args in
     let d = view m in
     let out = a .out .now in
     let room = length out in
-    refused-call (clock (a .milliseconds) room) 6 _ m out (short-room d (clock (a .milliseconds) room) room (untimely d (a .milliseconds)) (clock-causes d room (a .milliseconds)) (c .before .if1 .taken)) (c .told .ensures)
+    refused-call (clock (a .milliseconds) room) 6 _ m out (short-room d (clock (a .milliseconds) room) room (untimely d (a .milliseconds))
+    (clock-causes d room (a .milliseconds)) (c .before .if1 .taken)) (c .told .ensures)
 
 returns-2 : tie.Need-returns-2
 returns-2 c = let a = c .before .before .before .before .args in
@@ -35,7 +36,10 @@ returns-3 c = let a = c .before .before .before .before .before .before .before 
     let d = view m in
     let out = a .out .now in
     let room = length out in
-    let e : c .before .before .clock .result ≡ d .locks .clock = c .before .before .clock .ensures .1 s in refused-call (clock (a .milliseconds) room) 2 _ m out (clock-back d (a .milliseconds) room (c .before .before .before .before .before .if1 .left) (c .before .before .before .before .if2 .left) (omega arith)) (c .told3 .ensures)
+    let e : c .before .before .clock .result ≡ d .locks .clock = c .before .before .clock .ensures .1 s in
+    refused-call (clock (a .milliseconds) room) 2 _ m out
+    (clock-back d (a .milliseconds) room (c .before .before .before .before .before .if1 .left) (c .before .before .before .before .if2 .left)
+    (omega arith)) (c .told3 .ensures)
 
 returns-4 : tie.Need-returns-4
 returns-4 c = let a = c .before .before .before .before .before .before .before .before .before .before .before .before .before .args in
@@ -44,7 +48,12 @@ returns-4 c = let a = c .before .before .before .before .before .before .before 
     let d = view m in
     let out = a .out .now in
     let room = length out in
-    let e : c .before .before .before .before .before .before .before .before .clock .result ≡ d .locks .clock = c .before .before .before .before .before .before .before .before .clock .ensures .1 s in clock-call (a .milliseconds) room _ m _ out _ (c .before .before .before .expire .result) (clock-taken d (a .milliseconds) room (c .before .before .before .before .before .before .before .before .before .before .before .if1 .left) (c .before .before .before .before .before .before .before .before .before .before .if2 .left) (omega arith)) (c .before .before .before .expire .ensures) (c .told4 .ensures)
+    let e : c .before .before .before .before .before .before .before .before .clock .result ≡ d .locks .clock =
+    c .before .before .before .before .before .before .before .before .clock .ensures .1 s in
+    clock-call (a .milliseconds) room _ m _ out _ (c .before .before .before .expire .result)
+    (clock-taken d (a .milliseconds) room (c .before .before .before .before .before .before .before .before .before .before .before .if1 .left)
+    (c .before .before .before .before .before .before .before .before .before .before .if2 .left) (omega arith))
+    (c .before .before .before .expire .ensures) (c .told4 .ensures)
 
 pub hislip-clock-spec : {M : Type 1} → statement M
 hislip-clock-spec =

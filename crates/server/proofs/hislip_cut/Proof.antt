@@ -20,7 +20,8 @@ returns c = let a = c .before .before .before .args in
     let d = view m in
     let out = a .out .now in
     let room = length out in
-    refused-call (cut (a .connection) room) 6 _ m out (short-room d (cut (a .connection) room) room (unknown d (a .connection)) (cut-causes d room (a .connection)) (c .before .if1 .taken)) (c .told .ensures)
+    refused-call (cut (a .connection) room) 6 _ m out (short-room d (cut (a .connection) room) room (unknown d (a .connection))
+    (cut-causes d room (a .connection)) (c .before .if1 .taken)) (c .told .ensures)
 
 returns-2 : tie.Need-returns-2
 returns-2 c = let a = c .before .before .before .before .args in
@@ -29,7 +30,8 @@ returns-2 c = let a = c .before .before .before .before .args in
     let d = view m in
     let out = a .out .now in
     let room = length out in
-    refused-call (cut (a .connection) room) 0 _ m out (no-number d (cut (a .connection) room) room (a .connection) (cut-causes d room (a .connection)) (c .before .before .if1 .left) (c .before .if2 .taken)) (c .told2 .ensures)
+    refused-call (cut (a .connection) room) 0 _ m out (no-number d (cut (a .connection) room) room (a .connection) (cut-causes d room (a .connection))
+    (c .before .before .if1 .left) (c .before .if2 .taken)) (c .told2 .ensures)
 
 returns-3 : tie.Need-returns-3
 returns-3 c = let a = c .before .before .before .before .before .before .before .args in
@@ -38,7 +40,10 @@ returns-3 c = let a = c .before .before .before .before .before .before .before 
     let d = view m in
     let out = a .out .now in
     let room = length out in
-    refused-call (cut (a .connection) room) 0 _ m out (not-open d (cut (a .connection) room) room (a .connection) (cut-causes d room (a .connection)) (c .before .before .before .before .before .if1 .left) (omega arith) (sym (ap (λ (x : Connection). x .isOpen) (c .before .before .connection .ensures .0)) ∙ ne-eqb (c .before .before .connection .result) 1 (c .before .if3 .taken))) (c .told3 .ensures)
+    refused-call (cut (a .connection) room) 0 _ m out (not-open d (cut (a .connection) room) room (a .connection) (cut-causes d room (a .connection))
+    (c .before .before .before .before .before .if1 .left) (omega arith)
+    (sym (ap (λ (x : Connection). x .isOpen) (c .before .before .connection .ensures .0))
+    ∙ ne-eqb (c .before .before .connection .result) 1 (c .before .if3 .taken))) (c .told3 .ensures)
 
 returns-4 : tie.Need-returns-4
 returns-4 c = let a = c .before .before .before .before .before .before .before .before .before .before .before .before .before .before .before .args in
@@ -47,7 +52,14 @@ returns-4 c = let a = c .before .before .before .before .before .before .before 
     let d = view m in
     let out = a .out .now in
     let room = length out in
-    cut-call (a .connection) (c .before .before .before .before .before .before .before .place-of .result .slot) room _ m _ out _ (c .before .before .before .close-place .result) (is-open d (cut (a .connection) room) room (a .connection) (cut-causes d room (a .connection)) (c .before .before .before .before .before .before .before .before .before .before .before .before .before .if1 .left) (omega arith) (sym (ap (λ (x : Connection). x .isOpen) (c .before .before .before .before .before .before .before .before .before .before .connection .ensures .0)) ∙ eq-eqb (c .before .before .before .before .before .before .before .before .before .before .connection .result) 1 (c .before .before .before .before .before .before .before .before .before .if3 .left))) (c .before .before .before .before .before .before .before .place-of .ensures .1 s) (c .before .before .before .close-place .ensures .0) (c .told4 .ensures) (c .before .before .before .close-place .ensures .1)
+    cut-call (a .connection) (c .before .before .before .before .before .before .before .place-of .result .slot) room _ m _ out _
+    (c .before .before .before .close-place .result) (is-open d (cut (a .connection) room) room (a .connection) (cut-causes d room (a .connection))
+    (c .before .before .before .before .before .before .before .before .before .before .before .before .before .if1 .left) (omega arith)
+    (sym (ap (λ (x : Connection). x .isOpen) (c .before .before .before .before .before .before .before .before .before .before .connection .ensures .0))
+    ∙ eq-eqb (c .before .before .before .before .before .before .before .before .before .before .connection .result) 1
+    (c .before .before .before .before .before .before .before .before .before .if3 .left)))
+    (c .before .before .before .before .before .before .before .place-of .ensures .1 s) (c .before .before .before .close-place .ensures .0)
+    (c .told4 .ensures) (c .before .before .before .close-place .ensures .1)
 
 pub hislip-cut-spec : {M : Type 1} → statement M
 hislip-cut-spec =

@@ -25,14 +25,19 @@ returns-2 c = let a = c .before .before .before .before .before .args in
     let s = a .strings .now in
     let m = memory (a .words .now) s in
     let d = view m in
-    refused-call (opening (a .connection)) 1 _ m [] (open-already d (a .connection) (omega arith) (sym (ap (λ (x : Connection). x .isOpen) (c .before .before .connection .ensures .0)) ∙ eq-eqb (c .before .before .connection .result) 1 (c .before .if2 .taken))) (c .told2 .ensures)
+    refused-call (opening (a .connection)) 1 _ m [] (open-already d (a .connection) (omega arith)
+    (sym (ap (λ (x : Connection). x .isOpen) (c .before .before .connection .ensures .0))
+    ∙ eq-eqb (c .before .before .connection .result) 1 (c .before .if2 .taken))) (c .told2 .ensures)
 
 returns-3 : tie.Need-returns-3
 returns-3 c = let a = c .before .before .before .before .before .before .before .args in
     let s = a .strings .now in
     let m = memory (a .words .now) s in
     let d = view m in
-    taken-call (opening (a .connection)) _ [] _ m _ [] [] (open-taken d (a .connection) (omega arith) (sym (ap (λ (x : Connection). x .isOpen) (c .before .before .before .before .connection .ensures .0)) ∙ ne-eqb (c .before .before .before .before .connection .result) 1 (c .before .before .before .if2 .left))) (opening-finishes d (a .connection)) (c .before .open-connection .ensures .0 s) (empty-buffer []) (empty-output _ (c .told3 .ensures)) (c .before .open-connection .ensures .1 s)
+    taken-call (opening (a .connection)) _ [] _ m _ [] [] (open-taken d (a .connection) (omega arith)
+    (sym (ap (λ (x : Connection). x .isOpen) (c .before .before .before .before .connection .ensures .0))
+    ∙ ne-eqb (c .before .before .before .before .connection .result) 1 (c .before .before .before .if2 .left))) (opening-finishes d (a .connection))
+    (c .before .open-connection .ensures .0 s) (empty-buffer []) (empty-output _ (c .told3 .ensures)) (c .before .open-connection .ensures .1 s)
 
 pub hislip-open-spec : {M : Type 1} → statement M
 hislip-open-spec =

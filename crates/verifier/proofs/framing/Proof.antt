@@ -22,16 +22,26 @@ returns-5 : tie.Need-returns-5
 returns-5 c = short _ _ (c .before .before .before .number4 .ensures .0) (c .before .before .before .before .if1 .left) (c .before .before .if2 .left) (c .before .if4 .left) (c .if5 .taken)
 
 returns-6 : tie.Need-returns-6
-returns-6 c = bad-distance _ _ (c .before .before .before .before .before .number4 .ensures .0) (c .before .before .before .before .before .before .if1 .left) (c .before .before .before .before .if2 .left) (c .before .before .before .if4 .left) (c .before .before .if5 .left) _ (c .before .number42 .ensures .0) (c .if6 .taken)
+returns-6 c = bad-distance _ _ (c .before .before .before .before .before .number4 .ensures .0) (c .before .before .before .before .before .before .if1 .left)
+    (c .before .before .before .before .if2 .left) (c .before .before .before .if4 .left) (c .before .before .if5 .left) _ (c .before .number42 .ensures .0)
+    (c .if6 .taken)
 
 slice-aggregate-crc32 : tie.Need-slice-aggregate-crc32
 slice-aggregate-crc32 c = simp length-take (omega arith)
 
 returns-7 : tie.Need-returns-7
-returns-7 c = bad-sum _ _ (c .before .before .before .before .before .before .before .before .before .number4 .ensures .0) (c .before .before .before .before .before .before .before .before .before .before .if1 .left) (c .before .before .before .before .before .before .before .before .if2 .left) (c .before .before .before .before .before .before .before .if4 .left) (c .before .before .before .before .before .before .if5 .left) _ (c .before .before .before .before .before .number42 .ensures .0) (c .before .before .before .before .if6 .left) _ _ (c .before .number43 .ensures .0) (c .before .before .crc32 .ensures) (c .if7 .taken)
+returns-7 c = bad-sum _ _ (c .before .before .before .before .before .before .before .before .before .number4 .ensures .0)
+    (c .before .before .before .before .before .before .before .before .before .before .if1 .left)
+    (c .before .before .before .before .before .before .before .before .if2 .left) (c .before .before .before .before .before .before .before .if4 .left)
+    (c .before .before .before .before .before .before .if5 .left) _ (c .before .before .before .before .before .number42 .ensures .0)
+    (c .before .before .before .before .if6 .left) _ _ (c .before .number43 .ensures .0) (c .before .before .crc32 .ensures) (c .if7 .taken)
 
 returns-8 : tie.Need-returns-8
-returns-8 c = all-right _ _ (c .before .before .before .before .before .before .before .before .before .number4 .ensures .0) (c .before .before .before .before .before .before .before .before .before .before .if1 .left) (c .before .before .before .before .before .before .before .before .if2 .left) (c .before .before .before .before .before .before .before .if4 .left) (c .before .before .before .before .before .before .if5 .left) _ (c .before .before .before .before .before .number42 .ensures .0) (c .before .before .before .before .if6 .left) _ _ (c .before .number43 .ensures .0) (c .before .before .crc32 .ensures) (c .if7 .left)
+returns-8 c = all-right _ _ (c .before .before .before .before .before .before .before .before .before .number4 .ensures .0)
+    (c .before .before .before .before .before .before .before .before .before .before .if1 .left)
+    (c .before .before .before .before .before .before .before .before .if2 .left) (c .before .before .before .before .before .before .before .if4 .left)
+    (c .before .before .before .before .before .before .if5 .left) _ (c .before .before .before .before .before .number42 .ensures .0)
+    (c .before .before .before .before .if6 .left) _ _ (c .before .number43 .ensures .0) (c .before .before .crc32 .ensures) (c .if7 .left)
 
 pub framing-spec : {M : Type 1} → statement M
 framing-spec =

@@ -20,7 +20,13 @@ begin-requires : tie.Need-begin-requires Inv-loop μ-loop
 begin-requires c κs = search needs
 
 loop-holds : tie.Need-loop-holds Inv-loop μ-loop
-loop-holds c = let a = c .before .before .before .before .before .args in (refl, refl, refl, begun _ (a .buf .now) (memory (a .words .now) (a .strings .now)) (c .begin .ensures) (c .before .before .before .before .before .pre .0))
+loop-holds c = let a = c .before .before .before .before .before .args in (
+  refl,
+  refl,
+  refl,
+  begun _ (a .buf .now) (memory (a .words .now) (a .strings .now)) (c .begin .ensures)
+      (c .before .before .before .before .before .pre .0),
+)
 
 read-requires : tie.Need-read-requires Inv-loop μ-loop
 read-requires c κs = search needs
@@ -65,7 +71,22 @@ slice-aggregate-feed : tie.Need-slice-aggregate-feed Inv-loop μ-loop
 slice-aggregate-feed c = search needs
 
 feed-requires : tie.Need-feed-requires Inv-loop μ-loop
-feed-requires c κs = let l = c .before .before .before .before .before .before .before .before .before .before .before .before .before .before .loop in may-feed _ _ _ _ _ (l .inv .3) (c .before .before .before .before .before .before .before .before .before .before .before .before .before .loop-test .taken) (take (c .before .before .before .before .before .before .count .result) (c .before .before .before .before .before .before .before .before .before .before .before .read .last .1 .0)) (short-piece (c .before .before .before .before .before .before .count .result) (c .before .before .before .before .before .before .before .before .before .before .before .read .last .1 .0) (omega (arith, c .before .before .before .before .before .before .before .before .before .before .before .read .kept .1 .0, l .inv .2, c .before .before .before .before .before .before .before .before .before .before .before .before .before .before .before .before .before .before .before .before .pre .2))) (l .out) (l .inv .1 ∙ c .before .before .before .before .before .before .before .before .before .before .before .before .before .before .before .before .before .before .before .before .pre .1)
+feed-requires c κs = let l = c .before .before .before .before .before .before .before .before .before .before .before .before .before .before .loop in
+    may-feed _ _ _ _ _ (l .inv .3)
+    (c .before .before .before .before .before .before .before .before .before .before .before .before .before .loop-test .taken)
+    (take (c .before .before .before .before .before .before .count .result)
+    (c .before .before .before .before .before .before .before .before .before .before .before .read .last .1 .0))
+    (short-piece (c .before .before .before .before .before .before .count .result)
+    (c .before .before .before .before .before .before .before .before .before .before .before .read .last .1 .0)
+    (omega (
+      arith,
+      c .before .before .before .before .before .before .before .before .before .before .before .read .kept .1 .0,
+      l .inv .2,
+      c .before .before .before .before .before .before .before .before .before .before .before .before .before .before .before .before .before .before .before
+          .before .pre .2,
+    ))) (l .out)
+    (l .inv .1 ∙ c .before .before .before .before .before .before .before .before .before .before .before .before .before .before .before .before .before
+    .before .before .before .pre .1)
 
 same-length-7 : tie.Need-same-length-7 Inv-loop μ-loop
 same-length-7 c = search needs
@@ -77,7 +98,23 @@ same-length-9 : tie.Need-same-length-9 Inv-loop μ-loop
 same-length-9 c = search needs
 
 returns-3 : tie.Need-returns-3 Inv-loop μ-loop
-returns-3 c = let l = c .before .before .before .before .before .before .before .before .before .before .before .before .before .before .before .before .before .before .before .before .before .loop in faulty _ _ _ _ _ (l .inv .3) (c .before .before .before .before .before .before .before .before .before .before .before .before .before .before .before .before .before .before .before .before .loop-test .taken) (take (c .before .before .before .before .before .before .before .before .before .before .before .before .before .count .result) (c .before .before .before .before .before .before .before .before .before .before .before .before .before .before .before .before .before .before .read .last .1 .0)) (short-piece (c .before .before .before .before .before .before .before .before .before .before .before .before .before .count .result) (c .before .before .before .before .before .before .before .before .before .before .before .before .before .before .before .before .before .before .read .last .1 .0) (omega (arith, c .before .before .before .before .before .before .before .before .before .before .before .before .before .before .before .before .before .before .read .kept .1 .0, l .inv .2, c .before .before .before .before .before .before .before .before .before .before .before .before .before .before .before .before .before .before .before .before .before .before .before .before .before .before .before .pre .2))) _ _ _ (c .before .before .before .before .before .before .feed .ensures)
+returns-3 c = let l = c .before .before .before .before .before .before .before .before .before .before .before .before .before .before .before .before .before
+    .before .before .before .before .loop in faulty _ _ _ _ _ (l .inv .3)
+    (c .before .before .before .before .before .before .before .before .before .before .before .before .before .before .before .before .before .before .before
+    .before .loop-test .taken)
+    (take (c .before .before .before .before .before .before .before .before .before .before .before .before .before .count .result)
+    (c .before .before .before .before .before .before .before .before .before .before .before .before .before .before .before .before .before .before .read
+    .last .1 .0)) (short-piece (c .before .before .before .before .before .before .before .before .before .before .before .before .before .count .result)
+    (c .before .before .before .before .before .before .before .before .before .before .before .before .before .before .before .before .before .before .read
+    .last .1 .0) (omega (
+      arith,
+      c .before .before .before .before .before .before .before .before .before .before .before .before .before .before .before
+          .before .before .before .read .kept .1 .0,
+      l .inv .2,
+      c .before .before .before .before .before .before .before .before .before .before .before .before
+          .before .before .before .before .before .before .before .before .before .before .before .before .before .before .before .pre .2,
+    ))) _ _ _
+    (c .before .before .before .before .before .before .feed .ensures)
 
 sub-turns : tie.Need-sub-turns Inv-loop μ-loop
 sub-turns c = omega arith
@@ -86,7 +123,31 @@ loop-less : tie.Need-loop-less Inv-loop μ-loop
 loop-less c = omega arith
 
 loop-again : tie.Need-loop-again Inv-loop μ-loop
-loop-again c = let l = c .before .before .before .before .before .before .before .before .before .before .before .before .before .before .before .before .before .before .before .before .before .loop in (c .before .before .before .before .before .before .feed .kept .1 .0 ∙ l .inv .0, c .before .before .before .before .before .before .feed .kept .1 .1 .1 .1 .0 ∙ l .inv .1, c .before .before .before .before .before .before .before .before .before .before .before .before .before .before .before .before .before .before .read .kept .1 .0 ∙ l .inv .2, on _ _ _ _ _ (l .inv .3) (c .before .before .before .before .before .before .before .before .before .before .before .before .before .before .before .before .before .before .before .before .loop-test .taken) (take (c .before .before .before .before .before .before .before .before .before .before .before .before .before .count .result) (c .before .before .before .before .before .before .before .before .before .before .before .before .before .before .before .before .before .before .read .last .1 .0)) (short-piece (c .before .before .before .before .before .before .before .before .before .before .before .before .before .count .result) (c .before .before .before .before .before .before .before .before .before .before .before .before .before .before .before .before .before .before .read .last .1 .0) (omega (arith, c .before .before .before .before .before .before .before .before .before .before .before .before .before .before .before .before .before .before .read .kept .1 .0, l .inv .2, c .before .before .before .before .before .before .before .before .before .before .before .before .before .before .before .before .before .before .before .before .before .before .before .before .before .before .before .pre .2))) _ _ _ (c .before .before .before .before .before .before .feed .ensures) _ refl)
+loop-again c = let l = c .before .before .before .before .before .before .before .before .before .before .before .before .before .before .before .before .before
+    .before .before .before .before .loop in (
+      c .before .before .before .before .before .before .feed .kept .1 .0
+          ∙ l .inv .0,
+      c .before .before .before .before .before .before .feed .kept .1 .1 .1 .1 .0
+          ∙ l .inv .1,
+      c .before .before .before .before .before .before .before .before .before .before .before .before .before .before .before .before .before
+          .before .read .kept .1 .0 ∙ l .inv .2,
+      on _ _ _ _ _ (l .inv .3)
+          (c .before .before .before .before .before .before .before .before .before .before .before .before .before .before .before .before .before .before .before
+          .before .loop-test .taken)
+          (take (c .before .before .before .before .before .before .before .before .before .before .before .before .before .count .result)
+          (c .before .before .before .before .before .before .before .before .before .before .before .before .before .before .before .before .before .before .read
+          .last .1 .0)) (short-piece (c .before .before .before .before .before .before .before .before .before .before .before .before .before .count .result)
+          (c .before .before .before .before .before .before .before .before .before .before .before .before .before .before .before .before .before .before .read
+          .last .1 .0) (omega (
+            arith,
+            c .before .before .before .before .before .before .before .before .before .before .before .before .before .before .before
+                .before .before .before .read .kept .1 .0,
+            l .inv .2,
+            c .before .before .before .before .before .before .before .before .before .before .before .before
+                .before .before .before .before .before .before .before .before .before .before .before .before .before .before .before .pre .2,
+          ))) _ _ _
+          (c .before .before .before .before .before .before .feed .ensures) _ refl,
+    )
 
 endless-requires : tie.Need-endless-requires Inv-loop μ-loop
 endless-requires c κs = search needs

@@ -18,27 +18,55 @@ returns-2 c = let a = c .before .before .args in
 
 returns-3 : tie.Need-returns-3
 returns-3 c = let a = c .before .before .before .before .args in
-    λ p n. numbered _ _ (async-vendor (a .kind) (a .code) n (a .len) p (c .before .before .before .if1 .left) (c .before .before .if2 .left) (is-vendor (classOf asynchronous (a .kind)) (c .before .class-of .result) (c .before .class-of .ensures) (c .if3 .taken))) refl
+    λ p n. numbered _ _ (async-vendor (a .kind) (a .code) n (a .len) p (c .before .before .before .if1 .left) (c .before .before .if2 .left)
+    (is-vendor (classOf asynchronous (a .kind)) (c .before .class-of .result) (c .before .class-of .ensures) (c .if3 .taken))) refl
 
 returns-4 : tie.Need-returns-4
 returns-4 c = let a = c .before .before .before .before .before .args in
-    λ p n. numbered _ _ (async-unrecognised (a .kind) (a .code) n (a .len) p (c .before .before .before .before .if1 .left) (c .before .before .before .if2 .left) (not-vendor (classOf asynchronous (a .kind)) (c .before .before .class-of .result) (c .before .before .class-of .ensures) (c .before .if3 .left)) (is-unrecognised (classOf asynchronous (a .kind)) (c .before .before .class-of .result) (c .before .before .class-of .ensures) (c .if4 .taken))) refl
+    λ p n. numbered _ _ (async-unrecognised (a .kind) (a .code) n (a .len) p (c .before .before .before .before .if1 .left)
+    (c .before .before .before .if2 .left) (not-vendor (classOf asynchronous (a .kind)) (c .before .before .class-of .result)
+    (c .before .before .class-of .ensures) (c .before .if3 .left))
+    (is-unrecognised (classOf asynchronous (a .kind)) (c .before .before .class-of .result) (c .before .before .class-of .ensures) (c .if4 .taken))) refl
 
 returns-5 : tie.Need-returns-5
 returns-5 c = let a = c .before .before .before .before .before .before .args in
-    λ p n. numbered _ _ (async-again (a .kind) (a .code) n (a .len) p (c .before .before .before .before .before .if1 .left) (c .before .before .before .before .if2 .left) (not-vendor (classOf asynchronous (a .kind)) (c .before .before .before .class-of .result) (c .before .before .before .class-of .ensures) (c .before .before .if3 .left)) (not-unrecognised (classOf asynchronous (a .kind)) (c .before .before .before .class-of .result) (c .before .before .before .class-of .ensures) (c .before .if4 .left)) (c .if5 .taken)) refl
+    λ p n. numbered _ _ (async-again (a .kind) (a .code) n (a .len) p (c .before .before .before .before .before .if1 .left)
+    (c .before .before .before .before .if2 .left) (not-vendor (classOf asynchronous (a .kind)) (c .before .before .before .class-of .result)
+    (c .before .before .before .class-of .ensures) (c .before .before .if3 .left))
+    (not-unrecognised (classOf asynchronous (a .kind)) (c .before .before .before .class-of .result) (c .before .before .before .class-of .ensures)
+    (c .before .if4 .left)) (c .if5 .taken)) refl
 
 returns-6 : tie.Need-returns-6
 returns-6 c = let a = c .before .before .before .before .before .before .before .before .args in
-    λ p n. numbered _ _ (async-code (a .kind) (a .code) n (a .len) p (c .before .before .before .before .before .before .before .if1 .left) (c .before .before .before .before .before .before .if2 .left) (not-vendor (classOf asynchronous (a .kind)) (c .before .before .before .before .before .class-of .result) (c .before .before .before .before .before .class-of .ensures) (c .before .before .before .before .if3 .left)) (not-unrecognised (classOf asynchronous (a .kind)) (c .before .before .before .before .before .class-of .result) (c .before .before .before .before .before .class-of .ensures) (c .before .before .before .if4 .left)) (c .before .before .if5 .left) (sym (c .before .code-wrong .ensures) ∙ c .if6 .taken)) refl
+    λ p n. numbered _ _ (async-code (a .kind) (a .code) n (a .len) p (c .before .before .before .before .before .before .before .if1 .left)
+    (c .before .before .before .before .before .before .if2 .left)
+    (not-vendor (classOf asynchronous (a .kind)) (c .before .before .before .before .before .class-of .result)
+    (c .before .before .before .before .before .class-of .ensures) (c .before .before .before .before .if3 .left))
+    (not-unrecognised (classOf asynchronous (a .kind)) (c .before .before .before .before .before .class-of .result)
+    (c .before .before .before .before .before .class-of .ensures) (c .before .before .before .if4 .left)) (c .before .before .if5 .left)
+    (sym (c .before .code-wrong .ensures) ∙ c .if6 .taken)) refl
 
 returns-7 : tie.Need-returns-7
 returns-7 c = let a = c .before .before .before .before .before .before .before .before .before .before .args in
-    λ p n. numbered _ _ (async-payload (a .kind) (a .code) n (a .len) p (c .before .before .before .before .before .before .before .before .before .if1 .left) (c .before .before .before .before .before .before .before .before .if2 .left) (not-vendor (classOf asynchronous (a .kind)) (c .before .before .before .before .before .before .before .class-of .result) (c .before .before .before .before .before .before .before .class-of .ensures) (c .before .before .before .before .before .before .if3 .left)) (not-unrecognised (classOf asynchronous (a .kind)) (c .before .before .before .before .before .before .before .class-of .result) (c .before .before .before .before .before .before .before .class-of .ensures) (c .before .before .before .before .before .if4 .left)) (c .before .before .before .before .if5 .left) (sym (c .before .before .before .code-wrong .ensures) ∙ c .before .before .if6 .left) (sym (c .before .payload-wrong .ensures) ∙ c .if7 .taken)) refl
+    λ p n. numbered _ _ (async-payload (a .kind) (a .code) n (a .len) p (c .before .before .before .before .before .before .before .before .before .if1 .left)
+    (c .before .before .before .before .before .before .before .before .if2 .left)
+    (not-vendor (classOf asynchronous (a .kind)) (c .before .before .before .before .before .before .before .class-of .result)
+    (c .before .before .before .before .before .before .before .class-of .ensures) (c .before .before .before .before .before .before .if3 .left))
+    (not-unrecognised (classOf asynchronous (a .kind)) (c .before .before .before .before .before .before .before .class-of .result)
+    (c .before .before .before .before .before .before .before .class-of .ensures) (c .before .before .before .before .before .if4 .left))
+    (c .before .before .before .before .if5 .left) (sym (c .before .before .before .code-wrong .ensures) ∙ c .before .before .if6 .left)
+    (sym (c .before .payload-wrong .ensures) ∙ c .if7 .taken)) refl
 
 returns-8 : tie.Need-returns-8
 returns-8 c = let a = c .before .before .before .before .before .before .before .before .before .before .args in
-    λ p n. numbered _ _ (async-acts (a .kind) (a .code) n (a .len) p (c .before .before .before .before .before .before .before .before .before .if1 .left) (c .before .before .before .before .before .before .before .before .if2 .left) (not-vendor (classOf asynchronous (a .kind)) (c .before .before .before .before .before .before .before .class-of .result) (c .before .before .before .before .before .before .before .class-of .ensures) (c .before .before .before .before .before .before .if3 .left)) (not-unrecognised (classOf asynchronous (a .kind)) (c .before .before .before .before .before .before .before .class-of .result) (c .before .before .before .before .before .before .before .class-of .ensures) (c .before .before .before .before .before .if4 .left)) (c .before .before .before .before .if5 .left) (sym (c .before .before .before .code-wrong .ensures) ∙ c .before .before .if6 .left) (sym (c .before .payload-wrong .ensures) ∙ c .if7 .left)) refl
+    λ p n. numbered _ _ (async-acts (a .kind) (a .code) n (a .len) p (c .before .before .before .before .before .before .before .before .before .if1 .left)
+    (c .before .before .before .before .before .before .before .before .if2 .left)
+    (not-vendor (classOf asynchronous (a .kind)) (c .before .before .before .before .before .before .before .class-of .result)
+    (c .before .before .before .before .before .before .before .class-of .ensures) (c .before .before .before .before .before .before .if3 .left))
+    (not-unrecognised (classOf asynchronous (a .kind)) (c .before .before .before .before .before .before .before .class-of .result)
+    (c .before .before .before .before .before .before .before .class-of .ensures) (c .before .before .before .before .before .if4 .left))
+    (c .before .before .before .before .if5 .left) (sym (c .before .before .before .code-wrong .ensures) ∙ c .before .before .if6 .left)
+    (sym (c .before .payload-wrong .ensures) ∙ c .if7 .left)) refl
 
 pub asynchronous-verdict-spec : {M : Type 1} → statement M
 asynchronous-verdict-spec =

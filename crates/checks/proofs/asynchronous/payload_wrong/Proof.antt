@@ -25,7 +25,8 @@ returns-7 : tie.Need-returns-7
 returns-7 c = let a = c .before .args in payload-info (a .kind) (a .code) (a .len) (c .match .keys6)
 
 returns-8 : tie.Need-returns-8
-returns-8 c = let a = c .before .args in payload-any (a .kind) (a .code) (a .len) (c .match .rest .0 .0 .0 .0 .0 .1) (c .match .rest .0 .0 .0 .0 .1) (c .match .rest .0 .0 .0 .1) (c .match .rest .0 .0 .1) (c .match .rest .0 .1) (c .match .rest .1)
+returns-8 c = let a = c .before .args in payload-any (a .kind) (a .code) (a .len) (c .match .rest .0 .0 .0 .0 .0 .1) (c .match .rest .0 .0 .0 .0 .1)
+    (c .match .rest .0 .0 .0 .1) (c .match .rest .0 .0 .1) (c .match .rest .0 .1) (c .match .rest .1)
 
 pub payload-wrong-spec : {M : Type 1} → statement M
 payload-wrong-spec =

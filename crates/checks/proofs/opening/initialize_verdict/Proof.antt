@@ -14,11 +14,14 @@ returns c = let a = c .before .before .before .args in
 
 returns-2 : tie.Need-returns-2
 returns-2 c = let a = c .before .before .before .before .before .args in
-    λ s m n l. numbered _ _ (open-full (view (memory (a .w .now) s)) 0 m n l (a .payload .now) refl (c .before .before .before .is-sub-address .ensures ∙ not-false _ (c .before .before .if1 .left)) (c .before .is-full .ensures s ∙ c .if2 .taken)) refl
+    λ s m n l. numbered _ _ (open-full (view (memory (a .w .now) s)) 0 m n l (a .payload .now) refl
+    (c .before .before .before .is-sub-address .ensures ∙ not-false _ (c .before .before .if1 .left)) (c .before .is-full .ensures s ∙ c .if2 .taken))
+    refl
 
 returns-3 : tie.Need-returns-3
 returns-3 c = let a = c .before .before .before .before .before .args in
-    λ s m n l. numbered _ _ (open-session (view (memory (a .w .now) s)) 0 m n l (a .payload .now) refl (c .before .before .before .is-sub-address .ensures ∙ not-false _ (c .before .before .if1 .left)) (c .before .is-full .ensures s ∙ c .if2 .left)) refl
+    λ s m n l. numbered _ _ (open-session (view (memory (a .w .now) s)) 0 m n l (a .payload .now) refl
+    (c .before .before .before .is-sub-address .ensures ∙ not-false _ (c .before .before .if1 .left)) (c .before .is-full .ensures s ∙ c .if2 .left)) refl
 
 pub initialize-verdict-spec : {M : Type 1} → statement M
 initialize-verdict-spec =

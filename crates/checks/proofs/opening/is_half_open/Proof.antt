@@ -14,7 +14,8 @@ returns-2 c = let a = c .before .before .before .args in
 
 returns-3 : tie.Need-returns-3
 returns-3 c = let a = c .before .before .before .before .args in
-    λ s. number-found (a .w .now) s (a .number) (c .before .before .slot-of-number .result) (c .before .before .slot-of-number .ensures .1 s) (c .before .before .before .if1 .left) (c .before .if2 .left) (c .entry .result) (c .entry .ensures .0 s)
+    λ s. number-found (a .w .now) s (a .number) (c .before .before .slot-of-number .result) (c .before .before .slot-of-number .ensures .1 s)
+    (c .before .before .before .if1 .left) (c .before .if2 .left) (c .entry .result) (c .entry .ensures .0 s)
 
 pub is-half-open-spec : {M : Type 1} → statement M
 is-half-open-spec =

@@ -27,7 +27,12 @@ returns-7 : tie.Need-returns-7
 returns-7 c = differ (c .before .before .before .before .before .before .before .before .before .before .before .before .before .args .p .now) hislip0 5 (c .if7 .taken)
 
 returns-8 : tie.Need-returns-8
-returns-8 c = is-hislip0 (c .before .before .before .before .before .before .before .before .before .before .before .before .before .before .args .p .now) (c .before .before .before .before .before .before .before .before .before .before .before .before .before .if1 .left) (c .before .before .before .before .before .before .before .before .before .before .before .if2 .left) (c .before .before .before .before .before .before .before .before .before .if3 .left) (c .before .before .before .before .before .before .before .if4 .left) (c .before .before .before .before .before .if5 .left) (c .before .before .before .if6 .left) (c .before .if7 .left)
+returns-8 c = is-hislip0 (c .before .before .before .before .before .before .before .before .before .before .before .before .before .before .args .p .now)
+    (c .before .before .before .before .before .before .before .before .before .before .before .before .before .if1 .left)
+    (c .before .before .before .before .before .before .before .before .before .before .before .if2 .left)
+    (c .before .before .before .before .before .before .before .before .before .if3 .left)
+    (c .before .before .before .before .before .before .before .if4 .left) (c .before .before .before .before .before .if5 .left)
+    (c .before .before .before .if6 .left) (c .before .if7 .left)
 
 pub is-hislip0-spec : {M : Type 1} → statement M
 is-hislip0-spec =

@@ -19,27 +19,52 @@ returns-2 c = let a = c .before .before .args in
 
 returns-3 : tie.Need-returns-3
 returns-3 c = let a = c .before .before .before .before .before .args in
-    λ s p. same-number _ _ _ (sync-complete (anyCommand (view (memory (a .w .now) s))) (a .i) (a .kind) (a .code) (a .param) (a .len) p (c .before .before .before .before .if1 .left) (c .before .before .before .if2 .left) _ (c .before .before .in-clear .ensures) (c .before .if3 .taken)) (c .complete-verdict .ensures)
+    λ s p. same-number _ _ _ (sync-complete (anyCommand (view (memory (a .w .now) s))) (a .i) (a .kind) (a .code) (a .param) (a .len) p
+    (c .before .before .before .before .if1 .left) (c .before .before .before .if2 .left) _ (c .before .before .in-clear .ensures)
+    (c .before .if3 .taken)) (c .complete-verdict .ensures)
 
 returns-4 : tie.Need-returns-4
 returns-4 c = let a = c .before .before .before .before .before .args in
-    λ s p. numbered _ _ (sync-ignored (anyCommand (view (memory (a .w .now) s))) (a .i) (a .kind) (a .code) (a .param) (a .len) p (c .before .before .before .before .if1 .left) (c .before .before .before .if2 .left) (c .before .if3 .left) (c .before .before .in-clear .ensures ∙ c .if4 .taken)) refl
+    λ s p. numbered _ _ (sync-ignored (anyCommand (view (memory (a .w .now) s))) (a .i) (a .kind) (a .code) (a .param) (a .len) p
+    (c .before .before .before .before .if1 .left) (c .before .before .before .if2 .left) (c .before .if3 .left)
+    (c .before .before .in-clear .ensures ∙ c .if4 .taken)) refl
 
 returns-5 : tie.Need-returns-5
 returns-5 c = let a = c .before .before .before .before .before .before .before .args in
-    λ s p. numbered _ _ (sync-vendor (anyCommand (view (memory (a .w .now) s))) (a .i) (a .kind) (a .code) (a .param) (a .len) p (c .before .before .before .before .before .before .if1 .left) (c .before .before .before .before .before .if2 .left) (c .before .before .before .if3 .left) (c .before .before .before .before .in-clear .ensures ∙ c .before .before .if4 .left) (is-vendor (classOf synchronous (a .kind)) (c .before .class-of .result) (c .before .class-of .ensures) (c .if5 .taken))) refl
+    λ s p. numbered _ _ (sync-vendor (anyCommand (view (memory (a .w .now) s))) (a .i) (a .kind) (a .code) (a .param) (a .len) p
+    (c .before .before .before .before .before .before .if1 .left) (c .before .before .before .before .before .if2 .left)
+    (c .before .before .before .if3 .left) (c .before .before .before .before .in-clear .ensures ∙ c .before .before .if4 .left)
+    (is-vendor (classOf synchronous (a .kind)) (c .before .class-of .result) (c .before .class-of .ensures) (c .if5 .taken))) refl
 
 returns-6 : tie.Need-returns-6
 returns-6 c = let a = c .before .before .before .before .before .before .before .before .args in
-    λ s p. numbered _ _ (sync-unrecognised (anyCommand (view (memory (a .w .now) s))) (a .i) (a .kind) (a .code) (a .param) (a .len) p (c .before .before .before .before .before .before .before .if1 .left) (c .before .before .before .before .before .before .if2 .left) (c .before .before .before .before .if3 .left) (c .before .before .before .before .before .in-clear .ensures ∙ c .before .before .before .if4 .left) (not-vendor (classOf synchronous (a .kind)) (c .before .before .class-of .result) (c .before .before .class-of .ensures) (c .before .if5 .left)) (is-unrecognised (classOf synchronous (a .kind)) (c .before .before .class-of .result) (c .before .before .class-of .ensures) (c .if6 .taken))) refl
+    λ s p. numbered _ _ (sync-unrecognised (anyCommand (view (memory (a .w .now) s))) (a .i) (a .kind) (a .code) (a .param) (a .len) p
+    (c .before .before .before .before .before .before .before .if1 .left) (c .before .before .before .before .before .before .if2 .left)
+    (c .before .before .before .before .if3 .left) (c .before .before .before .before .before .in-clear .ensures ∙ c .before .before .before .if4 .left)
+    (not-vendor (classOf synchronous (a .kind)) (c .before .before .class-of .result) (c .before .before .class-of .ensures) (c .before .if5 .left))
+    (is-unrecognised (classOf synchronous (a .kind)) (c .before .before .class-of .result) (c .before .before .class-of .ensures) (c .if6 .taken))) refl
 
 returns-7 : tie.Need-returns-7
 returns-7 c = let a = c .before .before .before .before .before .before .before .before .before .args in
-    λ s p. numbered _ _ (sync-again (anyCommand (view (memory (a .w .now) s))) (a .i) (a .kind) (a .code) (a .param) (a .len) p (c .before .before .before .before .before .before .before .before .if1 .left) (c .before .before .before .before .before .before .before .if2 .left) (c .before .before .before .before .before .if3 .left) (c .before .before .before .before .before .before .in-clear .ensures ∙ c .before .before .before .before .if4 .left) (not-vendor (classOf synchronous (a .kind)) (c .before .before .before .class-of .result) (c .before .before .before .class-of .ensures) (c .before .before .if5 .left)) (not-unrecognised (classOf synchronous (a .kind)) (c .before .before .before .class-of .result) (c .before .before .before .class-of .ensures) (c .before .if6 .left)) (c .if7 .taken)) refl
+    λ s p. numbered _ _ (sync-again (anyCommand (view (memory (a .w .now) s))) (a .i) (a .kind) (a .code) (a .param) (a .len) p
+    (c .before .before .before .before .before .before .before .before .if1 .left) (c .before .before .before .before .before .before .before .if2 .left)
+    (c .before .before .before .before .before .if3 .left)
+    (c .before .before .before .before .before .before .in-clear .ensures ∙ c .before .before .before .before .if4 .left)
+    (not-vendor (classOf synchronous (a .kind)) (c .before .before .before .class-of .result) (c .before .before .before .class-of .ensures)
+    (c .before .before .if5 .left)) (not-unrecognised (classOf synchronous (a .kind)) (c .before .before .before .class-of .result)
+    (c .before .before .before .class-of .ensures) (c .before .if6 .left)) (c .if7 .taken)) refl
 
 returns-8 : tie.Need-returns-8
 returns-8 c = let a = c .before .before .before .before .before .before .before .before .before .before .args in
-    λ s p. same-number _ _ _ (sync-command (anyCommand (view (memory (a .w .now) s))) (a .i) (a .kind) (a .code) (a .param) (a .len) p (c .before .before .before .before .before .before .before .before .before .if1 .left) (c .before .before .before .before .before .before .before .before .if2 .left) (c .before .before .before .before .before .before .if3 .left) (c .before .before .before .before .before .before .before .in-clear .ensures ∙ c .before .before .before .before .before .if4 .left) (not-vendor (classOf synchronous (a .kind)) (c .before .before .before .before .class-of .result) (c .before .before .before .before .class-of .ensures) (c .before .before .before .if5 .left)) (not-unrecognised (classOf synchronous (a .kind)) (c .before .before .before .before .class-of .result) (c .before .before .before .before .class-of .ensures) (c .before .before .if6 .left)) (c .before .if7 .left) _ _ refl refl refl) (c .command-verdict .ensures s)
+    λ s p. same-number _ _ _ (sync-command (anyCommand (view (memory (a .w .now) s))) (a .i) (a .kind) (a .code) (a .param) (a .len) p
+    (c .before .before .before .before .before .before .before .before .before .if1 .left)
+    (c .before .before .before .before .before .before .before .before .if2 .left) (c .before .before .before .before .before .before .if3 .left)
+    (c .before .before .before .before .before .before .before .in-clear .ensures ∙ c .before .before .before .before .before .if4 .left)
+    (not-vendor (classOf synchronous (a .kind)) (c .before .before .before .before .class-of .result)
+    (c .before .before .before .before .class-of .ensures) (c .before .before .before .if5 .left))
+    (not-unrecognised (classOf synchronous (a .kind)) (c .before .before .before .before .class-of .result)
+    (c .before .before .before .before .class-of .ensures) (c .before .before .if6 .left)) (c .before .if7 .left) _ _ refl refl refl)
+    (c .command-verdict .ensures s)
 
 pub synchronous-verdict-spec : {M : Type 1} → statement M
 synchronous-verdict-spec =

@@ -12,7 +12,8 @@ listed-verdict-requires c κs = c .before .before .pre (c .match .keys3)
 
 returns : tie.Need-returns
 returns c = let a = c .before .before .before .args in
-    λ s r e z. same-number _ _ _ (judged-none (view (memory (a .w .now) s)) (a .i) (message (a .kind) (a .code) (a .param) (a .len)) (a .payload .now) r (e ∙ c .before .match .keys1)) (c .opening-verdict .ensures s (a .code))
+    λ s r e z. same-number _ _ _ (judged-none (view (memory (a .w .now) s)) (a .i) (message (a .kind) (a .code) (a .param) (a .len)) (a .payload .now) r
+    (e ∙ c .before .match .keys1)) (c .opening-verdict .ensures s (a .code))
 
 returns-2 : tie.Need-returns-2
 returns-2 c = let a = c .before .before .args in
@@ -20,11 +21,14 @@ returns-2 c = let a = c .before .before .args in
 
 returns-3 : tie.Need-returns-3
 returns-3 c = let a = c .before .before .before .args in
-    λ s r e z. same-number _ _ _ (judged-synchronous (view (memory (a .w .now) s)) (a .i) (message (a .kind) (a .code) (a .param) (a .len)) (a .payload .now) r (e ∙ c .before .match .keys3)) (c .listed-verdict .ensures s (z (c .before .match .keys3)))
+    λ s r e z. same-number _ _ _ (judged-synchronous (view (memory (a .w .now) s)) (a .i) (message (a .kind) (a .code) (a .param) (a .len)) (a .payload .now) r
+    (e ∙ c .before .match .keys3)) (c .listed-verdict .ensures s (z (c .before .match .keys3)))
 
 returns-4 : tie.Need-returns-4
 returns-4 c = let a = c .before .before .before .args in
-    λ s r e z. same-number _ _ _ (judged-asynchronous (view (memory (a .w .now) s)) (a .i) (message (a .kind) (a .code) (a .param) (a .len)) (a .payload .now) r (λ q. c .before .match .rest .0 .0 .1 (sym e ∙ q)) (λ q. c .before .match .rest .0 .1 (sym e ∙ q)) (λ q. c .before .match .rest .1 (sym e ∙ q))) (c .asynchronous-verdict .ensures (a .payload .now) (a .param))
+    λ s r e z. same-number _ _ _ (judged-asynchronous (view (memory (a .w .now) s)) (a .i) (message (a .kind) (a .code) (a .param) (a .len)) (a .payload .now) r
+    (λ q. c .before .match .rest .0 .0 .1 (sym e ∙ q)) (λ q. c .before .match .rest .0 .1 (sym e ∙ q)) (λ q. c .before .match .rest .1 (sym e ∙ q)))
+    (c .asynchronous-verdict .ensures (a .payload .now) (a .param))
 
 pub whole-verdict-spec : {M : Type 1} → statement M
 whole-verdict-spec =

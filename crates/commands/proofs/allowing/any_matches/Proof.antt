@@ -28,8 +28,12 @@ loop-holds c =
     let m = c .before .before .first-matches in
     let g = c .before .before .before .raised-at2 in
     let f = c .before .before .before .before .raised-at in
-    let a = c .before .before .before .before .before .before .before .args in
-    (n .ensures .1, n .ensures .3, Iff·trans (m .ensures .1 (c .before .if1 .left)) (moved (a .text .now) (a .c .now) (f .result) (g .result) (f .ensures) (g .ensures) 0 (n .result) (n .ensures .0) (n .ensures .1) (n .ensures .2)))
+    let a = c .before .before .before .before .before .before .before .args in (
+      n .ensures .1,
+      n .ensures .3,
+      Iff·trans (m .ensures .1 (c .before .if1 .left))
+          (moved (a .text .now) (a .c .now) (f .result) (g .result) (f .ensures) (g .ensures) 0 (n .result) (n .ensures .0) (n .ensures .1) (n .ensures .2)),
+    )
 
 returns-2 : tie.Need-returns-2 Inv-loop μ-loop
 returns-2 c =
@@ -40,8 +44,11 @@ returns-2 c =
     let g = c .before .before .before .before .before .before .before .before .before .raised-at2 in
     let f = c .before .before .before .before .before .before .before .before .before .before .raised-at in
     let a = c .before .before .before .before .before .before .before .before .before .before .before .before .before .args in
-    let b = behind-newline (a .text .now) (a .c .now) (l .at) (search needs) (opens-newline (a .text .now) (l .at) (f .result) (g .result) (l .inv .1 (t .taken))) in
-    (λ x. l .inv .2 .1 (subst (λ (y : List (List ℕ)). Allows y (a .c .now)) (sym b) (line-matched (a .text .now) (a .c .now) (l .at + 1) (e .result) (e .ensures .0) (t .taken) (m .ensures .0 (c .if2 .taken)))), λ x. refl)
+    let b = behind-newline (a .text .now) (a .c .now) (l .at) (search needs) (opens-newline (a .text .now) (l .at) (f .result) (g .result) (l .inv .1 (t .taken))) in (
+      λ x. l .inv .2 .1 (subst (λ (y : List (List ℕ)). Allows y (a .c .now)) (sym b)
+          (line-matched (a .text .now) (a .c .now) (l .at + 1) (e .result) (e .ensures .0) (t .taken) (m .ensures .0 (c .if2 .taken)))),
+      λ x. refl,
+    )
 
 next-opening-requires : tie.Need-next-opening-requires Inv-loop μ-loop
 next-opening-requires c κs = c .before .before .before .line-end .ensures .1
@@ -78,4 +85,7 @@ returns-3 c =
     (λ t. untrue t, λ x. absurd (behind-end (a .text .now) (a .c .now) (l .at) (search needs) (l .inv .2 .0 x)))
 
 pub any-matches-spec : {M : Type 1} → statement M
-any-matches-spec = tie.close (tie.spec Inv-loop μ-loop (λ c κs. search needs) (λ c κs. search needs) (λ c κs. (c .before .raised-at .ensures, c .raised-at2 .ensures)) returns (λ c κs. search needs) loop-holds (λ c. search needs) (λ c. search needs) (λ c κs. search needs) (λ c. search needs) (λ c. search needs) (λ c. search needs) (λ c κs. search needs) returns-2 next-opening-requires loop-less loop-again returns-3)
+any-matches-spec = tie.close (tie.spec Inv-loop μ-loop (λ c κs. search needs) (λ c κs. search needs)
+    (λ c κs. (c .before .raised-at .ensures, c .raised-at2 .ensures)) returns (λ c κs. search needs) loop-holds (λ c. search needs) (λ c. search needs)
+    (λ c κs. search needs) (λ c. search needs) (λ c. search needs) (λ c. search needs) (λ c κs. search needs) returns-2 next-opening-requires loop-less
+    loop-again returns-3)

@@ -33,8 +33,11 @@ returns-4 : tie.Need-returns-4
 returns-4 c =
     let m = c .matches in
     let e = c .before .before .line-end in
-    let a = c .before .before .before .before .before .before .before .before .before .before .args in
-    (λ t. first-matched (a .text .now) (a .c .now) (e .result) (e .ensures .0) (m .ensures .0 t), λ t. first-passed (a .text .now) (a .c .now) (e .result) (e .ensures .0) (λ x. untrue (sym t ∙ m .ensures .1 x)))
+    let a = c .before .before .before .before .before .before .before .before .before .before .args in (
+      λ t. first-matched (a .text .now) (a .c .now) (e .result) (e .ensures .0) (m .ensures .0 t),
+      λ t. first-passed (a .text .now) (a .c .now) (e .result)
+          (e .ensures .0) (λ x. untrue (sym t ∙ m .ensures .1 x)),
+    )
 
 pub first-matches-spec : {M : Type 1} → statement M
 first-matches-spec = tie.close (tie.spec returns (λ c. search needs) returns-2 (λ c κs. search needs) returns-3 (λ c κs. search needs) slice-aggregate-matches (λ c κs. search needs) returns-4)

@@ -28,7 +28,10 @@ returns-4 c =
 returns-5 : tie.Need-returns-5
 returns-5 c =
     let a = c .before .before .before .before .before .before .before .before .before .before .args in
-    ap not (c .is-between .ensures) ∙ sym (opens-other (a .text .now) (a .i) (a .f) (a .g) (c .before .before .before .before .before .before .before .if1 .left) (c .before .before .before .before .before .if2 .left) (c .before .before .if4 .left))
+    ap not (c .is-between .ensures) ∙ sym (opens-other (a .text .now) (a .i) (a .f) (a .g)
+    (c .before .before .before .before .before .before .before .if1 .left) (c .before .before .before .before .before .if2 .left)
+    (c .before .before .if4 .left))
 
 pub opens-at-spec : {M : Type 1} → statement M
-opens-at-spec = tie.close (tie.spec (λ c. search needs) returns (λ c. search needs) (λ c. search needs) returns-2 (λ c. search needs) returns-3 (λ c. search needs) (λ c. search needs) returns-4 (λ c. search needs) (λ c. search needs) (λ c κs. search needs) returns-5)
+opens-at-spec = tie.close (tie.spec (λ c. search needs) returns (λ c. search needs) (λ c. search needs) returns-2 (λ c. search needs) returns-3
+    (λ c. search needs) (λ c. search needs) returns-4 (λ c. search needs) (λ c. search needs) (λ c κs. search needs) returns-5)

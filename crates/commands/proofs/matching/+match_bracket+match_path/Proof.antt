@@ -53,14 +53,16 @@ match-bracket-returns t c =
     let u = c .before in
     let w = u .before .before .before .before in
     let a = w .before .before .before .args in
-    bracket-out (8 - a .left) (a .p .now) (a .at) (a .c .now) (a .t5) (w .match-path .result .at) (w .match-path .result .on) (u .union .result) (w .match-path .ensures) (u .union .ensures) (search needs)
+    bracket-out (8 - a .left) (a .p .now) (a .at) (a .c .now) (a .t5) (w .match-path .result .at) (w .match-path .result .on) (u .union .result)
+    (w .match-path .ensures) (u .union .ensures) (search needs)
 
 match-bracket-returns-2 : (t : ℕ) → match-bracket-lts.Need-returns-2 (match-path-below t, match-path.Post, union-reads.Asked, union-reads.Learnt) (match-bracket-at t) match-bracket.Post
 match-bracket-returns-2 t c =
     let u = c .before in
     let w = u .before .before .before .before in
     let a = w .before .before .before .args in
-    bracket-close (8 - a .left) (a .p .now) (a .at) (a .c .now) (a .t5) (w .match-path .result .at) (w .match-path .result .on) (u .union .result) (w .match-path .ensures) (u .union .ensures) (search needs)
+    bracket-close (8 - a .left) (a .p .now) (a .at) (a .c .now) (a .t5) (w .match-path .result .at) (w .match-path .result .on) (u .union .result)
+    (w .match-path .ensures) (u .union .ensures) (search needs)
 
 abbrev match-path-Inv-loop : match-path-lts.InvT-loop
 match-path-Inv-loop p at left c w₀ w = (at ≤ w .at) × (w .at ≤ length p) × Leads (8 - left) p at c (w₀ .on) (w .at) (w .on)
@@ -68,10 +70,14 @@ match-path-Inv-loop p at left c w₀ w = (at ≤ w .at) × (w .at ≤ length p) 
 abbrev match-path-μ-loop : match-path-lts.MeasureT-loop
 match-path-μ-loop p at left c w₀ w = length p - w .at
 
-match-path-loop-holds : (t : ℕ) → match-path-lts.Need-loop-holds (begins-item-reads.Asked, begins-item-reads.Learnt, match-word-reads.Asked, match-word-reads.Learnt, match-bracket-below t, match-bracket.Post) (match-path-at t) match-path.Post match-path-Inv-loop match-path-μ-loop
+match-path-loop-holds : (t : ℕ) → match-path-lts.Need-loop-holds
+    (begins-item-reads.Asked, begins-item-reads.Learnt, match-word-reads.Asked, match-word-reads.Learnt, match-bracket-below t, match-bracket.Post)
+    (match-path-at t) match-path.Post match-path-Inv-loop match-path-μ-loop
 match-path-loop-holds t c = (search needs, search needs, λ to u w. w)
 
-match-path-shared-slice-read-if2 : (t : ℕ) → match-path-lts.Need-shared-slice-read-if2 (begins-item-reads.Asked, begins-item-reads.Learnt, match-word-reads.Asked, match-word-reads.Learnt, match-bracket-below t, match-bracket.Post) (match-path-at t) match-path.Post match-path-Inv-loop match-path-μ-loop
+match-path-shared-slice-read-if2 : (t : ℕ) → match-path-lts.Need-shared-slice-read-if2
+    (begins-item-reads.Asked, begins-item-reads.Learnt, match-word-reads.Asked, match-word-reads.Learnt, match-bracket-below t, match-bracket.Post)
+    (match-path-at t) match-path.Post match-path-Inv-loop match-path-μ-loop
 match-path-shared-slice-read-if2 t c =
     let b = c .before .before .before .begins-item in
     let l = c .before .before .before .before .loop in
@@ -79,7 +85,9 @@ match-path-shared-slice-read-if2 t c =
     let i : ItemAt (a .left) (a .p .now) (l .w .at) = says-yes (b .result) (b .ensures) (c .before .before .if1 .taken) in
     i .0
 
-match-path-match-word-requires : (t : ℕ) → match-path-lts.Need-match-word-requires (begins-item-reads.Asked, begins-item-reads.Learnt, match-word-reads.Asked, match-word-reads.Learnt, match-bracket-below t, match-bracket.Post) (match-path-at t) match-path.Post match-path-Inv-loop match-path-μ-loop
+match-path-match-word-requires : (t : ℕ) → match-path-lts.Need-match-word-requires
+    (begins-item-reads.Asked, begins-item-reads.Learnt, match-word-reads.Asked, match-word-reads.Learnt, match-bracket-below t, match-bracket.Post)
+    (match-path-at t) match-path.Post match-path-Inv-loop match-path-μ-loop
 match-path-match-word-requires t c κs =
     let b = c .before .before .before .before .begins-item in
     let l = c .before .before .before .before .before .loop in
@@ -87,7 +95,9 @@ match-path-match-word-requires t c κs =
     let i : ItemAt (a .left) (a .p .now) (l .w .at) = says-yes (b .result) (b .ensures) (c .before .before .before .if1 .taken) in
     (i .0, search needs)
 
-match-path-loop-less : (t : ℕ) → match-path-lts.Need-loop-less (begins-item-reads.Asked, begins-item-reads.Learnt, match-word-reads.Asked, match-word-reads.Learnt, match-bracket-below t, match-bracket.Post) (match-path-at t) match-path.Post match-path-Inv-loop match-path-μ-loop
+match-path-loop-less : (t : ℕ) → match-path-lts.Need-loop-less
+    (begins-item-reads.Asked, begins-item-reads.Learnt, match-word-reads.Asked, match-word-reads.Learnt, match-bracket-below t, match-bracket.Post)
+    (match-path-at t) match-path.Post match-path-Inv-loop match-path-μ-loop
 match-path-loop-less t c =
     let b = c .before .before .before .before .before .begins-item in
     let l = c .before .before .before .before .before .before .loop in
@@ -96,7 +106,9 @@ match-path-loop-less t c =
     let n : l .w .at < c .match-word .result .at = c .match-word .ensures .onward in
     omega (arith, i .0)
 
-match-path-loop-again : (t : ℕ) → match-path-lts.Need-loop-again (begins-item-reads.Asked, begins-item-reads.Learnt, match-word-reads.Asked, match-word-reads.Learnt, match-bracket-below t, match-bracket.Post) (match-path-at t) match-path.Post match-path-Inv-loop match-path-μ-loop
+match-path-loop-again : (t : ℕ) → match-path-lts.Need-loop-again
+    (begins-item-reads.Asked, begins-item-reads.Learnt, match-word-reads.Asked, match-word-reads.Learnt, match-bracket-below t, match-bracket.Post)
+    (match-path-at t) match-path.Post match-path-Inv-loop match-path-μ-loop
 match-path-loop-again t c =
     let b = c .before .before .before .before .before .begins-item in
     let l = c .before .before .before .before .before .before .loop in
@@ -109,7 +121,9 @@ match-path-loop-again t c =
       leads-word (8 - a .left) (a .p .now) (a .at) (a .c .now) (a .s) (l .w .at) (l .w .on) (l .inv .2) (i .0) (w .result .at) (w .result .on) (c .before .if2 .taken) (w .ensures),
     )
 
-match-path-add-match-bracket : (t : ℕ) → match-path-lts.Need-add-match-bracket (begins-item-reads.Asked, begins-item-reads.Learnt, match-word-reads.Asked, match-word-reads.Learnt, match-bracket-below t, match-bracket.Post) (match-path-at t) match-path.Post match-path-Inv-loop match-path-μ-loop
+match-path-add-match-bracket : (t : ℕ) → match-path-lts.Need-add-match-bracket
+    (begins-item-reads.Asked, begins-item-reads.Learnt, match-word-reads.Asked, match-word-reads.Learnt, match-bracket-below t, match-bracket.Post)
+    (match-path-at t) match-path.Post match-path-Inv-loop match-path-μ-loop
 match-path-add-match-bracket t c =
     let b = c .before .before .before .before .begins-item in
     let l = c .before .before .before .before .before .loop in
@@ -117,7 +131,9 @@ match-path-add-match-bracket t c =
     let i : ItemAt (a .left) (a .p .now) (l .w .at) = says-yes (b .result) (b .ensures) (c .before .before .before .if1 .taken) in
     search (needs, i .0)
 
-match-path-sub-match-bracket : (t : ℕ) → match-path-lts.Need-sub-match-bracket (begins-item-reads.Asked, begins-item-reads.Learnt, match-word-reads.Asked, match-word-reads.Learnt, match-bracket-below t, match-bracket.Post) (match-path-at t) match-path.Post match-path-Inv-loop match-path-μ-loop
+match-path-sub-match-bracket : (t : ℕ) → match-path-lts.Need-sub-match-bracket
+    (begins-item-reads.Asked, begins-item-reads.Learnt, match-word-reads.Asked, match-word-reads.Learnt, match-bracket-below t, match-bracket.Post)
+    (match-path-at t) match-path.Post match-path-Inv-loop match-path-μ-loop
 match-path-sub-match-bracket t c =
     let b = c .before .before .before .before .begins-item in
     let l = c .before .before .before .before .before .loop in
@@ -125,7 +141,9 @@ match-path-sub-match-bracket t c =
     let i : ItemAt (a .left) (a .p .now) (l .w .at) = says-yes (b .result) (b .ensures) (c .before .before .before .if1 .taken) in
     item-open (a .left) (a .p .now) (l .w .at) i (c .if2 .left) .1
 
-match-path-match-bracket-requires : (t : ℕ) → match-path-lts.Need-match-bracket-requires (begins-item-reads.Asked, begins-item-reads.Learnt, match-word-reads.Asked, match-word-reads.Learnt, match-bracket-below t, match-bracket.Post) (match-path-at t) match-path.Post match-path-Inv-loop match-path-μ-loop
+match-path-match-bracket-requires : (t : ℕ) → match-path-lts.Need-match-bracket-requires
+    (begins-item-reads.Asked, begins-item-reads.Learnt, match-word-reads.Asked, match-word-reads.Learnt, match-bracket-below t, match-bracket.Post)
+    (match-path-at t) match-path.Post match-path-Inv-loop match-path-μ-loop
 match-path-match-bracket-requires t c κs =
     let b = c .before .before .before .before .begins-item in
     let l = c .before .before .before .before .before .loop in
@@ -136,7 +154,9 @@ match-path-match-bracket-requires t c κs =
     let m : a .at ≤ l .w .at = l .inv .0 in
     search needs
 
-match-path-loop-less-2 : (t : ℕ) → match-path-lts.Need-loop-less-2 (begins-item-reads.Asked, begins-item-reads.Learnt, match-word-reads.Asked, match-word-reads.Learnt, match-bracket-below t, match-bracket.Post) (match-path-at t) match-path.Post match-path-Inv-loop match-path-μ-loop
+match-path-loop-less-2 : (t : ℕ) → match-path-lts.Need-loop-less-2
+    (begins-item-reads.Asked, begins-item-reads.Learnt, match-word-reads.Asked, match-word-reads.Learnt, match-bracket-below t, match-bracket.Post)
+    (match-path-at t) match-path.Post match-path-Inv-loop match-path-μ-loop
 match-path-loop-less-2 t c =
     let b = c .before .before .before .before .before .begins-item in
     let l = c .before .before .before .before .before .before .loop in
@@ -145,7 +165,9 @@ match-path-loop-less-2 t c =
     let n : l .w .at + 1 ≤ c .match-bracket .result .at = c .match-bracket .ensures .onward in
     omega (arith, i .0)
 
-match-path-loop-again-2 : (t : ℕ) → match-path-lts.Need-loop-again-2 (begins-item-reads.Asked, begins-item-reads.Learnt, match-word-reads.Asked, match-word-reads.Learnt, match-bracket-below t, match-bracket.Post) (match-path-at t) match-path.Post match-path-Inv-loop match-path-μ-loop
+match-path-loop-again-2 : (t : ℕ) → match-path-lts.Need-loop-again-2
+    (begins-item-reads.Asked, begins-item-reads.Learnt, match-word-reads.Asked, match-word-reads.Learnt, match-bracket-below t, match-bracket.Post)
+    (match-path-at t) match-path.Post match-path-Inv-loop match-path-μ-loop
 match-path-loop-again-2 t c =
     let b = c .before .before .before .before .before .begins-item in
     let l = c .before .before .before .before .before .before .loop in
@@ -161,11 +183,14 @@ match-path-loop-again-2 t c =
       leads-bracket (8 - a .left) (a .p .now) (a .at) (a .c .now) (a .s) (l .w .at) (l .w .on) (l .inv .2) (i .0) (w .result .at) (w .result .on) (o .0) (rw d at (w .ensures)),
     )
 
-match-path-returns : (t : ℕ) → match-path-lts.Need-returns (begins-item-reads.Asked, begins-item-reads.Learnt, match-word-reads.Asked, match-word-reads.Learnt, match-bracket-below t, match-bracket.Post) (match-path-at t) match-path.Post match-path-Inv-loop match-path-μ-loop
+match-path-returns : (t : ℕ) → match-path-lts.Need-returns
+    (begins-item-reads.Asked, begins-item-reads.Learnt, match-word-reads.Asked, match-word-reads.Learnt, match-bracket-below t, match-bracket.Post)
+    (match-path-at t) match-path.Post match-path-Inv-loop match-path-μ-loop
 match-path-returns t c =
     let l = c .before .before .loop in
     let a = c .before .before .before .before .before .args in
-    leads-end (a .left) (a .p .now) (a .at) (a .c .now) (a .s) (l .w .at) (l .w .on) (search needs) (l .inv .1) (says-no (c .before .begins-item .result) (c .before .begins-item .ensures) (c .if1 .left)) (l .inv .2)
+    leads-end (a .left) (a .p .now) (a .at) (a .c .now) (a .s) (l .w .at) (l .w .on) (search needs) (l .inv .1)
+    (says-no (c .before .begins-item .result) (c .before .begins-item .ensures) (c .if1 .left)) (l .inv .2)
 
 pub +match-bracket+match-path-spec : {M : Type 1} → statement M
 +match-bracket+match-path-spec = close μ-match-bracket μ-match-path (λ t. match-bracket-lts.spec (

@@ -45,4 +45,5 @@ returns-4 c =
     (c .before .before .if3 .left) (c .asked .result) (c .asked .ensures)
 
 pub match-whole-spec : {M : Type 1} → statement M
-match-whole-spec = tie.close (tie.spec (λ c κs. search needs) returns (λ c κs. search needs) returns-2 (λ c κs. search needs) spread-on-requires (λ c κs. search needs) (λ c κs. search needs) returns-3 (λ c κs. search needs) returns-4)
+match-whole-spec = tie.close (tie.spec (λ c κs. search needs) returns (λ c κs. search needs) returns-2 (λ c κs. search needs) spread-on-requires
+    (λ c κs. search needs) (λ c κs. search needs) returns-3 (λ c κs. search needs) returns-4)

@@ -25,4 +25,5 @@ returns-3 c =
     member-high (a .s .now) (λ l. omega (arith, c .before .before .before .if1 .left)) (λ l. omega (arith, c .before .if2 .left))
 
 pub member-spec : {M : Type 1} → statement M
-member-spec = tie.close (tie.spec (λ c. search needs) (λ c. search needs) returns (λ c. search needs) (λ c. search needs) (λ c. search needs) returns-2 (λ c. search needs) cast-result-3 add-result-2 returns-3)
+member-spec = tie.close (tie.spec (λ c. search needs) (λ c. search needs) returns (λ c. search needs) (λ c. search needs) (λ c. search needs) returns-2
+    (λ c. search needs) cast-result-3 add-result-2 returns-3)

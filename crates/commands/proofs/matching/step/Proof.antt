@@ -32,8 +32,11 @@ loop-again : tie.Need-loop-again Inv-loop μ-loop
 loop-again c =
     let l = c .before .before .before .before .before .loop in
     let a = c .before .before .before .before .before .before .before .before .before .before .before .before .args in
-    let f = c .from-place in
-    (landing-more (part (a .a) (a .m) (a .p .now)) (part (a .a) (a .e) (a .p .now)) (a .c .now) (a .s .now) (l .w .on) (l .w .left) (f .result .left) (f .result .on) (l .w .next) (f .ensures .0) (f .ensures .2) (l .inv .0), f .ensures .3)
+    let f = c .from-place in (
+      landing-more (part (a .a) (a .m) (a .p .now)) (part (a .a) (a .e) (a .p .now)) (a .c .now) (a .s .now) (l .w .on) (l .w .left) (f .result .left)
+          (f .result .on) (l .w .next) (f .ensures .0) (f .ensures .2) (l .inv .0),
+      f .ensures .3,
+    )
 
 returns : tie.Need-returns Inv-loop μ-loop
 returns c =

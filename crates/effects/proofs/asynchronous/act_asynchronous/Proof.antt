@@ -1,6 +1,7 @@
 -- `asynchronous::act_asynchronous` meets its contract: each kind has its function.
 use mathlib.Core.Path.{_≡_, ap}
-use Rattle.model.specs.Acts.{AsynchronousKind.k-lock, AsynchronousKind.k-remoteLocal, AsynchronousKind.k-maximumSize, AsynchronousKind.k-deviceClear, AsynchronousKind.k-statusQuery, AsynchronousKind.k-lockInfo, asynchronousKind}
+use Rattle.model.specs.Acts.{AsynchronousKind.k-lock, AsynchronousKind.k-remoteLocal, AsynchronousKind.k-maximumSize, AsynchronousKind.k-deviceClear}
+use Rattle.model.specs.Acts.{AsynchronousKind.k-statusQuery, AsynchronousKind.k-lockInfo, asynchronousKind}
 use Rattle.state.specs.View.{memory}
 use Rattle.sessions.specs.Asynchronous.{did-message, kind-last}
 use borrow.Author.Needs.{needs}
@@ -20,7 +21,8 @@ returns-2 c =
     (ap asynchronousKind (c .before .before .before .before .before .if2 .taken)) (c .before .before .control .ensures (a .strings .now) (a .payload .now) (a .param))
 
 note-size-requires : tie.Need-note-size-requires
-note-size-requires c κs = let a = c .before .before .before .before .before .before .before .args in let l : a .len ≡ 8 = c .before .before .before .before .before .before .before .pre .5 (c .before .before .if3 .taken) in search needs
+note-size-requires c κs = let a = c .before .before .before .before .before .before .before .args in let l : a .len ≡ 8 =
+    c .before .before .before .before .before .before .before .pre .5 (c .before .before .if3 .taken) in search needs
 
 returns-3 : tie.Need-returns-3
 returns-3 c =
@@ -44,7 +46,10 @@ returns-6 : tie.Need-returns-6
 returns-6 c =
     let a = c .before .before .before .before .before .before .before .before .before .before .before .before .args in
     did-message k-lockInfo (a .i) (a .c) (a .kind) (a .code) (a .param) (a .len) (a .payload .now) (c .before .before .tell-locks .result) (memory (a .w .now) (a .strings .now)) _ (a .out .now) _
-    (kind-last (a .kind) (c .before .before .before .before .before .before .before .before .before .if1 .left) (c .before .before .before .before .before .before .before .before .if2 .left) (c .before .before .before .before .before .before .before .if3 .left) (c .before .before .before .before .before .before .if4 .left) (c .before .before .before .before .before .if5 .left)) (c .before .before .tell-locks .ensures (a .strings .now) (a .payload .now) (a .code) (a .param))
+    (kind-last (a .kind) (c .before .before .before .before .before .before .before .before .before .if1 .left)
+    (c .before .before .before .before .before .before .before .before .if2 .left) (c .before .before .before .before .before .before .before .if3 .left)
+    (c .before .before .before .before .before .before .if4 .left) (c .before .before .before .before .before .if5 .left))
+    (c .before .before .tell-locks .ensures (a .strings .now) (a .payload .now) (a .code) (a .param))
 
 pub act-asynchronous-spec : {M : Type 1} → statement M
 act-asynchronous-spec =

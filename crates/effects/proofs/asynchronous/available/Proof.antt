@@ -15,8 +15,11 @@ returns c = let a = c .before .before .before .args in
 returns-2 : tie.Need-returns-2
 returns-2 c = let a = c .before .before .before .before .args in
     let r = c .before .exchange in
-    let m = c .same-number in
-    (now-synchronized (exchangeAt (restOf (a .w .now)) (a .i)) (a .param) (m .result) (r .result) (c .before .before .before .is-overlap .ensures ∙ c .before .before .if1 .left) (r .ensures .0) (m .ensures .0), m .ensures .1)
+    let m = c .same-number in (
+      now-synchronized (exchangeAt (restOf (a .w .now)) (a .i)) (a .param) (m .result) (r .result)
+          (c .before .before .before .is-overlap .ensures ∙ c .before .before .if1 .left) (r .ensures .0) (m .ensures .0),
+      m .ensures .1,
+    )
 
 pub available-spec : {M : Type 1} → statement M
 available-spec = tie.close (tie.spec (λ c κs. search needs) (λ c κs. search needs) returns (λ c κs. search needs) (λ c κs. search needs) returns-2)

@@ -7,8 +7,10 @@ use Rattle.effects.proofs.asynchronous.control.Tie as tie
 returns : tie.Need-returns
 returns c =
     let a = c .before .before .before .before .before .before .before .before .before .before .args in
-    λ s p param. control-told (a .w .now) s _ (a .out .now) _ (a .i) (a .c) (c .before .before .before .before .before .before .before .entry .result) (c .before .before .before .before .before .before .before .entry .ensures .0 s) _
-    (a .code) param (a .len) p (c .acted .ensures) (c .before .before .before .before .before .set-control .ensures .0 s) (c .before .before .before .put-frame .ensures) (c .before .before .before .before .before .set-control .ensures .1 s)
+    λ s p param. control-told (a .w .now) s _ (a .out .now) _ (a .i) (a .c) (c .before .before .before .before .before .before .before .entry .result)
+    (c .before .before .before .before .before .before .before .entry .ensures .0 s) _
+    (a .code) param (a .len) p (c .acted .ensures) (c .before .before .before .before .before .set-control .ensures .0 s)
+    (c .before .before .before .put-frame .ensures) (c .before .before .before .before .before .set-control .ensures .1 s)
 
 pub control-spec : {M : Type 1} → statement M
 control-spec =

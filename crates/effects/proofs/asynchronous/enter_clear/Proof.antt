@@ -7,8 +7,15 @@ use Rattle.effects.proofs.asynchronous.enter_clear.Tie as tie
 
 returns : tie.Need-returns
 returns c = let a = c .before .before .before .before .before .before .before .before .before .before .before .before .args in (
-  λ s. clear-entered (a .i) _ _ _ _ _ _ _ (c .before .before .before .before .before .before .before .before .before .before .set-exchange .ensures .0 s) (c .before .before .before .before .before .before .before .before .set-exchange2 .ensures .0 s) (c .before .before .before .before .before .before .set-exchange3 .ensures .0 s) (c .before .before .before .before .set-exchange4 .ensures .0 s) (c .before .before .set-exchange5 .ensures .0 s) (c .reset-count .ensures .0 s),
-  λ s t. c .reset-count .ensures .1 s (c .before .before .set-exchange5 .ensures .1 s (omega arith) (c .before .before .before .before .set-exchange4 .ensures .1 s (omega arith) (c .before .before .before .before .before .before .set-exchange3 .ensures .1 s (omega arith) (c .before .before .before .before .before .before .before .before .set-exchange2 .ensures .1 s (omega arith) (c .before .before .before .before .before .before .before .before .before .before .set-exchange .ensures .1 s (omega arith) t))))),
+  λ s. clear-entered (a .i) _ _ _ _ _ _ _ (c .before .before .before .before .before .before .before .before .before .before .set-exchange .ensures .0 s)
+      (c .before .before .before .before .before .before .before .before .set-exchange2 .ensures .0 s)
+      (c .before .before .before .before .before .before .set-exchange3 .ensures .0 s) (c .before .before .before .before .set-exchange4 .ensures .0 s)
+      (c .before .before .set-exchange5 .ensures .0 s) (c .reset-count .ensures .0 s),
+  λ s t. c .reset-count .ensures .1 s (c .before .before .set-exchange5 .ensures .1 s (omega arith)
+      (c .before .before .before .before .set-exchange4 .ensures .1 s (omega arith)
+      (c .before .before .before .before .before .before .set-exchange3 .ensures .1 s (omega arith)
+      (c .before .before .before .before .before .before .before .before .set-exchange2 .ensures .1 s (omega arith)
+      (c .before .before .before .before .before .before .before .before .before .before .set-exchange .ensures .1 s (omega arith) t))))),
 )
 
 pub enter-clear-spec : {M : Type 1} → statement M

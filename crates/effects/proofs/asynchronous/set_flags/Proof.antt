@@ -14,8 +14,11 @@ returns c =
     let e = x .before .word-of in
     let l = y .before .word-of2 in
     let m = c .before .word-of3 in (
-      λ s. flagged (view (memory (a .w .now) s)) _ _ _ (shown (a .f)) (e .result) (l .result) (m .result) (e .ensures) (l .ensures) (m .ensures) (x .set-single .ensures .0 s) (y .set-single2 .ensures .0 s) (c .set-single3 .ensures .0 s),
-      λ s t. c .set-single3 .ensures .1 s (flag-small (a .f .remote) (m .result) (m .ensures)) (y .set-single2 .ensures .1 s (flag-small (a .f .lockout) (l .result) (l .ensures)) (x .set-single .ensures .1 s (flag-small (a .f .enable) (e .result) (e .ensures)) t)),
+      λ s. flagged (view (memory (a .w .now) s)) _ _ _ (shown (a .f)) (e .result) (l .result) (m .result) (e .ensures) (l .ensures) (m .ensures)
+          (x .set-single .ensures .0 s) (y .set-single2 .ensures .0 s) (c .set-single3 .ensures .0 s),
+      λ s t. c .set-single3 .ensures .1 s (flag-small (a .f .remote) (m .result) (m .ensures))
+          (y .set-single2 .ensures .1 s (flag-small (a .f .lockout) (l .result) (l .ensures))
+          (x .set-single .ensures .1 s (flag-small (a .f .enable) (e .result) (e .ensures)) t)),
     )
 
 pub set-flags-spec : {M : Type 1} → statement M

@@ -21,7 +21,8 @@ returns-2 c = let a = c .before .before .before .before .before .before .before 
     let x = exchangeAt (restOf (a .w .now)) (a .i) in
     let r = c .before .before .before .before .before .before .before .exchange in (
       unread-last x (a .param) (sent-read x (r .result) (r .ensures .0) ∙ eq-eqb (r .result) 1 (c .before .before .before .before .before .before .if1 .left))
-          (ap next (sym (c .before .before .before .before .new .ensures)) ∙ sym (c .before .before .before .next .ensures) ∙ c .if2 .taken ∙ sym (c .before .before .before .before .before .count-of .ensures)),
+          (ap next (sym (c .before .before .before .before .new .ensures)) ∙ sym (c .before .before .before .next .ensures) ∙ c .if2 .taken
+          ∙ sym (c .before .before .before .before .before .count-of .ensures)),
       search needs,
     )
 

@@ -13,12 +13,16 @@ returns c = let a = c .before .before .before .args in counted-number (exchangeA
 returns-2 : tie.Need-returns-2
 returns-2 c = let a = c .before .before .before .before .before .args in
     let e = c .before .before .exchange in
-    nothing-number (exchangeAt (restOf (a .w .now)) (a .i)) (e .result) (c .before .before .before .before .is-overlap .ensures ∙ c .before .before .before .if1 .left) (e .ensures .0) (c .before .if2 .taken) ∙ sym (c .new .ensures)
+    nothing-number (exchangeAt (restOf (a .w .now)) (a .i)) (e .result)
+    (c .before .before .before .before .is-overlap .ensures ∙ c .before .before .before .if1 .left) (e .ensures .0) (c .before .if2 .taken)
+    ∙ sym (c .new .ensures)
 
 returns-3 : tie.Need-returns-3
 returns-3 c = let a = c .before .before .before .before .before .args in
     let e = c .before .before .exchange in
-    asked-number (exchangeAt (restOf (a .w .now)) (a .i)) (e .result) (c .before .before .before .before .is-overlap .ensures ∙ c .before .before .before .if1 .left) (e .ensures .0) (c .before .if2 .left) ∙ sym (c .new2 .ensures)
+    asked-number (exchangeAt (restOf (a .w .now)) (a .i)) (e .result)
+    (c .before .before .before .before .is-overlap .ensures ∙ c .before .before .before .if1 .left) (e .ensures .0) (c .before .if2 .left)
+    ∙ sym (c .new2 .ensures)
 
 pub answer-number-spec : {M : Type 1} → statement M
 answer-number-spec = tie.close (tie.spec (λ c κs. search needs) (λ c κs. search needs) returns (λ c κs. search needs) (λ c κs. search needs) returns-2 (λ c. search needs) (λ c. search needs) (λ c κs. search needs) returns-3)

@@ -9,14 +9,19 @@ use Rattle.effects.proofs.events.note_answer.Tie as tie
 
 returns : tie.Need-returns
 returns c = let a = c .before .before .before .before .before .args in (
-  λ s. answered-part (view (memory (a .w .now) s)) _ _ (a .i) (c .before .before .before .set-exchange .ensures .0 s) (c .before .count-answer .ensures .0 s) (a .«end») (not-true (a .«end») (c .if1 .taken)),
+  λ s. answered-part (view (memory (a .w .now) s)) _ _ (a .i) (c .before .before .before .set-exchange .ensures .0 s) (c .before .count-answer .ensures .0 s)
+      (a .«end») (not-true (a .«end») (c .if1 .taken)),
   λ s t. c .before .count-answer .ensures .1 s (c .before .before .before .set-exchange .ensures .1 s (omega arith) t),
 )
 
 returns-2 : tie.Need-returns-2
 returns-2 c = let a = c .before .before .before .before .before .before .before .before .before .args in (
-  λ s. answered-whole (view (memory (a .w .now) s)) _ _ (a .i) (c .before .before .before .before .before .before .before .set-exchange .ensures .0 s) (c .before .before .before .before .before .count-answer .ensures .0 s) (a .«end») (not-false (a .«end») (c .before .before .before .before .if1 .left)) _ _ (c .before .before .set-exchange2 .ensures .0 s) (c .set-exchange3 .ensures .0 s),
-  λ s t. c .set-exchange3 .ensures .1 s (omega arith) (c .before .before .set-exchange2 .ensures .1 s (omega arith) (c .before .before .before .before .before .count-answer .ensures .1 s (c .before .before .before .before .before .before .before .set-exchange .ensures .1 s (omega arith) t))),
+  λ s. answered-whole (view (memory (a .w .now) s)) _ _ (a .i) (c .before .before .before .before .before .before .before .set-exchange .ensures .0 s)
+      (c .before .before .before .before .before .count-answer .ensures .0 s) (a .«end») (not-false (a .«end») (c .before .before .before .before .if1 .left))
+      _ _ (c .before .before .set-exchange2 .ensures .0 s) (c .set-exchange3 .ensures .0 s),
+  λ s t. c .set-exchange3 .ensures .1 s (omega arith) (c .before .before .set-exchange2 .ensures .1 s (omega arith)
+      (c .before .before .before .before .before .count-answer .ensures .1 s
+      (c .before .before .before .before .before .before .before .set-exchange .ensures .1 s (omega arith) t))),
 )
 
 pub note-answer-spec : {M : Type 1} → statement M

@@ -18,7 +18,9 @@ returns c =
     let b = c .before .before .before .before .before .single in
     let r = c .before .before .before .request-code in
     λ s. c .before .before .put-frame .ensures
-    ∙ (λ k. splice (a .out .now) (a .place) (frameBytes (frameOf (sym (asynchronous-read (at (locksOf (a .w .now) s .entries) (a .i)) (x .result) (x .ensures .0 s)) k) 20 ((r .ensures ∙ ap (λ (q : Rest). requestCode (q .status)) (b .ensures .0)) k) 0 [])))
+    ∙ (λ k. splice (a .out .now) (a .place)
+    (frameBytes (frameOf (sym (asynchronous-read (at (locksOf (a .w .now) s .entries) (a .i)) (x .result) (x .ensures .0 s)) k) 20
+    ((r .ensures ∙ ap (λ (q : Rest). requestCode (q .status)) (b .ensures .0)) k) 0 [])))
 
 pub put-request-spec : {M : Type 1} → statement M
 put-request-spec =

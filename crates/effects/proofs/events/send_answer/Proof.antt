@@ -11,9 +11,13 @@ use Rattle.effects.proofs.events.send_answer.Tie as tie
 
 returns : tie.Need-returns
 returns c = let a = c .before .before .before .before .before .before .before .before .before .before .before .before .before .args in (
-  λ s. answers (view (memory (a .w .now) s)) (a .i) (a .«end») (a .payload .now) _ _ _ _ (c .before .before .before .before .before .before .before .before .before .entry .result % 256) (c .before .before .before .answer-kind .result) (c .before .before .before .before .before .before .before .answer-number .result .number)
+  λ s. answers (view (memory (a .w .now) s)) (a .i) (a .«end») (a .payload .now) _ _ _ _
+      (c .before .before .before .before .before .before .before .before .before .entry .result % 256) (c .before .before .before .answer-kind .result)
+      (c .before .before .before .before .before .before .before .answer-number .result .number)
       (c .before .before .before .before .before .note-answer .ensures .0 s)
-      (synchronous-read (at (locksOf (a .w .now) s .entries) (a .i)) (c .before .before .before .before .before .before .before .before .before .entry .result) (c .before .before .before .before .before .before .before .before .before .entry .ensures .0 s)) (c .before .before .before .answer-kind .ensures) (c .before .before .before .before .before .before .before .answer-number .ensures)
+      (synchronous-read (at (locksOf (a .w .now) s .entries) (a .i)) (c .before .before .before .before .before .before .before .before .before .entry .result)
+      (c .before .before .before .before .before .before .before .before .before .entry .ensures .0 s)) (c .before .before .before .answer-kind .ensures)
+      (c .before .before .before .before .before .before .before .answer-number .ensures)
       (c .before .before .put-message .ensures) refl,
   c .before .before .before .before .before .note-answer .ensures .1,
 )

@@ -16,7 +16,8 @@ returns c =
     let a = c .before .before .before .before .before .before .before .before .before .before .args in
     let n = c .before .before .before .before .before .send-answer in
     let x = c .before .sense in (
-      λ s. sends-answer (view (memory (a .w .now) s)) _ _ (a .i) (a .«end») (a .payload .now) (a .out .now) _ (n .result) (n .ensures .0 s) (x .ensures .1 s) (sym (x .ensures .0) ∙ not-true (x .result) (c .if1 .taken)),
+      λ s. sends-answer (view (memory (a .w .now) s)) _ _ (a .i) (a .«end») (a .payload .now) (a .out .now) _ (n .result) (n .ensures .0 s) (x .ensures .1 s)
+          (sym (x .ensures .0) ∙ not-true (x .result) (c .if1 .taken)),
       λ s t. x .ensures .2 s (n .ensures .1 s t),
     )
 

@@ -14,11 +14,14 @@ returns-2 c = let a = c .before .before .before .args in no-header (a .left) (a 
 
 returns-3 : tie.Need-returns-3
 returns-3 c = let a = c .before .before .before .before .before .args in
-    no-prologue (a .left) (a .shown .now) (c .before .before .before .if1 .left) (c .before .before .if2 .left) (sym (c .before .has-prologue .ensures) ∙ not-true (c .before .has-prologue .result) (c .if3 .taken))
+    no-prologue (a .left) (a .shown .now) (c .before .before .before .if1 .left) (c .before .before .if2 .left)
+    (sym (c .before .has-prologue .ensures) ∙ not-true (c .before .has-prologue .result) (c .if3 .taken))
 
 returns-4 : tie.Need-returns-4
 returns-4 c = let a = c .before .before .before .before .before .before .before .args in
-    by-kind (a .left) (a .shown .now) (c .before .before .before .before .before .if1 .left) (c .before .before .before .before .if2 .left) (sym (c .before .before .before .has-prologue .ensures) ∙ not-false (c .before .before .before .has-prologue .result) (c .before .before .if3 .left)) (c .before .header-at .result) (c .before .header-at .ensures)
+    by-kind (a .left) (a .shown .now) (c .before .before .before .before .before .if1 .left) (c .before .before .before .before .if2 .left)
+    (sym (c .before .before .before .has-prologue .ensures) ∙ not-false (c .before .before .before .has-prologue .result) (c .before .before .if3 .left))
+    (c .before .header-at .result) (c .before .header-at .ensures)
     (c .is-command .result) (c .is-command .ensures)
 
 pub interrupts-spec : {M : Type 1} → statement M

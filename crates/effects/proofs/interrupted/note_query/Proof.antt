@@ -9,7 +9,8 @@ returns : tie.Need-returns
 returns c = let a = c .before .before .before .before .before .before .before .args in
     let x = c .before .before .before .before .before .exchange in
     let v = c .before .before .before .left-by in (
-      λ s. expectation-kept (view (memory (a .w .now) s)) _ (a .i) (a .code) (x .result) (v .result) (x .ensures .0) (v .ensures .0) (c .before .before .set-exchange .ensures .0 s) _ (c .note-rmt .ensures .0 s),
+      λ s. expectation-kept (view (memory (a .w .now) s)) _ (a .i) (a .code) (x .result) (v .result) (x .ensures .0) (v .ensures .0)
+          (c .before .before .set-exchange .ensures .0 s) _ (c .note-rmt .ensures .0 s),
       λ s t. c .note-rmt .ensures .1 s (c .before .before .set-exchange .ensures .1 s (v .ensures .1) t),
     )
 

@@ -9,7 +9,8 @@ use Rattle.effects.proofs.interrupted.withhold.Tie as tie
 
 returns : tie.Need-returns
 returns c = let a = c .before .before .before .before .before .before .before .before .args in (
-  λ s. noted-number (view (memory (a .w .now) s)) (a .i) _ _ _ _ _ _ (ap (λ (h : Header). h .param) (c .before .before .before .before .before .header-at .ensures)) (c .before .before .interrupt .ensures .1 s),
+  λ s. noted-number (view (memory (a .w .now) s)) (a .i) _ _ _ _ _ _
+      (ap (λ (h : Header). h .param) (c .before .before .before .before .before .header-at .ensures)) (c .before .before .interrupt .ensures .1 s),
   c .before .before .interrupt .ensures .2,
 )
 

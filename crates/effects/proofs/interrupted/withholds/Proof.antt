@@ -20,7 +20,10 @@ returns-2 c = let a = c .before .before .before .before .args in
 returns-3 : tie.Need-returns-3
 returns-3 c = let a = c .before .before .before .before .before .before .before .args in
     let e = c .before .before .entry in
-    λ s. withheld-by (view (memory (a .w .now) s)) (a .i) (a .«end») (a .shown .now) (not-false (a .«end») (c .before .before .before .before .before .if1 .left)) (c .before .before .before .before .is-overlap .ensures ∙ c .before .before .before .if2 .left) (e .result % 256) (c .before .left-on .result) (c .interrupts .result)
+    λ s. withheld-by (view (memory (a .w .now) s)) (a .i) (a .«end») (a .shown .now)
+    (not-false (a .«end») (c .before .before .before .before .before .if1 .left))
+    (c .before .before .before .before .is-overlap .ensures ∙ c .before .before .before .if2 .left) (e .result % 256) (c .before .left-on .result)
+    (c .interrupts .result)
     (synchronous-read (at (locksOf (a .w .now) s .entries) (a .i)) (e .result) (e .ensures .0 s)) (c .before .left-on .ensures) (c .interrupts .ensures)
 
 pub withholds-spec : {M : Type 1} → statement M

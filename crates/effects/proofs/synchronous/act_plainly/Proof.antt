@@ -30,8 +30,10 @@ returns c = let p = c .before .before .before .before .before .before .before .b
     let n = c .before .before .before .before .before .before .note-message in
     λ s q k. let d : Server = view (memory (a .w .now) s) in
     did-plan d (acts r-synchronous d (a .i) k h q) _ _ _ _ _ _ (plan-command d (a .i) k h q (p .pre .3))
-    (did-after (memory (a .w .now) s) _ _ (a .out .now) _ (a .i) (c .before .before .before .before .before .before .before .before .entry .result) (a .len) 0 (a .kind) (a .code) (a .param) (command (a .i) (a .param)) _
-    (c .acted .ensures) (c .before .before .before .before .before .before .before .before .entry .ensures .0 s) (search needs) (n .ensures .1 s) (n .ensures .0 s _ 0) (c .before .note-in-turn .ensures .0 s (a .out .now)) (c .before .note-in-turn .ensures .1 s))
+    (did-after (memory (a .w .now) s) _ _ (a .out .now) _ (a .i) (c .before .before .before .before .before .before .before .before .entry .result) (a .len) 0
+    (a .kind) (a .code) (a .param) (command (a .i) (a .param)) _
+    (c .acted .ensures) (c .before .before .before .before .before .before .before .before .entry .ensures .0 s) (search needs) (n .ensures .1 s)
+    (n .ensures .0 s _ 0) (c .before .note-in-turn .ensures .0 s (a .out .now)) (c .before .note-in-turn .ensures .1 s))
 
 note-out-of-turn-requires : tie.Need-note-out-of-turn-requires
 note-out-of-turn-requires c κs = (search needs, search needs, c .before .before .before .in-turn .ensures ∙ ap not (c .before .before .if1 .left))
@@ -47,8 +49,11 @@ returns-2 c = let p = c .before .before .before .before .before .before .before 
     let fits : t .result ≤ length (a .out .now) = omega arith in
     λ s q k. let d : Server = view (memory (a .w .now) s) in
     did-plan d (acts r-synchronous d (a .i) k h q) _ _ _ _ _ _ (plan-command d (a .i) k h q (p .pre .3))
-    (did-after (memory (a .w .now) s) _ _ (a .out .now) _ (a .i) (c .before .before .before .before .before .before .before .before .before .before .before .entry .result) (a .len) (t .result) (a .kind) (a .code) (a .param) (command (a .i) (a .param)) _
-    (c .acted2 .ensures) (c .before .before .before .before .before .before .before .before .before .before .before .entry .ensures .0 s) fits (n .ensures .1 s) (n .ensures .0 s _ (t .result)) (t .ensures .1 s) (t .ensures .2 s))
+    (did-after (memory (a .w .now) s) _ _ (a .out .now) _ (a .i)
+    (c .before .before .before .before .before .before .before .before .before .before .before .entry .result) (a .len) (t .result) (a .kind) (a .code)
+    (a .param) (command (a .i) (a .param)) _
+    (c .acted2 .ensures) (c .before .before .before .before .before .before .before .before .before .before .before .entry .ensures .0 s) fits (n .ensures .1 s)
+    (n .ensures .0 s _ (t .result)) (t .ensures .1 s) (t .ensures .2 s))
 
 pub act-plainly-spec : {M : Type 1} → statement M
 act-plainly-spec =

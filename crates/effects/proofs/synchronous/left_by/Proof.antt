@@ -8,12 +8,15 @@ use Rattle.effects.proofs.synchronous.left_by.Tie as tie
 
 mul-result : tie.Need-mul-result
 mul-result c =
-    let h : c .before .before .same-number .result * (1 - c .same-number2 .result) ≤ 1 = rw (c .before .before .same-number .ensures .0, c .same-number2 .ensures .0) (both-small (eqb (c .before .before .before .args .word) 1) (eqb (c .before .wide .result) 1)) in
+    let h : c .before .before .same-number .result * (1 - c .same-number2 .result) ≤ 1 =
+    rw (c .before .before .same-number .ensures .0, c .same-number2 .ensures .0)
+    (both-small (eqb (c .before .before .before .args .word) 1) (eqb (c .before .wide .result) 1)) in
     search (needs, h)
 
 returns : tie.Need-returns
 returns c = (
-  rw (c .before .before .same-number .ensures .0, c .same-number2 .ensures .0, c .before .wide .ensures) (both-on (eqb (c .before .before .before .args .word) 1) (eqb (c .before .before .before .args .code) 1)),
+  rw (c .before .before .same-number .ensures .0, c .same-number2 .ensures .0, c .before .wide .ensures)
+      (both-on (eqb (c .before .before .before .args .word) 1) (eqb (c .before .before .before .args .code) 1)),
   rw (c .before .before .same-number .ensures .0, c .same-number2 .ensures .0) (both-small (eqb (c .before .before .before .args .word) 1) (eqb (c .before .wide .result) 1)),
 )
 

@@ -9,8 +9,11 @@ use Rattle.locks.proofs.answers.put_answer.Statement.{statement}
 use Rattle.locks.proofs.answers.put_answer.Tie as tie
 
 returns : tie.Need-returns
-returns c = let a = c .before .before .before .before .before .before .args in
-    (refl, λ s. c .before .before .put-frame .ensures ∙ ap (λ (e : Entry). splice (a .out .now) (a .at) (frameBytes (frameOf (e .asynchronous) 5 (a .code) 0 []))) (c .before .before .before .before .entry .ensures .0 s))
+returns c = let a = c .before .before .before .before .before .before .args in (
+  refl,
+  λ s. c .before .before .put-frame .ensures ∙ ap (λ (e : Entry). splice (a .out .now) (a .at)
+      (frameBytes (frameOf (e .asynchronous) 5 (a .code) 0 []))) (c .before .before .before .before .entry .ensures .0 s),
+)
 
 pub put-answer-spec : {M : Type 1} → statement M
 put-answer-spec =

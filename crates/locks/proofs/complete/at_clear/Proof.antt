@@ -8,7 +8,9 @@ use Rattle.locks.proofs.complete.at_clear.Statement.{statement}
 use Rattle.locks.proofs.complete.at_clear.Tie as tie
 
 complete-any-requires : tie.Need-complete-any-requires
-complete-any-requires c κs = let a = c .before .before .before .before .before .before .before .before .before .before .args in let l = turned-short (a .w .now) (a .strings .now) _ _ (a .i) (a .out .now) _ _ _ (c .before .before .before .before .before .clear-request .ensures) in search needs
+complete-any-requires c κs = let a = c .before .before .before .before .before .before .before .before .before .before .args in let l =
+    turned-short (a .w .now) (a .strings .now) _ _ (a .i) (a .out .now) _ _ _ (c .before .before .before .before .before .clear-request .ensures) in
+    search needs
 
 returns : tie.Need-returns
 returns c = let a = c .before .before .before .before .before .before .before .before .before .before .before .before .before .args in

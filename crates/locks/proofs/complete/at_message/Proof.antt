@@ -17,7 +17,8 @@ returns c = let a = c .before .before .before .before .before .before .args in
     let s = a .strings .now in
     let e = at (locksOf (a .w .now) s .entries) (a .i) in
     met-none _ _ _ _ _ _
-    (message-not (locksOf (a .w .now) s) (a .i) (a .n) (due-none (e .standing) (c .before .before .before .order .result) (a .n) (standing-read e (c .before .before .before .order .result) (c .before .before .before .order .ensures .0 s)) (c .before .before .if1 .taken)))
+    (message-not (locksOf (a .w .now) s) (a .i) (a .n) (due-none (e .standing) (c .before .before .before .order .result) (a .n)
+    (standing-read e (c .before .before .before .order .result) (c .before .before .before .order .ensures .0 s)) (c .before .before .if1 .taken)))
     (noted-stored (view (memory (a .w .now) s)) _ (a .i) (a .n) (search needs) (c .set-order .ensures .0 s))
     (c .set-order .ensures .1 s (search needs))
 
@@ -26,7 +27,9 @@ returns-2 c = let a = c .before .before .before .before .before .before .before 
     let s = a .strings .now in
     let e = at (locksOf (a .w .now) s .entries) (a .i) in
     met-none _ _ _ _ _ _
-    (message-not (locksOf (a .w .now) s) (a .i) (a .n) (due-other (e .standing) (c .before .before .before .before .order .result) (a .n) (standing-read e (c .before .before .before .before .order .result) (c .before .before .before .before .order .ensures .0 s)) (c .before .before .before .if1 .left) (c .before .before .if2 .taken)))
+    (message-not (locksOf (a .w .now) s) (a .i) (a .n) (due-other (e .standing) (c .before .before .before .before .order .result) (a .n)
+    (standing-read e (c .before .before .before .before .order .result) (c .before .before .before .before .order .ensures .0 s))
+    (c .before .before .before .if1 .left) (c .before .before .if2 .taken)))
     (noted-stored (view (memory (a .w .now) s)) _ (a .i) (a .n) (search needs) (c .set-order2 .ensures .0 s))
     (c .set-order2 .ensures .1 s (search needs))
 
@@ -38,8 +41,17 @@ returns-3 c = let a = c .before .before .before .before .before .before .before 
     let s = a .strings .now in
     let e = at (locksOf (a .w .now) s .entries) (a .i) in
     met-is _ _ _ _ _ _ _ _
-    (sym (message-due (locksOf (a .w .now) s) (a .i) (a .n) (kindOf (c .before .before .before .before .before .before .before .before .before .kind-in .result)) (due-this (e .standing) (c .before .before .before .before .before .before .before .before .before .before .before .before .before .before .before .order .result) (a .n) (standing-read e (c .before .before .before .before .before .before .before .before .before .before .before .before .before .before .before .order .result) (c .before .before .before .before .before .before .before .before .before .before .before .before .before .before .before .order .ensures .0 s)) (kindOf (c .before .before .before .before .before .before .before .before .before .kind-in .result)) (c .before .before .before .before .before .before .before .before .before .kind-in .ensures .1) (c .before .before .before .before .before .before .before .before .before .before .before .before .before .if2 .left))))
-    (met-pass _ _ _ _ _ _ _ _ _ _ (omega (arith, c .before .before .before .before .before .before .before .before .complete .ensures .0)) (c .before .before .before .before .before .before .before .before .complete .ensures .1) (c .before .before .grant-waiting .ensures))
+    (sym (message-due (locksOf (a .w .now) s) (a .i) (a .n)
+    (kindOf (c .before .before .before .before .before .before .before .before .before .kind-in .result))
+    (due-this (e .standing)
+    (c .before .before .before .before .before .before .before .before .before .before .before .before .before .before .before .order .result) (a .n)
+    (standing-read e (c .before .before .before .before .before .before .before .before .before .before .before .before .before .before .before .order
+    .result) (c .before .before .before .before .before .before .before .before .before .before .before .before .before .before .before .order .ensures .0
+    s)) (kindOf (c .before .before .before .before .before .before .before .before .before .kind-in .result))
+    (c .before .before .before .before .before .before .before .before .before .kind-in .ensures .1)
+    (c .before .before .before .before .before .before .before .before .before .before .before .before .before .if2 .left))))
+    (met-pass _ _ _ _ _ _ _ _ _ _ (omega (arith, c .before .before .before .before .before .before .before .before .complete .ensures .0))
+    (c .before .before .before .before .before .before .before .before .complete .ensures .1) (c .before .before .grant-waiting .ensures))
 
 pub at-message-spec : {M : Type 1} → statement M
 at-message-spec =

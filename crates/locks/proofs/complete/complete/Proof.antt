@@ -21,8 +21,10 @@ returns c = let a = c .before .before .before .before .before .before .before .b
     let o₂ = c .set-order2 .ensures in (
       p .0,
       met-one _ _ _ _ _ _ _ _ _ (completed-due (locksOf (a .w .now) s) (a .i) (a .n) (kindOf (a .kind)))
-          (ended-stored (view (memory (a .w .now) s)) _ _ _ (a .i) (a .n) (kindOf (a .kind)) (c .before .before .before .before .before .before .before .before .before .before .before .before .before .pre .2) (f .0) (o₁ .0 _) (o₂ .0 _))
-          (p .1 s ∙ ap (λ (x : ℕ). splice (a .out .now) (a .at) (frameBytes (lockAnswerFrame (locksOf (a .w .now) s .entries) (a .i) x))) (sym (c .before .before .before .before .before .before .before .before .before .before .before .before .before .pre .3))) (p .0) (search needs)
+          (ended-stored (view (memory (a .w .now) s)) _ _ _ (a .i) (a .n) (kindOf (a .kind))
+          (c .before .before .before .before .before .before .before .before .before .before .before .before .before .pre .2) (f .0) (o₁ .0 _) (o₂ .0 _))
+          (p .1 s ∙ ap (λ (x : ℕ). splice (a .out .now) (a .at) (frameBytes (lockAnswerFrame (locksOf (a .w .now) s .entries) (a .i) x)))
+          (sym (c .before .before .before .before .before .before .before .before .before .before .before .before .before .pre .3))) (p .0) (search needs)
           (λ t. o₂ .1 _ (omega arith) (o₁ .1 _ (c .before .before .before .before .before .before .before .before .before .before .before .before .before .pre .2) (f .1 t))),
     )
 

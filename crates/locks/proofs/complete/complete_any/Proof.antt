@@ -19,7 +19,9 @@ returns c = let a = c .before .before .before .before .before .before .args in (
   let s = a .strings .now in
       let e = at (locksOf (a .w .now) s .entries) (a .i) in
       met-none _ _ _ _ _ _
-      (ap (λ (x : Due). completed x (locksOf (a .w .now) s) (a .i) beforeFirst) (due-any-none (e .standing) (c .before .before .before .order .result) 0 (standing-read e (c .before .before .before .order .result) (c .before .before .before .order .ensures .0 s)) (c .before .before .if1 .taken))
+      (ap (λ (x : Due). completed x (locksOf (a .w .now) s) (a .i) beforeFirst)
+      (due-any-none (e .standing) (c .before .before .before .order .result) 0
+      (standing-read e (c .before .before .before .order .result) (c .before .before .before .order .ensures .0 s)) (c .before .before .if1 .taken))
       ∙ completed-not (locksOf (a .w .now) s) (a .i) beforeFirst)
       (noted-stored (view (memory (a .w .now) s)) _ (a .i) beforeFirst (omega arith) (c .set-order .ensures .0 s)) (c .set-order .ensures .1 s (omega arith)),
 )
@@ -30,7 +32,11 @@ returns-2 c = let a = c .before .before .before .before .before .before .before 
   let s = a .strings .now in
       let e = at (locksOf (a .w .now) s .entries) (a .i) in
       met-is _ _ _ _ _ _ _ _
-      (ap (λ (x : Due). completed x (locksOf (a .w .now) s) (a .i) beforeFirst) (sym (due-any (e .standing) (c .before .before .before .before .before .before .before .before .order .result) 0 (standing-read e (c .before .before .before .before .before .before .before .before .order .result) (c .before .before .before .before .before .before .before .before .order .ensures .0 s)) (kindOf (c .before .before .before .kind-in .result)) (c .before .before .before .kind-in .ensures .1))))
+      (ap (λ (x : Due). completed x (locksOf (a .w .now) s) (a .i) beforeFirst)
+      (sym (due-any (e .standing) (c .before .before .before .before .before .before .before .before .order .result) 0
+      (standing-read e (c .before .before .before .before .before .before .before .before .order .result)
+      (c .before .before .before .before .before .before .before .before .order .ensures .0 s)) (kindOf (c .before .before .before .kind-in .result))
+      (c .before .before .before .kind-in .ensures .1))))
       (c .before .before .complete .ensures .1),
 )
 

@@ -25,7 +25,8 @@ returns c = let a = c .before .before .args in
 loop-holds : tie.Need-loop-holds Inv-loop μ-loop
 loop-holds c = let a = c .before .before .before .before .args in
     let x = c .before .waiting-slot in
-    let h : (s : List ℕ) → 0 < length (locksOf (a .w .now) s .waiting) = (λ s. omega (arith, count-is (a .w .now) s, c .before .before .before .waiting-count .ensures .0, c .before .before .if1 .left)) in (
+    let h : (s : List ℕ) → 0 < length (locksOf (a .w .now) s .waiting) =
+    (λ s. omega (arith, count-is (a .w .now) s, c .before .before .before .waiting-count .ensures .0, c .before .before .if1 .left)) in (
       omega arith,
       λ s.
           earliest-first (locksOf (a .w .now) s .waiting) (requestAt (a .w .now) s (x .result)) (h s) (x .ensures .1 s)
@@ -36,7 +37,13 @@ loop-again : tie.Need-loop-again Inv-loop μ-loop
 loop-again c = let l = c .before .before .before .before .loop in
     let a = c .before .before .before .before .before .before .before .before .before .args in
     let x = c .before .before .waiting-slot2 in
-    let h : (s : List ℕ) → l .j < length (locksOf (a .w .now) s .waiting) = (λ s. omega (arith, count-is (a .w .now) s, c .before .before .before .before .before .before .before .before .waiting-count .ensures .0, c .before .before .before .loop-test .taken)) in (
+    let h : (s : List ℕ) → l .j < length (locksOf (a .w .now) s .waiting) =
+    (λ s. omega (
+      arith,
+      count-is (a .w .now) s,
+      c .before .before .before .before .before .before .before .before .waiting-count .ensures .0,
+      c .before .before .before .loop-test .taken,
+    )) in (
       omega arith,
       λ s.
           l .inv .1 s
@@ -47,7 +54,8 @@ loop-again c = let l = c .before .before .before .before .loop in
 returns-2 : tie.Need-returns-2 Inv-loop μ-loop
 returns-2 c = let l = c .before .loop in
     let a = c .before .before .before .before .before .before .args in
-    λ s. l .inv .1 s ∙ earliest-last (locksOf (a .w .now) s .waiting) (l .best) (l .j) (omega (arith, count-is (a .w .now) s, c .before .before .before .before .before .waiting-count .ensures .0, c .loop-test .left))
+    λ s. l .inv .1 s ∙ earliest-last (locksOf (a .w .now) s .waiting) (l .best) (l .j)
+    (omega (arith, count-is (a .w .now) s, c .before .before .before .before .before .waiting-count .ensures .0, c .loop-test .left))
 
 pub earliest-deadline-spec : {M : Type 1} → statement M
 earliest-deadline-spec =

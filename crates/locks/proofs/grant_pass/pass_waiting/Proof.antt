@@ -17,7 +17,9 @@ use Rattle.locks.proofs.grant_pass.pass_waiting.Statement.{statement}
 use Rattle.locks.proofs.grant_pass.pass_waiting.Tie as tie
 
 abbrev Inv-loop : tie.InvT-loop
-Inv-loop w₀ strings₀ out₀ start n at₀ k₀ j₀ w strings out at k j = (k ≤ j) × (j ≤ n) × (countOf w ≡ n) × (at + 17 * (n - j) ≤ length out) × (length out ≡ length out₀) × (passed 0 0 (view (memory w₀ strings₀)) out₀ start ≡ passed j k (view (memory w strings)) out at) × (Tidy (memory w₀ strings₀) → Tidy (memory w strings))
+Inv-loop w₀ strings₀ out₀ start n at₀ k₀ j₀ w strings out at k j = (k ≤ j) × (j ≤ n) × (countOf w ≡ n) × (at + 17 * (n - j) ≤ length out)
+    × (length out ≡ length out₀) × (passed 0 0 (view (memory w₀ strings₀)) out₀ start ≡ passed j k (view (memory w strings)) out at)
+    × (Tidy (memory w₀ strings₀) → Tidy (memory w strings))
 
 abbrev μ-loop : tie.MeasureT-loop
 μ-loop w₀ strings₀ out₀ start n at₀ k₀ j₀ w strings out at k j = n - j
@@ -43,7 +45,8 @@ loop-again c = let l = c .before .before .before .before .before .before .before
       omega (arith, ap length (y .9)),
       l .inv .5
           ∙ rw (y .7, y .8, y .9, y .10, y .11, y .4 .ensures .place, y .4 .ensures .buffer)
-          (pass-grant d (l .j) (l .k) q (x .result) (l .out) (l .at) h (x .ensures .1 (l .strings)) (slot-is (l .w) (l .strings) (x .result)) _ (y .4 .ensures .server) (c .before .may-grant .ensures ∙ y .0 .taken) (omega arith)),
+          (pass-grant d (l .j) (l .k) q (x .result) (l .out) (l .at) h (x .ensures .1 (l .strings)) (slot-is (l .w) (l .strings) (x .result)) _
+          (y .4 .ensures .server) (c .before .may-grant .ensures ∙ y .0 .taken) (omega arith)),
       λ t. rw (y .7, y .8) (y .4 .ensures .tidy (l .inv .6 t)),
     ))
     (λ y. (
@@ -54,7 +57,8 @@ loop-again c = let l = c .before .before .before .before .before .before .before
       omega (arith, ap length (y .5)),
       l .inv .5
           ∙ rw (y .3, y .4, y .5, y .6, y .7)
-          (pass-keep d (l .j) (l .k) q (x .result) (l .out) (l .at) h (x .ensures .1 (l .strings)) (slot-is (l .w) (l .strings) (x .result)) _ (y .2 .ensures .0 (l .strings)) (l .inv .0) (c .before .may-grant .ensures ∙ y .0 .left)),
+          (pass-keep d (l .j) (l .k) q (x .result) (l .out) (l .at) h (x .ensures .1 (l .strings)) (slot-is (l .w) (l .strings) (x .result)) _
+          (y .2 .ensures .0 (l .strings)) (l .inv .0) (c .before .may-grant .ensures ∙ y .0 .left)),
       λ t. rw (y .3, y .4) (y .2 .ensures .1 (l .strings) (l .inv .6 t)),
     ))
     (c .if1 .came)

@@ -14,20 +14,28 @@ returns c = let a = c .before .before .before .args in
 
 returns-2 : tie.Need-returns-2
 returns-2 c = let a = c .before .before .before .before .before .before .args in
-    may-sharing (locksOf (a .w .now) (a .strings .now) .entries) (a .i) (a .string .now) (c .before .before .if2 .taken) (c .before .before .before .before .no-other-exclusive .ensures (a .strings .now) ∙ not-false _ (c .before .before .before .if1 .left)) (c .before .is-sharing .ensures (a .strings .now) ∙ ap not (c .if3 .taken))
+    may-sharing (locksOf (a .w .now) (a .strings .now) .entries) (a .i) (a .string .now) (c .before .before .if2 .taken)
+    (c .before .before .before .before .no-other-exclusive .ensures (a .strings .now) ∙ not-false _ (c .before .before .before .if1 .left))
+    (c .before .is-sharing .ensures (a .strings .now) ∙ ap not (c .if3 .taken))
 
 returns-3 : tie.Need-returns-3
 returns-3 c = let a = c .before .before .before .before .before .before .before .args in
-    may-alone (locksOf (a .w .now) (a .strings .now) .entries) (a .i) (a .string .now) _ (c .before .before .before .if2 .taken) (c .before .before .before .before .before .no-other-exclusive .ensures (a .strings .now) ∙ not-false _ (c .before .before .before .before .if1 .left)) (c .before .before .is-sharing .ensures (a .strings .now) ∙ ap not (c .before .if3 .left)) (c .nobody-shares .ensures (a .strings .now))
+    may-alone (locksOf (a .w .now) (a .strings .now) .entries) (a .i) (a .string .now) _ (c .before .before .before .if2 .taken)
+    (c .before .before .before .before .before .no-other-exclusive .ensures (a .strings .now)
+    ∙ not-false _ (c .before .before .before .before .if1 .left))
+    (c .before .before .is-sharing .ensures (a .strings .now) ∙ ap not (c .before .if3 .left)) (c .nobody-shares .ensures (a .strings .now))
 
 returns-4 : tie.Need-returns-4
 returns-4 c = let a = c .before .before .before .before .before .before .args in
-    may-share (locksOf (a .w .now) (a .strings .now) .entries) (a .i) (a .string .now) _ (c .before .before .if2 .left) (c .before .before .before .before .no-other-exclusive .ensures (a .strings .now) ∙ not-false _ (c .before .before .before .if1 .left))
+    may-share (locksOf (a .w .now) (a .strings .now) .entries) (a .i) (a .string .now) _ (c .before .before .if2 .left)
+    (c .before .before .before .before .no-other-exclusive .ensures (a .strings .now) ∙ not-false _ (c .before .before .before .if1 .left))
     (fits-free (a .w .now) (a .strings .now) (a .string .now) (c .before .nobody-shares2 .ensures (a .strings .now) ∙ c .if4 .taken))
 
 returns-5 : tie.Need-returns-5
 returns-5 c = let a = c .before .before .before .before .before .before .before .args in
-    may-share (locksOf (a .w .now) (a .strings .now) .entries) (a .i) (a .string .now) _ (c .before .before .before .if2 .left) (c .before .before .before .before .before .no-other-exclusive .ensures (a .strings .now) ∙ not-false _ (c .before .before .before .before .if1 .left))
+    may-share (locksOf (a .w .now) (a .strings .now) .entries) (a .i) (a .string .now) _ (c .before .before .before .if2 .left)
+    (c .before .before .before .before .before .no-other-exclusive .ensures (a .strings .now)
+    ∙ not-false _ (c .before .before .before .before .if1 .left))
     (fits-key (a .w .now) (a .strings .now) (a .string .now) (c .before .before .nobody-shares2 .ensures (a .strings .now) ∙ c .before .if4 .left) ∙ c .is-key .ensures)
 
 pub may-give-spec : {M : Type 1} → statement M

@@ -19,8 +19,12 @@ put-answer-to-requires c κs = (search needs, c .before .before .before .before 
 give-exclusive-requires : tie.Need-give-exclusive-requires
 give-exclusive-requires c κs = let a = c .before .before .before .before .before .before .before .before .before .before .before .before .args in
     let l = locksOf (a .w .now) (a .strings .now) in
-    let f = c .before .before .before .before .before .before .before .is-free .ensures (c .before .before .before .before .before .before .if2 .taken) (a .strings .now) in
-    (search needs, no-other (a .w .now) (a .strings .now) (a .i) (may-exclusive (l .entries) (a .i) (a .string .now) (free-grants l (a .i) (a .string .now) (c .before .before .before .before .before .before .before .before .before .if1 .taken) f)))
+    let f = c .before .before .before .before .before .before .before .is-free .ensures (c .before .before .before .before .before .before .if2 .taken) (a .strings .now) in (
+      search needs,
+      no-other (a .w .now) (a .strings .now) (a .i)
+          (may-exclusive (l .entries) (a .i) (a .string .now) (free-grants l (a .i) (a .string .now)
+          (c .before .before .before .before .before .before .before .before .before .if1 .taken) f)),
+    )
 
 returns : tie.Need-returns
 returns c = let a = c .before .before .before .before .before .before .before .before .before .before .before .before .before .before .before .args in
@@ -29,9 +33,12 @@ returns c = let a = c .before .before .before .before .before .before .before .b
     let g = c .before .before .give-exclusive .ensures in
     let n = c .note-grant .ensures in
     let e = c .before .before .before .before .before .before .before .before .before .before .before .before .if1 .taken in
-    let f = c .before .before .before .before .before .before .before .before .before .before .is-free .ensures (c .before .before .before .before .before .before .before .before .before .if2 .taken) s in
+    let f = c .before .before .before .before .before .before .before .before .before .before .is-free .ensures
+    (c .before .before .before .before .before .before .before .before .before .if2 .taken) s in
     met-one _ _ _ _ _ _ _ _ _ (free-request (locksOf (a .w .now) s) (a .i) (a .string .now) e f (a .timeout))
-    (given-noted (view (memory (a .w .now) s)) _ _ (a .i) (a .string .now) (g .0 s ∙ ap (λ (k : List ℕ). onEntry (view (memory (a .w .now) s)) (a .i) (give k)) (sym (no-string (a .string .now) e))) (n .0 s)) (p .1 s) (p .0) (search needs) (λ t. n .1 s (g .1 s t))
+    (given-noted (view (memory (a .w .now) s)) _ _ (a .i) (a .string .now)
+    (g .0 s ∙ ap (λ (k : List ℕ). onEntry (view (memory (a .w .now) s)) (a .i) (give k)) (sym (no-string (a .string .now) e))) (n .0 s)) (p .1 s) (p .0)
+    (search needs) (λ t. n .1 s (g .1 s t))
 
 pub request-quickly-spec : {M : Type 1} → statement M
 request-quickly-spec =

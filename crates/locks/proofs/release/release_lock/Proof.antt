@@ -20,7 +20,11 @@ returns : tie.Need-returns
 returns c = let a = c .before .before .before .before .before .before .before .before .before .args in
     let s = a .strings .now in
     let p = c .before .before .put-answer .ensures in
-    met-one _ _ _ _ _ _ _ _ _ (release-invalid (locksOf (a .w .now) s) (a .i) (a .n) (c .before .before .before .before .before .before .freed-kind .ensures .1 s (a .n) ∙ ruled-invalid (c .before .before .before .before .before .before .freed-kind .result) (eqb ((at (locksOf (a .w .now) s .entries) (a .i)) .last) (a .n)) (c .before .before .before .before .before .if1 .taken))) refl (p .1 s) (p .0) (search needs) (λ t. t)
+    met-one _ _ _ _ _ _ _ _ _ (release-invalid (locksOf (a .w .now) s) (a .i) (a .n)
+    (c .before .before .before .before .before .before .freed-kind .ensures .1 s (a .n)
+    ∙ ruled-invalid (c .before .before .before .before .before .before .freed-kind .result)
+    (eqb ((at (locksOf (a .w .now) s .entries) (a .i)) .last) (a .n)) (c .before .before .before .before .before .if1 .taken))) refl (p .1 s) (p .0)
+    (search needs) (λ t. t)
 
 grant-waiting-requires : tie.Need-grant-waiting-requires
 grant-waiting-requires c κs = omega (arith, c .before .before .before .before .before .before .before .before .put-answer2 .ensures .0)
@@ -31,10 +35,21 @@ returns-2 c = let a = c .before .before .before .before .before .before .before 
     let k = kindOf (c .before .before .before .before .before .before .before .before .before .before .before .before .before .before .before .before .before .before .freed-kind .result) in
     let p = c .before .before .before .before .before .before .before .before .before .before .before .put-answer2 .ensures in
     met-is _ _ _ _ _ _ _ _
-    (sym (release-now (locksOf (a .w .now) s) (a .i) (a .n) k (c .before .before .before .before .before .before .before .before .before .before .before .before .before .before .before .before .before .before .freed-kind .ensures .1 s (a .n) ∙ ruled-now (c .before .before .before .before .before .before .before .before .before .before .before .before .before .before .before .before .before .before .freed-kind .result) _ (c .before .before .before .before .before .before .before .before .before .before .before .before .before .before .before .before .before .if1 .left) (c .before .before .before .before .before .before .before .before .before .before .before .before .before .before .before .is-last .ensures s ∙ c .before .before .before .before .before .before .before .before .before .before .before .before .before .before .if2 .taken))))
+    (sym (release-now (locksOf (a .w .now) s) (a .i) (a .n) k
+    (c .before .before .before .before .before .before .before .before .before .before .before .before .before .before .before .before .before .before
+    .freed-kind .ensures .1 s (a .n)
+    ∙ ruled-now (c .before .before .before .before .before .before .before .before .before .before .before .before .before .before .before .before .before
+    .before .freed-kind .result) _
+    (c .before .before .before .before .before .before .before .before .before .before .before .before .before .before .before .before .before .if1 .left)
+    (c .before .before .before .before .before .before .before .before .before .before .before .before .before .before .before .is-last .ensures s
+    ∙ c .before .before .before .before .before .before .before .before .before .before .before .before .before .before .if2 .taken))))
     (met-pass _ _ _ _ _ _ _ _ _ _ (omega (arith, p .0))
     (met-one _ _ _ _ _ _ _ _ _ refl (c .before .before .before .before .before .before .free-lock .ensures .0)
-    (p .1 s ∙ ap (λ (x : ℕ). splice (a .out .now) (a .at) (frameBytes (lockAnswerFrame (locksOf (a .w .now) s .entries) (a .i) x))) (sym (c .before .before .before .before .before .before .before .before .before .before .before .before .before .before .before .before .before .before .freed-kind .ensures .0 (c .before .before .before .before .before .before .before .before .before .before .before .before .before .before .before .before .before .if1 .left)))) (p .0) (search needs) (c .before .before .before .before .before .before .free-lock .ensures .1))
+    (p .1 s ∙ ap (λ (x : ℕ). splice (a .out .now) (a .at) (frameBytes (lockAnswerFrame (locksOf (a .w .now) s .entries) (a .i) x)))
+    (sym (c .before .before .before .before .before .before .before .before .before .before .before .before .before .before .before .before .before
+    .before .freed-kind .ensures .0
+    (c .before .before .before .before .before .before .before .before .before .before .before .before .before .before .before .before .before .if1
+    .left)))) (p .0) (search needs) (c .before .before .before .before .before .before .free-lock .ensures .1))
     (c .before .before .grant-waiting .ensures))
 
 returns-3 : tie.Need-returns-3
@@ -42,7 +57,11 @@ returns-3 c = let a = c .before .before .before .before .before .before .before 
     let s = a .strings .now in
     let k = kindOf (c .before .before .before .before .before .before .before .freed-kind .result) in
     met-none _ _ _ _ _ _
-    (release-stands (locksOf (a .w .now) s) (a .i) (a .n) k (c .before .before .before .before .before .before .before .freed-kind .ensures .1 s (a .n) ∙ ruled-stands (c .before .before .before .before .before .before .before .freed-kind .result) _ (c .before .before .before .before .before .before .if1 .left) (c .before .before .before .before .is-last .ensures s ∙ c .before .before .before .if2 .left)))
+    (release-stands (locksOf (a .w .now) s) (a .i) (a .n) k
+    (c .before .before .before .before .before .before .before .freed-kind .ensures .1 s (a .n)
+    ∙ ruled-stands (c .before .before .before .before .before .before .before .freed-kind .result) _
+    (c .before .before .before .before .before .before .if1 .left)
+    (c .before .before .before .before .is-last .ensures s ∙ c .before .before .before .if2 .left)))
     (standing-stored (view (memory (a .w .now) s)) _ (a .i) (c .before .before .standing-word .result) k (a .n) (c .before .before .standing-word .ensures .0) (c .set-order .ensures .0 s))
     (c .set-order .ensures .1 s (c .before .before .standing-word .ensures .1))
 

@@ -36,7 +36,8 @@ returns-2 c = let a = c .before .before .before .before .before .before .before 
     let x = c .before .waiting-slot in
     λ s.
     l .inv .1 s
-    ∙ idle-stop (a .i) (locksOf (a .w .now) s .waiting) (l .j) (requestAt (a .w .now) s (x .result)) (omega (arith, count-is (a .w .now) s)) (x .ensures .1 s) (slot-is (a .w .now) s (x .result) ∙ c .if2 .taken)
+    ∙ idle-stop (a .i) (locksOf (a .w .now) s .waiting) (l .j) (requestAt (a .w .now) s (x .result)) (omega (arith, count-is (a .w .now) s)) (x .ensures .1 s)
+    (slot-is (a .w .now) s (x .result) ∙ c .if2 .taken)
 
 loop-again : tie.Need-loop-again Inv-loop μ-loop
 loop-again c = let a = c .before .before .before .before .before .before .before .args in
@@ -45,7 +46,8 @@ loop-again c = let a = c .before .before .before .before .before .before .before
       omega arith,
       λ s.
           l .inv .1 s
-          ∙ idle-on (a .i) (locksOf (a .w .now) s .waiting) (l .j) (requestAt (a .w .now) s (x .result)) (omega (arith, count-is (a .w .now) s)) (x .ensures .1 s) (λ e. c .if2 .left (sym (slot-is (a .w .now) s (x .result)) ∙ e)),
+          ∙ idle-on (a .i) (locksOf (a .w .now) s .waiting) (l .j) (requestAt (a .w .now) s (x .result)) (omega (arith, count-is (a .w .now) s))
+          (x .ensures .1 s) (λ e. c .if2 .left (sym (slot-is (a .w .now) s (x .result)) ∙ e)),
     )
 
 returns-3 : tie.Need-returns-3 Inv-loop μ-loop

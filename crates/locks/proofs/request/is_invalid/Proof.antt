@@ -15,11 +15,14 @@ returns-2 c = let a = c .before .before .before .args in λ s k n. unable-stands
 
 returns-3 : tie.Need-returns-3
 returns-3 c = let a = c .before .before .before .before .before .args in
-    λ s k n. unable-holds (locksOf (a .w .now) s) (a .i) k (omega arith) (c .before .before .before .stands .ensures s ∙ c .before .before .if2 .left) (c .before .holds-kind .ensures s k n ∙ c .if3 .taken)
+    λ s k n. unable-holds (locksOf (a .w .now) s) (a .i) k (omega arith) (c .before .before .before .stands .ensures s ∙ c .before .before .if2 .left)
+    (c .before .holds-kind .ensures s k n ∙ c .if3 .taken)
 
 returns-4 : tie.Need-returns-4
 returns-4 c = let a = c .before .before .before .before .before .before .args in
-    λ s k n. unable-waits (locksOf (a .w .now) s) (a .i) k _ (omega arith) (c .before .before .before .before .stands .ensures s ∙ c .before .before .before .if2 .left) (c .before .before .holds-kind .ensures s k n ∙ c .before .if3 .left) (c .is-idle .ensures s)
+    λ s k n. unable-waits (locksOf (a .w .now) s) (a .i) k _ (omega arith)
+    (c .before .before .before .before .stands .ensures s ∙ c .before .before .before .if2 .left)
+    (c .before .before .holds-kind .ensures s k n ∙ c .before .if3 .left) (c .is-idle .ensures s)
 
 pub is-invalid-spec : {M : Type 1} → statement M
 is-invalid-spec =

@@ -10,7 +10,9 @@ use Rattle.locks.proofs.request.request_lock.Tie as tie
 returns : tie.Need-returns
 returns c = let a = c .before .before .before .before .before .before .before .before .before .before .args in
     let p = c .before .before .put-answer .ensures in
-    met-one _ _ _ _ _ _ _ _ _ (request-invalid (locksOf (a .w .now) (a .strings .now)) (a .i) (a .string .now) (a .timeout) (c .before .before .before .before .before .before .is-invalid .ensures (a .strings .now) (a .string .now) refl ∙ c .before .before .before .before .before .if1 .taken)) refl (p .1 (a .strings .now)) (p .0) (search needs) (λ t. t)
+    met-one _ _ _ _ _ _ _ _ _ (request-invalid (locksOf (a .w .now) (a .strings .now)) (a .i) (a .string .now) (a .timeout)
+    (c .before .before .before .before .before .before .is-invalid .ensures (a .strings .now) (a .string .now) refl
+    ∙ c .before .before .before .before .before .if1 .taken)) refl (p .1 (a .strings .now)) (p .0) (search needs) (λ t. t)
 
 decide-requires : tie.Need-decide-requires
 decide-requires c κs = let a = c .before .before .before .before .before .before .before .before .args in

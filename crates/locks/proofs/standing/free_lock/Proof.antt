@@ -11,12 +11,18 @@ use Rattle.locks.proofs.standing.free_lock.Tie as tie
 
 returns : tie.Need-returns
 returns c = let a = c .before .before .before .args in
-    let s = a .strings .now in
-    (c .drop-exclusive .ensures .0 s ∙ ap (λ (k : Kind). onEntry (view (memory (a .w .now) s)) (a .i) (without k)) (sym (code-exclusive (a .kind) (c .before .before .if1 .taken))), c .drop-exclusive .ensures .1 s)
+    let s = a .strings .now in (
+      c .drop-exclusive .ensures .0 s ∙ ap (λ (k : Kind). onEntry (view (memory (a .w .now) s)) (a .i) (without k))
+          (sym (code-exclusive (a .kind) (c .before .before .if1 .taken))),
+      c .drop-exclusive .ensures .1 s,
+    )
 
 returns-2 : tie.Need-returns-2
-returns-2 c = let a = c .before .before .before .before .args in
-    (c .leave-sharers .ensures .0 ∙ ap (λ (k : Kind). onEntry (view (memory (a .w .now) (a .strings .now))) (a .i) (without k)) (sym (code-shared (a .kind) (c .before .before .before .if1 .left))), c .leave-sharers .ensures .1)
+returns-2 c = let a = c .before .before .before .before .args in (
+  c .leave-sharers .ensures .0 ∙ ap (λ (k : Kind). onEntry (view (memory (a .w .now) (a .strings .now))) (a .i) (without k))
+      (sym (code-shared (a .kind) (c .before .before .before .if1 .left))),
+  c .leave-sharers .ensures .1,
+)
 
 pub free-lock-spec : {M : Type 1} → statement M
 free-lock-spec =

@@ -8,7 +8,8 @@ use Rattle.locks.proofs.standing.stands.Tie as tie
 
 returns : tie.Need-returns
 returns c = let a = c .before .args in
-    λ s. stands-word (c .order .result) ((at (locksOf (a .w .now) s .entries) (a .i)) .standing) (standing-read (at (locksOf (a .w .now) s .entries) (a .i)) (c .order .result) (c .order .ensures .0 s))
+    λ s. stands-word (c .order .result) ((at (locksOf (a .w .now) s .entries) (a .i)) .standing)
+    (standing-read (at (locksOf (a .w .now) s .entries) (a .i)) (c .order .result) (c .order .ensures .0 s))
 
 pub stands-spec : {M : Type 1} → statement M
 stands-spec = tie.close (tie.spec (λ c κs. search needs) returns)

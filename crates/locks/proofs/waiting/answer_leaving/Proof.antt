@@ -21,7 +21,9 @@ use Rattle.locks.proofs.waiting.answer_leaving.Statement.{statement}
 use Rattle.locks.proofs.waiting.answer_leaving.Tie as tie
 
 abbrev Inv-loop : tie.InvT-loop
-Inv-loop w out₀ start i t n at₀ j₀ out at j = (j ≤ n) × (at + 17 * (n - j) ≤ length out) × (length out ≡ length out₀) × ((s : List ℕ) → ends (refuse (locksOf w s .entries) (stays i t) (locksOf w s .waiting)) out₀ start ≡ ends (refuse (locksOf w s .entries) (stays i t) (drop j (locksOf w s .waiting))) out at)
+Inv-loop w out₀ start i t n at₀ j₀ out at j = (j ≤ n) × (at + 17 * (n - j) ≤ length out) × (length out ≡ length out₀)
+    × ((s : List ℕ) → ends (refuse (locksOf w s .entries) (stays i t) (locksOf w s .waiting)) out₀ start ≡ ends
+    (refuse (locksOf w s .entries) (stays i t) (drop j (locksOf w s .waiting))) out at)
 
 abbrev μ-loop : tie.MeasureT-loop
 μ-loop w out₀ start i t n at₀ j₀ out at j = n - j
@@ -42,7 +44,9 @@ loop-again c = let a = c .before .before .before .before .before .before .before
       λ s.
           l .inv .3 s
           ∙ rw (y .5, y .6, y .2 .ensures .0, y .2 .ensures .1 s)
-          (answer-leave (locksOf (a .w .now) s .entries) (stays (a .i) (a .t)) (locksOf (a .w .now) s .waiting) (l .j) (requestAt (a .w .now) s (x .result)) (h s) (x .ensures .1 s) (x .result) (l .out) (l .at) (slot-is (a .w .now) s (x .result)) (c .before .may-stay .ensures s ∙ not-true _ (y .0 .taken)) (omega arith)),
+          (answer-leave (locksOf (a .w .now) s .entries) (stays (a .i) (a .t)) (locksOf (a .w .now) s .waiting) (l .j) (requestAt (a .w .now) s (x .result))
+          (h s) (x .ensures .1 s) (x .result) (l .out) (l .at) (slot-is (a .w .now) s (x .result))
+          (c .before .may-stay .ensures s ∙ not-true _ (y .0 .taken)) (omega arith)),
     ))
     (λ y. (
       omega arith,
@@ -52,7 +56,8 @@ loop-again c = let a = c .before .before .before .before .before .before .before
           l .inv .3 s
           ∙ rw (y .1, y .2)
           (ap (λ (xs : List Answer). ends xs (l .out) (l .at))
-          (refuse-stay (locksOf (a .w .now) s .entries) (stays (a .i) (a .t)) (locksOf (a .w .now) s .waiting) (l .j) (requestAt (a .w .now) s (x .result)) (h s) (x .ensures .1 s) (c .before .may-stay .ensures s ∙ not-false _ (y .0 .left)))),
+          (refuse-stay (locksOf (a .w .now) s .entries) (stays (a .i) (a .t)) (locksOf (a .w .now) s .waiting) (l .j) (requestAt (a .w .now) s (x .result))
+          (h s) (x .ensures .1 s) (c .before .may-stay .ensures s ∙ not-false _ (y .0 .left)))),
     ))
     (c .if1 .came)
 
@@ -61,7 +66,8 @@ returns c = let a = c .before .before .before .before .args in
     let l = c .before .loop in
     λ s.
     l .inv .3 s
-    ∙ ap (λ (xs : List Answer). ends xs (l .out) (l .at)) (refuse-end (locksOf (a .w .now) s .entries) (stays (a .i) (a .t)) (locksOf (a .w .now) s .waiting) (l .j) (omega (arith, count-is (a .w .now) s)))
+    ∙ ap (λ (xs : List Answer). ends xs (l .out) (l .at)) (refuse-end (locksOf (a .w .now) s .entries) (stays (a .i) (a .t)) (locksOf (a .w .now) s .waiting)
+    (l .j) (omega (arith, count-is (a .w .now) s)))
     ∙ ends-nil (l .out) (l .at)
 
 pub answer-leaving-spec : {M : Type 1} → statement M

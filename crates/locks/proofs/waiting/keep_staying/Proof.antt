@@ -21,7 +21,9 @@ use Rattle.locks.proofs.waiting.keep_staying.Statement.{statement}
 use Rattle.locks.proofs.waiting.keep_staying.Tie as tie
 
 abbrev Inv-loop : tie.InvT-loop
-Inv-loop w₀ strings i t n k₀ j₀ w k j = (k ≤ j) × (j ≤ n) × (countOf w ≡ n) × (onWaiting (view (memory w₀ strings)) (keep (stays i t)) ≡ halfway (stays i t) j k (view (memory w strings))) × (Tidy (memory w₀ strings) → Tidy (memory w strings))
+Inv-loop w₀ strings i t n k₀ j₀ w k j = (k ≤ j) × (j ≤ n) × (countOf w ≡ n)
+    × (onWaiting (view (memory w₀ strings)) (keep (stays i t)) ≡ halfway (stays i t) j k (view (memory w strings)))
+    × (Tidy (memory w₀ strings) → Tidy (memory w strings))
 
 abbrev μ-loop : tie.MeasureT-loop
 μ-loop w₀ strings i t n k₀ j₀ w k j = n - j
@@ -42,7 +44,8 @@ loop-again c = let a = c .before .before .before .before .before .before .before
       rw (y .3) (count-moved (l .w) _ (l .j) (l .k) (y .2 .ensures .0 []) ∙ l .inv .2),
       l .inv .3
           ∙ rw (y .3, y .4)
-          (sym (halfway-stay (stays (a .i) (a .t)) (view (memory (l .w) s)) (l .j) (l .k) (requestAt (l .w) s (x .result)) h (x .ensures .1 s) _ (y .2 .ensures .0 s) (l .inv .0) (c .before .may-stay .ensures s ∙ y .0 .taken))),
+          (sym (halfway-stay (stays (a .i) (a .t)) (view (memory (l .w) s)) (l .j) (l .k) (requestAt (l .w) s (x .result)) h (x .ensures .1 s) _
+          (y .2 .ensures .0 s) (l .inv .0) (c .before .may-stay .ensures s ∙ y .0 .taken))),
       λ t. rw (y .3) (y .2 .ensures .1 s (l .inv .4 t)),
     ))
     (λ y. (
@@ -59,8 +62,11 @@ loop-again c = let a = c .before .before .before .before .before .before .before
 returns : tie.Need-returns Inv-loop μ-loop
 returns c = let a = c .before .before .before .before .before .before .before .args in
     let l = c .before .before .before .before .loop in
-    let s = a .strings .now in
-    (halfway-end (stays (a .i) (a .t)) (view (memory (l .w) s)) _ (l .j) (l .k) (omega (arith, count-is (l .w) s)) (c .keep-first .ensures .0) ∙ sym (l .inv .3), λ t. c .keep-first .ensures .1 (l .inv .4 t))
+    let s = a .strings .now in (
+      halfway-end (stays (a .i) (a .t)) (view (memory (l .w) s)) _ (l .j) (l .k) (omega (arith, count-is (l .w) s)) (c .keep-first .ensures .0)
+          ∙ sym (l .inv .3),
+      λ t. c .keep-first .ensures .1 (l .inv .4 t),
+    )
 
 pub keep-staying-spec : {M : Type 1} → statement M
 keep-staying-spec =

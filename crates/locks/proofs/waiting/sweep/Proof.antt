@@ -6,7 +6,8 @@ use Rattle.locks.proofs.waiting.sweep.Statement.{statement}
 use Rattle.locks.proofs.waiting.sweep.Tie as tie
 
 returns : tie.Need-returns
-returns c = let a = c .before .before .before .before .before .before .before .args in let s = a .strings .now in swept-none (memory (a .w .now) s) (a .i) (a .t) _ _ _ _ (c .before .before .before .answer-leaving .ensures s) (c .if1 .taken)
+returns c = let a = c .before .before .before .before .before .before .before .args in let s = a .strings .now in
+    swept-none (memory (a .w .now) s) (a .i) (a .t) _ _ _ _ (c .before .before .before .answer-leaving .ensures s) (c .if1 .taken)
 
 returns-2 : tie.Need-returns-2
 returns-2 c = let a = c .before .before .before .before .before .before .before .before .before .before .args in

@@ -14,7 +14,8 @@ use Rattle.queue.proofs.leaving.leave_places.Statement.{statement}
 use Rattle.queue.proofs.leaving.leave_places.Tie as tie
 
 abbrev Inv-loop : tie.InvT-loop
-Inv-loop w₀ strings₀ n m stay p₀ w strings p = (n ≤ p) × (p ≤ m) × (length w ≡ WORDS) × (length strings ≡ STRINGS) × (word w COUNT ≡ n) × Members w n stay × (view (memory w strings) ≡ view (memory w₀ strings₀)) × (TidyOver (Still n n m) (memory w₀ strings₀) → TidyOver (Still n p m) (memory w strings))
+Inv-loop w₀ strings₀ n m stay p₀ w strings p = (n ≤ p) × (p ≤ m) × (length w ≡ WORDS) × (length strings ≡ STRINGS) × (word w COUNT ≡ n) × Members w n stay
+    × (view (memory w strings) ≡ view (memory w₀ strings₀)) × (TidyOver (Still n n m) (memory w₀ strings₀) → TidyOver (Still n p m) (memory w strings))
 
 abbrev μ-loop : tie.MeasureT-loop
 μ-loop w₀ strings₀ n m stay p₀ w strings p = m - p

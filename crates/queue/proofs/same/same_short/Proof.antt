@@ -19,10 +19,12 @@ loop-holds : tie.Need-loop-holds Inv-loop μ-loop
 loop-holds c = (search needs, omega arith, refl)
 
 returns : tie.Need-returns Inv-loop μ-loop
-returns c = let a = c .before .before .before .before .before .args in let l = c .before .before .before .before .loop in l .inv .2 ∙ same-stop (a .a .now) (a .b .now) (l .i) (omega arith) (omega arith) (c .if1 .taken)
+returns c = let a = c .before .before .before .before .before .args in let l = c .before .before .before .before .loop in l .inv .2
+    ∙ same-stop (a .a .now) (a .b .now) (l .i) (omega arith) (omega arith) (c .if1 .taken)
 
 loop-again : tie.Need-loop-again Inv-loop μ-loop
-loop-again c = let a = c .before .before .before .before .before .args in let l = c .before .before .before .before .loop in (l .inv .0, omega arith, l .inv .2 ∙ same-step (a .a .now) (a .b .now) (l .i) (omega arith) (omega arith) (c .if1 .left))
+loop-again c = let a = c .before .before .before .before .before .args in let l = c .before .before .before .before .loop in
+    (l .inv .0, omega arith, l .inv .2 ∙ same-step (a .a .now) (a .b .now) (l .i) (omega arith) (omega arith) (c .if1 .left))
 
 returns-2 : tie.Need-returns-2 Inv-loop μ-loop
 returns-2 c = let a = c .before .before .args in let l = c .before .loop in l .inv .2 ∙ same-end (a .a .now) (a .b .now) (l .i) (omega arith) (omega arith)

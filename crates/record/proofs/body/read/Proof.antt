@@ -36,10 +36,17 @@ returns-10 : tie.Need-returns-10
 returns-10 c = tag-above _ _ _ (c .before .before .before .before .before .before .before .before .before .before .before .if1 .left) refl (c .before .if10 .taken) (c .watch-above .ensures)
 
 returns-11 : tie.Need-returns-11
-returns-11 c = tag-outside _ _ _ (c .before .before .before .before .before .before .before .before .before .before .before .before .if1 .left) refl (c .before .if11 .taken) (c .watch-outside .ensures)
+returns-11 c = tag-outside _ _ _ (c .before .before .before .before .before .before .before .before .before .before .before .before .if1 .left) refl
+    (c .before .if11 .taken) (c .watch-outside .ensures)
 
 returns-12 : tie.Need-returns-12
-returns-12 c = tag-patterns _ _ _ (c .before .before .before .before .before .before .before .before .before .before .before .before .if1 .left) refl (nine _ (c .before .before .before .before .before .before .before .before .before .before .if2 .left) (c .before .before .before .before .before .before .before .before .before .if3 .left) (c .before .before .before .before .before .before .before .before .if4 .left) (c .before .before .before .before .before .before .before .if5 .left) (c .before .before .before .before .before .before .if6 .left) (c .before .before .before .before .before .if7 .left) (c .before .before .before .before .if8 .left) (c .before .before .before .if9 .left) (c .before .before .if10 .left) (c .before .if11 .left)) (c .patterns .ensures)
+returns-12 c = tag-patterns _ _ _ (c .before .before .before .before .before .before .before .before .before .before .before .before .if1 .left) refl
+    (nine _ (c .before .before .before .before .before .before .before .before .before .before .if2 .left)
+    (c .before .before .before .before .before .before .before .before .before .if3 .left)
+    (c .before .before .before .before .before .before .before .before .if4 .left) (c .before .before .before .before .before .before .before .if5 .left)
+    (c .before .before .before .before .before .before .if6 .left) (c .before .before .before .before .before .if7 .left)
+    (c .before .before .before .before .if8 .left) (c .before .before .before .if9 .left) (c .before .before .if10 .left) (c .before .if11 .left))
+    (c .patterns .ensures)
 
 pub read-spec : {M : Type 1} → statement M
 read-spec =

@@ -31,19 +31,32 @@ part-sets-status-start : tie.Need-part-sets-status-start
 part-sets-status-start c = omega (arith, c .before .before .before .before .before .before .before .before .pre .0 .end)
 
 answers-requires : tie.Need-answers-requires
-answers-requires c κs = let f = fits-4 _ _ (c .before .before .before .before .before .before .before .before .before .before .before .before .pre .0) (λ i. c .before .before .before .before .before .before .before .before .before .before .shared-slice-known .given i .fits) (c .before .before .before .before .before .before .before .before .if1 .taken) in (f .0, f .1, c .before .before .before .before .before .before .before .before .before .before .before .before .pre .2)
+answers-requires c κs = let f = fits-4 _ _ (c .before .before .before .before .before .before .before .before .before .before .before .before .pre .0)
+    (λ i. c .before .before .before .before .before .before .before .before .before .before .shared-slice-known .given i .fits)
+    (c .before .before .before .before .before .before .before .before .if1 .taken) in
+    (f .0, f .1, c .before .before .before .before .before .before .before .before .before .before .before .before .pre .2)
 
 returns : tie.Need-returns
-returns c = let a = c .before .before .before .before .before .before .before .before .before .before .before .before .before .before .before .args in judged-4 (a .p) (a .body .now) (c .before .before .before .before .before .before .before .before .before .before .before .before .before .before .before .pre .0) (memory (a .words .now) (a .strings .now)) _ _ (c .before .before .before .before .before .before .before .before .before .before .before .if1 .taken) (c .before .before .answers .ensures)
+returns c = let a = c .before .before .before .before .before .before .before .before .before .before .before .before .before .before .before .args in
+    judged-4 (a .p) (a .body .now)
+    (c .before .before .before .before .before .before .before .before .before .before .before .before .before .before .before .pre .0)
+    (memory (a .words .now) (a .strings .now)) _ _ (c .before .before .before .before .before .before .before .before .before .before .before .if1 .taken)
+    (c .before .before .answers .ensures)
 
 sets-status-requires : tie.Need-sets-status-requires
-sets-status-requires c κs = fits-5 _ _ (c .before .before .before .before .before .before .before .before .before .pre .0) (λ i. c .before .before .before .before .before .before .before .shared-slice-known .given i .fits) (c .before .before .before .if2 .taken)
+sets-status-requires c κs = fits-5 _ _ (c .before .before .before .before .before .before .before .before .before .pre .0)
+    (λ i. c .before .before .before .before .before .before .before .shared-slice-known .given i .fits) (c .before .before .before .if2 .taken)
 
 returns-2 : tie.Need-returns-2
-returns-2 c = let a = c .before .before .before .before .before .before .before .before .before .before .args in judged-5 (a .p) (a .body .now) (c .before .before .before .before .before .before .before .before .before .before .pre .0) (memory (a .words .now) (a .strings .now)) _ _ (c .before .before .before .before .if2 .taken) (c .sets-status .ensures)
+returns-2 c = let a = c .before .before .before .before .before .before .before .before .before .before .args in
+    judged-5 (a .p) (a .body .now) (c .before .before .before .before .before .before .before .before .before .before .pre .0)
+    (memory (a .words .now) (a .strings .now)) _ _ (c .before .before .before .before .if2 .taken) (c .sets-status .ensures)
 
 replay-setting-requires : tie.Need-replay-setting-requires
-replay-setting-requires c κs = (c .before .before .before .before .before .before .before .before .pre .0, (c .before .before .before .before .before .before .before .before .pre .1, c .before .before .before .before .if1 .left, c .before .before .if2 .left))
+replay-setting-requires c κs = (
+  c .before .before .before .before .before .before .before .before .pre .0,
+  (c .before .before .before .before .before .before .before .before .pre .1, c .before .before .before .before .if1 .left, c .before .before .if2 .left),
+)
 
 returns-3 : tie.Need-returns-3
 returns-3 c = c .replay-setting .ensures

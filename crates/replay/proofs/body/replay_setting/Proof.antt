@@ -25,25 +25,41 @@ part-sets-outside-start : tie.Need-part-sets-outside-start
 part-sets-outside-start c = omega (arith, c .before .before .before .before .before .before .before .before .before .pre .0 .end)
 
 sets-off-requires : tie.Need-sets-off-requires
-sets-off-requires c κs = fits-6 _ _ (c .before .before .before .before .before .before .pre .0) (λ i. c .before .before .before .before .before .shared-slice-known .given i .fits) (c .before .before .before .if1 .taken)
+sets-off-requires c κs = fits-6 _ _ (c .before .before .before .before .before .before .pre .0)
+    (λ i. c .before .before .before .before .before .shared-slice-known .given i .fits) (c .before .before .before .if1 .taken)
 
 returns : tie.Need-returns
-returns c = let a = c .before .before .before .before .before .before .before .args in judged-6 (a .p) (a .body .now) (c .before .before .before .before .before .before .before .pre .0) (memory (a .words .now) (a .strings .now)) _ _ (c .before .before .before .before .if1 .taken) (c .sets-off .ensures)
+returns c = let a = c .before .before .before .before .before .before .before .args in
+    judged-6 (a .p) (a .body .now) (c .before .before .before .before .before .before .before .pre .0) (memory (a .words .now) (a .strings .now)) _ _
+    (c .before .before .before .before .if1 .taken) (c .sets-off .ensures)
 
 sets-above-requires : tie.Need-sets-above-requires
-sets-above-requires c κs = fits-7 _ _ (c .before .before .before .before .before .before .before .before .pre .0) (λ i. c .before .before .before .before .before .before .before .shared-slice-known .given i .fits) (c .before .before .before .if2 .taken)
+sets-above-requires c κs = fits-7 _ _ (c .before .before .before .before .before .before .before .before .pre .0)
+    (λ i. c .before .before .before .before .before .before .before .shared-slice-known .given i .fits) (c .before .before .before .if2 .taken)
 
 returns-2 : tie.Need-returns-2
-returns-2 c = let a = c .before .before .before .before .before .before .before .before .before .args in judged-7 (a .p) (a .body .now) (c .before .before .before .before .before .before .before .before .before .pre .0) (memory (a .words .now) (a .strings .now)) _ _ (c .before .before .before .before .if2 .taken) (c .sets-above .ensures)
+returns-2 c = let a = c .before .before .before .before .before .before .before .before .before .args in
+    judged-7 (a .p) (a .body .now) (c .before .before .before .before .before .before .before .before .before .pre .0)
+    (memory (a .words .now) (a .strings .now)) _ _ (c .before .before .before .before .if2 .taken) (c .sets-above .ensures)
 
 sets-outside-requires : tie.Need-sets-outside-requires
-sets-outside-requires c κs = fits-8 _ _ (c .before .before .before .before .before .before .before .before .before .before .pre .0) (λ i. c .before .before .before .before .before .before .before .before .before .shared-slice-known .given i .fits) (c .before .before .before .if3 .taken)
+sets-outside-requires c κs = fits-8 _ _ (c .before .before .before .before .before .before .before .before .before .before .pre .0)
+    (λ i. c .before .before .before .before .before .before .before .before .before .shared-slice-known .given i .fits)
+    (c .before .before .before .if3 .taken)
 
 returns-3 : tie.Need-returns-3
-returns-3 c = let a = c .before .before .before .before .before .before .before .before .before .before .before .args in judged-8 (a .p) (a .body .now) (c .before .before .before .before .before .before .before .before .before .before .before .pre .0) (memory (a .words .now) (a .strings .now)) _ _ (c .before .before .before .before .if3 .taken) (c .sets-outside .ensures)
+returns-3 c = let a = c .before .before .before .before .before .before .before .before .before .before .before .args in
+    judged-8 (a .p) (a .body .now) (c .before .before .before .before .before .before .before .before .before .before .before .pre .0)
+    (memory (a .words .now) (a .strings .now)) _ _ (c .before .before .before .before .if3 .taken) (c .sets-outside .ensures)
 
 returns-4 : tie.Need-returns-4
-returns-4 c = let a = c .before .before .before .before .before .before .before .before .before .before .before .before .before .args in judged-9 (a .p) (a .body .now) (c .before .before .before .before .before .before .before .before .before .before .before .before .before .pre .0) (memory (a .words .now) (a .strings .now)) _ _ (c .before .before .before .before .before .before .before .before .before .before .before .before .before .pre .1) (c .before .before .before .before .before .before .before .before .before .before .if1 .left) (c .before .before .before .before .before .before .before .before .if2 .left) (c .before .before .before .before .before .before .if3 .left) (c .sets-list .ensures)
+returns-4 c = let a = c .before .before .before .before .before .before .before .before .before .before .before .before .before .args in
+    judged-9 (a .p) (a .body .now) (c .before .before .before .before .before .before .before .before .before .before .before .before .before .pre .0)
+    (memory (a .words .now) (a .strings .now)) _ _
+    (c .before .before .before .before .before .before .before .before .before .before .before .before .before .pre .1)
+    (c .before .before .before .before .before .before .before .before .before .before .if1 .left)
+    (c .before .before .before .before .before .before .before .before .if2 .left) (c .before .before .before .before .before .before .if3 .left)
+    (c .sets-list .ensures)
 
 pub replay-setting-spec : {M : Type 1} → statement M
 replay-setting-spec =

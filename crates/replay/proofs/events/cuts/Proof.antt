@@ -8,7 +8,10 @@ use Rattle.replay.proofs.events.cuts.Tie as tie
 returns : tie.Need-returns
 returns c =
     let a = c .before .before .before .before .before .before .before .before .before .before .args in
-    cut-off (memory (a .words .now) (a .strings .now)) _ (a .frames .now) (a .out .now) _ (c .before .before .before .before .before .before .before .before .before .before .pre .1) (c .before .before .before .before .hislip-cut .kept .1 .1 .1 .0) (a .connection) _ _ (c .before .before .before .before .hislip-cut .ensures) (c .compared .ensures)
+    cut-off (memory (a .words .now) (a .strings .now)) _ (a .frames .now) (a .out .now) _
+    (c .before .before .before .before .before .before .before .before .before .before .pre .1)
+    (c .before .before .before .before .hislip-cut .kept .1 .1 .1 .0) (a .connection) _ _ (c .before .before .before .before .hislip-cut .ensures)
+    (c .compared .ensures)
 
 pub cuts-spec : {M : Type 1} → statement M
 cuts-spec = tie.close (tie.spec (λ c. search needs) (λ c κs. search needs) (λ c κs. search needs) (λ c. search needs) returns)

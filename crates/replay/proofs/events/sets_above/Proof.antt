@@ -7,13 +7,16 @@ use Rattle.replay.proofs.events.sets_above.Statement.{statement}
 use Rattle.replay.proofs.events.sets_above.Tie as tie
 
 returns : tie.Need-returns
-returns c = let a = c .before .before .before .args in no-above (memory (a .words .now) (a .strings .now)) (a .frames .now) (a .session) (a .limit) (sym (c .before .is-no-number .ensures) ∙ c .if1 .taken)
+returns c = let a = c .before .before .before .args in no-above (memory (a .words .now) (a .strings .now)) (a .frames .now) (a .session) (a .limit)
+    (sym (c .before .is-no-number .ensures) ∙ c .if1 .taken)
 
 returns-2 : tie.Need-returns-2
 returns-2 c =
     let a = c .before .before .before .before .before .before .before .before .args in
     let n = sym (c .before .before .before .before .before .before .is-no-number .ensures) ∙ c .before .before .before .before .before .if1 .left in
-    set-above (memory (a .words .now) (a .strings .now)) _ (a .frames .now) (a .session) (a .limit) _ (float-bits _ (a .limit) (c .before .before .before .before .float-of .ensures) (c .before .before .before .before .before .before .before .before .pre .1) n) _ _ (c .before .hislip-watch-above .ensures) (c .silent .ensures)
+    set-above (memory (a .words .now) (a .strings .now)) _ (a .frames .now) (a .session) (a .limit) _
+    (float-bits _ (a .limit) (c .before .before .before .before .float-of .ensures)
+    (c .before .before .before .before .before .before .before .before .pre .1) n) _ _ (c .before .hislip-watch-above .ensures) (c .silent .ensures)
 
 pub sets-above-spec : {M : Type 1} → statement M
 sets-above-spec =

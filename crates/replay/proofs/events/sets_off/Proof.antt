@@ -6,7 +6,8 @@ use Rattle.replay.proofs.events.sets_off.Statement.{statement}
 use Rattle.replay.proofs.events.sets_off.Tie as tie
 
 returns : tie.Need-returns
-returns c = let a = c .before .before .before .before .before .args in set-off (memory (a .words .now) (a .strings .now)) _ (a .frames .now) (a .session) _ _ (c .before .hislip-watch-off .ensures) (c .silent .ensures)
+returns c = let a = c .before .before .before .before .before .args in
+    set-off (memory (a .words .now) (a .strings .now)) _ (a .frames .now) (a .session) _ _ (c .before .hislip-watch-off .ensures) (c .silent .ensures)
 
 pub sets-off-spec : {M : Type 1} → statement M
 sets-off-spec =

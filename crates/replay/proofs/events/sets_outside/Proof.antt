@@ -7,16 +7,25 @@ use Rattle.replay.proofs.events.sets_outside.Statement.{statement}
 use Rattle.replay.proofs.events.sets_outside.Tie as tie
 
 returns : tie.Need-returns
-returns c = let a = c .before .before .before .args in no-low (memory (a .words .now) (a .strings .now)) (a .frames .now) (a .session) (a .low) (a .high) (sym (c .before .is-no-number .ensures) ∙ c .if1 .taken)
+returns c = let a = c .before .before .before .args in no-low (memory (a .words .now) (a .strings .now)) (a .frames .now) (a .session) (a .low) (a .high)
+    (sym (c .before .is-no-number .ensures) ∙ c .if1 .taken)
 
 returns-2 : tie.Need-returns-2
-returns-2 c = let a = c .before .before .before .before .before .args in no-high (memory (a .words .now) (a .strings .now)) (a .frames .now) (a .session) (a .low) (a .high) (sym (c .before .is-no-number2 .ensures) ∙ c .if2 .taken)
+returns-2 c = let a = c .before .before .before .before .before .args in
+    no-high (memory (a .words .now) (a .strings .now)) (a .frames .now) (a .session) (a .low) (a .high)
+    (sym (c .before .is-no-number2 .ensures) ∙ c .if2 .taken)
 
 returns-3 : tie.Need-returns-3
 returns-3 c =
     let a = c .before .before .before .before .before .before .before .before .before .before .before .args in
-    let l = float-bits _ (a .low) (c .before .before .before .before .before .float-of .ensures) (c .before .before .before .before .before .before .before .before .before .before .before .pre .1) (sym (c .before .before .before .before .before .before .before .before .before .is-no-number .ensures) ∙ c .before .before .before .before .before .before .before .before .if1 .left) in
-    let h = float-bits _ (a .high) (c .before .before .before .before .float-of2 .ensures) (c .before .before .before .before .before .before .before .before .before .before .before .pre .2) (sym (c .before .before .before .before .before .before .before .is-no-number2 .ensures) ∙ c .before .before .before .before .before .before .if2 .left) in
+    let l = float-bits _ (a .low) (c .before .before .before .before .before .float-of .ensures)
+    (c .before .before .before .before .before .before .before .before .before .before .before .pre .1)
+    (sym (c .before .before .before .before .before .before .before .before .before .is-no-number .ensures)
+    ∙ c .before .before .before .before .before .before .before .before .if1 .left) in
+    let h = float-bits _ (a .high) (c .before .before .before .before .float-of2 .ensures)
+    (c .before .before .before .before .before .before .before .before .before .before .before .pre .2)
+    (sym (c .before .before .before .before .before .before .before .is-no-number2 .ensures)
+    ∙ c .before .before .before .before .before .before .if2 .left) in
     set-outside (memory (a .words .now) (a .strings .now)) _ (a .frames .now) (a .session) (a .low) (a .high) _ _ l h _ _ (c .before .hislip-watch-outside .ensures) (c .silent .ensures)
 
 pub sets-outside-spec : {M : Type 1} → statement M

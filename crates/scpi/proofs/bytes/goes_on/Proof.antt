@@ -33,8 +33,12 @@ loop-again : tie.Need-loop-again Inv-loop μ-loop
 loop-again c =
     let r = c .before in
     let l = r .before .before .before .before .loop in
-    let a = r .before .before .before .before .before .before .before .before .args in
-    (search needs, search needs, sym (starts-more (a .p .now) (a .c .now) (l .k) (a .e) (l .j) (search needs) (search needs) (search needs) (eqb-true _ _ (sym (r .alike .ensures) ∙ not-false _ (c .if2 .left)))) ∙ l .inv .2)
+    let a = r .before .before .before .before .before .before .before .before .args in (
+      search needs,
+      search needs,
+      sym (starts-more (a .p .now) (a .c .now) (l .k) (a .e) (l .j) (search needs) (search needs) (search needs)
+          (eqb-true _ _ (sym (r .alike .ensures) ∙ not-false _ (c .if2 .left)))) ∙ l .inv .2,
+    )
 
 returns-3 : tie.Need-returns-3 Inv-loop μ-loop
 returns-3 c =

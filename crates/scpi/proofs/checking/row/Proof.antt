@@ -55,14 +55,19 @@ returns-3 c =
     let b = c .before in
     let l = b .before .before .before .before .before .before .before .loop in
     let a = b .before .before .before .before .before .before .before .before .before .args in
-    l .inv .2 ∙ row-empty (l .depth) (a .p .now) (l .i) (search needs) (b .before .before .if3 .taken) (search needs) (says-no (b .begins-row .result) (b .begins-row .ensures) (not-true _ (c .if5 .taken)))
+    l .inv .2 ∙ row-empty (l .depth) (a .p .now) (l .i) (search needs) (b .before .before .if3 .taken) (search needs)
+    (says-no (b .begins-row .result) (b .begins-row .ensures) (not-true _ (c .if5 .taken)))
 
 loop-again-2 : tie.Need-loop-again-2 Inv-loop μ-loop
 loop-again-2 c =
     let b = c .before in
     let l = b .before .before .before .before .before .before .before .loop in
-    let a = b .before .before .before .before .before .before .before .before .before .args in
-    (search needs, search needs, l .inv .2 ∙ row-opened (l .depth) (a .p .now) (l .i) (search needs) (b .before .before .if3 .taken) (search needs) (says-yes (b .begins-row .result) (b .begins-row .ensures) (not-false _ (c .if5 .left))))
+    let a = b .before .before .before .before .before .before .before .before .before .args in (
+      search needs,
+      search needs,
+      l .inv .2 ∙ row-opened (l .depth) (a .p .now) (l .i) (search needs) (b .before .before .if3 .taken) (search needs)
+          (says-yes (b .begins-row .result) (b .begins-row .ensures) (not-false _ (c .if5 .left))),
+    )
 
 returns-4 : tie.Need-returns-4 Inv-loop μ-loop
 returns-4 c =

@@ -27,7 +27,8 @@ use sound.Loop.{loop-rule}
 use sound.WpLaws.{WpFn-mono}
 use types.Kit.{Given, Item, ‵, _⊛_, ⋆, anyQ, atRet, _$_, _∵_, !, qed, by, move, keep, drop, use1, split, join, rewrite, fsplit, fjoin, feqI, suffices, frame, done}
 use types.Part.{whole, sub, look-in}
-use types.Run.{look, look-raw, store, store-raw, init, forget, stop, hop, fld, from, load, lit, unit-lit, of-opd, bin, addr, assigns, assigns-last, stays, leaves-loop, returns, enter, alloc1, alloc0, params1, pass1, pass0, free1, free0, exec}
+use types.Run.{look, look-raw, store, store-raw, init, forget, stop, hop, fld, from, load, lit, unit-lit, of-opd, bin, addr, assigns, assigns-last, stays}
+use types.Run.{leaves-loop, returns, enter, alloc1, alloc0, params1, pass1, pass0, free1, free0, exec}
 use denote.Exit.{yes}
 use denote.RattleType.{owns}
 use denote.Shadow.{pureI}
@@ -80,7 +81,8 @@ none = record { session = 0; exclusive = 0; shared = 0; «granted_at» = 0; gran
 byte-fits : {i l : ℕ} → l * 40 < 2 ^ 63 → i < l → i * 40 < 2 ^ 64
 byte-fits room l = omega arith
 
-module _ {M : Type 1} (𝓤 : URA M) (H : Heap 𝓤) (A : Atoms 𝓤) (W : Given 𝓤 H A) (at-mem : Memory → SProp 𝓤) (run : Routine → Fun 𝓤) (κ : Lft) (q : Share) (b o : ℕ) (γ : GName) (ys src : List Row) (n : ℕ)
+module _ {M : Type 1} (𝓤 : URA M) (H : Heap 𝓤) (A : Atoms 𝓤) (W : Given 𝓤 H A) (at-mem : Memory → SProp 𝓤) (run : Routine → Fun 𝓤) (κ : Lft) (q : Share)
+    (b o : ℕ) (γ : GName) (ys src : List Row) (n : ℕ)
     (gn : Room T.the-row (length ys)) (gs : Is Rows src (rows-vals src)) (n-fits : n < 2 ^ 64) (in-src : n ≤ length src) (in-ys : n ≤ length ys) (is32 : length src ≡ 32) where
   abbrev x : Arg
   x = (record { ptr = (b, o); name = γ; now = ys }, (src, (n, tt)))
@@ -117,7 +119,8 @@ module _ {M : Type 1} (𝓤 : URA M) (H : Heap 𝓤) (A : Atoms 𝓤) (W : Given
     Λ = 𝓣 .Λ
 
     abbrev En : Env 𝓤 H
-    En = (tyUnit, l₀) ∷ (slice, l₁) ∷ (rows-mir, l₂) ∷ (word, l₃) ∷ (rows-mir, l₄) ∷ (word, l₅) ∷ (tyBool, l₆) ∷ (word, l₇) ∷ (tyPtr, l₈) ∷ (tyPtr, l₉) ∷ (row-mir, l₁₀) ∷ (word, l₁₁) ∷ (tyPtr, l₁₂) ∷ []
+    En = (tyUnit, l₀) ∷ (slice, l₁) ∷ (rows-mir, l₂) ∷ (word, l₃) ∷ (rows-mir, l₄) ∷ (word, l₅) ∷ (tyBool, l₆) ∷ (word, l₇) ∷ (tyPtr, l₈) ∷ (tyPtr, l₉)
+        ∷ (row-mir, l₁₀) ∷ (word, l₁₁) ∷ (tyPtr, l₁₂) ∷ []
 
     -- what no turn touches: the parameters' locals, the result's, the open borrow, and that each local dies
     abbrev Frame : List (Item 𝓤)
@@ -220,9 +223,14 @@ module _ {M : Type 1} (𝓤 : URA M) (H : Heap 𝓤) (A : Atoms 𝓤) (W : Given
   -- the MIR, up to the loop: src is copied to _4, and the borrow is opened
   walk : (𝓣 : Tables 𝓤 H) → ent 𝓤 (onEntry 𝓤 H A f.signature (κ, tt) (q, tt) x at) (WpFn 𝓤 H (𝓣 .C) (𝓣 .Λ) code.function (sliceVal (b, o) (length ys) ∷ rows-val src ∷ vint w64 n ∷ []) Post)
   walk 𝓣 =
-      qed W ((‵ (flft κ q) ⊛ ‵ ftrue) ∷ ‵ (owns (MutSlice (named 0) κ T.the-row ∷ Rows ∷ usize ∷ []) x at) ∷ []) ∵ enter ! (𝓣 .C) (𝓣 .Λ) code.function (sliceVal (b, o) (length ys) ∷ rows-val src ∷ vint w64 n ∷ []) _ $
-      alloc1 ! (λ l₀. alloc1 ! (λ l₁. alloc1 ! (λ l₂. alloc1 ! (λ l₃. alloc1 ! (λ l₄. alloc1 ! (λ l₅. alloc1 ! (λ l₆. alloc1 ! (λ l₇. alloc1 ! (λ l₈. alloc1 ! (λ l₉. alloc1 ! (λ l₁₀. alloc1 ! (λ l₁₁. alloc1 ! (λ l₁₂. alloc0 ! $ params1 ! $
-      pass1 ! (init ! 22 refl (tt, (tt, (record { fits = gn .0 }, tt)))) $ pass1 ! (init ! 20 refl (rows-lawful 𝓤 H A W .typed src _ gs .0)) $ pass1 ! (init ! 18 refl (tt, record { fits = n-fits })) $ pass0 ! $
+      qed W ((‵ (flft κ q) ⊛ ‵ ftrue) ∷ ‵ (owns (MutSlice (named 0) κ T.the-row ∷ Rows ∷ usize ∷ []) x at) ∷ []) ∵ enter ! (𝓣 .C) (𝓣 .Λ) code.function
+      (sliceVal (b, o) (length ys) ∷ rows-val src ∷ vint w64 n ∷ []) _ $
+      alloc1 ! (λ l₀. alloc1 !
+      (λ l₁. alloc1 ! (λ l₂. alloc1 !
+      (λ l₃. alloc1 ! (λ l₄. alloc1 !
+      (λ l₅. alloc1 ! (λ l₆. alloc1 ! (λ l₇. alloc1 ! (λ l₈. alloc1 ! (λ l₉. alloc1 ! (λ l₁₀. alloc1 ! (λ l₁₁. alloc1 ! (λ l₁₂. alloc0 ! $ params1 ! $
+      pass1 ! (init ! 22 refl (tt, (tt, (record { fits = gn .0 }, tt)))) $ pass1 ! (init ! 20 refl (rows-lawful 𝓤 H A W .typed src _ gs .0)) $ pass1 !
+      (init ! 18 refl (tt, record { fits = n-fits })) $ pass0 ! $
       -- [_12; …; _11; …; _10; …; _9; …; _8; …; _7; …; _6; …; _5; …; _4; …; _3; …; _2; …; _1; …; room for _0; …; the token; what rows, src and n own]
       assigns ! (of-opd ! (load ! (from ! (stop !)) (look ! 20 refl))) (from ! (stop !)) (init ! 16 refl (rows-lawful 𝓤 H A W .typed src _ gs .0)) $
       assigns ! (of-opd ! (lit ! tt)) (from ! (stop !)) (init ! 14 refl (tt, record { fits = lit< tt })) $

@@ -14,7 +14,8 @@ returns c = let a = c .before .before .before .before .args in
     let e = c .put .ensures in (
       omega (arith, e .1),
       omega (arith, e .1, ap length (e .0), length-put (c .before .row-at .result) (listed (a .old)), c .before .before .before .before .pre .2),
-      λ s. e .0 ∙ ap (λ (r : Row). putBy rowKey r (listed (a .old))) (c .before .row-at .ensures s) ∙ sym (one-holds _ _ (c .before .before .before .holds-any .ensures s ∙ c .before .before .if1 .taken)),
+      λ s. e .0 ∙ ap (λ (r : Row). putBy rowKey r (listed (a .old))) (c .before .row-at .ensures s)
+          ∙ sym (one-holds _ _ (c .before .before .before .holds-any .ensures s ∙ c .before .before .if1 .taken)),
     )
 
 returns-2 : tie.Need-returns-2

@@ -16,7 +16,8 @@ put-list-requires c κs = let t = c .before .before .before .before .before .bef
 returns : tie.Need-returns
 returns c = let a = c .before .before .before .before .before .args in
     let t = a .text .now in
-    too-many t _ (memory (a .words .now) (a .strings .now)) (subst (λ (x : Judged). Ruled (linesOf t) x) (c .before .enum-told .given .1) (c .before .before .before .judge .ensures)) (c .told .ensures)
+    too-many t _ (memory (a .words .now) (a .strings .now))
+    (subst (λ (x : Judged). Ruled (linesOf t) x) (c .before .enum-told .given .1) (c .before .before .before .judge .ensures)) (c .told .ensures)
 
 returns-2 : tie.Need-returns-2
 returns-2 c = let a = c .before .before .before .before .before .before .args in
@@ -27,7 +28,10 @@ returns-2 c = let a = c .before .before .before .before .before .before .args in
 returns-3 : tie.Need-returns-3
 returns-3 c = let a = c .before .before .before .before .before .before .before .before .args in
     let t = a .text .now in
-    taken-list t _ (memory (a .words .now) (a .strings .now)) _ (subst (λ (x : Judged). Ruled (linesOf t) x) (c .before .before .before .before .enum-told2 .given .1) (c .before .before .before .before .before .before .judge .ensures)) (c .before .put-list .ensures .0) (c .before .put-list .ensures .1) (c .told3 .ensures)
+    taken-list t _ (memory (a .words .now) (a .strings .now)) _
+    (subst (λ (x : Judged). Ruled (linesOf t) x) (c .before .before .before .before .enum-told2 .given .1)
+    (c .before .before .before .before .before .before .judge .ensures)) (c .before .put-list .ensures .0) (c .before .put-list .ensures .1)
+    (c .told3 .ensures)
 
 pub hislip-patterns-spec : {M : Type 1} → statement M
 hislip-patterns-spec =

@@ -29,7 +29,8 @@ returns-2 c =
     let f = c .before .before .before .before .slot-of-number in
     let e = at (locksOf w s .entries) (f .result) in
     let r = c .before .before .entry in
-    nobody-told (view (memory w s)) (a .session) (f .result) (f .ensures .1 s) _ (not-live e (r .result) (number-read e (r .result) (r .ensures .0 s)) (c .before .if2 .taken)) (c .no-readings2 .ensures)
+    nobody-told (view (memory w s)) (a .session) (f .result) (f .ensures .1 s) _
+    (not-live e (r .result) (number-read e (r .result) (r .ensures .0 s)) (c .before .if2 .taken)) (c .no-readings2 .ensures)
 
 returns-3 : tie.Need-returns-3
 unfolding recorded
@@ -41,7 +42,8 @@ returns-3 c =
     let e = at (locksOf w s .entries) (f .result) in
     let r = c .before .before .before .before .before .entry in
     let x = c .before .before .before .record-at in
-    none-told (view (memory w s)) (a .session) (f .result) (f .ensures .1 s) _ (recorded (x .result)) (is-live e (r .result) (number-read e (r .result) (r .ensures .0 s)) (c .before .before .before .before .if2 .left)) (x .ensures)
+    none-told (view (memory w s)) (a .session) (f .result) (f .ensures .1 s) _ (recorded (x .result))
+    (is-live e (r .result) (number-read e (r .result) (r .ensures .0 s)) (c .before .before .before .before .if2 .left)) (x .ensures)
     (not-true (x .result .seen) (c .before .if3 .taken)) (c .no-readings3 .ensures)
 
 returns-4 : tie.Need-returns-4
@@ -54,7 +56,8 @@ returns-4 c =
     let e = at (locksOf w s .entries) (f .result) in
     let r = c .before .before .before .before .entry in
     let x = c .before .before .record-at in
-    some-told (view (memory w s)) (a .session) (f .result) (f .ensures .1 s) _ (recorded (x .result)) (is-live e (r .result) (number-read e (r .result) (r .ensures .0 s)) (c .before .before .before .if2 .left)) (x .ensures)
+    some-told (view (memory w s)) (a .session) (f .result) (f .ensures .1 s) _ (recorded (x .result))
+    (is-live e (r .result) (number-read e (r .result) (r .ensures .0 s)) (c .before .before .before .if2 .left)) (x .ensures)
     (not-false (x .result .seen) (c .if3 .left)) refl
 
 pub hislip-readings-spec : {M : Type 1} → statement M

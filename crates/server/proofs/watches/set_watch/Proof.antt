@@ -35,7 +35,8 @@ returns-2 c =
     let f = c .before .before .before .before .before .slot-of-number in
     let e = at (locksOf w s .entries) (f .result) in
     let r = c .before .before .entry in
-    refused-call (setting (watch (a .session) l)) 7 _ m [] (watch-nobody (view m) (a .session) (f .result) l (f .ensures .1 s) (not-live e (r .result) (number-read e (r .result) (r .ensures .0 s)) (c .before .if2 .taken))) (c .done2 .ensures)
+    refused-call (setting (watch (a .session) l)) 7 _ m [] (watch-nobody (view m) (a .session) (f .result) l (f .ensures .1 s)
+    (not-live e (r .result) (number-read e (r .result) (r .ensures .0 s)) (c .before .if2 .taken))) (c .done2 .ensures)
 
 returns-3 : tie.Need-returns-3
 returns-3 c =
@@ -48,7 +49,8 @@ returns-3 c =
     let e = at (locksOf w s .entries) (f .result) in
     let r = c .before .before .before .before .entry in
     let v : live e ≡ true = is-live e (r .result) (number-read e (r .result) (r .ensures .0 s)) (c .before .before .before .if2 .left) in
-    refused-call (setting (watch (a .session) l)) 9 _ m [] (watch-bad (view m) (a .session) (f .result) l (f .ensures .1 s) v (sym (c .before .before .is-refused .ensures) ∙ c .before .if3 .taken)) (c .done3 .ensures)
+    refused-call (setting (watch (a .session) l)) 9 _ m [] (watch-bad (view m) (a .session) (f .result) l (f .ensures .1 s) v
+    (sym (c .before .before .is-refused .ensures) ∙ c .before .if3 .taken)) (c .done3 .ensures)
 
 arm-requires : tie.Need-arm-requires
 arm-requires c κs =
@@ -68,7 +70,8 @@ returns-4 c =
     let r = c .before .before .before .before .before .before .entry in
     let v : live e ≡ true = is-live e (r .result) (number-read e (r .result) (r .ensures .0 s)) (c .before .before .before .before .before .if2 .left) in
     let q : refused l ≡ false = sym (c .before .before .before .before .is-refused .ensures) ∙ c .before .before .before .if3 .left in
-    taken-call (setting (watch (a .session) l)) _ [] _ m _ [] [] (watch-taken (view m) (a .session) (f .result) l (f .ensures .1 s) v q) (watch-finishes (view m) (a .session) (f .result) l (f .ensures .1 s))
+    taken-call (setting (watch (a .session) l)) _ [] _ m _ [] [] (watch-taken (view m) (a .session) (f .result) l (f .ensures .1 s) v q)
+    (watch-finishes (view m) (a .session) (f .result) l (f .ensures .1 s))
     (c .before .arm .ensures .0 s) (empty-buffer []) (empty-output _ (c .done4 .ensures)) (c .before .arm .ensures .1 s)
 
 pub set-watch-spec : {M : Type 1} → statement M

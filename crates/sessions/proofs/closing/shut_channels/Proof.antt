@@ -32,7 +32,9 @@ returns-2 c = let a = c .before .before .before .before .before .before .before 
       let y = c .before .before .before .before .before .entry2 .result % 256 in
       let p = synchronous-read e (c .before .before .before .before .before .before .before .entry .result) (c .before .before .before .before .before .before .before .entry .ensures .0 s) in
       let q = asynchronous-read e (c .before .before .before .before .before .entry2 .result) (c .before .before .before .before .before .entry2 .ensures .0 s) in
-      shut-both d _ _ x y (c .before .before .before .shut-connection .ensures .0 s) (c .shut-connection2 .ensures .0 s) ∙ ap (λ (l : List ℕ). onRest d (λ (r : Rest). withConnections r (shutAll (r .connections) l))) (sym (two-channels e x y p q (c .before .before .if1 .left))),
+      shut-both d _ _ x y (c .before .before .before .shut-connection .ensures .0 s) (c .shut-connection2 .ensures .0 s)
+      ∙ ap (λ (l : List ℕ). onRest d (λ (r : Rest). withConnections r (shutAll (r .connections) l)))
+      (sym (two-channels e x y p q (c .before .before .if1 .left))),
   λ s t. c .shut-connection2 .ensures .1 s (c .before .before .before .shut-connection .ensures .1 s t),
 )
 

@@ -18,7 +18,8 @@ returns c = let a = c .before .before .before .before .before .before .before .b
     opens-by (view (memory (a .w .now) s)) i (a .c) h p _ _ _ _ _ _ (eq-eqb (a .kind) 0 (c .before .before .before .before .before .before .if1 .taken)) (c .before .before .initialize .ensures)
 
 async-initialize-requires : tie.Need-async-initialize-requires
-async-initialize-requires c κs = let p = c .before .before .before .before .pre in (p .0, p .1, omega arith, λ s. p .4 s (c .before .before .if1 .left), λ s. p .5 s (c .before .before .if1 .left), p .6)
+async-initialize-requires c κs = let p = c .before .before .before .before .pre in
+    (p .0, p .1, omega arith, λ s. p .4 s (c .before .before .if1 .left), λ s. p .5 s (c .before .before .if1 .left), p .6)
 
 returns-2 : tie.Need-returns-2
 returns-2 c = let a = c .before .before .before .before .before .before .before .args in

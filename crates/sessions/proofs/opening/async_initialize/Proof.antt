@@ -18,15 +18,26 @@ join-slot-requires : tie.Need-join-slot-requires
 join-slot-requires c κs = let a = c .before .before .before .before .before .before .args in
     let p = c .before .before .before .before .before .before .pre in
     let r = p .3 [] in
-    let q = c .before .before .before .slot-of-number .ensures .1 [] in
-    (omega arith, lives-there (a .w .now) [] (a .param) (c .before .before .before .slot-of-number .result) q (omega arith) (half-lives (at (locksOf (a .w .now) [] .entries) (slotOfNumber (locksOf (a .w .now) [] .entries) (a .param))) (p .4 [])), search needs, p .5, half-there (a .w .now) [] (a .param) (c .before .before .before .slot-of-number .result) q (omega arith) (p .4 []))
+    let q = c .before .before .before .slot-of-number .ensures .1 [] in (
+      omega arith,
+      lives-there (a .w .now) [] (a .param) (c .before .before .before .slot-of-number .result) q (omega arith)
+          (half-lives (at (locksOf (a .w .now) [] .entries) (slotOfNumber (locksOf (a .w .now) [] .entries) (a .param))) (p .4 [])),
+      search needs,
+      p .5,
+      half-there (a .w .now) [] (a .param) (c .before .before .before .slot-of-number .result) q (omega arith) (p .4 []),
+    )
 
 returns : tie.Need-returns
 returns c = let a = c .before .before .before .before .before .before .before .before .before .before .before .before .args in
     let h : Header = record { kind = 17; code = 0; param = a .param; len = a .len } in
-    λ s. async-initialized (view (memory (a .w .now) s)) (a .c) (c .before .before .before .before .before .before .before .before .before .slot-of-number .result) (c .before .before .before .before .before .before .before .single .result % 65536) h _ _ _ _ _
-    (c .before .before .before .before .before .before .before .before .before .slot-of-number .ensures .1 s) (vendor-read (restOf (a .w .now)) (c .before .before .before .before .before .before .before .single .result) (c .before .before .before .before .before .before .before .single .ensures .0)) (ap numbersOf (c .acted .ensures))
-    (c .before .before .before .before .before .join-slot .ensures s .locks) (c .before .before .before .before .before .join-slot .ensures s .rest) (c .before .before .before .put-frame .ensures) (c .before .before .before .before .before .join-slot .ensures s .tidy)
+    λ s. async-initialized (view (memory (a .w .now) s)) (a .c)
+    (c .before .before .before .before .before .before .before .before .before .slot-of-number .result)
+    (c .before .before .before .before .before .before .before .single .result % 65536) h _ _ _ _ _
+    (c .before .before .before .before .before .before .before .before .before .slot-of-number .ensures .1 s)
+    (vendor-read (restOf (a .w .now)) (c .before .before .before .before .before .before .before .single .result)
+    (c .before .before .before .before .before .before .before .single .ensures .0)) (ap numbersOf (c .acted .ensures))
+    (c .before .before .before .before .before .join-slot .ensures s .locks) (c .before .before .before .before .before .join-slot .ensures s .rest)
+    (c .before .before .before .put-frame .ensures) (c .before .before .before .before .before .join-slot .ensures s .tidy)
 
 pub async-initialize-spec : {M : Type 1} → statement M
 async-initialize-spec =

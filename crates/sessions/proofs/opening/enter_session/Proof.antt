@@ -17,7 +17,8 @@ returns c = let a = c .before .before .before .before .before .before .before .b
     let e = c .before .before .before .before .before .before .enter-slot .ensures in
     let y = c .before .before .renew-exchange .ensures in
     let z = c .set-single .ensures in (
-      session-entered (view (memory (a .w .now) (a .strings .now))) _ _ _ _ (a .i) (a .n) (eqb (x .result) 1) (search needs) (e .locks) (e .rest) (preference-read _ (x .result) (x .ensures .0)) (y .0 _) (z .0 _),
+      session-entered (view (memory (a .w .now) (a .strings .now))) _ _ _ _ (a .i) (a .n) (eqb (x .result) 1) (search needs) (e .locks) (e .rest)
+          (preference-read _ (x .result) (x .ensures .0)) (y .0 _) (z .0 _),
       λ t. z .1 _ (search needs) (y .1 _ (omega (arith, x .ensures .1, e .tidy t .values 1 (lit< tt))) (e .tidy t)),
     )
 

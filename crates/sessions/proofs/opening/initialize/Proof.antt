@@ -23,8 +23,15 @@ returns : tie.Need-returns
 returns c = let a = c .before .before .before .before .before .before .before .before .before .before .before .before .before .before .before .before .args in
     let h : Header = record { kind = 0; code = 0; param = a .param; len = a .len } in
     let s = a .strings .now in
-    initialized (view (memory (a .w .now) s)) (a .c) (c .before .before .before .before .before .before .before .before .before .before .before .before .before .slot-of-number .result) (c .before .before .before .before .before .before .before .before .before .before .before .next-session-id .result) (c .before .before .before .before .before .before .before .before .before .before .version .result) (c .before .before .before .before .before .before .before .before .preference .result) h _ _ _ _ _
-    (c .before .before .before .before .before .before .before .before .before .before .before .before .before .slot-of-number .ensures .1 s) (c .before .before .before .before .before .before .before .before .before .before .before .next-session-id .ensures .2 s) (c .before .before .before .before .before .before .before .before .before .before .version .ensures .0) (c .before .before .before .before .before .before .before .before .preference .ensures) (ap numbersOf (c .acted .ensures))
+    initialized (view (memory (a .w .now) s)) (a .c)
+    (c .before .before .before .before .before .before .before .before .before .before .before .before .before .slot-of-number .result)
+    (c .before .before .before .before .before .before .before .before .before .before .before .next-session-id .result)
+    (c .before .before .before .before .before .before .before .before .before .before .version .result)
+    (c .before .before .before .before .before .before .before .before .preference .result) h _ _ _ _ _
+    (c .before .before .before .before .before .before .before .before .before .before .before .before .before .slot-of-number .ensures .1 s)
+    (c .before .before .before .before .before .before .before .before .before .before .before .next-session-id .ensures .2 s)
+    (c .before .before .before .before .before .before .before .before .before .before .version .ensures .0)
+    (c .before .before .before .before .before .before .before .before .preference .ensures) (ap numbersOf (c .acted .ensures))
     (c .before .before .before .before .before .enter-session .ensures .0) (c .before .before .before .put-frame .ensures) (c .before .before .before .before .before .enter-session .ensures .1)
 
 pub initialize-spec : {M : Type 1} → statement M

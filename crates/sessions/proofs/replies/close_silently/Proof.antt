@@ -17,7 +17,8 @@ returns c = let a = c .before .before .before .before .before .before .before .b
     let s = a .strings .now in
     let q = c .before .before .before .close-place in
     did-closing (view (memory (a .w .now) s)) (a .c) (a .i) [] _ _ _ (a .out .now) _ _ _ (q .result) (nothing-said (a .out .now)) nothing-long (omega (arith, nothing-long)) (q .ensures .0)
-    (ap numbersOf (c .closed .ensures) ∙ ap (λ (x : ℕ). record { refusal = 0; outcome = 5; session = x; taken = 0; output = q .result; missing = 0 }) (sym (c .before .before .before .before .before .before .before .number-of .ensures s)))
+    (ap numbersOf (c .closed .ensures) ∙ ap (λ (x : ℕ). record { refusal = 0; outcome = 5; session = x; taken = 0; output = q .result; missing = 0 })
+    (sym (c .before .before .before .before .before .before .before .number-of .ensures s)))
     (q .ensures .1)
 
 pub close-silently-spec : {M : Type 1} → statement M

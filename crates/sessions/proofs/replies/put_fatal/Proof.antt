@@ -25,9 +25,14 @@ returns-2 c = let a = c .before .before .before .before .before .before .before 
     let x = c .before .before .before .before .before .before .entry .result % 256 in
     let y = c .before .before .before .before .before .entry2 .result % 256 in
     let out = a .out .now in
-    let e : (s : List ℕ) → (at (locksOf (a .w .now) s .entries) (a .i)) .synchronous ≡ x = λ s. synchronous-read (at (locksOf (a .w .now) s .entries) (a .i)) (c .before .before .before .before .before .before .entry .result) (c .before .before .before .before .before .before .entry .ensures .0 s) in
-    let g : (s : List ℕ) → (at (locksOf (a .w .now) s .entries) (a .i)) .asynchronous ≡ y = λ s. asynchronous-read (at (locksOf (a .w .now) s .entries) (a .i)) (c .before .before .before .before .before .entry2 .result) (c .before .before .before .before .before .entry2 .ensures .0 s) in
-    let q : (s : List ℕ) → channels (view (memory (a .w .now) s)) (a .c) ≡ x ∷ [] = λ s. channels-of (a .w .now) s (a .c) (a .i) (f s) (search needs) ∙ one-channel (at (locksOf (a .w .now) s .entries) (a .i)) x y (e s) (g s) (c .if2 .taken) in
+    let e : (s : List ℕ) → (at (locksOf (a .w .now) s .entries) (a .i)) .synchronous ≡ x =
+    λ s. synchronous-read (at (locksOf (a .w .now) s .entries) (a .i)) (c .before .before .before .before .before .before .entry .result)
+    (c .before .before .before .before .before .before .entry .ensures .0 s) in
+    let g : (s : List ℕ) → (at (locksOf (a .w .now) s .entries) (a .i)) .asynchronous ≡ y =
+    λ s. asynchronous-read (at (locksOf (a .w .now) s .entries) (a .i)) (c .before .before .before .before .before .entry2 .result)
+    (c .before .before .before .before .before .entry2 .ensures .0 s) in
+    let q : (s : List ℕ) → channels (view (memory (a .w .now) s)) (a .c) ≡ x ∷ [] = λ s. channels-of (a .w .now) s (a .c) (a .i) (f s) (search needs)
+    ∙ one-channel (at (locksOf (a .w .now) s .entries) (a .i)) x y (e s) (g s) (c .if2 .taken) in
     (omega arith, λ s. fatal-one out _ (a .code) x _ (q s) (c .before .before .before .put-frame2 .ensures), λ s. fatal-one-length out out (a .code) x _ (q s))
 
 returns-3 : tie.Need-returns-3
@@ -36,10 +41,21 @@ returns-3 c = let a = c .before .before .before .before .before .before .before 
     let x = c .before .before .before .before .before .before .before .before .before .before .entry .result % 256 in
     let y = c .before .before .before .before .before .before .before .before .before .entry2 .result % 256 in
     let out = a .out .now in
-    let e : (s : List ℕ) → (at (locksOf (a .w .now) s .entries) (a .i)) .synchronous ≡ x = λ s. synchronous-read (at (locksOf (a .w .now) s .entries) (a .i)) (c .before .before .before .before .before .before .before .before .before .before .entry .result) (c .before .before .before .before .before .before .before .before .before .before .entry .ensures .0 s) in
-    let g : (s : List ℕ) → (at (locksOf (a .w .now) s .entries) (a .i)) .asynchronous ≡ y = λ s. asynchronous-read (at (locksOf (a .w .now) s .entries) (a .i)) (c .before .before .before .before .before .before .before .before .before .entry2 .result) (c .before .before .before .before .before .before .before .before .before .entry2 .ensures .0 s) in
-    let q : (s : List ℕ) → channels (view (memory (a .w .now) s)) (a .c) ≡ x ∷ y ∷ [] = λ s. channels-of (a .w .now) s (a .c) (a .i) (f s) (search needs) ∙ two-channels (at (locksOf (a .w .now) s .entries) (a .i)) x y (e s) (g s) (c .before .before .before .before .if2 .left) in
-    (omega arith, λ s. fatal-two out _ (a .code) x _ _ y (q s) (omega arith) (c .before .before .before .before .before .before .before .put-frame2 .ensures) (c .before .before .put-frame3 .ensures), λ s. fatal-two-length out out (a .code) x _ y (q s))
+    let e : (s : List ℕ) → (at (locksOf (a .w .now) s .entries) (a .i)) .synchronous ≡ x =
+    λ s. synchronous-read (at (locksOf (a .w .now) s .entries) (a .i))
+    (c .before .before .before .before .before .before .before .before .before .before .entry .result)
+    (c .before .before .before .before .before .before .before .before .before .before .entry .ensures .0 s) in
+    let g : (s : List ℕ) → (at (locksOf (a .w .now) s .entries) (a .i)) .asynchronous ≡ y =
+    λ s. asynchronous-read (at (locksOf (a .w .now) s .entries) (a .i))
+    (c .before .before .before .before .before .before .before .before .before .entry2 .result)
+    (c .before .before .before .before .before .before .before .before .before .entry2 .ensures .0 s) in
+    let q : (s : List ℕ) → channels (view (memory (a .w .now) s)) (a .c) ≡ x ∷ y ∷ [] = λ s. channels-of (a .w .now) s (a .c) (a .i) (f s) (search needs)
+    ∙ two-channels (at (locksOf (a .w .now) s .entries) (a .i)) x y (e s) (g s) (c .before .before .before .before .if2 .left) in (
+      omega arith,
+      λ s. fatal-two out _ (a .code) x _ _ y (q s) (omega arith) (c .before .before .before .before .before .before .before .put-frame2 .ensures)
+          (c .before .before .put-frame3 .ensures),
+      λ s. fatal-two-length out out (a .code) x _ y (q s),
+    )
 
 pub put-fatal-spec : {M : Type 1} → statement M
 put-fatal-spec =

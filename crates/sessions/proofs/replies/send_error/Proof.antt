@@ -16,7 +16,8 @@ use Rattle.sessions.proofs.replies.send_error.Tie as tie
 
 returns : tie.Need-returns
 returns c = let a = c .before .before .before .before .before .before .before .before .args in
-    λ s. did-plainly (view (memory (a .w .now) s)) (took error-sent (a .taken) 0) (withConnection (view (memory (a .w .now) s) .rest) (a .c) (openConnection (a .left))) (say (a .c) Error (a .code) 0) _ _ _ _ _
+    λ s. did-plainly (view (memory (a .w .now) s)) (took error-sent (a .taken) 0)
+    (withConnection (view (memory (a .w .now) s) .rest) (a .c) (openConnection (a .left))) (say (a .c) Error (a .code) 0) _ _ _ _ _
     (ap numbersOf (c .error-sent .ensures) ∙ ap (λ (x : ℕ). deliveryAnswer (took error-sent (a .taken) 0) x 0) (sym (length-one (a .c) Error (a .code) 0)))
     (c .before .before .before .before .before .keep-open .ensures .0 s)
     (one-frame _ _ (frameOf (a .c) Error (a .code) 0 []) (c .before .before .before .put-frame .ensures))

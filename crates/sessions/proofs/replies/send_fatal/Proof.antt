@@ -16,8 +16,10 @@ returns c = let a = c .before .before .before .before .before .before .before .b
     let s = a .strings .now in
     let p = c .before .before .before .before .before .before .before .before .before .put-fatal .ensures in
     let q = c .before .before .before .close-place in
-    did-closing (view (memory (a .w .now) s)) (a .c) (a .i) (fatals (a .code) (channels (view (memory (a .w .now) s)) (a .c))) _ _ _ (a .out .now) _ _ _ (q .result) (p .1 s) (p .2 s) (omega (arith, p .2 s)) (q .ensures .0)
-    (ap numbersOf (c .closed .ensures) ∙ ap (λ (x : ℕ). record { refusal = 0; outcome = 5; session = x; taken = 0; output = q .result; missing = 0 }) (sym (c .before .before .before .before .before .before .before .before .before .before .before .before .number-of .ensures s)))
+    did-closing (view (memory (a .w .now) s)) (a .c) (a .i) (fatals (a .code) (channels (view (memory (a .w .now) s)) (a .c))) _ _ _ (a .out .now) _ _ _
+    (q .result) (p .1 s) (p .2 s) (omega (arith, p .2 s)) (q .ensures .0)
+    (ap numbersOf (c .closed .ensures) ∙ ap (λ (x : ℕ). record { refusal = 0; outcome = 5; session = x; taken = 0; output = q .result; missing = 0 })
+    (sym (c .before .before .before .before .before .before .before .before .before .before .before .before .number-of .ensures s)))
     (q .ensures .1)
 
 pub send-fatal-spec : {M : Type 1} → statement M

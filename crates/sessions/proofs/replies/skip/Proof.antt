@@ -16,9 +16,12 @@ use Rattle.sessions.proofs.replies.skip.Tie as tie
 returns : tie.Need-returns
 unfolding bytesOf
 returns c = let a = c .before .before .before .args in
-    λ s out. did-plainly (view (memory (a .w .now) s)) (took skipped (a .taken) 0) (withConnection (view (memory (a .w .now) s) .rest) (a .c) (openConnection ((connectionAt (restOf (a .w .now)) (a .c)) .remainder - a .taken))) [] _ _ _ _ _
+    λ s out. did-plainly (view (memory (a .w .now) s)) (took skipped (a .taken) 0)
+    (withConnection (view (memory (a .w .now) s) .rest) (a .c) (openConnection ((connectionAt (restOf (a .w .now)) (a .c)) .remainder - a .taken))) [] _ _
+    _ _ _
     (ap numbersOf (c .quiet .ensures))
-    (c .before .keep-open .ensures .0 s ∙ ap (λ (x : ℕ). onRest (view (memory (a .w .now) s)) (λ (q : Rest). withConnection q (a .c) (openConnection (x - a .taken)))) (c .before .before .before .pre .2))
+    (c .before .keep-open .ensures .0 s ∙ ap (λ (x : ℕ). onRest (view (memory (a .w .now) s))
+    (λ (q : Rest). withConnection q (a .c) (openConnection (x - a .taken)))) (c .before .before .before .pre .2))
     (nothing-said out)
     refl
     (c .before .keep-open .ensures .1 s)

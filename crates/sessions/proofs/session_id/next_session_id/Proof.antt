@@ -19,16 +19,32 @@ abbrev μ-loop : tie.MeasureT-loop
 μ-loop w last k₀ k = sessionLimit - k
 
 loop-holds : tie.Need-loop-holds Inv-loop μ-loop
-loop-holds c = (omega arith, λ s. tries-start (locksOf (c .before .args .w .now) s .entries) (restOf (c .before .args .w .now) .lastIssued) (c .single .result % 65536) (last-read (restOf (c .before .args .w .now)) (c .single .result) (c .single .ensures .0)))
+loop-holds c = (
+  omega arith,
+  λ s. tries-start (locksOf (c .before .args .w .now) s .entries) (restOf (c .before .args .w .now) .lastIssued)
+      (c .single .result % 65536) (last-read (restOf (c .before .args .w .now)) (c .single .result) (c .single .ensures .0)),
+)
 
 returns : tie.Need-returns Inv-loop μ-loop
-returns c = let a = c .before .before .before .before .before .args in let l = c .before .before .before .loop in let last = c .before .before .before .before .single .result % 65536 in let es : List ℕ → List Entry = (λ s. locksOf (a .w .now) s .entries) in (omega arith, omega arith, λ s. l .inv .1 s ∙ tries-hit (es s) last (l .k) (omega arith) (live-missed (a .w .now) s (tried last (l .k)) _ (c .before .slot-of-number .ensures .1 s) (omega arith)))
+returns c = let a = c .before .before .before .before .before .args in let l = c .before .before .before .loop in let last =
+    c .before .before .before .before .single .result % 65536 in let es : List ℕ → List Entry = (λ s. locksOf (a .w .now) s .entries) in (
+      omega arith,
+      omega arith,
+      λ s. l .inv .1 s ∙ tries-hit (es s) last (l .k) (omega arith)
+          (live-missed (a .w .now) s (tried last (l .k)) _ (c .before .slot-of-number .ensures .1 s) (omega arith)),
+    )
 
 loop-again : tie.Need-loop-again Inv-loop μ-loop
-loop-again c = let a = c .before .before .before .before .before .args in let l = c .before .before .before .loop in let last = c .before .before .before .before .single .result % 65536 in let es : List ℕ → List Entry = (λ s. locksOf (a .w .now) s .entries) in (omega arith, λ s. l .inv .1 s ∙ tries-go-on (es s) last (l .k) (omega arith) (live-found (a .w .now) s (tried last (l .k)) _ (c .before .slot-of-number .ensures .1 s) (omega arith) (omega arith)))
+loop-again c = let a = c .before .before .before .before .before .args in let l = c .before .before .before .loop in let last =
+    c .before .before .before .before .single .result % 65536 in let es : List ℕ → List Entry = (λ s. locksOf (a .w .now) s .entries) in (
+      omega arith,
+      λ s. l .inv .1 s ∙ tries-go-on (es s) last (l .k) (omega arith)
+          (live-found (a .w .now) s (tried last (l .k)) _ (c .before .slot-of-number .ensures .1 s) (omega arith) (omega arith)),
+    )
 
 returns-2 : tie.Need-returns-2 Inv-loop μ-loop
-returns-2 c = let a = c .before .before .before .args in let l = c .before .loop in let last = c .before .before .single .result % 65536 in let es : List ℕ → List Entry = (λ s. locksOf (a .w .now) s .entries) in (omega arith, omega arith, λ s. l .inv .1 s ∙ tries-end (es s) last (l .k) (omega arith))
+returns-2 c = let a = c .before .before .before .args in let l = c .before .loop in let last = c .before .before .single .result % 65536 in let es : List ℕ →
+    List Entry = (λ s. locksOf (a .w .now) s .entries) in (omega arith, omega arith, λ s. l .inv .1 s ∙ tries-end (es s) last (l .k) (omega arith))
 
 pub next-session-id-spec : {M : Type 1} → statement M
 next-session-id-spec =

@@ -9,8 +9,12 @@ returns c = let a = c .before .before .before .before .before .before .before .b
     let p = c .before .before .before .before .before .before .before .before .before .pre in
     let e₁ = c .before .before .before .before .before .before .before .set-row .ensures in
     let e₂ = c .before .before .before .before .before .set-row2 .ensures in
-    let e₃ = c .before .before .before .set-row3 .ensures in
-    (λ s. opened-by (a .w .now) _ _ _ _ s (a .i) (a .n) (a .c) _ (e₁ .0) (e₂ .0) (e₃ .0) (c .set-home .ensures .0) (c .before .home-in .ensures) (e₁ .1) (search needs) (p .1) (search needs) (p .3), λ s. opened-in-order (a .w .now) _ _ _ _ s (a .i) (a .n) (a .c) _ (e₁ .0) (e₂ .0) (e₃ .0) (c .set-home .ensures .0) (c .before .home-in .ensures) (e₁ .1) (search needs) (p .1) (search needs) (p .3))
+    let e₃ = c .before .before .before .set-row3 .ensures in (
+      λ s. opened-by (a .w .now) _ _ _ _ s (a .i) (a .n) (a .c) _ (e₁ .0) (e₂ .0) (e₃ .0) (c .set-home .ensures .0) (c .before .home-in .ensures) (e₁ .1)
+          (search needs) (p .1) (search needs) (p .3),
+      λ s. opened-in-order (a .w .now) _ _ _ _ s (a .i) (a .n) (a .c) _ (e₁ .0) (e₂ .0) (e₃ .0)
+          (c .set-home .ensures .0) (c .before .home-in .ensures) (e₁ .1) (search needs) (p .1) (search needs) (p .3),
+    )
 
 pub open-session-spec : {M : Type 1} → statement M
 open-session-spec =

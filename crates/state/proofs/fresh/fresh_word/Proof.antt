@@ -22,15 +22,32 @@ returns-3 c = let i : ℕ = c .before .before .before .args .at in rw (le-ltb i 
 
 returns-4 : tie.Need-returns-4
 unfolding freshWord
-returns-4 c = let i : ℕ = c .before .before .before .before .before .args .at in rw (le-ltb i EXCHANGES (omega arith), le-ltb i CONNECTIONS (omega arith), le-ltb i ORDERS (omega arith), lt-ltb i REQUESTS (omega arith), eq-eqb ((i - ORDERS) % ORDER) 0 (c .if5 .taken))
+returns-4 c = let i : ℕ = c .before .before .before .before .before .args .at in
+    rw (
+      le-ltb i EXCHANGES (omega arith),
+      le-ltb i CONNECTIONS (omega arith),
+      le-ltb i ORDERS (omega arith),
+      lt-ltb i REQUESTS (omega arith),
+      eq-eqb
+          ((i - ORDERS) % ORDER) 0 (c .if5 .taken),
+    )
 
 returns-5 : tie.Need-returns-5
 unfolding freshWord
-returns-5 c = let i : ℕ = c .before .before .before .before .before .args .at in rw (le-ltb i EXCHANGES (omega arith), le-ltb i CONNECTIONS (omega arith), le-ltb i ORDERS (omega arith), lt-ltb i REQUESTS (omega arith), ne-eqb ((i - ORDERS) % ORDER) 0 (c .if5 .left))
+returns-5 c = let i : ℕ = c .before .before .before .before .before .args .at in
+    rw (
+      le-ltb i EXCHANGES (omega arith),
+      le-ltb i CONNECTIONS (omega arith),
+      le-ltb i ORDERS (omega arith),
+      lt-ltb i REQUESTS (omega arith),
+      ne-eqb
+          ((i - ORDERS) % ORDER) 0 (c .if5 .left),
+    )
 
 returns-6 : tie.Need-returns-6
 unfolding freshWord
-returns-6 c = let i : ℕ = c .before .before .before .before .args .at in rw (le-ltb i EXCHANGES (omega arith), le-ltb i CONNECTIONS (omega arith), le-ltb i ORDERS (omega arith), le-ltb i REQUESTS (omega arith))
+returns-6 c = let i : ℕ = c .before .before .before .before .args .at in
+    rw (le-ltb i EXCHANGES (omega arith), le-ltb i CONNECTIONS (omega arith), le-ltb i ORDERS (omega arith), le-ltb i REQUESTS (omega arith))
 
 pub fresh-word-spec : {M : Type 1} → statement M
 fresh-word-spec = tie.close (tie.spec returns (λ c κs. search needs) returns-2 returns-3 returns-4 returns-5 returns-6)

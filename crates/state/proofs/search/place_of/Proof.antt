@@ -39,7 +39,9 @@ returns-3 c = let a = c .before .before .before .before .before .before .args in
     let r = c .nowhere3 .ensures in
     let i = (h .result - 1) / 2 in
     let f = h .result - i * 2 in
-    let n : Unshown w (a .c) = not-confirmed w (a .c) (search needs) i f (omega (arith, c .before .before .before .before .if1 .left)) (omega arith) (sym (h .ensures) ∙ omega (arith, c .before .before .before .before .if1 .left)) (c .before .before .is-confirmed .ensures ∙ not-true _ (c .before .if3 .taken)) in
+    let n : Unshown w (a .c) = not-confirmed w (a .c) (search needs) i f (omega (arith, c .before .before .before .before .if1 .left)) (omega arith)
+    (sym (h .ensures) ∙ omega (arith, c .before .before .before .before .if1 .left))
+    (c .before .before .is-confirmed .ensures ∙ not-true _ (c .before .if3 .taken)) in
     (omega (arith, r .0), λ s. place-none w s (a .c) (search needs) n ∙ sym (r .0), λ s. role-nowhere w s (a .c) (search needs) n ∙ sym (r .1), λ z. n)
 
 role-at-requires : tie.Need-role-at-requires
@@ -48,8 +50,12 @@ role-at-requires c κs = let a = c .before .before .before .before .before .args
     let h = c .before .before .before .before .home in
     let i = (h .result - 1) / 2 in
     let f = h .result - i * 2 in
-    let e : fieldOf w i f ≡ a .c = eqb-true (fieldOf w i f) (a .c) (c .before .is-confirmed .ensures ∙ not-false _ (c .if3 .left)) in
-    (omega (arith, c .before .before .if2 .left), omega (arith, c .before .before .before .if1 .left), omega arith, (shows w i (a .c) f (λ z. omega (arith, c .before .before .before .if1 .left)) (search needs) e) .lives)
+    let e : fieldOf w i f ≡ a .c = eqb-true (fieldOf w i f) (a .c) (c .before .is-confirmed .ensures ∙ not-false _ (c .if3 .left)) in (
+      omega (arith, c .before .before .if2 .left),
+      omega (arith, c .before .before .before .if1 .left),
+      omega arith,
+      (shows w i (a .c) f (λ z. omega (arith, c .before .before .before .if1 .left)) (search needs) e) .lives,
+    )
 
 returns-4 : tie.Need-returns-4
 returns-4 c = let a = c .before .before .before .before .before .before .args in
@@ -58,8 +64,15 @@ returns-4 c = let a = c .before .before .before .before .before .before .args in
     let i = (h .result - 1) / 2 in
     let f = h .result - i * 2 in
     let e : fieldOf w i f ≡ a .c = eqb-true (fieldOf w i f) (a .c) (c .before .before .is-confirmed .ensures ∙ not-false _ (c .before .if3 .left)) in
-    let p : (s : List ℕ) → slotIn (locksOf w s .entries) (a .c) ≡ i = λ s. place-found w s (a .c) (search needs) i f (omega (arith, c .before .before .before .if2 .left)) (omega (arith, c .before .before .before .before .if1 .left)) (omega arith) e in
-    (omega (arith, c .before .before .before .if2 .left), p, λ s. role-found w s (a .c) (search needs) i f _ (p s) (c .role-at .ensures .0 s (a .c) (search needs) e), λ z. absurd (let y : ⊥ = omega (arith, c .role-at .ensures .1) in y))
+    let p : (s : List ℕ) → slotIn (locksOf w s .entries) (a .c) ≡ i =
+    λ s. place-found w s (a .c) (search needs) i f (omega (arith, c .before .before .before .if2 .left))
+    (omega (arith, c .before .before .before .before .if1 .left)) (omega arith) e in (
+      omega (arith, c .before .before .before .if2 .left),
+      p,
+      λ s. role-found w s (a .c) (search needs) i f _ (p s)
+          (c .role-at .ensures .0 s (a .c) (search needs) e),
+      λ z. absurd (let y : ⊥ = omega (arith, c .role-at .ensures .1) in y),
+    )
 
 pub place-of-spec : {M : Type 1} → statement M
 place-of-spec =

@@ -19,16 +19,22 @@ returns c = let a = c .before .args in
 returns-2 : tie.Need-returns-2
 returns-2 c = let a = c .before .before .before .args in
     let w = a .w .now in
-    let f : a .h - a .i * 2 ≡ 1 = omega (arith, c .before .before .if1 .left) in
-    (λ s x l e. role-half w s x l (a .i) (search needs) (ap (fieldOf w (a .i)) (sym f) ∙ e) (field-past w (a .i) 2 (λ z. omega arith) (omega (arith, c .before .row .ensures, c .if2 .taken))), omega arith)
+    let f : a .h - a .i * 2 ≡ 1 = omega (arith, c .before .before .if1 .left) in (
+      λ s x l e. role-half w s x l (a .i) (search needs) (ap (fieldOf w (a .i)) (sym f) ∙ e)
+          (field-past w (a .i) 2 (λ z. omega arith) (omega (arith, c .before .row .ensures, c .if2 .taken))),
+      omega arith,
+    )
 
 returns-3 : tie.Need-returns-3
 returns-3 c = let a = c .before .before .before .before .before .args in
     let w = a .w .now in
     let f : a .h - a .i * 2 ≡ 1 = omega (arith, c .before .before .before .before .if1 .left) in
     let k : homeIn (a .i) 2 ≡ a .h + 1 = omega (arith, f) in
-    let r = c .before .before .before .row .ensures in
-    (λ s x l e. role-half w s x l (a .i) (search needs) (ap (fieldOf w (a .i)) (sym f) ∙ e) (field-stray w (a .i) 2 (λ z. omega arith) (λ q. c .if3 .taken (c .before .home .ensures ∙ ap (homeOf w) r ∙ q ∙ k))), omega arith)
+    let r = c .before .before .before .row .ensures in (
+      λ s x l e. role-half w s x l (a .i) (search needs) (ap (fieldOf w (a .i)) (sym f) ∙ e)
+          (field-stray w (a .i) 2 (λ z. omega arith) (λ q. c .if3 .taken (c .before .home .ensures ∙ ap (homeOf w) r ∙ q ∙ k))),
+      omega arith,
+    )
 
 returns-4 : tie.Need-returns-4
 returns-4 c = let a = c .before .before .before .before .before .args in

@@ -28,13 +28,24 @@ entry-requires : tie.Need-entry-requires Inv-loop μ-loop
 entry-requires c κs = search needs
 
 returns : tie.Need-returns Inv-loop μ-loop
-returns c = let a = c .before .before .before .before .args in let l = c .before .before .before .loop in (omega arith, λ s. l .inv .1 s ∙ search-hits (a .w .now) s (λ (e : Entry). eqb (e .number) (a .n)) (l .i) (omega arith) (ap (λ (x : ℕ). eqb x (a .n)) (number-read (at (locksOf (a .w .now) s .entries) (l .i)) (c .before .entry .result) (c .before .entry .ensures .0 s)) ∙ eq-eqb (c .before .entry .result) (a .n) (c .if1 .taken)))
+returns c = let a = c .before .before .before .before .args in let l = c .before .before .before .loop in (
+  omega arith,
+  λ s. l .inv .1 s ∙ search-hits (a .w .now) s (λ (e : Entry). eqb (e .number) (a .n)) (l .i) (omega arith)
+      (ap (λ (x : ℕ). eqb x (a .n)) (number-read (at (locksOf (a .w .now) s .entries) (l .i)) (c .before .entry .result) (c .before .entry .ensures .0 s))
+      ∙ eq-eqb (c .before .entry .result) (a .n) (c .if1 .taken)),
+)
 
 loop-again : tie.Need-loop-again Inv-loop μ-loop
-loop-again c = let a = c .before .before .before .before .args in let l = c .before .before .before .loop in (omega arith, λ s. l .inv .1 s ∙ search-goes-on (a .w .now) s (λ (e : Entry). eqb (e .number) (a .n)) (l .i) (omega arith) (ap (λ (x : ℕ). eqb x (a .n)) (number-read (at (locksOf (a .w .now) s .entries) (l .i)) (c .before .entry .result) (c .before .entry .ensures .0 s)) ∙ ne-eqb (c .before .entry .result) (a .n) (c .if1 .left)))
+loop-again c = let a = c .before .before .before .before .args in let l = c .before .before .before .loop in (
+  omega arith,
+  λ s. l .inv .1 s ∙ search-goes-on (a .w .now) s (λ (e : Entry). eqb (e .number) (a .n)) (l .i) (omega arith)
+      (ap (λ (x : ℕ). eqb x (a .n)) (number-read (at (locksOf (a .w .now) s .entries) (l .i)) (c .before .entry .result) (c .before .entry .ensures .0 s))
+      ∙ ne-eqb (c .before .entry .result) (a .n) (c .if1 .left)),
+)
 
 returns-2 : tie.Need-returns-2 Inv-loop μ-loop
-returns-2 c = let a = c .before .before .args in let l = c .before .loop in (omega arith, λ s. l .inv .1 s ∙ search-ends (a .w .now) s (λ (e : Entry). eqb (e .number) (a .n)) (l .i) (omega arith) (omega arith))
+returns-2 c = let a = c .before .before .args in let l = c .before .loop in
+    (omega arith, λ s. l .inv .1 s ∙ search-ends (a .w .now) s (λ (e : Entry). eqb (e .number) (a .n)) (l .i) (omega arith) (omega arith))
 
 pub slot-of-number-spec : {M : Type 1} → statement M
 slot-of-number-spec =

@@ -31,7 +31,8 @@ returns-4 c = let a = c .before .before .before .before .before .before .before 
     let w = a .w .now in
     let r = c .before .before .before .before .before .before .before .row .ensures in
     entry-told w (a .i) (a .f) 255 (search needs) (search needs)
-    (sym (field-stray w (a .i) (a .f) (c .before .before .before .before .before .before .if1 .left) (λ q. c .if4 .taken (c .before .before .home .ensures ∙ ap (homeOf w) r ∙ q ∙ sym (c .before .home-in .ensures)))))
+    (sym (field-stray w (a .i) (a .f) (c .before .before .before .before .before .before .if1 .left)
+    (λ q. c .if4 .taken (c .before .before .home .ensures ∙ ap (homeOf w) r ∙ q ∙ sym (c .before .home-in .ensures)))))
 
 returns-5 : tie.Need-returns-5
 returns-5 c = let a = c .before .before .before .before .before .before .before .before .args in
@@ -39,7 +40,9 @@ returns-5 c = let a = c .before .before .before .before .before .before .before 
     let r = c .before .before .before .before .before .before .before .row in
     entry-told w (a .i) (a .f) (r .result) (search needs) (search needs)
     (r .ensures
-    ∙ sym (field-shown w (a .i) (a .f) (c .before .before .before .before .before .before .if1 .left) (λ q. c .before .before .before .before .if2 .left (c .before .before .before .before .before .row2 .ensures ∙ q)) (omega (arith, r .ensures, c .before .before .before .if3 .left))
+    ∙ sym (field-shown w (a .i) (a .f) (c .before .before .before .before .before .before .if1 .left)
+    (λ q. c .before .before .before .before .if2 .left (c .before .before .before .before .before .row2 .ensures ∙ q))
+    (omega (arith, r .ensures, c .before .before .before .if3 .left))
     (ap (homeOf w) (sym (r .ensures)) ∙ sym (c .before .before .home .ensures) ∙ c .if4 .left ∙ c .before .home-in .ensures)))
 
 pub entry-spec : {M : Type 1} → statement M
