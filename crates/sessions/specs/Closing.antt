@@ -23,7 +23,7 @@ use Rattle.wire.specs.Splice.{splice}
 use Rattle.locks.specs.Outcome.{Met}
 use Rattle.state.specs.Table.{tab, length-tab, all-tab}
 use Rattle.state.specs.Grid.{upd, upd-upd, upd-set, grid}
-use Rattle.state.specs.Change.{onRest, isOnConnection as onRow, connectionWith, onExchange, exchangeWith}
+use Rattle.state.specs.Change.{onRest, onConnection as onRow, connectionWith, onExchange, exchangeWith}
 use Rattle.state.specs.View.{Memory, memory, view, entriesOf, entryAt, keyOf, requestAt, slotAt, waitingOf, locksOf, restOf, connectionOf}
 use Rattle.queue.specs.Requests.{countOf, slot-small}
 
