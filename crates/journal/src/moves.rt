@@ -9,7 +9,18 @@ ghost use mathlib.Core.List.{[], _∷_};
 ghost use mathlib.Core.Path.{_≡_};
 
 // Eight bytes, one behind the other.
-fn store_eight(book: &mut [u8], at: usize, v0: u8, v1: u8, v2: u8, v3: u8, v4: u8, v5: u8, v6: u8, v7: u8)
+fn store_eight(
+    book: &mut [u8],
+    at: usize,
+    v0: u8,
+    v1: u8,
+    v2: u8,
+    v3: u8,
+    v4: u8,
+    v5: u8,
+    v6: u8,
+    v7: u8,
+)
     requires { ⌜ at + 8 ≤ length (now book) ⌝ }
     ensures { λ _. ⌜ now (book .exit) ≡ splice (now (book .entry)) at (v0 ∷ v1 ∷ v2 ∷ v3 ∷ v4 ∷ v5 ∷ v6 ∷ v7 ∷ []) ⌝ }
 {

@@ -226,7 +226,14 @@ pub extern "C" fn hislip_keep_deliver(
     let shown = &bytes[..n];
     let r = server::hislip_deliver(words, strings, connection, shown, out);
     let m = r.output as usize;
-    let kept = keep_delivery(journal, book, r.refusal, connection as u64, shown, &out[..m]);
+    let kept = keep_delivery(
+        journal,
+        book,
+        r.refusal,
+        connection as u64,
+        shown,
+        &out[..m],
+    );
     KeptDelivery {
         refusal: r.refusal,
         outcome: r.outcome,

@@ -27,8 +27,8 @@ loop-again c = let x = c .before .before in
       omega arith,
       search needs,
       x .put-sixteen .ensures
-      ∙ ap (λ (z : List ℕ). moved z (a .at) (a .src .now) (l .i) (l .i + 16)) (l .inv .4)
-      ∙ moved-moved (a .book .now) (a .at) (a .src .now) (search needs) 0 (l .i) (l .i + 16) (omega arith) (omega arith) (omega arith),
+          ∙ ap (λ (z : List ℕ). moved z (a .at) (a .src .now) (l .i) (l .i + 16)) (l .inv .4)
+          ∙ moved-moved (a .book .now) (a .at) (a .src .now) (search needs) 0 (l .i) (l .i + 16) (omega arith) (omega arith) (omega arith),
     )
 
 returns : tie.Need-returns Inv-loop μ-loop
