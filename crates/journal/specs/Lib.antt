@@ -5,6 +5,7 @@ pub mod Example
 pub mod Forward
 pub mod Holds
 pub mod Journal
+pub mod Moves
 pub mod Places
 pub mod Prefix
 pub mod Reach

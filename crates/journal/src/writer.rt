@@ -4,12 +4,15 @@ ghost use Prim.Native.Nat.{_+_, _-_, _≤_, _<_, min};
 ghost use Rattle.journal.specs.Journal.{bodyLimit, closing, entry, headed, reach};
 ghost use Rattle.journal.specs.Writer.{Met, appendOf, closeOf, newOf, shut};
 ghost use Rattle.crc.specs.Crc.{crcOf};
+ghost use Rattle.journal.specs.Moves.{numbered};
+ghost use Rattle.wire.specs.Field.{field};
 ghost use Rattle.wire.specs.Splice.{splice};
 ghost use lib.Dec.{eqb, leb};
 ghost use lib.ListN.{drop, length, take};
 ghost use mathlib.Core.List.{[], _∷_, _++_};
 ghost use mathlib.Core.Path.{_≡_};
 use crate::Kept;
+use crate::moves;
 use crate::reader;
 use wire::frame;
 use wire::number;
@@ -115,6 +118,65 @@ pub fn append(words: &mut [u64; 4], book: &mut [u8], a: &[u8], b: &[u8], c: &[u8
         put_entry(book, at as usize, a, b, c, d);
         let count = std::num::wrapping_add_u64(words[2], 1);
         set_words(words, at + n as u64, at, count, 0);
+        return Kept::Written;
+    }
+    Kept::NoRoom
+}
+
+fn put_byte(book: &mut [u8], at: usize, b: u8)
+    requires { ⌜ at + 1 ≤ length (now book) ⌝ }
+    ensures { λ _. ⌜ now (book .exit) ≡ splice (now (book .entry)) at (b ∷ []) ⌝ }
+{
+    book[at] = b;
+}
+
+// The length of a body, and how it begins: a tag and two numbers.
+fn put_head(book: &mut [u8], at: usize, n: usize, tag: u8, x: u64, y: u64)
+    requires { ⌜ at + 13 ≤ length (now book) ⌝ }
+    ensures { λ _. ⌜ now (book .exit) ≡ splice (now (book .entry)) at (field 4 n ++ numbered tag x y) ⌝ }
+{
+    number::put4(book, at, n as u64);
+    put_byte(book, at + 4, tag);
+    number::put4(book, at + 5, x);
+    number::put4(book, at + 9, y);
+}
+
+// A whole entry of a body that begins so, its two parts behind. Every byte is written behind those before it.
+fn put_numbered(book: &mut [u8], at: usize, tag: u8, x: u64, y: u64, b: &[u8], c: &[u8])
+    requires { ⌜ (9 + length (now b) + length (now c) ≤ bodyLimit) × (at + 21 + length (now b) + length (now c) ≤ length (now book)) ⌝ }
+    ensures { λ _. ⌜ now (book .exit) ≡ splice (now (book .entry)) at (entry (numbered tag x y ++ now (b .entry) ++ now (c .entry))) ⌝ }
+{
+    let size = 9 + b.len() + c.len();
+    put_head(book, at, size, tag, x, y);
+    moves::put_part(book, at + 13, b);
+    moves::put_if_any(book, at + 13 + b.len(), c);
+    let sum = sum_of(book, at, at + (size + 4));
+    number::put4(book, at + (size + 4), size as u64 + 4);
+    number::put4(book, at + (size + 8), sum as u64);
+}
+
+// An entry whose body is a tag, two numbers of 4 bytes and two parts, as a delivery's: its head goes straight to the book.
+pub fn append_numbered(
+    words: &mut [u64; 4],
+    book: &mut [u8],
+    tag: u8,
+    x: u64,
+    y: u64,
+    b: &[u8],
+    c: &[u8],
+) -> Kept
+    requires { ⌜ 9 + length (now b) + length (now c) ≤ bodyLimit ⌝ }
+    ensures { λ r. ⌜ Met (appendOf (now (words .entry)) (now (book .entry)) (numbered tag x y ++ now (b .entry) ++ now (c .entry))) r (now (words .exit)) (now (book .exit)) ⌝ }
+{
+    if !is_open(words) {
+        return Kept::Closed;
+    }
+    let at = words[0];
+    let size = 9 + b.len() + c.len() + 12;
+    if fits(book.len(), at, size) {
+        put_numbered(book, at as usize, tag, x, y, b, c);
+        let count = std::num::wrapping_add_u64(words[2], 1);
+        set_words(words, at + size as u64, at, count, 0);
         return Kept::Written;
     }
     Kept::NoRoom

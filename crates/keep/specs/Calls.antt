@@ -33,6 +33,7 @@ use Rattle.server.specs.declared.listing.Listed.{Listed}
 use Rattle.server.specs.Events.{Called, Replied}
 use Rattle.server.specs.Listing.{SetsList}
 use Rattle.journal.specs.Journal.{bodyLimit}
+use Rattle.journal.specs.Moves.{numbered, numbered-size}
 use Rattle.journal.specs.Writer as Book
 use Rattle.record.specs.Layout as layout
 use Rattle.record.specs.Layout.{encode, row}
@@ -208,18 +209,14 @@ four a b c d = simp length-append
 
 -- a delivery: its head, and the bytes that are looked at
 module _ (m : Memory) (c : ℕ) (bs : List ℕ) (room k : ℕ) (q : k ≡ min (length bs) layout.mostDelivered) (z n : ℕ) (out : List ℕ)
-    (h : Handed (view m) (looked (delivery c bs room)) z n out) (head : List ℕ) (p : head ≡ 1 ∷ (field 4 c ++ field 4 k)) where
-  shown-is : take k bs ≡ take layout.mostDelivered bs
-  shown-is = first-of k layout.mostDelivered bs q
-
-  pub delivery-is : head ++ take k bs ++ [] ++ take n out ≡ layout.bodyBytes (recorded (looked (delivery c bs room))) (bytesOf ((step (view m) (looked (delivery c bs room))) .frames))
+    (h : Handed (view m) (looked (delivery c bs room)) z n out) where
+  pub delivery-is : numbered 1 c (length (take k bs)) ++ take k bs ++ take n out ≡ layout.bodyBytes (recorded (looked (delivery c bs room))) (bytesOf ((step (view m) (looked (delivery c bs room))) .frames))
   delivery-is =
-      let l : length (take k bs) ≡ k = simp length-take (omega arith) in
-      delivery-parts c head (take k bs) (take n out) _ (p ∙ ap (λ (i : ℕ). 1 ∷ (field 4 c ++ field 4 i)) (sym l)) (h .frames)
-      ∙ ap (λ (x : List ℕ). layout.bodyBytes (layout.delivery c x) (bytesOf ((step (view m) (looked (delivery c bs room))) .frames))) shown-is
+      delivery-parts c (take k bs) (take n out) _ (h .frames)
+      ∙ ap (λ (x : List ℕ). layout.bodyBytes (layout.delivery c x) (bytesOf ((step (view m) (looked (delivery c bs room))) .frames))) (first-of k layout.mostDelivered bs q)
 
-  pub delivery-within : z ≡ 0 → length head + length (take k bs) + 0 + length (take n out) ≤ bodyLimit
-  delivery-within y = omega (arith, within m (delivery c bs room) z n out h _ delivery-is y, four head (take k bs) [] (take n out))
+  pub delivery-within : z ≡ 0 → 9 + length (take k bs) + length (take n out) ≤ bodyLimit
+  delivery-within y = omega (arith, within m (delivery c bs room) z n out h _ delivery-is y, numbered-size 1 c (length (take k bs)) (take k bs) (take n out))
 
 -- the row of the bytes that count, of the array that it is laid into
 pub row-is : (n : ℕ) (sh row x : List ℕ) → n ≡ min (length sh) layout.mostShown → take (4 + length (take n sh)) row ≡ x → take (4 + n) row ≡ x

@@ -27,6 +27,7 @@ use Rattle.queue.specs.Queue.{count-is}
 use Rattle.queue.specs.Requests.{countOf}
 use Rattle.journal.specs.Journal.{choose, bodyLimit}
 use Rattle.journal.specs.Bytes.{below, yes-is, no-is}
+use Rattle.journal.specs.Moves.{numbered}
 use Rattle.journal.specs.Writer.{Done, Met, appendOf, keptNumber}
 use Rattle.journal.specs.declared.Kept.{Kept}
 use Rattle.journal.specs.declared.Kept.the-variants.{Written}
@@ -156,12 +157,11 @@ body-within m (setting (patterns s)) z = simp (length-append, row-length) (omega
 pub short-parts : (head : List ℕ) (e : layout.Event) (frames given : List ℕ) → head ≡ layout.encode e → frames ≡ given → head ++ frames ≡ layout.bodyBytes e given
 short-parts head e frames given p q = λ i. p i ++ q i
 
-pub delivery-parts : (c : ℕ) (head shown frames given : List ℕ) → head ≡ 1 ∷ (field 4 c ++ field 4 (length shown)) → frames ≡ given
-    → head ++ shown ++ [] ++ frames ≡ layout.bodyBytes (layout.delivery c shown) given
+pub delivery-parts : (c : ℕ) (shown frames given : List ℕ) → frames ≡ given → numbered 1 c (length shown) ++ shown ++ frames ≡ layout.bodyBytes (layout.delivery c shown) given
 unfolding encode row
-delivery-parts c head shown frames given p q =
-    (λ i. p i ++ shown ++ [] ++ q i)
-    ∙ ap (λ (x : List ℕ). 1 ∷ (x ++ given)) (append-nil (field 4 c ++ field 4 (length shown) ++ shown) ∙ append-assoc (field 4 c) (field 4 (length shown)) shown)
+delivery-parts c shown frames given q =
+    (λ i. numbered 1 c (length shown) ++ shown ++ q i)
+    ∙ ap (λ (x : List ℕ). 1 ∷ (x ++ given)) (append-assoc (field 4 c) (field 4 (length shown)) shown)
 
 pub answer-parts : (n end : ℕ) (head payload behind shown frames given : List ℕ) → head ≡ 4 ∷ (field 4 n ++ (field 1 end ++ field 4 (length payload))) → behind ≡ field 4 (length shown) ++ shown → frames ≡ given
     → head ++ payload ++ behind ++ frames ≡ layout.bodyBytes (layout.answer n end payload shown) given

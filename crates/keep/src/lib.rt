@@ -7,6 +7,7 @@ ghost use Rattle.server.specs.Events.{Called, Replied};
 ghost use Rattle.state.specs.Tidy.{Tidy};
 ghost use Rattle.state.specs.View.{memory, view};
 ghost use Rattle.journal.specs.Journal.{bodyLimit};
+ghost use Rattle.journal.specs.Moves.{numbered};
 ghost use Rattle.keep.specs.Keeping.{Keeps, entryUnless, keeping, looked, ofAnswered, ofDelivery, ofDone};
 ghost use lib.Dec.{eqb};
 ghost use lib.ListN.{length};
@@ -79,6 +80,27 @@ fn keep_entry(
     }
     let kept = writer::append(journal, book, a, b, c, d);
     journal::kept_number(kept)
+}
+
+// The same of a delivery, whose head goes straight to the book: most events are deliveries.
+fn keep_delivery(
+    journal: &mut Writer,
+    book: &mut [u8],
+    refusal: u64,
+    connection: u64,
+    shown: &[u8],
+    frames: &[u8],
+) -> u64
+    requires { ⌜ (refusal ≡ 0 → 9 + length (now shown) + length (now frames) ≤ bodyLimit) ⌝ }
+    ensures { λ r. ⌜ Keeps (entryUnless refusal (now (journal .entry)) (now (book .entry)) (numbered 1 connection (length (now (shown .entry))) ++ now (shown .entry) ++ now (frames .entry))) r (now (journal .exit)) (now (book .exit)) ⌝ }
+{
+    if refusal == 0 {
+        let n = shown.len() as u64;
+        let tag = heads::DELIVERY;
+        let told = writer::append_numbered(journal, book, tag, connection, n, shown, frames);
+        return journal::kept_number(told);
+    }
+    0
 }
 
 // The same of an event of numbers alone.
@@ -203,9 +225,15 @@ pub extern "C" fn hislip_keep_deliver(
     let n = least(bytes.len(), MOST_DELIVERED);
     let shown = &bytes[..n];
     let r = server::hislip_deliver(words, strings, connection, shown, out);
-    let h = heads::two(heads::DELIVERY, connection as u64, n as u64);
     let m = r.output as usize;
-    let kept = keep_entry(journal, book, r.refusal, &h, shown, &shown[..0], &out[..m]);
+    let kept = keep_delivery(
+        journal,
+        book,
+        r.refusal,
+        connection as u64,
+        shown,
+        &out[..m],
+    );
     KeptDelivery {
         refusal: r.refusal,
         outcome: r.outcome,

@@ -8,7 +8,7 @@ use lib.ListN.{set, length}
 use Rattle.model.specs.Lists.{isNil, same, all, allBut, keep}
 use Rattle.model.specs.Sizes.{sessionLimit, stringLimit, lastSessionId, noConnection, beforeFirst, grantsLimit}
 use Rattle.model.specs.State.{Granted, Entry, Waiting, Locks, Kind, Kind.exclusive-lock, Kind.shared-lock, Standing, Standing.no-release}
-use Rattle.model.specs.State.{Standing.release-of, at, live, noGrants, blank, slotOfNumber}
+use Rattle.model.specs.State.{Standing.release-of, at, live, blank, slotOfNumber}
 
 -- an answer (type 5): to which connection, the code, and whether it answers a request (true) or a release (false)
 pub record Answer : Type 0 where
