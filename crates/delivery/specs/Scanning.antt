@@ -9,6 +9,7 @@ use lib.Dec.{ltb}
 use lib.ListN.{length}
 use borrow.Author.Tests.{lt-ltb, le-ltb}
 use Rattle.wire.specs.declared.Header.{Header}
+use Rattle.wire.specs.Field.{numberAt}
 use Rattle.wire.specs.Message.{header, prologue, payloadOf}
 use Rattle.model.specs.Sizes.{payloadLimit}
 use Rattle.model.specs.State.{Server, connectionAt}
@@ -25,6 +26,11 @@ use Rattle.sessions.specs.declared.Delivery.{Delivery}
 use Rattle.sessions.specs.Did.{Did, DidWith}
 use Rattle.sessions.specs.Replies.{skipPlan, closePlan, fatals}
 use Rattle.delivery.specs.Verdicts.{by-verdict}
+
+-- the length alone
+pub length-field : (bs : List ℕ) → header bs .len ≡ numberAt bs 8 8
+unfolding header
+length-field bs = refl
 
 module _ (bs : List ℕ) (enough : 16 ≤ length bs) where
   sorted-as : (p l q : Bool) → prologue bs ≡ p → ltb payloadLimit (header bs .len) ≡ l → ltb (length bs) (16 + header bs .len) ≡ q → freshScan bs ≡ sorted false p l q bs (header bs)

@@ -1,11 +1,13 @@
 -- From the number of a verdict to what is done: the plan of each verdict but "acts", and of a message that acts. Assumes nothing.
 use mathlib.Core.Path.{_≡_, sym, subst}
-use Prim.Native.Nat.{ℕ, _-_, _≤_, _<_}
+use Prim.Native.Nat.{ℕ, _+_, _-_, _≤_, _<_}
 use mathlib.Core.Bool.{Bool}
 use mathlib.Core.List.{List, []}
 use native.Mathlib.Omega.{arith}
+use lib.ListN.{take, drop}
 use borrow.Author.Tests.{ne-eqb, lt-ltb, le-ltb}
 use Rattle.wire.specs.declared.Header.{Header}
+use Rattle.wire.specs.Message.{header, payloadOf}
 use Rattle.model.specs.MessageTypes.{Error}
 use Rattle.model.specs.State.{Server, exchangeAt, openConnection, withConnection, withExchange}
 use Rattle.model.specs.Interface.{Reply.took, Outcome.more-needed, Outcome.held, Outcome.error-sent}
@@ -88,3 +90,12 @@ of-kind d c i h p ro r m m′ out out′ k e q =
 pub of-role : (d : Server) (c i : ℕ) (h : Header) (p : List ℕ) (ro qo : Role) (r : Delivery) (m m′ : Memory) (out out′ : List ℕ) → ro ≡ qo
     → Done d c i (whole h p) qo r m m′ out out′ (judged qo d i h p) → Done d c i (whole h p) ro r m m′ out out′ (judged ro d i h p)
 of-role d c i h p ro qo r m m′ out out′ e q = subst (λ (x : Role). Done d c i (whole h p) x r m m′ out out′ (judged x d i h p)) (sym e) q
+
+-- and one whose header was read from its bytes, with the payload cut out behind it
+pub of-bytes : (d : Server) (c i : ℕ) (h : Header) (bs : List ℕ) (ro : Role) (r : Delivery) (m m′ : Memory) (out out′ : List ℕ) → h ≡ header bs
+    → Done d c i (whole h (take (16 + h .len - 16) (drop 16 bs))) ro r m m′ out out′ (judged ro d i h (take (16 + h .len - 16) (drop 16 bs)))
+    → Done d c i (whole (header bs) (payloadOf (header bs) bs)) ro r m m′ out out′ (judged ro d i (header bs) (payloadOf (header bs) bs))
+of-bytes d c i h bs ro r m m′ out out′ e q =
+    let z : 16 + h .len - 16 ≡ h .len = omega arith in
+    subst (λ (x : Header). Done d c i (whole x (payloadOf x bs)) ro r m m′ out out′ (judged ro d i x (payloadOf x bs))) e
+    (subst (λ (n : ℕ). Done d c i (whole h (take n (drop 16 bs))) ro r m m′ out out′ (judged ro d i h (take n (drop 16 bs)))) z q)

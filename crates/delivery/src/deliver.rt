@@ -18,6 +18,7 @@ ghost use Rattle.model.specs.Step.{effect, finish, numberTaken, received};
 ghost use Rattle.state.specs.Channels.{Unshown};
 ghost use Rattle.state.specs.Search.{roleNumber};
 ghost use Rattle.state.specs.View.{allowedOf, locksOf, memory, restOf, view};
+ghost use Rattle.wire.specs.Message.{header, payloadOf};
 ghost use lib.ListN.{length};
 ghost use mathlib.Core.Bool.{false, true};
 ghost use mathlib.Core.List.{List};
@@ -51,7 +52,7 @@ use state::sizes::PAYLOAD;
 use state::sizes::Strings;
 use state::sizes::Words;
 use state::tables;
-use wire::Header;
+use wire::number;
 use wire::reading;
 use wire::types::ASYNC_LOCK;
 use wire::types::ASYNC_STATUS_QUERY;
@@ -412,7 +413,8 @@ fn deliver_asynchronous(
     told
 }
 
-// A whole message, by its role.
+// A whole message, by its role. The rest of its header is read here, and its payload where each role is told, so that the ways before it and the
+// tests of the role have neither in registers.
 fn deliver_whole(
     w: &mut Words,
     strings: &mut Strings,
@@ -420,22 +422,26 @@ fn deliver_whole(
     c: u64,
     i: usize,
     role: u8,
-    h: Header,
-    payload: &[u8],
+    bytes: &[u8],
 ) -> Delivery
-    requires { ⌜ (c < connectionLimit) × (h .len ≤ payloadLimit) × (length (now payload) ≡ h .len) × (outputMinimum ≤ length (now out)) × ((s : List ℕ) → slotIn (locksOf (now w) s .entries) c ≡ i) × ((role ≡ 0 → ⊥) → i < sessionLimit) × (role ≡ 0 → Unshown (now w) c) × (role ≡ 3 → (s : List ℕ) → (at (locksOf (now w) s .entries) i) .asynchronous ≡ c) ⌝ }
-    ensures { λ r. ⌜ ((ro : Role) → roleNumber ro ≡ role → Did (finish (view (memory (now (w .entry)) (now (strings .entry)))) (effect (judged ro (view (memory (now (w .entry)) (now (strings .entry)))) i h (now (payload .entry))) (whole h (now (payload .entry))) ro (view (memory (now (w .entry)) (now (strings .entry)))) i c)) r (memory (now (w .entry)) (now (strings .entry))) (memory (now (w .exit)) (now (strings .exit))) (now (out .entry)) (now (out .exit))) ⌝ }
+    requires { ⌜ (c < connectionLimit) × (16 ≤ length (now bytes)) × (header (now bytes) .len ≤ payloadLimit) × (16 + header (now bytes) .len ≤ length (now bytes)) × (outputMinimum ≤ length (now out)) × ((s : List ℕ) → slotIn (locksOf (now w) s .entries) c ≡ i) × ((role ≡ 0 → ⊥) → i < sessionLimit) × (role ≡ 0 → Unshown (now w) c) × (role ≡ 3 → (s : List ℕ) → (at (locksOf (now w) s .entries) i) .asynchronous ≡ c) ⌝ }
+    ensures { λ r. ⌜ ((ro : Role) → roleNumber ro ≡ role → Did (finish (view (memory (now (w .entry)) (now (strings .entry)))) (effect (judged ro (view (memory (now (w .entry)) (now (strings .entry)))) i (header (now (bytes .entry))) (payloadOf (header (now (bytes .entry))) (now (bytes .entry)))) (whole (header (now (bytes .entry))) (payloadOf (header (now (bytes .entry))) (now (bytes .entry)))) ro (view (memory (now (w .entry)) (now (strings .entry)))) i c)) r (memory (now (w .entry)) (now (strings .entry))) (memory (now (w .exit)) (now (strings .exit))) (now (out .entry)) (now (out .exit))) ⌝ }
 {
+    let h = reading::header_at(bytes);
     let kind = h.kind;
     let code = h.code;
     let param = h.param;
     let len = h.len;
+    let end = 16 + len as usize;
     if role == ON_SYNCHRONOUS {
+        let payload = &bytes[16..end];
         return deliver_synchronous(w, strings, out, c, i, kind, code, param, len, payload);
     }
     if role == ON_ASYNCHRONOUS {
+        let payload = &bytes[16..end];
         return deliver_asynchronous(w, strings, out, c, i, kind, code, param, len, payload);
     }
+    let payload = &bytes[16..end];
     let told = deliver_kind(w, strings, out, c, i, role, kind, code, param, len, payload);
     told
 }
@@ -456,9 +462,9 @@ fn deliver_message(
         let place = search::place_of(w, c);
         return replies::send_fatal(w, strings, out, c, place.slot, 1);
     }
-    let h = reading::header_at(bytes);
-    let len = h.len;
+    let len = number::number8(bytes, 8);
     if len > PAYLOAD {
+        let h = reading::header_at(bytes);
         let place = search::place_of(w, c);
         let v = whole::long_verdict(place.role);
         let moves = carries(w, place.role, place.slot, h.kind, h.param);
@@ -468,6 +474,7 @@ fn deliver_message(
     let end = 16 + len as usize;
     if bytes.len() < end {
         let place = search::place_of(w, c);
+        let h = reading::header_at(bytes);
         let v = whole::partial_verdict(place.role, h.kind);
         if v == MORE {
             return answer::more_needed((end - bytes.len()) as u64);
@@ -477,7 +484,7 @@ fn deliver_message(
     }
     let place = search::place_of(w, c);
     let i = place.slot;
-    deliver_whole(w, strings, out, c, i, place.role, h, &bytes[16..end])
+    deliver_whole(w, strings, out, c, i, place.role, bytes)
 }
 
 fn least(a: u64, b: usize) -> u64
