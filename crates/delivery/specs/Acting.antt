@@ -152,7 +152,8 @@ module _ (w s : List ℕ) (h : Header) (p : List ℕ) (passed : first (openingRu
 pub size-eight : (h : Header) (p : List ℕ) → first (asynchronousRules h p) ≡ v-acts → h .kind ≡ AsyncMaximumMessageSize → h .len ≡ 8
 size-eight h p e k =
     let q = async-passed h p e in
-    eqb-true (h .len) 8 (not-off (eqb (h .len) 8) (and-off (eqb (h .kind) AsyncMaximumMessageSize) (not (eqb (h .len) 8)) (eq-eqb (h .kind) AsyncMaximumMessageSize k) (q .1 .1 .1 .1 .1 .1 .1 .1 .1 .0)))
+    eqb-true (h .len) 8 (not-off (eqb (h .len) 8) (and-off (eqb (h .kind) AsyncMaximumMessageSize) (not (eqb (h .len) 8))
+    (eq-eqb (h .kind) AsyncMaximumMessageSize k) (q .1 .1 .1 .1 .1 .1 .1 .1 .1 .0)))
 
 -- acting by one role is acting by the same role
 pub acts-as : (d : Server) (i c : ℕ) (h : Header) (p : List ℕ) (r : Delivery) (m m′ : Memory) (out out′ : List ℕ) (ro ro′ : Role) → ro ≡ ro′

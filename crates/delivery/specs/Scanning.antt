@@ -13,7 +13,8 @@ use Rattle.wire.specs.Field.{numberAt}
 use Rattle.wire.specs.Message.{header, prologue, payloadOf}
 use Rattle.model.specs.Sizes.{payloadLimit}
 use Rattle.model.specs.State.{Server, connectionAt}
-use Rattle.model.specs.Interface.{Outcome.more-needed, Outcome.skipped, Outcome.held, Outcome.ignored, Outcome.error-sent, Outcome.closed, Outcome.acted, Reply, Reply.refused, Reply.done, Reply.withheld, Reply.took}
+use Rattle.model.specs.Interface.{Outcome.more-needed, Outcome.skipped, Outcome.held, Outcome.ignored, Outcome.error-sent, Outcome.closed, Outcome.acted}
+use Rattle.model.specs.Interface.{Reply, Reply.refused, Reply.done, Reply.withheld, Reply.took}
 use Rattle.model.specs.Scan.{Scan, Scan.empty, Scan.few, Scan.wrong, Scan.skipping, Scan.long, Scan.part, Scan.whole, sorted, freshScan, scan}
 use Rattle.model.specs.Missing.{ifMore, lacking}
 use Rattle.model.specs.MessageTypes.{Initialize, AsyncInitialize}
@@ -165,7 +166,8 @@ short-done d c i r m m′ out out′ left bs ro e l q = subst (λ (x : ℕ). Did
         → DidOn d c i r m m′ out out′ 0 (length bs) ro (scan 0 bs)
     go [] l q = on-scan d c i r m m′ out out′ 0 0 ro (scan 0 []) empty (scan-empty 0 [] refl) (empty-done d c i r m m′ out out′ 0 0 ro q)
     go (b ∷ bs) l q =
-        on-scan d c i r m m′ out out′ 0 (length (b ∷ bs)) ro (scan 0 (b ∷ bs)) few (scan-fresh 0 (b ∷ bs) (omega arith) refl ∙ scan-few (b ∷ bs) l) (few-done d c i r m m′ out out′ 0 (length (b ∷ bs)) ro q)
+        on-scan d c i r m m′ out out′ 0 (length (b ∷ bs)) ro (scan 0 (b ∷ bs)) few (scan-fresh 0 (b ∷ bs) (omega arith) refl ∙ scan-few (b ∷ bs) l)
+        (few-done d c i r m m′ out out′ 0 (length (b ∷ bs)) ro q)
 
 -- no bytes, and some to skip
 pub skip-none : (d : Server) (c i : ℕ) (r : Delivery) (m m′ : Memory) (out out′ : List ℕ) (left here : ℕ) (ro : Role) → 0 < left

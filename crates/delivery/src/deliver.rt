@@ -90,8 +90,13 @@ fn apply(
     left: u64,
     moves: bool,
 ) -> Delivery
-    requires { ⌜ (c < connectionLimit) × (outputMinimum ≤ length (now out)) × ((s : List ℕ) → slotIn (locksOf (now w) s .entries) c ≡ i) × (v ≡ 5 → ⊥) × (v ≡ 2 → ⊥) × (moves ≡ true → i < sessionLimit) ⌝ }
-    ensures { λ r. ⌜ ((ro : Role) (x : Scan) → size x ≡ taken → leftover x ≡ left → numberTaken ro x (exchangeAt (restOf (now (w .entry))) i) ≡ (movedBy moves (exchangeAt (restOf (now (w .entry))) i)) .numberExpected → Did (finish (view (memory (now (w .entry)) (now (strings .entry)))) (effect (verdictOf v) x ro (view (memory (now (w .entry)) (now (strings .entry)))) i c)) r (memory (now (w .entry)) (now (strings .entry))) (memory (now (w .exit)) (now (strings .exit))) (now (out .entry)) (now (out .exit))) ⌝ }
+    requires { ⌜ (c < connectionLimit) × (outputMinimum ≤ length (now out)) × ((s : List ℕ) → slotIn (locksOf (now w) s .entries) c ≡ i) × (v ≡ 5 → ⊥)
+        × (v ≡ 2 → ⊥) × (moves ≡ true → i < sessionLimit) ⌝ }
+    ensures { λ r. ⌜ ((ro : Role) (x : Scan) → size x ≡ taken → leftover x ≡ left →
+        numberTaken ro x (exchangeAt (restOf (now (w .entry))) i) ≡ (movedBy moves (exchangeAt (restOf (now (w .entry))) i)) .numberExpected →
+        Did (finish (view (memory (now (w .entry)) (now (strings .entry))))
+        (effect (verdictOf v) x ro (view (memory (now (w .entry)) (now (strings .entry)))) i c)) r (memory (now (w .entry)) (now (strings .entry)))
+        (memory (now (w .exit)) (now (strings .exit))) (now (out .entry)) (now (out .exit))) ⌝ }
 {
     if v >= ERROR_0 {
         numbering::count_refused(w, i, moves);
@@ -123,8 +128,14 @@ fn act(
     len: u64,
     payload: &[u8],
 ) -> Delivery
-    requires { ⌜ (c < connectionLimit) × (len ≤ payloadLimit) × (length (now payload) ≡ len) × (outputMinimum ≤ length (now out)) × ((role ≡ 0 → ⊥) → i < sessionLimit) × (role ≡ 2 → ⊥) × ((s : List ℕ) (ro : Role) → roleNumber ro ≡ role → judged ro (view (memory (now w) s)) i (message kind code param len) (now payload) ≡ v-acts) × (role ≡ 0 → Unshown (now w) c) ⌝ }
-    ensures { λ r. ⌜ ((ro : Role) → roleNumber ro ≡ role → Did (finish (view (memory (now (w .entry)) (now (strings .entry)))) (acts ro (view (memory (now (w .entry)) (now (strings .entry)))) i c (message kind code param len) (now (payload .entry)))) r (memory (now (w .entry)) (now (strings .entry))) (memory (now (w .exit)) (now (strings .exit))) (now (out .entry)) (now (out .exit))) ⌝ }
+    requires { ⌜ (c < connectionLimit) × (len ≤ payloadLimit) × (length (now payload) ≡ len) × (outputMinimum ≤ length (now out))
+        × ((role ≡ 0 → ⊥) → i < sessionLimit) × (role ≡ 2 → ⊥)
+        × ((s : List ℕ) (ro : Role) → roleNumber ro ≡ role → judged ro (view (memory (now w) s)) i (message kind code param len) (now payload) ≡ v-acts)
+        × (role ≡ 0 → Unshown (now w) c) ⌝ }
+    ensures { λ r. ⌜ ((ro : Role) → roleNumber ro ≡ role → Did
+        (finish (view (memory (now (w .entry)) (now (strings .entry))))
+        (acts ro (view (memory (now (w .entry)) (now (strings .entry)))) i c (message kind code param len) (now (payload .entry)))) r
+        (memory (now (w .entry)) (now (strings .entry))) (memory (now (w .exit)) (now (strings .exit))) (now (out .entry)) (now (out .exit))) ⌝ }
 {
     if role == ON_ASYNCHRONOUS {
         return asynchronous::act_asynchronous(
@@ -160,8 +171,12 @@ fn deliver_fully(
     len: u64,
     payload: &[u8],
 ) -> Delivery
-    requires { ⌜ (c < connectionLimit) × (len ≤ payloadLimit) × (length (now payload) ≡ len) × (outputMinimum ≤ length (now out)) × ((s : List ℕ) → slotIn (locksOf (now w) s .entries) c ≡ i) × (i < sessionLimit) ⌝ }
-    ensures { λ r. ⌜ Did (finish (view (memory (now (w .entry)) (now (strings .entry)))) (effect (judged r-synchronous (view (memory (now (w .entry)) (now (strings .entry)))) i (message kind code param len) (now (payload .entry))) (whole (message kind code param len) (now (payload .entry))) r-synchronous (view (memory (now (w .entry)) (now (strings .entry)))) i c)) r (memory (now (w .entry)) (now (strings .entry))) (memory (now (w .exit)) (now (strings .exit))) (now (out .entry)) (now (out .exit)) ⌝ }
+    requires { ⌜ (c < connectionLimit) × (len ≤ payloadLimit) × (length (now payload) ≡ len) × (outputMinimum ≤ length (now out))
+        × ((s : List ℕ) → slotIn (locksOf (now w) s .entries) c ≡ i) × (i < sessionLimit) ⌝ }
+    ensures { λ r. ⌜ Did (finish (view (memory (now (w .entry)) (now (strings .entry))))
+        (effect (judged r-synchronous (view (memory (now (w .entry)) (now (strings .entry)))) i (message kind code param len) (now (payload .entry)))
+        (whole (message kind code param len) (now (payload .entry))) r-synchronous (view (memory (now (w .entry)) (now (strings .entry)))) i c)) r
+        (memory (now (w .entry)) (now (strings .entry))) (memory (now (w .exit)) (now (strings .exit))) (now (out .entry)) (now (out .exit)) ⌝ }
 {
     let v = whole::whole_verdict(
         w,
@@ -199,8 +214,13 @@ fn deliver_kind(
     len: u64,
     payload: &[u8],
 ) -> Delivery
-    requires { ⌜ (c < connectionLimit) × (len ≤ payloadLimit) × (length (now payload) ≡ len) × (outputMinimum ≤ length (now out)) × ((s : List ℕ) → slotIn (locksOf (now w) s .entries) c ≡ i) × ((role ≡ 0 → ⊥) → i < sessionLimit) × (role ≡ 0 → Unshown (now w) c) ⌝ }
-    ensures { λ r. ⌜ ((ro : Role) → roleNumber ro ≡ role → Did (finish (view (memory (now (w .entry)) (now (strings .entry)))) (effect (judged ro (view (memory (now (w .entry)) (now (strings .entry)))) i (message kind code param len) (now (payload .entry))) (whole (message kind code param len) (now (payload .entry))) ro (view (memory (now (w .entry)) (now (strings .entry)))) i c)) r (memory (now (w .entry)) (now (strings .entry))) (memory (now (w .exit)) (now (strings .exit))) (now (out .entry)) (now (out .exit))) ⌝ }
+    requires { ⌜ (c < connectionLimit) × (len ≤ payloadLimit) × (length (now payload) ≡ len) × (outputMinimum ≤ length (now out))
+        × ((s : List ℕ) → slotIn (locksOf (now w) s .entries) c ≡ i) × ((role ≡ 0 → ⊥) → i < sessionLimit) × (role ≡ 0 → Unshown (now w) c) ⌝ }
+    ensures { λ r. ⌜ ((ro : Role) → roleNumber ro ≡ role → Did
+        (finish (view (memory (now (w .entry)) (now (strings .entry))))
+        (effect (judged ro (view (memory (now (w .entry)) (now (strings .entry)))) i (message kind code param len) (now (payload .entry)))
+        (whole (message kind code param len) (now (payload .entry))) ro (view (memory (now (w .entry)) (now (strings .entry)))) i c)) r
+        (memory (now (w .entry)) (now (strings .entry))) (memory (now (w .exit)) (now (strings .exit))) (now (out .entry)) (now (out .exit))) ⌝ }
 {
     if role == ON_SYNCHRONOUS {
         let told = deliver_fully(w, strings, out, c, i, kind, code, param, len, payload);
@@ -231,8 +251,14 @@ fn deliver_plain(
     len: u64,
     payload: &[u8],
 ) -> Delivery
-    requires { ⌜ (c < connectionLimit) × (len ≤ payloadLimit) × (length (now payload) ≡ len) × (outputMinimum ≤ length (now out)) × ((s : List ℕ) → slotIn (locksOf (now w) s .entries) c ≡ i) × (i < sessionLimit) × (isCommand kind ≡ true) × (kind ≡ 7 → admits (allowedOf (now w) (now strings)) (now payload) ≡ true) × ((s : List ℕ) → stands ((at (locksOf (now w) s .entries) i) .standing) ≡ false) ⌝ }
-    ensures { λ r. ⌜ Did (finish (view (memory (now (w .entry)) (now (strings .entry)))) (effect (judged r-synchronous (view (memory (now (w .entry)) (now (strings .entry)))) i (message kind code param len) (now (payload .entry))) (whole (message kind code param len) (now (payload .entry))) r-synchronous (view (memory (now (w .entry)) (now (strings .entry)))) i c)) r (memory (now (w .entry)) (now (strings .entry))) (memory (now (w .exit)) (now (strings .exit))) (now (out .entry)) (now (out .exit)) ⌝ }
+    requires { ⌜ (c < connectionLimit) × (len ≤ payloadLimit) × (length (now payload) ≡ len) × (outputMinimum ≤ length (now out))
+        × ((s : List ℕ) → slotIn (locksOf (now w) s .entries) c ≡ i) × (i < sessionLimit) × (isCommand kind ≡ true)
+        × (kind ≡ 7 → admits (allowedOf (now w) (now strings)) (now payload) ≡ true)
+        × ((s : List ℕ) → stands ((at (locksOf (now w) s .entries) i) .standing) ≡ false) ⌝ }
+    ensures { λ r. ⌜ Did (finish (view (memory (now (w .entry)) (now (strings .entry))))
+        (effect (judged r-synchronous (view (memory (now (w .entry)) (now (strings .entry)))) i (message kind code param len) (now (payload .entry)))
+        (whole (message kind code param len) (now (payload .entry))) r-synchronous (view (memory (now (w .entry)) (now (strings .entry)))) i c)) r
+        (memory (now (w .entry)) (now (strings .entry))) (memory (now (w .exit)) (now (strings .exit))) (now (out .entry)) (now (out .exit)) ⌝ }
 {
     let v = on_synchronous::synchronous_verdict(w, i, kind, code, param, len);
     if v == ACTS {
@@ -259,7 +285,9 @@ fn act_lock(
     payload: &[u8],
 ) -> Delivery
     requires { ⌜ (c < connectionLimit) × (i < sessionLimit) × (len ≤ payloadLimit) × (outputMinimum ≤ length (now out)) × ((s : List ℕ) → (at (locksOf (now w) s .entries) i) .asynchronous ≡ c) ⌝ }
-    ensures { λ r. ⌜ Did (finish (view (memory (now (w .entry)) (now (strings .entry)))) (acts r-asynchronous (view (memory (now (w .entry)) (now (strings .entry)))) i c (message 4 code param len) (now (payload .entry)))) r (memory (now (w .entry)) (now (strings .entry))) (memory (now (w .exit)) (now (strings .exit))) (now (out .entry)) (now (out .exit)) ⌝ }
+    ensures { λ r. ⌜ Did (finish (view (memory (now (w .entry)) (now (strings .entry))))
+        (acts r-asynchronous (view (memory (now (w .entry)) (now (strings .entry)))) i c (message 4 code param len) (now (payload .entry)))) r
+        (memory (now (w .entry)) (now (strings .entry))) (memory (now (w .exit)) (now (strings .exit))) (now (out .entry)) (now (out .exit)) ⌝ }
 {
     let n = tables::entry(w, i, tables::NUMBER);
     if code == 0 {
@@ -282,8 +310,13 @@ fn deliver_lock(
     len: u64,
     payload: &[u8],
 ) -> Delivery
-    requires { ⌜ (c < connectionLimit) × (len ≤ payloadLimit) × (length (now payload) ≡ len) × (outputMinimum ≤ length (now out)) × ((s : List ℕ) → slotIn (locksOf (now w) s .entries) c ≡ i) × (i < sessionLimit) × ((s : List ℕ) → (at (locksOf (now w) s .entries) i) .asynchronous ≡ c) ⌝ }
-    ensures { λ r. ⌜ Did (finish (view (memory (now (w .entry)) (now (strings .entry)))) (effect (judged r-asynchronous (view (memory (now (w .entry)) (now (strings .entry)))) i (message 4 code param len) (now (payload .entry))) (whole (message 4 code param len) (now (payload .entry))) r-asynchronous (view (memory (now (w .entry)) (now (strings .entry)))) i c)) r (memory (now (w .entry)) (now (strings .entry))) (memory (now (w .exit)) (now (strings .exit))) (now (out .entry)) (now (out .exit)) ⌝ }
+    requires { ⌜ (c < connectionLimit) × (len ≤ payloadLimit) × (length (now payload) ≡ len) × (outputMinimum ≤ length (now out))
+        × ((s : List ℕ) → slotIn (locksOf (now w) s .entries) c ≡ i) × (i < sessionLimit)
+        × ((s : List ℕ) → (at (locksOf (now w) s .entries) i) .asynchronous ≡ c) ⌝ }
+    ensures { λ r. ⌜ Did (finish (view (memory (now (w .entry)) (now (strings .entry))))
+        (effect (judged r-asynchronous (view (memory (now (w .entry)) (now (strings .entry)))) i (message 4 code param len) (now (payload .entry)))
+        (whole (message 4 code param len) (now (payload .entry))) r-asynchronous (view (memory (now (w .entry)) (now (strings .entry)))) i c)) r
+        (memory (now (w .entry)) (now (strings .entry))) (memory (now (w .exit)) (now (strings .exit))) (now (out .entry)) (now (out .exit)) ⌝ }
 {
     let v = on_asynchronous::asynchronous_verdict(ASYNC_LOCK, code, len);
     if v == ACTS {
@@ -308,8 +341,12 @@ fn deliver_status(
     len: u64,
     payload: &[u8],
 ) -> Delivery
-    requires { ⌜ (c < connectionLimit) × (len ≤ payloadLimit) × (length (now payload) ≡ len) × (outputMinimum ≤ length (now out)) × ((s : List ℕ) → slotIn (locksOf (now w) s .entries) c ≡ i) × (i < sessionLimit) ⌝ }
-    ensures { λ r. ⌜ Did (finish (view (memory (now (w .entry)) (now (strings .entry)))) (effect (judged r-asynchronous (view (memory (now (w .entry)) (now (strings .entry)))) i (message 21 code param len) (now (payload .entry))) (whole (message 21 code param len) (now (payload .entry))) r-asynchronous (view (memory (now (w .entry)) (now (strings .entry)))) i c)) r (memory (now (w .entry)) (now (strings .entry))) (memory (now (w .exit)) (now (strings .exit))) (now (out .entry)) (now (out .exit)) ⌝ }
+    requires { ⌜ (c < connectionLimit) × (len ≤ payloadLimit) × (length (now payload) ≡ len) × (outputMinimum ≤ length (now out))
+        × ((s : List ℕ) → slotIn (locksOf (now w) s .entries) c ≡ i) × (i < sessionLimit) ⌝ }
+    ensures { λ r. ⌜ Did (finish (view (memory (now (w .entry)) (now (strings .entry))))
+        (effect (judged r-asynchronous (view (memory (now (w .entry)) (now (strings .entry)))) i (message 21 code param len) (now (payload .entry)))
+        (whole (message 21 code param len) (now (payload .entry))) r-asynchronous (view (memory (now (w .entry)) (now (strings .entry)))) i c)) r
+        (memory (now (w .entry)) (now (strings .entry))) (memory (now (w .exit)) (now (strings .exit))) (now (out .entry)) (now (out .exit)) ⌝ }
 {
     let v = on_asynchronous::asynchronous_verdict(ASYNC_STATUS_QUERY, code, len);
     if v == ACTS {
@@ -349,8 +386,12 @@ fn deliver_synchronous(
     len: u64,
     payload: &[u8],
 ) -> Delivery
-    requires { ⌜ (c < connectionLimit) × (len ≤ payloadLimit) × (length (now payload) ≡ len) × (outputMinimum ≤ length (now out)) × ((s : List ℕ) → slotIn (locksOf (now w) s .entries) c ≡ i) × (i < sessionLimit) ⌝ }
-    ensures { λ r. ⌜ Did (finish (view (memory (now (w .entry)) (now (strings .entry)))) (effect (judged r-synchronous (view (memory (now (w .entry)) (now (strings .entry)))) i (message kind code param len) (now (payload .entry))) (whole (message kind code param len) (now (payload .entry))) r-synchronous (view (memory (now (w .entry)) (now (strings .entry)))) i c)) r (memory (now (w .entry)) (now (strings .entry))) (memory (now (w .exit)) (now (strings .exit))) (now (out .entry)) (now (out .exit)) ⌝ }
+    requires { ⌜ (c < connectionLimit) × (len ≤ payloadLimit) × (length (now payload) ≡ len) × (outputMinimum ≤ length (now out))
+        × ((s : List ℕ) → slotIn (locksOf (now w) s .entries) c ≡ i) × (i < sessionLimit) ⌝ }
+    ensures { λ r. ⌜ Did (finish (view (memory (now (w .entry)) (now (strings .entry))))
+        (effect (judged r-synchronous (view (memory (now (w .entry)) (now (strings .entry)))) i (message kind code param len) (now (payload .entry)))
+        (whole (message kind code param len) (now (payload .entry))) r-synchronous (view (memory (now (w .entry)) (now (strings .entry)))) i c)) r
+        (memory (now (w .entry)) (now (strings .entry))) (memory (now (w .exit)) (now (strings .exit))) (now (out .entry)) (now (out .exit)) ⌝ }
 {
     if standing::stands(w, i) {
         let told = deliver_kind(
@@ -388,8 +429,13 @@ fn deliver_asynchronous(
     len: u64,
     payload: &[u8],
 ) -> Delivery
-    requires { ⌜ (c < connectionLimit) × (len ≤ payloadLimit) × (length (now payload) ≡ len) × (outputMinimum ≤ length (now out)) × ((s : List ℕ) → slotIn (locksOf (now w) s .entries) c ≡ i) × (i < sessionLimit) × ((s : List ℕ) → (at (locksOf (now w) s .entries) i) .asynchronous ≡ c) ⌝ }
-    ensures { λ r. ⌜ Did (finish (view (memory (now (w .entry)) (now (strings .entry)))) (effect (judged r-asynchronous (view (memory (now (w .entry)) (now (strings .entry)))) i (message kind code param len) (now (payload .entry))) (whole (message kind code param len) (now (payload .entry))) r-asynchronous (view (memory (now (w .entry)) (now (strings .entry)))) i c)) r (memory (now (w .entry)) (now (strings .entry))) (memory (now (w .exit)) (now (strings .exit))) (now (out .entry)) (now (out .exit)) ⌝ }
+    requires { ⌜ (c < connectionLimit) × (len ≤ payloadLimit) × (length (now payload) ≡ len) × (outputMinimum ≤ length (now out))
+        × ((s : List ℕ) → slotIn (locksOf (now w) s .entries) c ≡ i) × (i < sessionLimit)
+        × ((s : List ℕ) → (at (locksOf (now w) s .entries) i) .asynchronous ≡ c) ⌝ }
+    ensures { λ r. ⌜ Did (finish (view (memory (now (w .entry)) (now (strings .entry))))
+        (effect (judged r-asynchronous (view (memory (now (w .entry)) (now (strings .entry)))) i (message kind code param len) (now (payload .entry)))
+        (whole (message kind code param len) (now (payload .entry))) r-asynchronous (view (memory (now (w .entry)) (now (strings .entry)))) i c)) r
+        (memory (now (w .entry)) (now (strings .entry))) (memory (now (w .exit)) (now (strings .exit))) (now (out .entry)) (now (out .exit)) ⌝ }
 {
     if kind == ASYNC_STATUS_QUERY {
         return deliver_status(w, strings, out, c, i, code, param, len, payload);
@@ -424,8 +470,17 @@ fn deliver_whole(
     role: u8,
     bytes: &[u8],
 ) -> Delivery
-    requires { ⌜ (c < connectionLimit) × (16 ≤ length (now bytes)) × (header (now bytes) .len ≤ payloadLimit) × (16 + header (now bytes) .len ≤ length (now bytes)) × (outputMinimum ≤ length (now out)) × ((s : List ℕ) → slotIn (locksOf (now w) s .entries) c ≡ i) × ((role ≡ 0 → ⊥) → i < sessionLimit) × (role ≡ 0 → Unshown (now w) c) × (role ≡ 3 → (s : List ℕ) → (at (locksOf (now w) s .entries) i) .asynchronous ≡ c) ⌝ }
-    ensures { λ r. ⌜ ((ro : Role) → roleNumber ro ≡ role → Did (finish (view (memory (now (w .entry)) (now (strings .entry)))) (effect (judged ro (view (memory (now (w .entry)) (now (strings .entry)))) i (header (now (bytes .entry))) (payloadOf (header (now (bytes .entry))) (now (bytes .entry)))) (whole (header (now (bytes .entry))) (payloadOf (header (now (bytes .entry))) (now (bytes .entry)))) ro (view (memory (now (w .entry)) (now (strings .entry)))) i c)) r (memory (now (w .entry)) (now (strings .entry))) (memory (now (w .exit)) (now (strings .exit))) (now (out .entry)) (now (out .exit))) ⌝ }
+    requires { ⌜ (c < connectionLimit) × (16 ≤ length (now bytes)) × (header (now bytes) .len ≤ payloadLimit)
+        × (16 + header (now bytes) .len ≤ length (now bytes)) × (outputMinimum ≤ length (now out))
+        × ((s : List ℕ) → slotIn (locksOf (now w) s .entries) c ≡ i) × ((role ≡ 0 → ⊥) → i < sessionLimit) × (role ≡ 0 → Unshown (now w) c)
+        × (role ≡ 3 → (s : List ℕ) → (at (locksOf (now w) s .entries) i) .asynchronous ≡ c) ⌝ }
+    ensures { λ r. ⌜ ((ro : Role) → roleNumber ro ≡ role → Did
+        (finish (view (memory (now (w .entry)) (now (strings .entry))))
+        (effect (judged ro (view (memory (now (w .entry)) (now (strings .entry)))) i (header (now (bytes .entry)))
+        (payloadOf (header (now (bytes .entry))) (now (bytes .entry))))
+        (whole (header (now (bytes .entry))) (payloadOf (header (now (bytes .entry))) (now (bytes .entry)))) ro
+        (view (memory (now (w .entry)) (now (strings .entry)))) i c)) r (memory (now (w .entry)) (now (strings .entry)))
+        (memory (now (w .exit)) (now (strings .exit))) (now (out .entry)) (now (out .exit))) ⌝ }
 {
     let h = reading::header_at(bytes);
     let kind = h.kind;
@@ -456,7 +511,9 @@ fn deliver_message(
     bytes: &[u8],
 ) -> Delivery
     requires { ⌜ (c < connectionLimit) × (16 ≤ length (now bytes)) × (outputMinimum ≤ length (now out)) ⌝ }
-    ensures { λ r. ⌜ DidOn (view (memory (now (w .entry)) (now (strings .entry)))) c (slotIn (locksOf (now (w .entry)) (now (strings .entry)) .entries) c) r (memory (now (w .entry)) (now (strings .entry))) (memory (now (w .exit)) (now (strings .exit))) (now (out .entry)) (now (out .exit)) 0 (length (now (bytes .entry))) (roleOf (locksOf (now (w .entry)) (now (strings .entry)) .entries) c) (freshScan (now (bytes .entry))) ⌝ }
+    ensures { λ r. ⌜ DidOn (view (memory (now (w .entry)) (now (strings .entry)))) c (slotIn (locksOf (now (w .entry)) (now (strings .entry)) .entries) c) r
+        (memory (now (w .entry)) (now (strings .entry))) (memory (now (w .exit)) (now (strings .exit))) (now (out .entry)) (now (out .exit)) 0
+        (length (now (bytes .entry))) (roleOf (locksOf (now (w .entry)) (now (strings .entry)) .entries) c) (freshScan (now (bytes .entry))) ⌝ }
 {
     if !reading::has_prologue(bytes) {
         let place = search::place_of(w, c);
@@ -505,7 +562,16 @@ pub fn deliver_open(
     bytes: &[u8],
 ) -> Delivery
     requires { ⌜ (c < connectionLimit) × (outputMinimum ≤ length (now out)) ⌝ }
-    ensures { λ r. ⌜ DidWith (ifMore ((finish (view (memory (now (w .entry)) (now (strings .entry)))) (received (view (memory (now (w .entry)) (now (strings .entry)))) c (scan ((connectionAt (restOf (now (w .entry))) c) .remainder) (now (bytes .entry))))) .reply) (lacking ((connectionAt (restOf (now (w .entry))) c) .remainder) (length (now (bytes .entry))) (scan ((connectionAt (restOf (now (w .entry))) c) .remainder) (now (bytes .entry))))) (finish (view (memory (now (w .entry)) (now (strings .entry)))) (received (view (memory (now (w .entry)) (now (strings .entry)))) c (scan ((connectionAt (restOf (now (w .entry))) c) .remainder) (now (bytes .entry))))) r (memory (now (w .entry)) (now (strings .entry))) (memory (now (w .exit)) (now (strings .exit))) (now (out .entry)) (now (out .exit)) ⌝ }
+    ensures { λ r. ⌜ DidWith
+        (ifMore ((finish (view (memory (now (w .entry)) (now (strings .entry))))
+        (received (view (memory (now (w .entry)) (now (strings .entry)))) c
+        (scan ((connectionAt (restOf (now (w .entry))) c) .remainder) (now (bytes .entry))))) .reply)
+        (lacking ((connectionAt (restOf (now (w .entry))) c) .remainder) (length (now (bytes .entry)))
+        (scan ((connectionAt (restOf (now (w .entry))) c) .remainder) (now (bytes .entry)))))
+        (finish (view (memory (now (w .entry)) (now (strings .entry))))
+        (received (view (memory (now (w .entry)) (now (strings .entry)))) c
+        (scan ((connectionAt (restOf (now (w .entry))) c) .remainder) (now (bytes .entry))))) r (memory (now (w .entry)) (now (strings .entry)))
+        (memory (now (w .exit)) (now (strings .exit))) (now (out .entry)) (now (out .exit)) ⌝ }
 {
     let left = tables::connection(w, c as usize, tables::REMAINDER);
     if left > 0 {

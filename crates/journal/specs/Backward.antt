@@ -10,7 +10,8 @@ use lib.Seq.{take-at, drop-at}
 use borrow.Author.Tests.{le-leb, lt-leb, eq-eqb}
 use Rattle.wire.specs.Field.{field, number, numberAt}
 use Rattle.crc.specs.Crc.{crcOf}
-use Rattle.journal.specs.Journal.{bodyLimit, headed, entry, entries, mark, closing, closedJournal, lastOffset, Fine, AllFine, lengthOf, bodyOf, whole, distanceOf, startOf, ends, backwardOn, closed, backward, forward}
+use Rattle.journal.specs.Journal.{bodyLimit, headed, entry, entries, mark, closing, closedJournal, lastOffset, Fine, AllFine, lengthOf, bodyOf, whole}
+use Rattle.journal.specs.Journal.{distanceOf, startOf, ends, backwardOn, closed, backward, forward}
 use Rattle.journal.specs.Bytes.{yes-is, no-is, and-is, and-not}
 use Rattle.journal.specs.Entry.{length-entry, length-closing, number-at, headed-length, says-length, holds-body, whole-entry}
 use Rattle.journal.specs.Forward.{count-entries, forward-closed}

@@ -55,7 +55,8 @@ module _ (a b c d : List ℕ) where
 
   -- the length, then part behind part
   pub headed-written : (l : List ℕ) (at : ℕ) → at + 4 + length a + length b + length c + length d ≤ length l
-      → splice (splice (splice (splice (splice l at (field 4 (length a + length b + length c + length d))) (at + 4) a) (at + 4 + length a) b) (at + 4 + length a + length b) c) (at + 4 + length a + length b + length c) d
+      → splice (splice (splice (splice (splice l at (field 4 (length a + length b + length c + length d))) (at + 4) a) (at + 4 + length a) b)
+      (at + 4 + length a + length b) c) (at + 4 + length a + length b + length c) d
       ≡ splice l at (headed body)
   headed-written l at h =
       let f : List ℕ = field 4 (length body) in
@@ -63,8 +64,10 @@ module _ (a b c d : List ℕ) where
       let e₁ : length (f ++ a) ≡ 4 + length a = simp (length-append, length-field) in
       let e₂ : length (f ++ a ++ b) ≡ 4 + length a + length b = simp (length-append, length-field) in
       let e₃ : length (f ++ a ++ b ++ c) ≡ 4 + length a + length b + length c = simp (length-append, length-field) in
-      ap (λ (n : ℕ). splice (splice (splice (splice (splice l at (field 4 n)) (at + 4) a) (at + 4 + length a) b) (at + 4 + length a + length b) c) (at + 4 + length a + length b + length c) d) (sym body-length)
-      ∙ ap (λ (x : List ℕ). splice (splice (splice x (at + 4 + length a) b) (at + 4 + length a + length b) c) (at + 4 + length a + length b + length c) d) (next l at f (at + 4) a (omega arith) (omega arith))
+      ap (λ (n : ℕ). splice (splice (splice (splice (splice l at (field 4 n)) (at + 4) a) (at + 4 + length a) b) (at + 4 + length a + length b) c)
+      (at + 4 + length a + length b + length c) d) (sym body-length)
+      ∙ ap (λ (x : List ℕ). splice (splice (splice x (at + 4 + length a) b) (at + 4 + length a + length b) c) (at + 4 + length a + length b + length c) d)
+      (next l at f (at + 4) a (omega arith) (omega arith))
       ∙ ap (λ (x : List ℕ). splice (splice x (at + 4 + length a + length b) c) (at + 4 + length a + length b + length c) d) (next l at (f ++ a) (at + 4 + length a) b (omega arith) (omega arith))
       ∙ ap (λ (x : List ℕ). splice x (at + 4 + length a + length b + length c) d) (next l at (f ++ a ++ b) (at + 4 + length a + length b) c (omega arith) (omega arith))
       ∙ next l at (f ++ a ++ b ++ c) (at + 4 + length a + length b + length c) d (omega arith) (omega arith)

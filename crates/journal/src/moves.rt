@@ -7,6 +7,7 @@ ghost use Rattle.wire.specs.Splice.{splice};
 ghost use lib.ListN.{length};
 ghost use mathlib.Core.List.{[], _∷_};
 ghost use mathlib.Core.Path.{_≡_};
+use crate::reader::BODY_LIMIT;
 
 // Eight bytes, one behind the other.
 fn store_eight(
@@ -172,10 +173,10 @@ fn put_rest(book: &mut [u8], at: usize, src: &[u8])
 fn bounded(n: usize) -> usize
     ensures { λ r. ⌜ r ≡ min n bodyLimit ⌝ }
 {
-    if n < 5000 {
+    if n < BODY_LIMIT {
         return n;
     }
-    5000
+    BODY_LIMIT
 }
 
 fn put_steps(book: &mut [u8], at: usize, src: &[u8])

@@ -16,7 +16,9 @@ use Rattle.model.specs.State.{Making}
 use Rattle.model.specs.Demand3.{Seen}
 use Rattle.state.specs.View.{Memory, memory}
 use Rattle.server.specs.Events.{Fresh}
-use Rattle.server.specs.Program.{deliveryReply, doneReply, answeredReply, listedReply, Run, Run.hislip-open as ran-open, Run.hislip-deliver as ran-deliver, Run.hislip-cut as ran-cut, Run.hislip-clock as ran-clock, Run.hislip-answer as ran-answer, Run.hislip-status as ran-status, Run.hislip-watch as ran-watch, Run.hislip-patterns as ran-patterns}
+use Rattle.server.specs.Program.{deliveryReply, doneReply, answeredReply, listedReply, Run, Run.hislip-open as ran-open, Run.hislip-deliver as ran-deliver}
+use Rattle.server.specs.Program.{Run.hislip-cut as ran-cut, Run.hislip-clock as ran-clock, Run.hislip-answer as ran-answer, Run.hislip-status as ran-status}
+use Rattle.server.specs.Program.{Run.hislip-watch as ran-watch, Run.hislip-patterns as ran-patterns}
 use Rattle.server.proofs.hislip_new.Reads as new-says
 use Rattle.server.proofs.hislip_new.Kinds as new-kinds
 use Rattle.journal.specs.Writer.{closeOf}
@@ -71,39 +73,76 @@ pub data Executed : Memory → List ℕ → List ℕ → List Told → Memory �
       → open-says.Post κs a r s → Executed (memory (s .0 .now) (s .1 .0 .now)) (s .1 .1 .1 .0 .now) (s .1 .1 .1 .1 .0 .now) ts m″ w″ b″
       → Executed (memory (a .0 .now) (a .1 .0 .now)) (a .1 .1 .1 .0 .now) (a .1 .1 .1 .1 .0 .now)
       (record { seen = record { event = opening (a .1 .1 .0); reply = doneReply (ofDone r); output = [] }; kept = r .kept } ∷ ts) m″ w″ b″
-  hislip-keep-deliver : {m″ : Memory} {w″ b″ : List ℕ} {ts : List Told} (κs : Lfts 6) (a : Dens κs deliver-kinds.ps) (r : resT deliver-kinds.r κs .Denot) (s : AtExit (endedOf 6 deliver-kinds.ps deliver-kinds.r) κs)
+  hislip-keep-deliver : {m″ : Memory} {w″ b″ : List ℕ} {ts : List Told} (κs : Lfts 6) (a : Dens κs deliver-kinds.ps) (r : resT deliver-kinds.r κs .Denot)
+      (s : AtExit (endedOf 6 deliver-kinds.ps deliver-kinds.r) κs)
       → deliver-says.Post κs a r s → Executed (memory (s .0 .now) (s .1 .0 .now)) (s .1 .1 .1 .1 .1 .0 .now) (s .1 .1 .1 .1 .1 .1 .0 .now) ts m″ w″ b″
       → Executed (memory (a .0 .now) (a .1 .0 .now)) (a .1 .1 .1 .1 .1 .0 .now) (a .1 .1 .1 .1 .1 .1 .0 .now)
-      (record { seen = record { event = looked (delivery (a .1 .1 .0) (a .1 .1 .1 .0 .now) (length (a .1 .1 .1 .1 .0 .now))); reply = deliveryReply (ofDelivery r); output = take (r .output) (s .1 .1 .1 .1 .0 .now) }; kept = r .kept } ∷ ts) m″ w″ b″
+      (record {
+        seen = record {
+          event = looked (delivery (a .1 .1 .0) (a .1 .1 .1 .0 .now) (length (a .1 .1 .1 .1 .0 .now)));
+          reply = deliveryReply (ofDelivery r);
+          output = take (r .output) (s .1 .1 .1 .1 .0 .now);
+        };
+        kept = r .kept;
+      } ∷ ts) m″ w″ b″
   hislip-keep-cut : {m″ : Memory} {w″ b″ : List ℕ} {ts : List Told} (κs : Lfts 5) (a : Dens κs cut-kinds.ps) (r : resT cut-kinds.r κs .Denot) (s : AtExit (endedOf 5 cut-kinds.ps cut-kinds.r) κs)
       → cut-says.Post κs a r s → Executed (memory (s .0 .now) (s .1 .0 .now)) (s .1 .1 .1 .1 .0 .now) (s .1 .1 .1 .1 .1 .0 .now) ts m″ w″ b″
       → Executed (memory (a .0 .now) (a .1 .0 .now)) (a .1 .1 .1 .1 .0 .now) (a .1 .1 .1 .1 .1 .0 .now)
       (record { seen = record { event = cut (a .1 .1 .0) (length (a .1 .1 .1 .0 .now)); reply = doneReply (ofDone r); output = take (r .output) (s .1 .1 .1 .0 .now) }; kept = r .kept } ∷ ts) m″ w″ b″
-  hislip-keep-clock : {m″ : Memory} {w″ b″ : List ℕ} {ts : List Told} (κs : Lfts 5) (a : Dens κs clock-kinds.ps) (r : resT clock-kinds.r κs .Denot) (s : AtExit (endedOf 5 clock-kinds.ps clock-kinds.r) κs)
+  hislip-keep-clock : {m″ : Memory} {w″ b″ : List ℕ} {ts : List Told} (κs : Lfts 5) (a : Dens κs clock-kinds.ps) (r : resT clock-kinds.r κs .Denot)
+      (s : AtExit (endedOf 5 clock-kinds.ps clock-kinds.r) κs)
       → clock-says.Post κs a r s → Executed (memory (s .0 .now) (s .1 .0 .now)) (s .1 .1 .1 .1 .0 .now) (s .1 .1 .1 .1 .1 .0 .now) ts m″ w″ b″
       → Executed (memory (a .0 .now) (a .1 .0 .now)) (a .1 .1 .1 .1 .0 .now) (a .1 .1 .1 .1 .1 .0 .now)
-      (record { seen = record { event = clock (a .1 .1 .0) (length (a .1 .1 .1 .0 .now)); reply = doneReply (ofDone r); output = take (r .output) (s .1 .1 .1 .0 .now) }; kept = r .kept } ∷ ts) m″ w″ b″
-  hislip-keep-answer : {m″ : Memory} {w″ b″ : List ℕ} {ts : List Told} (κs : Lfts 7) (a : Dens κs answer-kinds.ps) (r : resT answer-kinds.r κs .Denot) (s : AtExit (endedOf 7 answer-kinds.ps answer-kinds.r) κs)
+      (record {
+        seen = record {
+          event = clock (a .1 .1 .0) (length (a .1 .1 .1 .0 .now));
+          reply = doneReply (ofDone r);
+          output = take (r .output) (s .1 .1 .1 .0 .now);
+        };
+        kept = r .kept;
+      } ∷ ts) m″ w″ b″
+  hislip-keep-answer : {m″ : Memory} {w″ b″ : List ℕ} {ts : List Told} (κs : Lfts 7) (a : Dens κs answer-kinds.ps) (r : resT answer-kinds.r κs .Denot)
+      (s : AtExit (endedOf 7 answer-kinds.ps answer-kinds.r) κs)
       → answer-says.Post κs a r s → Executed (memory (s .0 .now) (s .1 .0 .now)) (s .1 .1 .1 .1 .1 .1 .1 .0 .now) (s .1 .1 .1 .1 .1 .1 .1 .1 .0 .now) ts m″ w″ b″
       → Executed (memory (a .0 .now) (a .1 .0 .now)) (a .1 .1 .1 .1 .1 .1 .1 .0 .now) (a .1 .1 .1 .1 .1 .1 .1 .1 .0 .now)
-      (record { seen = record { event = looked (answer (a .1 .1 .0) (a .1 .1 .1 .0 .now) (not (eqb (a .1 .1 .1 .1 .0) 0)) (a .1 .1 .1 .1 .1 .0 .now) (length (a .1 .1 .1 .1 .1 .1 .0 .now))); reply = answeredReply (ofAnswered r); output = take (r .output) (s .1 .1 .1 .1 .1 .1 .0 .now) }; kept = r .kept } ∷ ts) m″ w″ b″
-  hislip-keep-status : {m″ : Memory} {w″ b″ : List ℕ} {ts : List Told} (κs : Lfts 4) (a : Dens κs status-kinds.ps) (r : resT status-kinds.r κs .Denot) (s : AtExit (endedOf 4 status-kinds.ps status-kinds.r) κs)
+      (record {
+        seen = record {
+          event = looked (answer (a .1 .1 .0) (a .1 .1 .1 .0 .now) (not (eqb (a .1 .1 .1 .1 .0) 0)) (a .1 .1 .1 .1 .1 .0 .now)
+              (length (a .1 .1 .1 .1 .1 .1 .0 .now)));
+          reply = answeredReply (ofAnswered r);
+          output = take (r .output) (s .1 .1 .1 .1 .1 .1 .0 .now);
+        };
+        kept = r .kept;
+      } ∷ ts) m″ w″ b″
+  hislip-keep-status : {m″ : Memory} {w″ b″ : List ℕ} {ts : List Told} (κs : Lfts 4) (a : Dens κs status-kinds.ps) (r : resT status-kinds.r κs .Denot)
+      (s : AtExit (endedOf 4 status-kinds.ps status-kinds.r) κs)
       → status-says.Post κs a r s → Executed (memory (s .0 .now) (s .1 .0 .now)) (s .1 .1 .1 .0 .now) (s .1 .1 .1 .1 .0 .now) ts m″ w″ b″
       → Executed (memory (a .0 .now) (a .1 .0 .now)) (a .1 .1 .1 .0 .now) (a .1 .1 .1 .1 .0 .now)
       (record { seen = record { event = status (a .1 .1 .0); reply = done; output = [] }; kept = r .kept } ∷ ts) m″ w″ b″
-  hislip-keep-watch-off : {m″ : Memory} {w″ b″ : List ℕ} {ts : List Told} (κs : Lfts 4) (a : Dens κs watch-off-kinds.ps) (r : resT watch-off-kinds.r κs .Denot) (s : AtExit (endedOf 4 watch-off-kinds.ps watch-off-kinds.r) κs)
+  hislip-keep-watch-off : {m″ : Memory} {w″ b″ : List ℕ} {ts : List Told} (κs : Lfts 4) (a : Dens κs watch-off-kinds.ps) (r : resT watch-off-kinds.r κs .Denot)
+      (s : AtExit (endedOf 4 watch-off-kinds.ps watch-off-kinds.r) κs)
       → watch-off-says.Post κs a r s → Executed (memory (s .0 .now) (s .1 .0 .now)) (s .1 .1 .1 .0 .now) (s .1 .1 .1 .1 .0 .now) ts m″ w″ b″
       → Executed (memory (a .0 .now) (a .1 .0 .now)) (a .1 .1 .1 .0 .now) (a .1 .1 .1 .1 .0 .now)
       (record { seen = record { event = setting (watch (a .1 .1 .0) off); reply = doneReply (ofDone r); output = [] }; kept = r .kept } ∷ ts) m″ w″ b″
-  hislip-keep-watch-above : {m″ : Memory} {w″ b″ : List ℕ} {ts : List Told} (κs : Lfts 4) (a : Dens κs watch-above-kinds.ps) (r : resT watch-above-kinds.r κs .Denot) (s : AtExit (endedOf 4 watch-above-kinds.ps watch-above-kinds.r) κs)
+  hislip-keep-watch-above : {m″ : Memory} {w″ b″ : List ℕ} {ts : List Told} (κs : Lfts 4) (a : Dens κs watch-above-kinds.ps)
+      (r : resT watch-above-kinds.r κs .Denot) (s : AtExit (endedOf 4 watch-above-kinds.ps watch-above-kinds.r) κs)
       → watch-above-says.Post κs a r s → Executed (memory (s .0 .now) (s .1 .0 .now)) (s .1 .1 .1 .1 .0 .now) (s .1 .1 .1 .1 .1 .0 .now) ts m″ w″ b″
       → Executed (memory (a .0 .now) (a .1 .0 .now)) (a .1 .1 .1 .1 .0 .now) (a .1 .1 .1 .1 .1 .0 .now)
       (record { seen = record { event = setting (watch (a .1 .1 .0) (above (bits (a .1 .1 .1 .0)))); reply = doneReply (ofDone r); output = [] }; kept = r .kept } ∷ ts) m″ w″ b″
-  hislip-keep-watch-outside : {m″ : Memory} {w″ b″ : List ℕ} {ts : List Told} (κs : Lfts 4) (a : Dens κs watch-outside-kinds.ps) (r : resT watch-outside-kinds.r κs .Denot) (s : AtExit (endedOf 4 watch-outside-kinds.ps watch-outside-kinds.r) κs)
+  hislip-keep-watch-outside : {m″ : Memory} {w″ b″ : List ℕ} {ts : List Told} (κs : Lfts 4) (a : Dens κs watch-outside-kinds.ps)
+      (r : resT watch-outside-kinds.r κs .Denot) (s : AtExit (endedOf 4 watch-outside-kinds.ps watch-outside-kinds.r) κs)
       → watch-outside-says.Post κs a r s → Executed (memory (s .0 .now) (s .1 .0 .now)) (s .1 .1 .1 .1 .1 .0 .now) (s .1 .1 .1 .1 .1 .1 .0 .now) ts m″ w″ b″
       → Executed (memory (a .0 .now) (a .1 .0 .now)) (a .1 .1 .1 .1 .1 .0 .now) (a .1 .1 .1 .1 .1 .1 .0 .now)
-      (record { seen = record { event = setting (watch (a .1 .1 .0) (outside (bits (a .1 .1 .1 .0)) (bits (a .1 .1 .1 .1 .0)))); reply = doneReply (ofDone r); output = [] }; kept = r .kept } ∷ ts) m″ w″ b″
-  hislip-keep-patterns : {m″ : Memory} {w″ b″ : List ℕ} {ts : List Told} (κs : Lfts 5) (a : Dens κs patterns-kinds.ps) (r : resT patterns-kinds.r κs .Denot) (s : AtExit (endedOf 5 patterns-kinds.ps patterns-kinds.r) κs)
+      (record {
+        seen = record {
+          event = setting (watch (a .1 .1 .0) (outside (bits (a .1 .1 .1 .0)) (bits (a .1 .1 .1 .1 .0))));
+          reply = doneReply (ofDone r);
+          output = [];
+        };
+        kept = r .kept;
+      } ∷ ts) m″ w″ b″
+  hislip-keep-patterns : {m″ : Memory} {w″ b″ : List ℕ} {ts : List Told} (κs : Lfts 5) (a : Dens κs patterns-kinds.ps) (r : resT patterns-kinds.r κs .Denot)
+      (s : AtExit (endedOf 5 patterns-kinds.ps patterns-kinds.r) κs)
       → patterns-says.Post κs a r s → Executed (memory (s .0 .now) (s .1 .0 .now)) (s .1 .1 .1 .0 .now) (s .1 .1 .1 .1 .0 .now) ts m″ w″ b″
       → Executed (memory (a .0 .now) (a .1 .0 .now)) (a .1 .1 .1 .0 .now) (a .1 .1 .1 .1 .0 .now)
       (record { seen = record { event = setting (patterns (a .1 .1 .0 .now)); reply = listedReply (ofListed r); output = [] }; kept = r .kept } ∷ ts) m″ w″ b″
@@ -124,17 +163,30 @@ runs (hislip-keep-open κs a r s p g) =
     call (record { event = opening (a .1 .1 .0); reply = doneReply (ofDone r); output = [] }) (r .kept) (opening (a .1 .1 .0)) refl
     (λ m″ ss g. ran-open (a .1 .1 .0) (ofDone r) (p .0) g) (p .1) (runs g)
 runs (hislip-keep-deliver κs a r s p g) =
-    call (record { event = looked (delivery (a .1 .1 .0) (a .1 .1 .1 .0 .now) (length (a .1 .1 .1 .1 .0 .now))); reply = deliveryReply (ofDelivery r); output = take (r .output) (s .1 .1 .1 .1 .0 .now) }) (r .kept) (delivery (a .1 .1 .0) (a .1 .1 .1 .0 .now) (length (a .1 .1 .1 .1 .0 .now))) refl
+    call (record {
+      event = looked (delivery (a .1 .1 .0) (a .1 .1 .1 .0 .now) (length (a .1 .1 .1 .1 .0 .now)));
+      reply = deliveryReply (ofDelivery r);
+      output = take (r .output) (s .1 .1 .1 .1 .0 .now);
+    }) (r .kept) (delivery (a .1 .1 .0) (a .1 .1 .1 .0 .now) (length (a .1 .1 .1 .1 .0 .now))) refl
     (λ m″ ss g. ran-deliver (a .1 .1 .0) (take mostDelivered (a .1 .1 .1 .0 .now)) (a .1 .1 .1 .1 .0 .now) (s .1 .1 .1 .1 .0 .now) (ofDelivery r) (p .0) g) (p .1) (runs g)
 runs (hislip-keep-cut κs a r s p g) =
-    call (record { event = cut (a .1 .1 .0) (length (a .1 .1 .1 .0 .now)); reply = doneReply (ofDone r); output = take (r .output) (s .1 .1 .1 .0 .now) }) (r .kept) (cut (a .1 .1 .0) (length (a .1 .1 .1 .0 .now))) refl
+    call (record { event = cut (a .1 .1 .0) (length (a .1 .1 .1 .0 .now)); reply = doneReply (ofDone r); output = take (r .output) (s .1 .1 .1 .0 .now) })
+    (r .kept) (cut (a .1 .1 .0) (length (a .1 .1 .1 .0 .now))) refl
     (λ m″ ss g. ran-cut (a .1 .1 .0) (a .1 .1 .1 .0 .now) (s .1 .1 .1 .0 .now) (ofDone r) (p .0) g) (p .1) (runs g)
 runs (hislip-keep-clock κs a r s p g) =
-    call (record { event = clock (a .1 .1 .0) (length (a .1 .1 .1 .0 .now)); reply = doneReply (ofDone r); output = take (r .output) (s .1 .1 .1 .0 .now) }) (r .kept) (clock (a .1 .1 .0) (length (a .1 .1 .1 .0 .now))) refl
+    call (record { event = clock (a .1 .1 .0) (length (a .1 .1 .1 .0 .now)); reply = doneReply (ofDone r); output = take (r .output) (s .1 .1 .1 .0 .now) })
+    (r .kept) (clock (a .1 .1 .0) (length (a .1 .1 .1 .0 .now))) refl
     (λ m″ ss g. ran-clock (a .1 .1 .0) (a .1 .1 .1 .0 .now) (s .1 .1 .1 .0 .now) (ofDone r) (p .0) g) (p .1) (runs g)
 runs (hislip-keep-answer κs a r s p g) =
-    call (record { event = looked (answer (a .1 .1 .0) (a .1 .1 .1 .0 .now) (not (eqb (a .1 .1 .1 .1 .0) 0)) (a .1 .1 .1 .1 .1 .0 .now) (length (a .1 .1 .1 .1 .1 .1 .0 .now))); reply = answeredReply (ofAnswered r); output = take (r .output) (s .1 .1 .1 .1 .1 .1 .0 .now) }) (r .kept) (answer (a .1 .1 .0) (a .1 .1 .1 .0 .now) (not (eqb (a .1 .1 .1 .1 .0) 0)) (a .1 .1 .1 .1 .1 .0 .now) (length (a .1 .1 .1 .1 .1 .1 .0 .now))) refl
-    (λ m″ ss g. ran-answer (a .1 .1 .0) (a .1 .1 .1 .0 .now) (a .1 .1 .1 .1 .0) (take mostShown (a .1 .1 .1 .1 .1 .0 .now)) (a .1 .1 .1 .1 .1 .1 .0 .now) (s .1 .1 .1 .1 .1 .1 .0 .now) (ofAnswered r) (p .0) g) (p .1) (runs g)
+    call (record {
+      event = looked (answer (a .1 .1 .0) (a .1 .1 .1 .0 .now) (not (eqb (a .1 .1 .1 .1 .0) 0)) (a .1 .1 .1 .1 .1 .0 .now)
+          (length (a .1 .1 .1 .1 .1 .1 .0 .now)));
+      reply = answeredReply (ofAnswered r);
+      output = take (r .output) (s .1 .1 .1 .1 .1 .1 .0 .now);
+    }) (r .kept)
+    (answer (a .1 .1 .0) (a .1 .1 .1 .0 .now) (not (eqb (a .1 .1 .1 .1 .0) 0)) (a .1 .1 .1 .1 .1 .0 .now) (length (a .1 .1 .1 .1 .1 .1 .0 .now))) refl
+    (λ m″ ss g. ran-answer (a .1 .1 .0) (a .1 .1 .1 .0 .now) (a .1 .1 .1 .1 .0) (take mostShown (a .1 .1 .1 .1 .1 .0 .now)) (a .1 .1 .1 .1 .1 .1 .0 .now)
+    (s .1 .1 .1 .1 .1 .1 .0 .now) (ofAnswered r) (p .0) g) (p .1) (runs g)
 runs (hislip-keep-status κs a r s p g) =
     call (record { event = status (a .1 .1 .0); reply = done; output = [] }) (r .kept) (status (a .1 .1 .0)) refl
     (λ m″ ss g. ran-status (a .1 .1 .0) (p .0) g) (p .1) (runs g)
@@ -142,10 +194,12 @@ runs (hislip-keep-watch-off κs a r s p g) =
     call (record { event = setting (watch (a .1 .1 .0) off); reply = doneReply (ofDone r); output = [] }) (r .kept) (setting (watch (a .1 .1 .0) off)) refl
     (λ m″ ss g. ran-watch (a .1 .1 .0) off (ofDone r) (p .0) g) (p .1) (runs g)
 runs (hislip-keep-watch-above κs a r s p g) =
-    call (record { event = setting (watch (a .1 .1 .0) (above (bits (a .1 .1 .1 .0)))); reply = doneReply (ofDone r); output = [] }) (r .kept) (setting (watch (a .1 .1 .0) (above (bits (a .1 .1 .1 .0))))) refl
+    call (record { event = setting (watch (a .1 .1 .0) (above (bits (a .1 .1 .1 .0)))); reply = doneReply (ofDone r); output = [] }) (r .kept)
+    (setting (watch (a .1 .1 .0) (above (bits (a .1 .1 .1 .0))))) refl
     (λ m″ ss g. ran-watch (a .1 .1 .0) (above (bits (a .1 .1 .1 .0))) (ofDone r) (p .0) g) (p .1) (runs g)
 runs (hislip-keep-watch-outside κs a r s p g) =
-    call (record { event = setting (watch (a .1 .1 .0) (outside (bits (a .1 .1 .1 .0)) (bits (a .1 .1 .1 .1 .0)))); reply = doneReply (ofDone r); output = [] }) (r .kept) (setting (watch (a .1 .1 .0) (outside (bits (a .1 .1 .1 .0)) (bits (a .1 .1 .1 .1 .0))))) refl
+    call (record { event = setting (watch (a .1 .1 .0) (outside (bits (a .1 .1 .1 .0)) (bits (a .1 .1 .1 .1 .0)))); reply = doneReply (ofDone r); output = [] })
+    (r .kept) (setting (watch (a .1 .1 .0) (outside (bits (a .1 .1 .1 .0)) (bits (a .1 .1 .1 .1 .0))))) refl
     (λ m″ ss g. ran-watch (a .1 .1 .0) (outside (bits (a .1 .1 .1 .0)) (bits (a .1 .1 .1 .1 .0))) (ofDone r) (p .0) g) (p .1) (runs g)
 runs (hislip-keep-patterns κs a r s p g) =
     call (record { event = setting (patterns (a .1 .1 .0 .now)); reply = listedReply (ofListed r); output = [] }) (r .kept) (setting (patterns (a .1 .1 .0 .now))) refl

@@ -13,7 +13,8 @@ use Rattle.wire.specs.Frame.{bytesOf}
 use Rattle.wire.proofs.ReadFrames.{bytes-row}
 use Rattle.readings.specs.Watch.{Limits.off, Limits.above, Limits.outside}
 use Rattle.model.specs.State.{Making, Server, fresh}
-use Rattle.model.specs.Interface.{Event, Event.opening, Event.delivery, Event.cut, Event.clock, Event.answer, Event.status, Event.setting, Setting.watch, Setting.patterns, Reply, Reply.refused, Reply.done, Reply.withheld, Reply.took}
+use Rattle.model.specs.Interface.{Event, Event.opening, Event.delivery, Event.cut, Event.clock, Event.answer, Event.status, Event.setting, Setting.watch}
+use Rattle.model.specs.Interface.{Setting.patterns, Reply, Reply.refused, Reply.done, Reply.withheld, Reply.took}
 use Rattle.model.specs.Refusals.{causes, refusal}
 use Rattle.model.specs.Sizes.{clockLimit, connectionLimit, payloadLimit}
 use Rattle.model.specs.Step.{Line, Result, log, step, final}
@@ -48,7 +49,8 @@ use Rattle.judging.proofs.Calls.{step-taken, no-cause, rights}
 use Rattle.judging.proofs.Fine.{all-possible, kept-fine}
 use Rattle.keep.specs.Keeping.{looked, refusedBy, entryUnless, keeping, Keeps}
 use Rattle.keep.specs.Parts.{refused-by, body-within, payload-within}
-use Rattle.keep.specs.Program.{Told, seens, body, accepted, entryOf, bodies, acceptedOf, AllWritten, Typed, AllTyped, EachRead, PlainCall, Begun, Begun.begun, KeptRun, KeptRun.stop, KeptRun.call, ClosedAs, KeptProgram}
+use Rattle.keep.specs.Program.{Told, seens, body, accepted, entryOf, bodies, acceptedOf, AllWritten, Typed, AllTyped, EachRead, PlainCall, Begun}
+use Rattle.keep.specs.Program.{Begun.begun, KeptRun, KeptRun.stop, KeptRun.call, ClosedAs, KeptProgram}
 
 plainly : {m m′ : Memory} {w b w′ b′ : List ℕ} {ts : List Told} → KeptRun m w b ts m′ w′ b′ → Run m (seens ts) m′
 plainly stop = no-more

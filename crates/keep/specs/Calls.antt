@@ -13,7 +13,9 @@ use Rattle.readings.specs.Bits.{below, notNumber}
 use Rattle.readings.specs.Watch.{Limits, Limits.off, Limits.above, Limits.outside, refused as refused-limits}
 use Rattle.model.specs.Bound.{roomOf}
 use Rattle.model.specs.State.{Server}
-use Rattle.model.specs.Interface.{Event, Event.opening, Event.delivery, Event.cut, Event.clock, Event.answer, Event.status, Event.setting, Setting.watch, Setting.patterns, Reply, Reply.refused, Reply.done, Reply.withheld, Reply.took, DeliveryAnswer, deliveryAnswer, DoneAnswer, doneAnswer, AnsweredAnswer, answeredAnswer}
+use Rattle.model.specs.Interface.{Event, Event.opening, Event.delivery, Event.cut, Event.clock, Event.answer, Event.status, Event.setting, Setting.watch}
+use Rattle.model.specs.Interface.{Setting.patterns, Reply, Reply.refused, Reply.done, Reply.withheld, Reply.took, DeliveryAnswer, deliveryAnswer, DoneAnswer}
+use Rattle.model.specs.Interface.{doneAnswer, AnsweredAnswer, answeredAnswer}
 use Rattle.commands.specs.declared.Judged.{Judged}
 use Rattle.commands.specs.Lists.{linesOf}
 use Rattle.commands.specs.Rulings.{judged}
@@ -76,7 +78,8 @@ module _ (m m′ : Memory) (e : Event) (out out′ : List ℕ) (l : length out �
   told-delivery r h =
       let y : Reply = (step (view m) e) .reply in
       let k : ℕ = length (bytesOf ((step (view m) e) .frames)) in
-      by-numbers (r .refusal) (r .output) (ap (λ (a : DeliveryAnswer). a .refusal) (h .numbers) ∙ number-of y k (missing (view m) e)) (ap (λ (a : DeliveryAnswer). a .output) (h .numbers) ∙ output-of y k (missing (view m) e)) (h .post)
+      by-numbers (r .refusal) (r .output) (ap (λ (a : DeliveryAnswer). a .refusal) (h .numbers) ∙ number-of y k (missing (view m) e))
+      (ap (λ (a : DeliveryAnswer). a .output) (h .numbers) ∙ output-of y k (missing (view m) e)) (h .post)
     where
       number-of : (y : Reply) (k l : ℕ) → (deliveryAnswer y k l) .refusal ≡ refusedBy y
       number-of (refused n) k l = refl
@@ -210,7 +213,8 @@ four a b c d = simp length-append
 -- a delivery: its head, and the bytes that are looked at
 module _ (m : Memory) (c : ℕ) (bs : List ℕ) (room k : ℕ) (q : k ≡ min (length bs) layout.mostDelivered) (z n : ℕ) (out : List ℕ)
     (h : Handed (view m) (looked (delivery c bs room)) z n out) where
-  pub delivery-is : numbered 1 c (length (take k bs)) ++ take k bs ++ take n out ≡ layout.bodyBytes (recorded (looked (delivery c bs room))) (bytesOf ((step (view m) (looked (delivery c bs room))) .frames))
+  pub delivery-is : numbered 1 c (length (take k bs)) ++ take k bs
+      ++ take n out ≡ layout.bodyBytes (recorded (looked (delivery c bs room))) (bytesOf ((step (view m) (looked (delivery c bs room))) .frames))
   delivery-is =
       delivery-parts c (take k bs) (take n out) _ (h .frames)
       ∙ ap (λ (x : List ℕ). layout.bodyBytes (layout.delivery c x) (bytesOf ((step (view m) (looked (delivery c bs room))) .frames))) (first-of k layout.mostDelivered bs q)

@@ -15,7 +15,8 @@ use Rattle.wire.specs.Splice.{splice, length-splice, take-front, splice-then}
 use Rattle.model.specs.Sizes.{outputMinimum, payloadLimit, sessionLimit}
 use Rattle.readings.specs.Watch.{Limits, Limits.off, Limits.above, Limits.outside}
 use Rattle.model.specs.State.{Server}
-use Rattle.model.specs.Interface.{Event, Event.opening, Event.delivery, Event.cut, Event.clock, Event.answer, Event.status, Event.setting, Setting.watch, Setting.patterns, Reply, Reply.refused, Reply.done, Reply.withheld, Reply.took}
+use Rattle.model.specs.Interface.{Event, Event.opening, Event.delivery, Event.cut, Event.clock, Event.answer, Event.status, Event.setting, Setting.watch}
+use Rattle.model.specs.Interface.{Setting.patterns, Reply, Reply.refused, Reply.done, Reply.withheld, Reply.took}
 use Rattle.model.specs.Refusals.{causes, refusal}
 use Rattle.model.specs.Step.{Result, answered, step}
 use Rattle.model.specs.Bound.{roomOf, outputBound}
@@ -108,7 +109,8 @@ met h e = record { answer = e ∙ ap keptNumber (h .answer); words-are = h .word
 -- the two ways of an entry
 pub not-kept : (z : ℕ) (words book body : List ℕ) → eqb z 0 ≡ false → {k : ℕ} → k ≡ 0 → Keeps (entryUnless z words book body) k words book
 unfolding entryUnless
-not-kept z words book body e {k} y = rw (no-is {A = Done} (appendOf words book body) (record { answer = Written; words = words; book = book }) e) (record { answer = y; words-are = refl; book-is = refl })
+not-kept z words book body e {k} y = rw (no-is {A = Done} (appendOf words book body) (record { answer = Written; words = words; book = book }) e)
+    (record { answer = y; words-are = refl; book-is = refl })
 
 pub then-kept : (z : ℕ) (words book body : List ℕ) → eqb z 0 ≡ true → {k : ℕ} {words′ book′ : List ℕ} → Keeps (appendOf words book body) k words′ book′
     → Keeps (entryUnless z words book body) k words′ book′
@@ -163,7 +165,8 @@ delivery-parts c shown frames given q =
     (λ i. numbered 1 c (length shown) ++ shown ++ q i)
     ∙ ap (λ (x : List ℕ). 1 ∷ (x ++ given)) (append-assoc (field 4 c) (field 4 (length shown)) shown)
 
-pub answer-parts : (n end : ℕ) (head payload behind shown frames given : List ℕ) → head ≡ 4 ∷ (field 4 n ++ (field 1 end ++ field 4 (length payload))) → behind ≡ field 4 (length shown) ++ shown → frames ≡ given
+pub answer-parts : (n end : ℕ) (head payload behind shown frames given : List ℕ) → head ≡ 4 ∷ (field 4 n ++ (field 1 end ++ field 4 (length payload))) →
+    behind ≡ field 4 (length shown) ++ shown → frames ≡ given
     → head ++ payload ++ behind ++ frames ≡ layout.bodyBytes (layout.answer n end payload shown) given
 unfolding encode row
 answer-parts n end head payload behind shown frames given p r q =
@@ -187,7 +190,8 @@ row-taken blank one both s h p q =
     ap (λ (n : ℕ). take n both) (sym l) ∙ ap (take (length x)) e ∙ take-front blank x (omega (arith, l))
 
 -- of a refused event the body does not matter
-pub kept-if : (z : ℕ) (words book x y : List ℕ) (k : ℕ) (words′ book′ : List ℕ) → (z ≡ 0 → x ≡ y) → Keeps (entryUnless z words book x) k words′ book′ → Keeps (entryUnless z words book y) k words′ book′
+pub kept-if : (z : ℕ) (words book x y : List ℕ) (k : ℕ) (words′ book′ : List ℕ) → (z ≡ 0 → x ≡ y) → Keeps (entryUnless z words book x) k words′ book′ →
+    Keeps (entryUnless z words book y) k words′ book′
 unfolding entryUnless
 kept-if zero words book x y k words′ book′ p h = subst (λ (i : List ℕ). Keeps (entryUnless zero words book i) k words′ book′) (p refl) h
 kept-if (suc z) words book x y k words′ book′ p h =

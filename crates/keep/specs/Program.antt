@@ -111,7 +111,8 @@ pub record KeptProgram (New : Making → Memory → Type 0) (Begins : List ℕ �
       → AllPossible (seenEvents (seens ts)) → forward (take (place words′) book′) ≡ bodies ts
   -- until the first "no room" these are exactly the accepted events
   pub until-no-room : (ts : List Told) → AllWritten ts → bodies ts ≡ acceptedOf (seens ts)
-  pub read : (m m′ : Memory) (words book words′ book′ : List ℕ) (ts : List Told) → Ran m words book ts m′ words′ book′ → AllPossible (seenEvents (seens ts)) → AllTyped (seenEvents (seens ts)) → EachRead ts
+  pub read : (m m′ : Memory) (words book words′ book′ : List ℕ) (ts : List Told) → Ran m words book ts m′ words′ book′ → AllPossible (seenEvents (seens ts)) →
+      AllTyped (seenEvents (seens ts)) → EachRead ts
   -- then the journal can be closed, and both readers find them, the second last first
   pub closed : (v : Making) (m m′ : Memory) (words book words′ book′ words″ book″ : List ℕ) (ts : List Told) (k : ℕ) → v .vendor < 2 ^ 16 → New v m → Begins words book
       → Ran m words book ts m′ words′ book′ → AllPossible (seenEvents (seens ts)) → Closes words′ book′ k words″ book″ → (k ≡ 0) × ClosedAs (bodies ts) words″ book″

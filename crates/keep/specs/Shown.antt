@@ -39,6 +39,7 @@ module _ (d : Server) (n : ℕ) (p : List ℕ) (end : Bool) (sh : List ℕ) (roo
   unfolding step answered
   first-16-count = go (refusal d (answer n p end sh room)) same-refusal
     where
-      go : (z : ℕ) → refusal d (answer n p end (take mostShown sh) room) ≡ z → answered (refusal d (answer n p end (take mostShown sh) room)) d (answer n p end (take mostShown sh) room) ≡ answered z d (answer n p end sh room)
+      go : (z : ℕ) → refusal d (answer n p end (take mostShown sh) room) ≡ z →
+          answered (refusal d (answer n p end (take mostShown sh) room)) d (answer n p end (take mostShown sh) room) ≡ answered z d (answer n p end sh room)
       go zero e = rw e same-finish
       go (suc z) e = rw e

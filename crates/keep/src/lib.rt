@@ -73,7 +73,8 @@ fn keep_entry(
     d: &[u8],
 ) -> u64
     requires { ⌜ (refusal ≡ 0 → length (now a) + length (now b) + length (now c) + length (now d) ≤ bodyLimit) ⌝ }
-    ensures { λ r. ⌜ Keeps (entryUnless refusal (now (journal .entry)) (now (book .entry)) (now (a .entry) ++ now (b .entry) ++ now (c .entry) ++ now (d .entry))) r (now (journal .exit)) (now (book .exit)) ⌝ }
+    ensures { λ r. ⌜ Keeps (entryUnless refusal (now (journal .entry)) (now (book .entry))
+        (now (a .entry) ++ now (b .entry) ++ now (c .entry) ++ now (d .entry))) r (now (journal .exit)) (now (book .exit)) ⌝ }
 {
     if refusal != 0 {
         return 0;
@@ -92,7 +93,8 @@ fn keep_delivery(
     frames: &[u8],
 ) -> u64
     requires { ⌜ (refusal ≡ 0 → 9 + length (now shown) + length (now frames) ≤ bodyLimit) ⌝ }
-    ensures { λ r. ⌜ Keeps (entryUnless refusal (now (journal .entry)) (now (book .entry)) (numbered 1 connection (length (now (shown .entry))) ++ now (shown .entry) ++ now (frames .entry))) r (now (journal .exit)) (now (book .exit)) ⌝ }
+    ensures { λ r. ⌜ Keeps (entryUnless refusal (now (journal .entry)) (now (book .entry))
+        (numbered 1 connection (length (now (shown .entry))) ++ now (shown .entry) ++ now (frames .entry))) r (now (journal .exit)) (now (book .exit)) ⌝ }
 {
     if refusal == 0 {
         let n = shown.len() as u64;
@@ -146,7 +148,10 @@ pub extern "C" fn hislip_keep_open(
     journal: &mut Writer,
     book: &mut [u8],
 ) -> KeptDone
-    ensures { λ r. ⌜ Called (opening connection) (ofDone r) (memory (now (words .entry)) (now (strings .entry))) (memory (now (words .exit)) (now (strings .exit))) [] [] × Keeps (keeping (view (memory (now (words .entry)) (now (strings .entry)))) (opening connection) (now (journal .entry)) (now (book .entry))) (r .kept) (now (journal .exit)) (now (book .exit)) ⌝ }
+    ensures { λ r. ⌜ Called (opening connection) (ofDone r) (memory (now (words .entry)) (now (strings .entry)))
+        (memory (now (words .exit)) (now (strings .exit))) [] []
+        × Keeps (keeping (view (memory (now (words .entry)) (now (strings .entry)))) (opening connection) (now (journal .entry)) (now (book .entry)))
+        (r .kept) (now (journal .exit)) (now (book .exit)) ⌝ }
 {
     let r = server::hislip_open(words, strings, connection);
     let h = heads::one(heads::OPENING, connection as u64);
@@ -164,7 +169,10 @@ pub extern "C" fn hislip_keep_cut(
     journal: &mut Writer,
     book: &mut [u8],
 ) -> KeptDone
-    ensures { λ r. ⌜ Called (cut connection (length (now (out .entry)))) (ofDone r) (memory (now (words .entry)) (now (strings .entry))) (memory (now (words .exit)) (now (strings .exit))) (now (out .entry)) (now (out .exit)) × Keeps (keeping (view (memory (now (words .entry)) (now (strings .entry)))) (cut connection (length (now (out .entry)))) (now (journal .entry)) (now (book .entry))) (r .kept) (now (journal .exit)) (now (book .exit)) ⌝ }
+    ensures { λ r. ⌜ Called (cut connection (length (now (out .entry)))) (ofDone r) (memory (now (words .entry)) (now (strings .entry)))
+        (memory (now (words .exit)) (now (strings .exit))) (now (out .entry)) (now (out .exit))
+        × Keeps (keeping (view (memory (now (words .entry)) (now (strings .entry)))) (cut connection (length (now (out .entry)))) (now (journal .entry))
+        (now (book .entry))) (r .kept) (now (journal .exit)) (now (book .exit)) ⌝ }
 {
     let r = server::hislip_cut(words, strings, connection, out);
     let h = heads::one(heads::CUT, connection as u64);
@@ -183,7 +191,10 @@ pub extern "C" fn hislip_keep_clock(
     journal: &mut Writer,
     book: &mut [u8],
 ) -> KeptDone
-    ensures { λ r. ⌜ Called (clock milliseconds (length (now (out .entry)))) (ofDone r) (memory (now (words .entry)) (now (strings .entry))) (memory (now (words .exit)) (now (strings .exit))) (now (out .entry)) (now (out .exit)) × Keeps (keeping (view (memory (now (words .entry)) (now (strings .entry)))) (clock milliseconds (length (now (out .entry)))) (now (journal .entry)) (now (book .entry))) (r .kept) (now (journal .exit)) (now (book .exit)) ⌝ }
+    ensures { λ r. ⌜ Called (clock milliseconds (length (now (out .entry)))) (ofDone r) (memory (now (words .entry)) (now (strings .entry)))
+        (memory (now (words .exit)) (now (strings .exit))) (now (out .entry)) (now (out .exit))
+        × Keeps (keeping (view (memory (now (words .entry)) (now (strings .entry)))) (clock milliseconds (length (now (out .entry)))) (now (journal .entry))
+        (now (book .entry))) (r .kept) (now (journal .exit)) (now (book .exit)) ⌝ }
 {
     let r = server::hislip_clock(words, strings, milliseconds, out);
     let h = heads::long(heads::CLOCK, milliseconds);
@@ -201,7 +212,10 @@ pub extern "C" fn hislip_keep_status(
     journal: &mut Writer,
     book: &mut [u8],
 ) -> KeptAlone
-    ensures { λ r. ⌜ (Post view (Event.status status) (memory (now (words .entry)) (now (strings .entry))) (memory (now (words .exit)) (now (strings .exit))) [] [] Reply.done 0 × (Tidy (memory (now (words .entry)) (now (strings .entry))) → Tidy (memory (now (words .exit)) (now (strings .exit))))) × Keeps (keeping (view (memory (now (words .entry)) (now (strings .entry)))) (Event.status status) (now (journal .entry)) (now (book .entry))) (r .kept) (now (journal .exit)) (now (book .exit)) ⌝ }
+    ensures { λ r. ⌜ (Post view (Event.status status) (memory (now (words .entry)) (now (strings .entry))) (memory (now (words .exit)) (now (strings .exit))) []
+        [] Reply.done 0 × (Tidy (memory (now (words .entry)) (now (strings .entry))) → Tidy (memory (now (words .exit)) (now (strings .exit)))))
+        × Keeps (keeping (view (memory (now (words .entry)) (now (strings .entry)))) (Event.status status) (now (journal .entry)) (now (book .entry)))
+        (r .kept) (now (journal .exit)) (now (book .exit)) ⌝ }
 {
     server::hislip_status(words, strings, status);
     let h = heads::byte(heads::STATUS, status as u64);
@@ -220,7 +234,11 @@ pub extern "C" fn hislip_keep_deliver(
     journal: &mut Writer,
     book: &mut [u8],
 ) -> KeptDelivery
-    ensures { λ r. ⌜ Delivered (looked (delivery connection (now (bytes .entry)) (length (now (out .entry))))) (ofDelivery r) (memory (now (words .entry)) (now (strings .entry))) (memory (now (words .exit)) (now (strings .exit))) (now (out .entry)) (now (out .exit)) × Keeps (keeping (view (memory (now (words .entry)) (now (strings .entry)))) (looked (delivery connection (now (bytes .entry)) (length (now (out .entry))))) (now (journal .entry)) (now (book .entry))) (r .kept) (now (journal .exit)) (now (book .exit)) ⌝ }
+    ensures { λ r. ⌜ Delivered (looked (delivery connection (now (bytes .entry)) (length (now (out .entry))))) (ofDelivery r)
+        (memory (now (words .entry)) (now (strings .entry))) (memory (now (words .exit)) (now (strings .exit))) (now (out .entry)) (now (out .exit))
+        × Keeps (keeping (view (memory (now (words .entry)) (now (strings .entry))))
+        (looked (delivery connection (now (bytes .entry)) (length (now (out .entry))))) (now (journal .entry)) (now (book .entry))) (r .kept)
+        (now (journal .exit)) (now (book .exit)) ⌝ }
 {
     let n = least(bytes.len(), MOST_DELIVERED);
     let shown = &bytes[..n];
@@ -259,7 +277,11 @@ pub extern "C" fn hislip_keep_answer(
     journal: &mut Writer,
     book: &mut [u8],
 ) -> KeptAnswered
-    ensures { λ r. ⌜ Replied (looked (answer session (now (payload .entry)) (not (eqb end 0)) (now (shown .entry)) (length (now (out .entry))))) (ofAnswered r) (memory (now (words .entry)) (now (strings .entry))) (memory (now (words .exit)) (now (strings .exit))) (now (out .entry)) (now (out .exit)) × Keeps (keeping (view (memory (now (words .entry)) (now (strings .entry)))) (looked (answer session (now (payload .entry)) (not (eqb end 0)) (now (shown .entry)) (length (now (out .entry))))) (now (journal .entry)) (now (book .entry))) (r .kept) (now (journal .exit)) (now (book .exit)) ⌝ }
+    ensures { λ r. ⌜ Replied (looked (answer session (now (payload .entry)) (not (eqb end 0)) (now (shown .entry)) (length (now (out .entry))))) (ofAnswered r)
+        (memory (now (words .entry)) (now (strings .entry))) (memory (now (words .exit)) (now (strings .exit))) (now (out .entry)) (now (out .exit))
+        × Keeps (keeping (view (memory (now (words .entry)) (now (strings .entry))))
+        (looked (answer session (now (payload .entry)) (not (eqb end 0)) (now (shown .entry)) (length (now (out .entry))))) (now (journal .entry))
+        (now (book .entry))) (r .kept) (now (journal .exit)) (now (book .exit)) ⌝ }
 {
     let n = least(shown.len(), MOST_SHOWN);
     let s = &shown[..n];

@@ -28,7 +28,10 @@ pub extern "C" fn hislip_keep_patterns(
     journal: &mut Writer,
     book: &mut [u8],
 ) -> KeptListed
-    ensures { λ r. ⌜ SetsList (now (text .entry)) (ofListed r) (memory (now (words .entry)) (now (strings .entry))) (memory (now (words .exit)) (now (strings .exit))) × Keeps (keeping (view (memory (now (words .entry)) (now (strings .entry)))) (setting (patterns (now (text .entry)))) (now (journal .entry)) (now (book .entry))) (r .kept) (now (journal .exit)) (now (book .exit)) ⌝ }
+    ensures { λ r. ⌜ SetsList (now (text .entry)) (ofListed r) (memory (now (words .entry)) (now (strings .entry)))
+        (memory (now (words .exit)) (now (strings .exit))) × Keeps
+        (keeping (view (memory (now (words .entry)) (now (strings .entry)))) (setting (patterns (now (text .entry)))) (now (journal .entry))
+        (now (book .entry))) (r .kept) (now (journal .exit)) (now (book .exit)) ⌝ }
 {
     let r = listing::hislip_patterns(words, strings, text);
     let h = heads::one(heads::PATTERNS, text.len() as u64);

@@ -25,7 +25,10 @@ pub extern "C" fn hislip_keep_watch_off(
     journal: &mut Writer,
     book: &mut [u8],
 ) -> KeptDone
-    ensures { λ r. ⌜ Called (setting (watch session off)) (ofDone r) (memory (now (words .entry)) (now (strings .entry))) (memory (now (words .exit)) (now (strings .exit))) [] [] × Keeps (keeping (view (memory (now (words .entry)) (now (strings .entry)))) (setting (watch session off)) (now (journal .entry)) (now (book .entry))) (r .kept) (now (journal .exit)) (now (book .exit)) ⌝ }
+    ensures { λ r. ⌜ Called (setting (watch session off)) (ofDone r) (memory (now (words .entry)) (now (strings .entry)))
+        (memory (now (words .exit)) (now (strings .exit))) [] []
+        × Keeps (keeping (view (memory (now (words .entry)) (now (strings .entry)))) (setting (watch session off)) (now (journal .entry)) (now (book .entry)))
+        (r .kept) (now (journal .exit)) (now (book .exit)) ⌝ }
 {
     let r = watches::hislip_watch_off(words, strings, session);
     let h = heads::one(heads::WATCH_OFF, session as u64);
@@ -43,7 +46,10 @@ pub extern "C" fn hislip_keep_watch_above(
     journal: &mut Writer,
     book: &mut [u8],
 ) -> KeptDone
-    ensures { λ r. ⌜ Called (setting (watch session (above (bits limit)))) (ofDone r) (memory (now (words .entry)) (now (strings .entry))) (memory (now (words .exit)) (now (strings .exit))) [] [] × Keeps (keeping (view (memory (now (words .entry)) (now (strings .entry)))) (setting (watch session (above (bits limit)))) (now (journal .entry)) (now (book .entry))) (r .kept) (now (journal .exit)) (now (book .exit)) ⌝ }
+    ensures { λ r. ⌜ Called (setting (watch session (above (bits limit)))) (ofDone r) (memory (now (words .entry)) (now (strings .entry)))
+        (memory (now (words .exit)) (now (strings .exit))) [] []
+        × Keeps (keeping (view (memory (now (words .entry)) (now (strings .entry)))) (setting (watch session (above (bits limit)))) (now (journal .entry))
+        (now (book .entry))) (r .kept) (now (journal .exit)) (now (book .exit)) ⌝ }
 {
     let r = watches::hislip_watch_above(words, strings, session, limit);
     let x = floats::bits_of(limit);
@@ -63,7 +69,10 @@ pub extern "C" fn hislip_keep_watch_outside(
     journal: &mut Writer,
     book: &mut [u8],
 ) -> KeptDone
-    ensures { λ r. ⌜ Called (setting (watch session (outside (bits low) (bits high)))) (ofDone r) (memory (now (words .entry)) (now (strings .entry))) (memory (now (words .exit)) (now (strings .exit))) [] [] × Keeps (keeping (view (memory (now (words .entry)) (now (strings .entry)))) (setting (watch session (outside (bits low) (bits high)))) (now (journal .entry)) (now (book .entry))) (r .kept) (now (journal .exit)) (now (book .exit)) ⌝ }
+    ensures { λ r. ⌜ Called (setting (watch session (outside (bits low) (bits high)))) (ofDone r) (memory (now (words .entry)) (now (strings .entry)))
+        (memory (now (words .exit)) (now (strings .exit))) [] []
+        × Keeps (keeping (view (memory (now (words .entry)) (now (strings .entry)))) (setting (watch session (outside (bits low) (bits high))))
+        (now (journal .entry)) (now (book .entry))) (r .kept) (now (journal .exit)) (now (book .exit)) ⌝ }
 {
     let r = watches::hislip_watch_outside(words, strings, session, low, high);
     let x = floats::bits_of(low);

@@ -25,13 +25,23 @@ add-e : tie.Need-add-e
 add-e c = omega (arith, c .before .before .before .before .before .before .before .before .before .before .least .ensures)
 
 array-share-prefix-row : tie.Need-array-share-prefix-row
-array-share-prefix-row c = omega (arith, c .before .before .before .before .before .before .before .before .before .before .before .before .before .least .ensures, c .before .before .before .row .ensures .0)
+array-share-prefix-row c =
+    omega (
+      arith,
+      c .before .before .before .before .before .before .before .before .before .before .before .before .before .least .ensures,
+      c .before .before .before .row .ensures .0,
+    )
 
 slice-aggregate-keep-entry-2 : tie.Need-slice-aggregate-keep-entry-2
-slice-aggregate-keep-entry-2 c = simp length-take (omega (arith, c .before .before .before .before .before .before .before .before .before .before .before .before .before .before .least .ensures, c .before .before .before .before .row .ensures .0))
+slice-aggregate-keep-entry-2 c = simp length-take (omega (
+  arith,
+  c .before .before .before .before .before .before .before .before .before .before .before .before .before .before .least .ensures,
+  c .before .before .before .before .row .ensures .0,
+))
 
 slice-reshare-prefix-keep-entry : tie.Need-slice-reshare-prefix-keep-entry
-slice-reshare-prefix-keep-entry c = let a = c .before .before .before .before .before .before .before .before .before .before .before .before .before .before .before .before .before .before .before .args in
+slice-reshare-prefix-keep-entry c = let a = c .before .before .before .before .before .before .before .before .before .before .before .before .before .before
+    .before .before .before .before .before .args in
     let m = memory (a .words .now) (a .strings .now) in
     let p = a .payload .now in
     let end = not (eqb (a .end) 0) in
@@ -44,7 +54,8 @@ slice-reshare-prefix-keep-entry c = let a = c .before .before .before .before .b
     omega (arith, t .inside)
 
 slice-aggregate-keep-entry-3 : tie.Need-slice-aggregate-keep-entry-3
-slice-aggregate-keep-entry-3 c = let a = c .before .before .before .before .before .before .before .before .before .before .before .before .before .before .before .before .before .before .before .before .args in
+slice-aggregate-keep-entry-3 c = let a = c .before .before .before .before .before .before .before .before .before .before .before .before .before .before
+    .before .before .before .before .before .before .args in
     let m = memory (a .words .now) (a .strings .now) in
     let p = a .payload .now in
     let end = not (eqb (a .end) 0) in
@@ -57,7 +68,8 @@ slice-aggregate-keep-entry-3 c = let a = c .before .before .before .before .befo
     simp length-take (omega (arith, t .inside))
 
 keep-entry-requires : tie.Need-keep-entry-requires
-keep-entry-requires c κs = let a = c .before .before .before .before .before .before .before .before .before .before .before .before .before .before .before .before .before .before .before .before .args in
+keep-entry-requires c κs = let a = c .before .before .before .before .before .before .before .before .before .before .before .before .before .before .before
+    .before .before .before .before .before .args in
     let m = memory (a .words .now) (a .strings .now) in
     let p = a .payload .now in
     let end = not (eqb (a .end) 0) in
@@ -67,12 +79,15 @@ keep-entry-requires c κs = let a = c .before .before .before .before .before .b
     let q = c .before .before .before .before .before .before .before .before .before .before .before .before .before .before .before .least .ensures in
     let g = answered-first (a .session) p end sh room _ q (c .before .before .before .before .before .before .before .before .before .before .hislip-answer .ensures) in
     let t = told-answer m _ (looked e) (a .out .now) _ refl _ g in
-    let h = c .before .before .before .before .before .before .three .ensures ∙ ap (λ (i : ℕ). 4 ∷ (field 4 (a .session) ++ (field 1 i ++ field 4 (length p)))) (c .before .before .before .before .before .before .before .bit .ensures) in
+    let h = c .before .before .before .before .before .before .three .ensures
+    ∙ ap (λ (i : ℕ). 4 ∷ (field 4 (a .session) ++ (field 1 i ++ field 4 (length p))))
+    (c .before .before .before .before .before .before .before .bit .ensures) in
     let r = row-is _ sh _ _ q (c .before .before .before .before .before .row .ensures .1) in
     λ z. answer-within m (a .session) p end sh room _ q _ _ _ t _ _ h r z
 
 returns : tie.Need-returns
-returns c = let a = c .before .before .before .before .before .before .before .before .before .before .before .before .before .before .before .before .before .before .before .before .before .before .before .args in
+returns c = let a = c .before .before .before .before .before .before .before .before .before .before .before .before .before .before .before .before .before
+    .before .before .before .before .before .before .args in
     let m = memory (a .words .now) (a .strings .now) in
     let p = a .payload .now in
     let end = not (eqb (a .end) 0) in
@@ -82,7 +97,9 @@ returns c = let a = c .before .before .before .before .before .before .before .b
     let q = c .before .before .before .before .before .before .before .before .before .before .before .before .before .before .before .before .before .before .least .ensures in
     let g = answered-first (a .session) p end sh room _ q (c .before .before .before .before .before .before .before .before .before .before .before .before .before .hislip-answer .ensures) in
     let t = told-answer m _ (looked e) (a .out .now) _ refl _ g in
-    let h = c .before .before .before .before .before .before .before .before .before .three .ensures ∙ ap (λ (i : ℕ). 4 ∷ (field 4 (a .session) ++ (field 1 i ++ field 4 (length p)))) (c .before .before .before .before .before .before .before .before .before .before .bit .ensures) in
+    let h = c .before .before .before .before .before .before .before .before .before .three .ensures
+    ∙ ap (λ (i : ℕ). 4 ∷ (field 4 (a .session) ++ (field 1 i ++ field 4 (length p))))
+    (c .before .before .before .before .before .before .before .before .before .before .bit .ensures) in
     let r = row-is _ sh _ _ q (c .before .before .before .before .before .before .before .before .row .ensures .1) in
     (g, body-kept m e _ _ _ t _ _ _ _ _ _ (answer-is m (a .session) p end sh room _ q _ _ _ t _ _ h r) (c .before .before .keep-entry .ensures))
 

@@ -34,8 +34,12 @@ returns : tie.Need-returns
 returns c = let a = c .before .before .before .before .before .before .before .before .before .before .before .before .before .before .before .before .before .args in
     let m = memory (a .words .now) (a .strings .now) in
     let e : Event = cut (a .connection) (length (a .out .now)) in
-    let t = told-done m _ e (a .out .now) _ refl _ (c .before .before .before .before .before .before .before .before .before .before .before .hislip-cut .ensures) in
-    (called-again (c .done .ensures .0) (c .before .before .before .before .before .before .before .before .before .before .before .hislip-cut .ensures), kept-again (c .done .ensures .1) (body-kept m e _ _ _ t _ _ _ _ _ _ (numbers-are m e _ _ _ t _ (cut-head (a .connection) (length (a .out .now)) (c .before .before .before .before .before .before .before .before .one .ensures))) (c .before .before .before .keep-numbers .ensures)))
+    let t = told-done m _ e (a .out .now) _ refl _ (c .before .before .before .before .before .before .before .before .before .before .before .hislip-cut .ensures) in (
+      called-again (c .done .ensures .0) (c .before .before .before .before .before .before .before .before .before .before .before .hislip-cut .ensures),
+      kept-again (c .done .ensures .1) (body-kept m e _ _ _ t _ _ _ _ _ _
+          (numbers-are m e _ _ _ t _ (cut-head (a .connection) (length (a .out .now))
+          (c .before .before .before .before .before .before .before .before .one .ensures))) (c .before .before .before .keep-numbers .ensures)),
+    )
 
 pub hislip-keep-cut-spec : {M : Type 1} → statement M
 hislip-keep-cut-spec =

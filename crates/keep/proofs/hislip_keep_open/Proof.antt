@@ -12,8 +12,13 @@ returns : tie.Need-returns
 returns c = let a = c .before .before .before .before .before .before .before .before .before .before .before .before .before .args in
     let m = memory (a .words .now) (a .strings .now) in
     let e : Event = opening (a .connection) in
-    let t = none-handed (told-done m _ e [] [] refl _ (c .before .before .before .before .before .before .before .before .before .hislip-open .ensures)) in
-    (called-again (c .done .ensures .0) (c .before .before .before .before .before .before .before .before .before .hislip-open .ensures), kept-again (c .done .ensures .1) (body-kept m e _ _ _ t _ _ _ _ _ _ (numbers-are m e _ _ _ t _ (opening-head (a .connection) (c .before .before .before .before .before .before .before .before .one .ensures))) (c .before .before .before .keep-numbers .ensures)))
+    let t = none-handed (told-done m _ e [] [] refl _ (c .before .before .before .before .before .before .before .before .before .hislip-open .ensures)) in (
+      called-again (c .done .ensures .0) (c .before .before .before .before .before .before .before .before .before .hislip-open .ensures),
+      kept-again
+          (c .done .ensures .1) (body-kept m e _ _ _ t _ _ _ _ _ _
+          (numbers-are m e _ _ _ t _ (opening-head (a .connection) (c .before .before .before .before .before .before .before .before .one .ensures)))
+          (c .before .before .before .keep-numbers .ensures)),
+    )
 
 pub hislip-keep-open-spec : {M : Type 1} → statement M
 hislip-keep-open-spec =

@@ -10,8 +10,12 @@ returns : tie.Need-returns
 returns c = let a = c .before .before .before .before .before .before .before .before .before .before .before .before .args in
     let m = memory (a .words .now) (a .strings .now) in
     let e : Event = status (a .status) in
-    let t = told-status m _ (a .status) (c .before .before .before .before .before .before .before .before .hislip-status .ensures .0) in
-    (c .before .before .before .before .before .before .before .before .hislip-status .ensures, body-kept m e _ _ _ t _ _ _ _ _ _ (numbers-are m e _ _ _ t _ (status-head (a .status) (c .before .before .before .before .before .before .before .byte .ensures))) (c .before .before .keep-numbers .ensures))
+    let t = told-status m _ (a .status) (c .before .before .before .before .before .before .before .before .hislip-status .ensures .0) in (
+      c .before .before .before .before .before .before .before .before .hislip-status .ensures,
+      body-kept m e _ _ _ t _ _ _ _ _ _
+          (numbers-are m e _ _ _ t _ (status-head (a .status) (c .before .before .before .before .before .before .before .byte .ensures)))
+          (c .before .before .keep-numbers .ensures),
+    )
 
 pub hislip-keep-status-spec : {M : Type 1} → statement M
 hislip-keep-status-spec =

@@ -13,7 +13,8 @@ append-requires : tie.Need-append-requires
 append-requires c κs = c .before .before .before .before .before .before .before .before .pre (c .before .before .if1 .left)
 
 returns-2 : tie.Need-returns-2
-returns-2 c = then-kept _ _ _ _ (eq-eqb (c .before .before .before .before .before .before .before .before .before .before .before .before .args .refusal) 0 (c .before .before .before .before .before .before .if1 .left)) (met (c .before .before .before .append .ensures) (c .kept-number .ensures))
+returns-2 c = then-kept _ _ _ _ (eq-eqb (c .before .before .before .before .before .before .before .before .before .before .before .before .args .refusal) 0
+    (c .before .before .before .before .before .before .if1 .left)) (met (c .before .before .before .append .ensures) (c .kept-number .ensures))
 
 pub keep-entry-spec : {M : Type 1} → statement M
 keep-entry-spec =

@@ -24,15 +24,25 @@ returns c = let a = c .before .before .before .before .before .before .before .b
     let s = a .strings .now in
     let h = message (a .kind) (a .code) (a .param) (a .len) in
     let p = a .payload .now in
-    λ ro e. acts-as (view (memory (a .w .now) s)) (a .i) (a .c) h p _ _ _ _ _ ro r-asynchronous (role-async ro (e ∙ c .before .before .before .before .before .before .if1 .taken)) (c .before .before .act-asynchronous .ensures)
+    λ ro e. acts-as (view (memory (a .w .now) s)) (a .i) (a .c) h p _ _ _ _ _ ro r-asynchronous
+    (role-async ro (e ∙ c .before .before .before .before .before .before .if1 .taken)) (c .before .before .act-asynchronous .ensures)
 
 act-opening-requires : tie.Need-act-opening-requires
 act-opening-requires c κs = let a = c .before .before .before .before .before .before .before .args in
     let q = c .before .before .before .before .before .before .before .pre in
     let s = a .strings .now in
     let h = message (a .kind) (a .code) (a .param) (a .len) in
-    let p = a .payload .now in
-    (search needs, search needs, search needs, λ t k. slot-free (a .w .now) t h p (q .6 t r-none (sym (c .before .before .before .if2 .taken))) k, λ t k. slot-named (a .w .now) t h p (q .6 t r-none (sym (c .before .before .before .if2 .taken))) k, λ t k. slot-half (a .w .now) t h p (q .6 t r-none (sym (c .before .before .before .if2 .taken))) k, q .7 (c .before .before .before .if2 .taken))
+    let p = a .payload .now in (
+      search needs,
+      search needs,
+      search needs,
+      λ t k. slot-free (a .w .now) t h p (q .6 t r-none (sym (c .before .before .before .if2 .taken))) k,
+      λ t k.
+          slot-named (a .w .now) t h p (q .6 t r-none (sym (c .before .before .before .if2 .taken))) k,
+      λ t k. slot-half (a .w .now) t h p
+          (q .6 t r-none (sym (c .before .before .before .if2 .taken))) k,
+      q .7 (c .before .before .before .if2 .taken),
+    )
 
 returns-2 : tie.Need-returns-2
 returns-2 c = let a = c .before .before .before .before .before .before .before .before .before .before .args in
@@ -40,7 +50,8 @@ returns-2 c = let a = c .before .before .before .before .before .before .before 
     let s = a .strings .now in
     let h = message (a .kind) (a .code) (a .param) (a .len) in
     let p = a .payload .now in
-    λ ro e. acts-as (view (memory (a .w .now) s)) (a .i) (a .c) h p _ _ _ _ _ ro r-none (role-none ro (e ∙ c .before .before .before .before .before .before .if2 .taken)) (c .before .before .act-opening .ensures p (a .i) (a .code))
+    λ ro e. acts-as (view (memory (a .w .now) s)) (a .i) (a .c) h p _ _ _ _ _ ro r-none
+    (role-none ro (e ∙ c .before .before .before .before .before .before .if2 .taken)) (c .before .before .act-opening .ensures p (a .i) (a .code))
 
 returns-3 : tie.Need-returns-3
 returns-3 c = let a = c .before .before .before .before .before .args in
@@ -48,7 +59,9 @@ returns-3 c = let a = c .before .before .before .before .before .args in
     let s = a .strings .now in
     let h = message (a .kind) (a .code) (a .param) (a .len) in
     let p = a .payload .now in
-    λ ro e. acts-as (view (memory (a .w .now) s)) (a .i) (a .c) h p _ _ _ _ _ ro r-halfOpen (role-half ro (λ z. c .before .if2 .left (sym e ∙ z)) (λ z. q .5 (sym e ∙ z)) (λ z. c .before .before .if1 .left (sym e ∙ z))) (half-acts (memory (a .w .now) s) (a .i) (a .c) h p (a .out .now) _ (c .quiet .ensures))
+    λ ro e. acts-as (view (memory (a .w .now) s)) (a .i) (a .c) h p _ _ _ _ _ ro r-halfOpen
+    (role-half ro (λ z. c .before .if2 .left (sym e ∙ z)) (λ z. q .5 (sym e ∙ z)) (λ z. c .before .before .if1 .left (sym e ∙ z)))
+    (half-acts (memory (a .w .now) s) (a .i) (a .c) h p (a .out .now) _ (c .quiet .ensures))
 
 pub act-spec : {M : Type 1} → statement M
 act-spec =

@@ -18,30 +18,38 @@ count-refused-requires c κs = c .before .before .before .pre .5
 returns : tie.Need-returns
 returns c =
     let a = c .before .before .before .before .before .before .before .before .before .args in
-    λ ro x e f g. error-done (view (memory (a .w .now) (a .strings .now))) (a .c) (a .i) x ro _ _ _ _ _ (a .v) (c .before .before .before .before .before .before .before .if1 .taken) (a .taken) (a .left) e f (a .moves) g _ _ (c .before .before .before .before .before .count-refused .ensures .0 (a .strings .now)) (c .before .before .before .before .before .count-refused .ensures .1 (a .strings .now)) (c .before .before .send-error .ensures (a .strings .now))
+    λ ro x e f g. error-done (view (memory (a .w .now) (a .strings .now))) (a .c) (a .i) x ro _ _ _ _ _ (a .v)
+    (c .before .before .before .before .before .before .before .if1 .taken) (a .taken) (a .left) e f (a .moves) g _ _
+    (c .before .before .before .before .before .count-refused .ensures .0 (a .strings .now))
+    (c .before .before .before .before .before .count-refused .ensures .1 (a .strings .now)) (c .before .before .send-error .ensures (a .strings .now))
 
 returns-2 : tie.Need-returns-2
 returns-2 c =
     let a = c .before .before .before .before .before .before .before .before .before .args in
-    λ ro x e f g. fatal-done (view (memory (a .w .now) (a .strings .now))) (a .c) (a .i) x ro _ _ _ _ _ (a .v) (c .before .before .before .before .before .before .if2 .taken) (c .before .before .before .before .before .before .before .if1 .left) (c .before .before .send-fatal .ensures)
+    λ ro x e f g. fatal-done (view (memory (a .w .now) (a .strings .now))) (a .c) (a .i) x ro _ _ _ _ _ (a .v)
+    (c .before .before .before .before .before .before .if2 .taken) (c .before .before .before .before .before .before .before .if1 .left)
+    (c .before .before .send-fatal .ensures)
 
 returns-3 : tie.Need-returns-3
 returns-3 c =
     let a = c .before .before .before .before .before .before .before .before .before .before .args in
-    λ ro x e f g. closed-done (view (memory (a .w .now) (a .strings .now))) (a .c) (a .i) x ro _ _ _ _ _ (a .v) (c .before .before .before .before .before .before .if3 .taken) (c .before .before .close-silently .ensures)
+    λ ro x e f g. closed-done (view (memory (a .w .now) (a .strings .now))) (a .c) (a .i) x ro _ _ _ _ _ (a .v)
+    (c .before .before .before .before .before .before .if3 .taken) (c .before .before .close-silently .ensures)
 
 returns-4 : tie.Need-returns-4
 unfolding bytesOf
 returns-4 c =
     let a = c .before .before .before .before .before .before .args in
     let d = view (memory (a .w .now) (a .strings .now)) in
-    λ ro x e f g. ignored-done d (a .c) (a .i) x ro _ _ _ _ _ (a .v) (c .before .if4 .taken) (a .taken) e (did-plainly d (took ignored (a .taken) 0) (d .rest) [] _ _ _ _ _ (ap numbersOf (c .quiet .ensures)) refl (nothing-said (a .out .now)) refl (λ t. t))
+    λ ro x e f g. ignored-done d (a .c) (a .i) x ro _ _ _ _ _ (a .v) (c .before .if4 .taken) (a .taken) e
+    (did-plainly d (took ignored (a .taken) 0) (d .rest) [] _ _ _ _ _ (ap numbersOf (c .quiet .ensures)) refl (nothing-said (a .out .now)) refl (λ t. t))
 
 returns-5 : tie.Need-returns-5
 returns-5 c =
     let p = c .before .before .before .before .before .before in
     let a = p .args in
-    λ ro x e f g. more-done (view (memory (a .w .now) (a .strings .now))) (a .c) (a .i) x ro _ _ _ _ _ (a .v) (omega arith) (p .pre .4) (c .before .if4 .left) (c .before .before .if3 .left) (p .pre .3) (did-nothing 0 (took more-needed 0 0) _ _ _ (ap numbersOf (c .more-needed .ensures)))
+    λ ro x e f g. more-done (view (memory (a .w .now) (a .strings .now))) (a .c) (a .i) x ro _ _ _ _ _ (a .v) (omega arith) (p .pre .4) (c .before .if4 .left)
+    (c .before .before .if3 .left) (p .pre .3) (did-nothing 0 (took more-needed 0 0) _ _ _ (ap numbersOf (c .more-needed .ensures)))
 
 pub apply-spec : {M : Type 1} → statement M
 apply-spec =

@@ -18,20 +18,32 @@ in-clear-requires : tie.Need-in-clear-requires
 in-clear-requires c κs = c .before .pre (c .if1 .left)
 
 returns-2 : tie.Need-returns-2
-returns-2 c = let a = c .before .before .before .args in
-    (λ z. absurd (true≢false (sym z)), λ ro m l e. left-in-clear (message (a .kind) m (a .param) l) (exchangeAt (restOf (a .w .now)) (a .i)) ro (e ∙ c .before .before .if1 .left) (c .before .in-clear .ensures ∙ c .if2 .taken))
+returns-2 c = let a = c .before .before .before .args in (
+  λ z. absurd (true≢false (sym z)),
+  λ ro m l e. left-in-clear (message (a .kind) m (a .param) l) (exchangeAt (restOf (a .w .now)) (a .i)) ro
+      (e ∙ c .before .before .if1 .left) (c .before .in-clear .ensures ∙ c .if2 .taken),
+)
 
 returns-3 : tie.Need-returns-3
-returns-3 c = let a = c .before .before .before .before .before .args in
-    (λ z. absurd (true≢false (sym z)), λ ro m l e. left-by-kind (message (a .kind) m (a .param) l) (exchangeAt (restOf (a .w .now)) (a .i)) ro (e ∙ c .before .before .before .before .if1 .left) (c .before .before .before .in-clear .ensures ∙ c .before .before .if2 .left) (c .before .is-command .ensures ∙ not-true _ (c .if3 .taken)))
+returns-3 c = let a = c .before .before .before .before .before .args in (
+  λ z. absurd (true≢false (sym z)),
+  λ ro m l e. left-by-kind (message (a .kind) m (a .param) l) (exchangeAt (restOf (a .w .now)) (a .i)) ro
+      (e ∙ c .before .before .before .before .if1 .left) (c .before .before .before .in-clear .ensures ∙ c .before .before .if2 .left)
+      (c .before .is-command .ensures ∙ not-true _ (c .if3 .taken)),
+)
 
 is-expected-requires : tie.Need-is-expected-requires
 is-expected-requires c κs = c .before .before .before .before .before .pre (c .before .before .before .before .if1 .left)
 
 returns-4 : tie.Need-returns-4
 returns-4 c = let q = c .before .before .before .before .before .before in
-    let a = q .args in
-    (λ z. q .pre (c .before .before .before .before .before .if1 .left), λ ro m l e. by-number (message (a .kind) m (a .param) l) (exchangeAt (restOf (a .w .now)) (a .i)) ro (e ∙ c .before .before .before .before .before .if1 .left) (c .before .before .before .before .in-clear .ensures ∙ c .before .before .before .if2 .left) (c .before .before .is-command .ensures ∙ not-false _ (c .before .if3 .left)) _ (c .is-expected .ensures))
+    let a = q .args in (
+      λ z. q .pre (c .before .before .before .before .before .if1 .left),
+      λ ro m l e. by-number (message (a .kind) m (a .param) l)
+          (exchangeAt (restOf (a .w .now)) (a .i)) ro (e ∙ c .before .before .before .before .before .if1 .left)
+          (c .before .before .before .before .in-clear .ensures ∙ c .before .before .before .if2 .left)
+          (c .before .before .is-command .ensures ∙ not-false _ (c .before .if3 .left)) _ (c .is-expected .ensures),
+    )
 
 pub carries-spec : {M : Type 1} → statement M
 carries-spec = tie.close (tie.spec returns in-clear-requires returns-2 (λ c κs. search needs) returns-3 is-expected-requires returns-4)

@@ -17,7 +17,8 @@ deliver-status-requires c κs =
 returns : tie.Need-returns
 returns c =
     let a = c .before .before .before .before .before .before .before .before .before .args in
-    of-kind (view (memory (a .w .now) (a .strings .now))) (a .c) (a .i) (message (a .kind) (a .code) (a .param) (a .len)) (a .payload .now) r-asynchronous _ _ _ _ _ 21 (c .before .before .before .before .before .before .if1 .taken) (c .before .before .deliver-status .ensures)
+    of-kind (view (memory (a .w .now) (a .strings .now))) (a .c) (a .i) (message (a .kind) (a .code) (a .param) (a .len)) (a .payload .now) r-asynchronous _ _ _
+    _ _ 21 (c .before .before .before .before .before .before .if1 .taken) (c .before .before .deliver-status .ensures)
 
 deliver-lock-requires : tie.Need-deliver-lock-requires
 deliver-lock-requires c κs =
@@ -27,7 +28,8 @@ deliver-lock-requires c κs =
 returns-2 : tie.Need-returns-2
 returns-2 c =
     let a = c .before .before .before .before .before .before .before .before .before .before .args in
-    of-kind (view (memory (a .w .now) (a .strings .now))) (a .c) (a .i) (message (a .kind) (a .code) (a .param) (a .len)) (a .payload .now) r-asynchronous _ _ _ _ _ 4 (c .before .before .before .before .before .before .if2 .taken) (c .before .before .deliver-lock .ensures)
+    of-kind (view (memory (a .w .now) (a .strings .now))) (a .c) (a .i) (message (a .kind) (a .code) (a .param) (a .len)) (a .payload .now) r-asynchronous _ _ _
+    _ _ 4 (c .before .before .before .before .before .before .if2 .taken) (c .before .before .deliver-lock .ensures)
 
 deliver-kind-requires : tie.Need-deliver-kind-requires
 deliver-kind-requires c κs =

@@ -47,7 +47,9 @@ returns-3 c =
     let h = message (a .kind) (a .code) (a .param) (a .len) in
     let e : judged r-synchronous d (a .i) h (a .payload .now) ≡ verdictOf (v .result) = v .ensures (a .strings .now) r-synchronous refl (λ z. refl) .case in
     by-verdict d (a .c) (a .i) (whole h (a .payload .now)) r-synchronous _ _ _ _ _ (judged r-synchronous d (a .i) h (a .payload .now)) (verdictOf (v .result)) e
-    (c .before .before .apply .ensures r-synchronous (whole h (a .payload .now)) refl refl (moved-whole h (exchangeAt (restOf (a .w .now)) (a .i)) r-synchronous (a .payload .now) _ (c .before .before .before .before .before .before .carries .ensures .1 r-synchronous (a .code) (a .len) refl)))
+    (c .before .before .apply .ensures r-synchronous (whole h (a .payload .now)) refl refl
+    (moved-whole h (exchangeAt (restOf (a .w .now)) (a .i)) r-synchronous (a .payload .now) _
+    (c .before .before .before .before .before .before .carries .ensures .1 r-synchronous (a .code) (a .len) refl)))
 
 pub deliver-fully-spec : {M : Type 1} → statement M
 deliver-fully-spec =

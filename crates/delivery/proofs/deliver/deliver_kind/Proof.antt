@@ -25,7 +25,8 @@ returns : tie.Need-returns
 returns c =
     let a = c .before .before .before .before .before .before .before .before .before .args in
     let h = message (a .kind) (a .code) (a .param) (a .len) in
-    λ ro e. of-role (view (memory (a .w .now) (a .strings .now))) (a .c) (a .i) h (a .payload .now) ro r-synchronous _ _ _ _ _ (role-sync ro (e ∙ c .before .before .before .before .before .before .if1 .taken)) (c .before .before .deliver-fully .ensures)
+    λ ro e. of-role (view (memory (a .w .now) (a .strings .now))) (a .c) (a .i) h (a .payload .now) ro r-synchronous _ _ _ _ _
+    (role-sync ro (e ∙ c .before .before .before .before .before .before .if1 .taken)) (c .before .before .deliver-fully .ensures)
 
 whole-verdict-requires : tie.Need-whole-verdict-requires
 whole-verdict-requires c κs = λ e. c .before .before .before .before .before .pre .5 (λ z. omega arith)
@@ -33,8 +34,18 @@ whole-verdict-requires c κs = λ e. c .before .before .before .before .before .
 act-requires : tie.Need-act-requires
 act-requires c κs =
     let q = c .before .before .before .before .before .before .before .before .before .before .pre in
-    let v = c .before .before .before .before .whole-verdict in
-    (search needs, search needs, q .2, search needs, q .5, λ z. c .before .before .before .before .before .before .before .if1 .left z, λ t ro e. v .ensures t ro e (λ z. absurd (c .before .before .before .before .before .before .before .if1 .left z)) .case ∙ ap verdictOf (c .before .before .before .if2 .taken), q .6)
+    let v = c .before .before .before .before .whole-verdict in (
+      search needs,
+      search needs,
+      q .2,
+      search needs,
+      q .5,
+      λ z. c .before .before .before .before .before .before .before .if1 .left z,
+      λ t ro e. v .ensures t
+          ro e (λ z. absurd (c .before .before .before .before .before .before .before .if1 .left z)) .case
+          ∙ ap verdictOf (c .before .before .before .if2 .taken),
+      q .6,
+    )
 
 returns-2 : tie.Need-returns-2
 returns-2 c =
@@ -65,7 +76,9 @@ returns-4 c =
     let d = view (memory (a .w .now) (a .strings .now)) in
     let h = message (a .kind) (a .code) (a .param) (a .len) in
     λ ro e. by-verdict d (a .c) (a .i) (whole h (a .payload .now)) ro _ _ _ _ _ (judged ro d (a .i) h (a .payload .now)) (verdictOf (v .result))
-    (v .ensures (a .strings .now) ro e (λ z. refl) .case) (c .before .before .apply .ensures ro (whole h (a .payload .now)) refl refl (moved-whole h (exchangeAt (restOf (a .w .now)) (a .i)) ro (a .payload .now) _ (c .before .before .before .before .before .before .carries .ensures .1 ro (a .code) (a .len) e)))
+    (v .ensures (a .strings .now) ro e (λ z. refl) .case) (c .before .before .apply .ensures ro (whole h (a .payload .now)) refl refl
+    (moved-whole h (exchangeAt (restOf (a .w .now)) (a .i)) ro (a .payload .now) _
+    (c .before .before .before .before .before .before .carries .ensures .1 ro (a .code) (a .len) e)))
 
 pub deliver-kind-spec : {M : Type 1} → statement M
 deliver-kind-spec =

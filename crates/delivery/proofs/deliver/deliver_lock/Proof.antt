@@ -23,7 +23,9 @@ returns c =
     let v = c .before .before .before .before .before .before .before .asynchronous-verdict in
     let d = view (memory (a .w .now) (a .strings .now)) in
     let h = message 4 (a .code) (a .param) (a .len) in
-    let e : judged r-asynchronous d (a .i) h (a .payload .now) ≡ verdictOf (v .result) = judged-asynchronous d (a .i) h (a .payload .now) r-asynchronous (λ q. let z : ⊥ = omega arith in z) (λ q. let z : ⊥ = omega arith in z) (λ q. let z : ⊥ = omega arith in z) ∙ v .ensures (a .payload .now) (a .param) .case in
+    let e : judged r-asynchronous d (a .i) h (a .payload .now) ≡ verdictOf (v .result) =
+    judged-asynchronous d (a .i) h (a .payload .now) r-asynchronous (λ q. let z : ⊥ = omega arith in z) (λ q. let z : ⊥ = omega arith in z)
+    (λ q. let z : ⊥ = omega arith in z) ∙ v .ensures (a .payload .now) (a .param) .case in
     acts-done d (a .c) (a .i) h (a .payload .now) r-asynchronous _ _ _ _ _ (judged r-asynchronous d (a .i) h (a .payload .now))
     (e ∙ ap verdictOf (c .before .before .before .before .before .before .if1 .taken)) (c .before .before .act-lock .ensures)
 
@@ -33,7 +35,9 @@ returns-2 c =
     let v = c .before .before .before .asynchronous-verdict in
     let d = view (memory (a .w .now) (a .strings .now)) in
     let h = message 4 (a .code) (a .param) (a .len) in
-    let e : judged r-asynchronous d (a .i) h (a .payload .now) ≡ verdictOf (v .result) = judged-asynchronous d (a .i) h (a .payload .now) r-asynchronous (λ q. let z : ⊥ = omega arith in z) (λ q. let z : ⊥ = omega arith in z) (λ q. let z : ⊥ = omega arith in z) ∙ v .ensures (a .payload .now) (a .param) .case in
+    let e : judged r-asynchronous d (a .i) h (a .payload .now) ≡ verdictOf (v .result) =
+    judged-asynchronous d (a .i) h (a .payload .now) r-asynchronous (λ q. let z : ⊥ = omega arith in z) (λ q. let z : ⊥ = omega arith in z)
+    (λ q. let z : ⊥ = omega arith in z) ∙ v .ensures (a .payload .now) (a .param) .case in
     let x = whole h (a .payload .now) in
     by-verdict d (a .c) (a .i) x r-asynchronous _ _ _ _ _ (judged r-asynchronous d (a .i) h (a .payload .now)) (verdictOf (v .result)) e
     (held-done d (a .c) (a .i) x r-asynchronous _ _ _ _ _ (v .result) (c .before .if2 .taken) (did-nothing 0 (took held 0 0) _ _ _ (ap numbersOf (c .quiet .ensures))))
@@ -44,7 +48,9 @@ returns-3 c =
     let v = c .before .before .before .before .before .before .before .before .asynchronous-verdict in
     let d = view (memory (a .w .now) (a .strings .now)) in
     let h = message 4 (a .code) (a .param) (a .len) in
-    let e : judged r-asynchronous d (a .i) h (a .payload .now) ≡ verdictOf (v .result) = judged-asynchronous d (a .i) h (a .payload .now) r-asynchronous (λ q. let z : ⊥ = omega arith in z) (λ q. let z : ⊥ = omega arith in z) (λ q. let z : ⊥ = omega arith in z) ∙ v .ensures (a .payload .now) (a .param) .case in
+    let e : judged r-asynchronous d (a .i) h (a .payload .now) ≡ verdictOf (v .result) =
+    judged-asynchronous d (a .i) h (a .payload .now) r-asynchronous (λ q. let z : ⊥ = omega arith in z) (λ q. let z : ⊥ = omega arith in z)
+    (λ q. let z : ⊥ = omega arith in z) ∙ v .ensures (a .payload .now) (a .param) .case in
     by-verdict d (a .c) (a .i) (whole h (a .payload .now)) r-asynchronous _ _ _ _ _ (judged r-asynchronous d (a .i) h (a .payload .now)) (verdictOf (v .result)) e
     (c .before .before .apply .ensures r-asynchronous (whole h (a .payload .now)) refl refl refl)
 

@@ -51,7 +51,8 @@ returns-2 c =
     let er : c .before .before .before .before .before .connection .result ≡ left = ap (λ (x : Connection). x .remainder) (c .before .before .before .before .before .connection .ensures .0) in
     let em : min left (length bs) ≡ c .before .least .result = ap (λ (x : ℕ). min x (length bs)) (sym er) ∙ sym (c .before .least .ensures) in
     received-as d (a .c) (slotIn es (a .c)) _ _ _ _ _ left (length bs) (scan left bs) refl
-    (on-scan d (a .c) (slotIn es (a .c)) _ _ _ _ _ left (length bs) (roleOf es (a .c)) (scan left bs) (skipping (c .before .least .result)) (scan-skips left bs (omega arith) (omega arith) ∙ ap skipping em)
+    (on-scan d (a .c) (slotIn es (a .c)) _ _ _ _ _ left (length bs) (roleOf es (a .c)) (scan left bs) (skipping (c .before .least .result))
+    (scan-skips left bs (omega arith) (omega arith) ∙ ap skipping em)
     (skip-done d (a .c) (slotIn es (a .c)) _ _ _ _ _ left (length bs) (roleOf es (a .c)) (c .before .least .result) (c .skip .ensures s (a .out .now))))
 
 returns-3 : tie.Need-returns-3
@@ -75,7 +76,8 @@ returns-4 c =
     let d = view (memory (a .w .now) s) in
     let es = locksOf (a .w .now) s .entries in
     let left = (connectionAt (restOf (a .w .now)) (a .c)) .remainder in
-    let er : c .before .before .before .before .before .before .before .before .connection .result ≡ left = ap (λ (x : Connection). x .remainder) (c .before .before .before .before .before .before .before .before .connection .ensures .0) in
+    let er : c .before .before .before .before .before .before .before .before .connection .result ≡ left =
+    ap (λ (x : Connection). x .remainder) (c .before .before .before .before .before .before .before .before .connection .ensures .0) in
     let z : left ≡ 0 = omega arith in
     received-as d (a .c) (slotIn es (a .c)) _ _ _ _ _ left (length bs) (scan left bs) refl
     (on-scan d (a .c) (slotIn es (a .c)) _ _ _ _ _ left (length bs) (roleOf es (a .c)) (scan left bs) (freshScan bs) (scan-fresh left bs (omega arith) z)

@@ -23,7 +23,9 @@ returns c =
     let v = c .before .before .before .before .before .before .synchronous-verdict in
     let d = view (memory (a .w .now) (a .strings .now)) in
     let h = message (a .kind) (a .code) (a .param) (a .len) in
-    let e : judged r-synchronous d (a .i) h (a .payload .now) ≡ verdictOf (v .result) = judged-synchronous d (a .i) h (a .payload .now) r-synchronous refl ∙ list-passed d (a .i) (a .kind) (a .code) (a .param) (a .len) (a .payload .now) (c .before .before .before .before .before .before .before .before .before .before .pre .7) ∙ v .ensures (a .strings .now) (a .payload .now) .case in
+    let e : judged r-synchronous d (a .i) h (a .payload .now) ≡ verdictOf (v .result) = judged-synchronous d (a .i) h (a .payload .now) r-synchronous refl
+    ∙ list-passed d (a .i) (a .kind) (a .code) (a .param) (a .len) (a .payload .now)
+    (c .before .before .before .before .before .before .before .before .before .before .pre .7) ∙ v .ensures (a .strings .now) (a .payload .now) .case in
     acts-done d (a .c) (a .i) h (a .payload .now) r-synchronous _ _ _ _ _ (judged r-synchronous d (a .i) h (a .payload .now))
     (e ∙ ap verdictOf (c .before .before .before .before .before .if1 .taken)) (c .before .before .act-plainly .ensures (a .strings .now) (a .payload .now) (a .c))
 
@@ -33,7 +35,9 @@ returns-2 c =
     let v = c .before .before .before .synchronous-verdict in
     let d = view (memory (a .w .now) (a .strings .now)) in
     let h = message (a .kind) (a .code) (a .param) (a .len) in
-    let e : judged r-synchronous d (a .i) h (a .payload .now) ≡ verdictOf (v .result) = judged-synchronous d (a .i) h (a .payload .now) r-synchronous refl ∙ list-passed d (a .i) (a .kind) (a .code) (a .param) (a .len) (a .payload .now) (c .before .before .before .before .before .before .before .pre .7) ∙ v .ensures (a .strings .now) (a .payload .now) .case in
+    let e : judged r-synchronous d (a .i) h (a .payload .now) ≡ verdictOf (v .result) = judged-synchronous d (a .i) h (a .payload .now) r-synchronous refl
+    ∙ list-passed d (a .i) (a .kind) (a .code) (a .param) (a .len) (a .payload .now) (c .before .before .before .before .before .before .before .pre .7)
+    ∙ v .ensures (a .strings .now) (a .payload .now) .case in
     let x = whole h (a .payload .now) in
     by-verdict d (a .c) (a .i) x r-synchronous _ _ _ _ _ (judged r-synchronous d (a .i) h (a .payload .now)) (verdictOf (v .result)) e
     (held-done d (a .c) (a .i) x r-synchronous _ _ _ _ _ (v .result) (c .before .if2 .taken) (did-nothing 0 (took held 0 0) _ _ _ (ap numbersOf (c .quiet .ensures))))
@@ -47,9 +51,14 @@ returns-3 c =
     let v = c .before .before .before .before .before .before .before .before .before .before .synchronous-verdict in
     let d = view (memory (a .w .now) (a .strings .now)) in
     let h = message (a .kind) (a .code) (a .param) (a .len) in
-    let e : judged r-synchronous d (a .i) h (a .payload .now) ≡ verdictOf (v .result) = judged-synchronous d (a .i) h (a .payload .now) r-synchronous refl ∙ list-passed d (a .i) (a .kind) (a .code) (a .param) (a .len) (a .payload .now) (c .before .before .before .before .before .before .before .before .before .before .before .before .before .before .pre .7) ∙ v .ensures (a .strings .now) (a .payload .now) .case in
+    let e : judged r-synchronous d (a .i) h (a .payload .now) ≡ verdictOf (v .result) = judged-synchronous d (a .i) h (a .payload .now) r-synchronous refl
+    ∙ list-passed d (a .i) (a .kind) (a .code) (a .param) (a .len) (a .payload .now)
+    (c .before .before .before .before .before .before .before .before .before .before .before .before .before .before .pre .7)
+    ∙ v .ensures (a .strings .now) (a .payload .now) .case in
     by-verdict d (a .c) (a .i) (whole h (a .payload .now)) r-synchronous _ _ _ _ _ (judged r-synchronous d (a .i) h (a .payload .now)) (verdictOf (v .result)) e
-    (c .before .before .apply .ensures r-synchronous (whole h (a .payload .now)) refl refl (moved-whole h (exchangeAt (restOf (a .w .now)) (a .i)) r-synchronous (a .payload .now) _ (c .before .before .before .before .before .before .carries .ensures .1 r-synchronous (a .code) (a .len) refl)))
+    (c .before .before .apply .ensures r-synchronous (whole h (a .payload .now)) refl refl
+    (moved-whole h (exchangeAt (restOf (a .w .now)) (a .i)) r-synchronous (a .payload .now) _
+    (c .before .before .before .before .before .before .carries .ensures .1 r-synchronous (a .code) (a .len) refl)))
 
 pub deliver-plain-spec : {M : Type 1} → statement M
 deliver-plain-spec =

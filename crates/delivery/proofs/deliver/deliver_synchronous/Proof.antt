@@ -16,8 +16,19 @@ returns c = c .before .before .deliver-kind .ensures r-synchronous refl
 
 deliver-plain-requires : tie.Need-deliver-plain-requires
 deliver-plain-requires c κs =
-    let q = c .before .before .before .before .before .before .before .before .before .before .before .pre in
-    (search needs, search needs, q .2, search needs, q .4, q .5, c .before .before .before .before .is-plain .ensures (c .before .before .before .if2 .taken) .0, λ z. c .before .before .before .before .is-plain .ensures (c .before .before .before .if2 .taken) .1 _ _ z, λ s. c .before .before .before .before .before .before .before .stands .ensures s ∙ c .before .before .before .before .before .before .if1 .left)
+    let q = c .before .before .before .before .before .before .before .before .before .before .before .pre in (
+      search needs,
+      search needs,
+      q .2,
+      search needs,
+      q .4,
+      q .5,
+      c .before .before .before .before .is-plain .ensures
+          (c .before .before .before .if2 .taken) .0,
+      λ z. c .before .before .before .before .is-plain .ensures (c .before .before .before .if2 .taken) .1 _ _
+          z,
+      λ s. c .before .before .before .before .before .before .before .stands .ensures s ∙ c .before .before .before .before .before .before .if1 .left,
+    )
 
 returns-2 : tie.Need-returns-2
 returns-2 c = c .before .before .deliver-plain .ensures

@@ -60,8 +60,16 @@ deliver-asynchronous-requires : tie.Need-deliver-asynchronous-requires
 deliver-asynchronous-requires c κs =
     let q = c .before .before .before .before .before .before .before .before .before .pre in
     let x = c .before .before .before .before .before .before .header-at in
-    let el : header (c .before .before .before .before .before .before .before .before .before .args .bytes .now) .len ≡ x .result .len = ap (λ (y : Header). y .len) (sym (x .ensures)) in
-    (search needs, omega (arith, el, q .2), simp (length-take, length-drop) (omega (arith, el, q .3)), search needs, q .5, q .6 (λ z. omega (arith, c .before .before .before .before .if2 .taken)), q .8 (c .before .before .before .before .if2 .taken))
+    let el : header (c .before .before .before .before .before .before .before .before .before .args .bytes .now) .len ≡ x .result .len = ap (λ (y : Header). y .len) (sym (x .ensures)) in (
+      search needs,
+      omega (arith, el, q .2),
+      simp (length-take, length-drop) (omega (arith, el, q .3)),
+      search needs,
+      q .5,
+      q .6
+          (λ z. omega (arith, c .before .before .before .before .if2 .taken)),
+      q .8 (c .before .before .before .before .if2 .taken),
+    )
 
 returns-2 : tie.Need-returns-2
 returns-2 c =

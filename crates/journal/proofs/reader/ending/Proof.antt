@@ -16,15 +16,19 @@ returns-2 c = c .nothing2 .ensures ∙ ending-far _ _ (c .before .before .number
 
 returns-3 : tie.Need-returns-3
 unfolding distanceOf
-returns-3 c = c .nothing3 .ensures ∙ ending-broken _ _ (c .before .before .before .before .before .number4 .ensures .0) (sym (c .before .before .whole-entry .ensures) ∙ not-true _ (c .before .if3 .taken))
+returns-3 c = c .nothing3 .ensures ∙ ending-broken _ _ (c .before .before .before .before .before .number4 .ensures .0)
+    (sym (c .before .before .whole-entry .ensures) ∙ not-true _ (c .before .if3 .taken))
 
 returns-4 : tie.Need-returns-4
 unfolding distanceOf
-returns-4 c = c .nothing4 .ensures ∙ ending-other _ _ (c .before .before .before .before .before .before .before .number4 .ensures .0) _ (c .before .before .length-of .ensures .0) (c .before .if4 .taken)
+returns-4 c = c .nothing4 .ensures ∙ ending-other _ _ (c .before .before .before .before .before .before .before .number4 .ensures .0) _
+    (c .before .before .length-of .ensures .0) (c .before .if4 .taken)
 
 returns-5 : tie.Need-returns-5
 unfolding distanceOf
-returns-5 c = ending-found _ _ (c .before .before .before .before .before .before .number4 .ensures .0) _ (c .before .length-of .ensures .0) (c .before .before .before .before .before .if2 .left) (sym (c .before .before .before .whole-entry .ensures) ∙ not-false _ (c .before .before .if3 .left)) (c .if4 .left)
+returns-5 c = ending-found _ _ (c .before .before .before .before .before .before .number4 .ensures .0) _ (c .before .length-of .ensures .0)
+    (c .before .before .before .before .before .if2 .left)
+    (sym (c .before .before .before .whole-entry .ensures) ∙ not-false _ (c .before .before .if3 .left)) (c .if4 .left)
 
 pub ending-spec : {M : Type 1} → statement M
 ending-spec =

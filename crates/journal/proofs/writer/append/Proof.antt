@@ -20,14 +20,16 @@ put-entry-requires : tie.Need-put-entry-requires
 put-entry-requires c κs = let i = c .before in
     let t = i .before in
     let a = t .before .before .before .before .before .before .before .before .before .before .args in
-    let h : length (a .a .now) + length (a .b .now) + length (a .c .now) + length (a .d .now) + 12 + 12 ≤ min (length (a .book .now)) reach - place (a .words .now) = leb-true _ _ (sym (t .fits2 .ensures) ∙ i .if2 .taken) in
+    let h : length (a .a .now) + length (a .b .now) + length (a .c .now) + length (a .d .now) + 12 + 12 ≤ min (length (a .book .now)) reach - place
+    (a .words .now) = leb-true _ _ (sym (t .fits2 .ensures) ∙ i .if2 .taken) in
     (search needs, omega arith)
 
 add-set-words : tie.Need-add-set-words
 add-set-words c = let i = c .before .before .before .before .before .before .before in
     let t = i .before in
     let a = t .before .before .before .before .before .before .before .before .before .before .args in
-    let h : length (a .a .now) + length (a .b .now) + length (a .c .now) + length (a .d .now) + 12 + 12 ≤ min (length (a .book .now)) reach - place (a .words .now) = leb-true _ _ (sym (t .fits2 .ensures) ∙ i .if2 .taken) in
+    let h : length (a .a .now) + length (a .b .now) + length (a .c .now) + length (a .d .now) + 12 + 12 ≤ min (length (a .book .now)) reach - place
+    (a .words .now) = leb-true _ _ (sym (t .fits2 .ensures) ∙ i .if2 .taken) in
     omega arith
 
 returns-2 : tie.Need-returns-2
@@ -51,7 +53,8 @@ returns-3 c = let t = c .before in
     let o = t .before .before in
     let q = o .before in
     let a = q .before .before .before .before .before .before .before .args in
-    write-no-room (a .words .now) _ _ _ _ _ (entry-size (a .a .now) (a .b .now) (a .c .now) (a .d .now)) (sym (q .is-open .ensures) ∙ not-false _ (o .if1 .left)) (sym (t .fits2 .ensures) ∙ c .if2 .left)
+    write-no-room (a .words .now) _ _ _ _ _ (entry-size (a .a .now) (a .b .now) (a .c .now) (a .d .now))
+    (sym (q .is-open .ensures) ∙ not-false _ (o .if1 .left)) (sym (t .fits2 .ensures) ∙ c .if2 .left)
 
 pub append-spec : {M : Type 1} → statement M
 append-spec =

@@ -51,7 +51,8 @@ returns-3 c = let t = c .before in
     let o = t .before .before in
     let q = o .before in
     let a = q .before .before .before .before .before .args in
-    write-no-room (a .words .now) _ _ _ _ _ (numbered-entry-size (a .tag) (a .x) (a .y) (a .b .now) (a .c .now)) (sym (q .is-open .ensures) ∙ not-false _ (o .if1 .left)) (sym (t .fits2 .ensures) ∙ c .if2 .left)
+    write-no-room (a .words .now) _ _ _ _ _ (numbered-entry-size (a .tag) (a .x) (a .y) (a .b .now) (a .c .now))
+    (sym (q .is-open .ensures) ∙ not-false _ (o .if1 .left)) (sym (t .fits2 .ensures) ∙ c .if2 .left)
 
 pub append-numbered-spec : {M : Type 1} → statement M
 append-numbered-spec =

@@ -5,7 +5,11 @@ use Rattle.keep.proofs.heads.row.Statement.{statement}
 use Rattle.keep.proofs.heads.row.Tie as tie
 
 returns : tie.Need-returns
-returns c = (search needs, row-taken _ _ _ (c .before .before .before .before .before .before .before .args .s .now) (search needs) (c .before .before .before .before .put4 .ensures) (c .before .put-bytes .ensures))
+returns c = (
+  search needs,
+  row-taken _ _ _ (c .before .before .before .before .before .before .before .args .s .now) (search needs)
+      (c .before .before .before .before .put4 .ensures) (c .before .put-bytes .ensures),
+)
 
 pub row-spec : {M : Type 1} → statement M
 row-spec =

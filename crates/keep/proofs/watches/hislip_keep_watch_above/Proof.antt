@@ -17,7 +17,9 @@ returns c = let a = c .before .before .before .before .before .before .before .b
     let t = none-handed (told-done m _ e [] [] refl _ (c .before .before .before .before .before .before .before .before .before .before .hislip-watch-above .ensures)) in (
       called-again (c .done .ensures .0) (c .before .before .before .before .before .before .before .before .before .before .hislip-watch-above .ensures),
       kept-again (c .done .ensures .1)
-          (numbers-kept-if m e _ _ _ t _ _ _ _ _ _ (above-head m (a .session) (bits (a .limit)) _ _ _ t (c .before .before .before .before .before .before .before .before .before .bits-of .ensures .0) (c .before .before .before .before .before .before .before .before .two .ensures))
+          (numbers-kept-if m e _ _ _ t _ _ _ _ _ _ (above-head m (a .session) (bits (a .limit)) _ _ _ t
+          (c .before .before .before .before .before .before .before .before .before .bits-of .ensures .0)
+          (c .before .before .before .before .before .before .before .before .two .ensures))
           (c .before .before .before .keep-numbers .ensures)),
     )
 

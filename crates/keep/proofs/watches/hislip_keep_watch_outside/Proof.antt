@@ -17,7 +17,10 @@ returns c = let a = c .before .before .before .before .before .before .before .b
     let t = none-handed (told-done m _ e [] [] refl _ (c .before .before .before .before .before .before .before .before .before .before .before .hislip-watch-outside .ensures)) in (
       called-again (c .done .ensures .0) (c .before .before .before .before .before .before .before .before .before .before .before .hislip-watch-outside .ensures),
       kept-again (c .done .ensures .1)
-          (numbers-kept-if m e _ _ _ t _ _ _ _ _ _ (outside-head m (a .session) (bits (a .low)) (bits (a .high)) _ _ _ _ t (c .before .before .before .before .before .before .before .before .before .before .bits-of .ensures .0) (c .before .before .before .before .before .before .before .before .before .bits-of2 .ensures .0) (c .before .before .before .before .before .before .before .before .triple .ensures))
+          (numbers-kept-if m e _ _ _ t _ _ _ _ _ _ (outside-head m (a .session) (bits (a .low)) (bits (a .high)) _ _ _ _ t
+          (c .before .before .before .before .before .before .before .before .before .before .bits-of .ensures .0)
+          (c .before .before .before .before .before .before .before .before .before .bits-of2 .ensures .0)
+          (c .before .before .before .before .before .before .before .before .triple .ensures))
           (c .before .before .before .keep-numbers .ensures)),
     )
 
