@@ -7,3 +7,9 @@ pub enum Checked {
     Good,
     Bad(usize),
 }
+
+// What reading a part of a pattern finds: it goes on at a place, or it is bad at one.
+pub enum Found {
+    On(usize),
+    Wrong(usize),
+}
