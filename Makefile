@@ -19,7 +19,7 @@ help:
 	@echo 'make install        headers, archive and pkg-config file to PREFIX (/usr/local)'
 	@echo 'make host-test      the tests of the host kit against the archive'
 	@echo 'make selftest       every wrong server must be found by the comparison that conform makes'
-	@echo 'make conform        the library beside the reference on eight million events; make soak MINUTES=60 for longer'
+	@echo 'make conform        the library beside the reference on nine million events; make soak MINUTES=60 for longer'
 	@echo 'make bench          speed beside an ordinary Rust server, to target/speed.md; make bench-docs to docs/SPEED.md'
 	@echo 'make instructions   the same in instructions of a call, counted by valgrind'
 	@echo "make timeline       a gateway's log, or a list of events, as a picture, one lane a session (LIST=, PICTURE=, FROM=, TO=)"

@@ -427,7 +427,7 @@ module _ (c : ℕ) (real : c ≡ noConnection → ⊥) (s : ℕ) (p : Release) (
     named true x y = refl
     named false x y = refl
 
-    -- its own message, that opens or takesConnection no session
+    -- its own message, that opens or joins no session
     own-row : (x : Entry) → live x ≡ true → x .asynchronous ≡ c → at E j₀ ≡ x → eqb u₀ 0 ≡ false
         → releaseOf (stood ((eqb u₀ 4 && eqb (a .message .code) 0) && isSilence (a .told)) (eqb u₀ 0) (endedWith a (x .standing)) x) ≡ p′
     own-row x alive e i z = go (eqb u₀ 4) (eqb u₀ 19) (one-of (6 ∷ 7 ∷ 12 ∷ []) u₀) refl refl refl
@@ -623,7 +623,7 @@ module _ (c : ℕ) (d : Server) (q : Quiet c d) where
       no-codes : codesTo c (lockOnly (r .frames)) ≡ []
       no-codes = other-read c 0 none-stands d a r l f (rw t) (rw t) (rw t) ∙ waiting-grants c 0 none-stands d a r l f (rw t) ∙ no-grants
 
-      -- the session that takesConnection was half-open, so no request waits of it
+      -- the session that joins was half-open, so no request waits of it
       half : (at E₀ (slotActed E₀ a)) .asynchronous ≡ noConnection
       half = (f .pairs t) .half
 

@@ -46,7 +46,7 @@ pub record Reads (d : Server) (f : ℕ → Numbering) : Type 0 where
   pub inv : Inv (d .locks)
   pub sized : length (d .rest .exchanges) ≡ sessionLimit
   pub knows : (i : ℕ) → live (at (d .locks .entries) i) ≡ true → Knows (f ((at (d .locks .entries) i) .number)) (at (d .locks .entries) i) (exchangeAt (d .rest) i)
-  -- no other session is numberingAfter with its connection
+  -- no other session is noted with its connection
   pub sole : (n i : ℕ) → live (at (d .locks .entries) i) ≡ true → ((f n) .connection ≡ noConnection → ⊥) →
       (f n) .connection ≡ (at (d .locks .entries) i) .synchronous → n ≡ (at (d .locks .entries) i) .number
 

@@ -27,7 +27,7 @@ use Rattle.model.specs.Happening.{Happening.message-acted, Happening.clo
 use Rattle.model.specs.Happening.{happened, Happening.setting-made}
 
 -- what the taken messages say of a session: its synchronous connection, whether it is in a device clear, and the numbers of its Data, DataEND
--- and Trigger messages since it firstNumbering or was last cleared, the last one first
+-- and Trigger messages since it opened or was last cleared, the last one first
 pub record Numbering : Type 0 where
   pub connection : ℕ
   pub inClear : Bool

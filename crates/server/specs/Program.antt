@@ -125,7 +125,7 @@ shownOf v ss n = trackIn (v .prefersOverlap) ss n (nothingYet (v .prefersOverlap
 -- F about the program: an answer of the instrument that is not refused and not withheld writes one frame, to the session's synchronous connection (02,
 -- Q-11: and behind it the request for service, if it is the first to trip the watch). In
 -- synchronized mode its MessageID is that of the last DataEND or Trigger of the session that acted, with no device clear and no END answer
--- since; 02, Q-1: in overlap mode it is the count of the session's answers since it firstNumbering or was cleared
+-- since; 02, Q-1: in overlap mode it is the count of the session's answers since it opened or was cleared
 pub record Tied (v : Making) (ss : List Seen) (m : Memory) (n : ℕ) (payload : List ℕ) (end : Bool) (output : List ℕ) : Type 0 where
   pub number : ℕ
   pub asked : (shownOf v ss n) .overlap ≡ false → (shownOf v ss n) .asked ≡ some number
@@ -284,6 +284,6 @@ pub record Program (New : Making → Memory → Type 0) (Ran : Memory → List S
       → Ascending (holdersOf (view m′ .locks .entries))
       × ((p : ℕ → Bool → Bool → Bool) → tally (λ r. p (r .session) (r .exclusive) (r .shared)) (holdersOf (view m′ .locks .entries))
       ≡ tally (λ s. holdsLock s && p (s .number) (s .exclusive) (not (notShared s))) ((modelAfter v (seenEvents ss)) .sessions))
-  -- the number of each session is that of the answers 1 to its requests since it firstNumbering, its reading that of the last, as the host saw them
+  -- the number of each session is that of the answers 1 to its requests since it opened, its reading that of the last, as the host saw them
   pub grants-seen : (v : Making) (m m′ : Memory) (ss : List Seen) → v .vendor < 2 ^ 16 → New v m → Ran m ss m′ → AllPossible (seenEvents ss) → (j : ℕ) → live (at (view m′ .locks .entries) j) ≡ true
       → AsTold (grantsOf (map lineSeen ss) 0 ((at (view m′ .locks .entries) j) .number) noneYet) (at (view m′ .locks .entries) j)
