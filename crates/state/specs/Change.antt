@@ -62,7 +62,7 @@ sensingWith (suc zero) v x = record { watch = x .watch; tripped = flag v; record
 sensingWith (suc (suc f)) v x = record { watch = x .watch; tripped = x .tripped; recorded = recordWith f v (x .recorded) }
 
 abbrev pub connectionWith : ℕ → ℕ → Connection → Connection
-connectionWith zero v x = record { isOpen = flag v; remainder = x .remainder }
+connectionWith zero v x = record { isOpen = flag (v % 2); remainder = x .remainder }
 connectionWith (suc f) v x = record { isOpen = x .isOpen; remainder = v }
 
 abbrev pub entryWith : ℕ → ℕ → Entry → Entry
@@ -226,7 +226,7 @@ exchange-same t t′ e =
     }
 
 pub connection-same : (t t′ : ℕ → ℕ) → ((f : ℕ) → f < HOME → t f ≡ t′ f) → connectionFrom t ≡ connectionFrom t′
-connection-same t t′ e = λ k. record { isOpen = flag (e 0 (lit< tt) k); remainder = e 1 (lit< tt) k }
+connection-same t t′ e = λ k. record { isOpen = flag (e 0 (lit< tt) k % 2); remainder = e 1 (lit< tt) k }
 
 module _ (w : List ℕ) where
   -- a store elsewhere is not seen in a word; here it is

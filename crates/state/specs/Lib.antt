@@ -5,6 +5,7 @@ pub mod Layout
 pub mod View
 pub mod Confirmed
 pub mod Change
+pub mod Ready
 pub mod Holders
 pub mod Granting
 pub mod Channels

@@ -124,8 +124,9 @@ exchangeFrom t =
 abbrev pub exchangeOf : List ℕ → Exchange
 exchangeOf r = exchangeFrom (word r)
 
+-- a connection is open where its word is odd: whether it is open and has nothing to skip is then one comparison of its two words
 abbrev pub connectionFrom : (ℕ → ℕ) → Connection
-connectionFrom t = record { isOpen = flag (t 0); remainder = t 1 }
+connectionFrom t = record { isOpen = flag (t 0 % 2); remainder = t 1 }
 
 abbrev pub connectionOf : List ℕ → Connection
 connectionOf r = connectionFrom (word r)

@@ -4,6 +4,7 @@ ghost use Prim.Native.Nat.{ℕ, _*_, _+_, _-_, _<_, _≤_, _^_};
 ghost use Rattle.model.specs.State.{at, connectionAt, exchangeAt};
 ghost use Rattle.state.specs.Change.{connectionWith, connectionWord, entryWith, exchangeWith, exchangeWord, onConnection, onEntry, onExchange, onRest};
 ghost use Rattle.state.specs.Change.{onSensing, orderWith, sensingWith, sensingWord, singleWith, withClock};
+ghost use Rattle.state.specs.Ready.{isReady};
 ghost use Rattle.state.specs.Tidy.{ConnectionRange, ExchangeRange, OrderRange, SensingRange, SingleRange, Tidy};
 ghost use Rattle.state.specs.View.{fieldOf, homeIn, homeOf, locksOf, memory, orderWord, restOf, rowWord, view, word};
 ghost use lib.ListN.{length};
@@ -152,6 +153,30 @@ pub fn connection(w: &Words, i: usize, f: usize) -> u64
     ensures { λ r. ⌜ (connectionWith f r (connectionAt (restOf (now (w .entry))) i) ≡ connectionAt (restOf (now (w .entry))) i) × (r ≡ connectionWord (now (w .entry)) i f) ⌝ }
 {
     w[CONNECTIONS + i * CONNECTION + f]
+}
+
+// Is a connection open?
+pub fn is_open(w: &Words, i: usize) -> bool
+    requires { ⌜ i < connectionLimit ⌝ }
+    ensures { λ r. ⌜ (connectionAt (restOf (now (w .entry))) i) .isOpen ≡ r ⌝ }
+{
+    if connection(w, i, IS_OPEN) % 2 == 1 {
+        return true;
+    }
+    false
+}
+
+// Is a connection open, with nothing to skip? One comparison asks both.
+pub fn is_ready(w: &Words, i: usize) -> bool
+    requires { ⌜ i < connectionLimit ⌝ }
+    ensures { λ r. ⌜ isReady (connectionAt (restOf (now (w .entry))) i) ≡ r ⌝ }
+{
+    let open = connection(w, i, IS_OPEN) % 2;
+    let left = connection(w, i, REMAINDER);
+    if left < open {
+        return true;
+    }
+    false
 }
 
 pub fn set_connection(w: &mut Words, i: usize, f: usize, v: u64)
