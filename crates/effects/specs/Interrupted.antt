@@ -24,7 +24,7 @@ use Rattle.state.specs.Grid.{upd}
 use Rattle.state.specs.Change.{onRest, onEntry, onExchange, exchangeWith, connectionWith, entryWith, orderWith}
 use Rattle.state.specs.Tidy.{Tidy}
 use Rattle.state.specs.View.{Memory, restOf, view}
-use Rattle.locks.specs.Outcome.{Met}
+use Rattle.holding.specs.Outcome.{Met}
 use Rattle.locks.specs.Settled.{settled}
 use Rattle.sessions.specs.declared.Delivery.{Delivery}
 use Rattle.sessions.specs.Did.{Did, numbersOf}

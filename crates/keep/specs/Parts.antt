@@ -28,7 +28,7 @@ use Rattle.queue.specs.Queue.{count-is}
 use Rattle.queue.specs.Requests.{countOf}
 use Rattle.journal.specs.Journal.{choose, bodyLimit}
 use Rattle.journal.specs.Bytes.{below, yes-is, no-is}
-use Rattle.journal.specs.Moves.{numbered}
+use Rattle.journal.specs.Numbered.{numbered}
 use Rattle.journal.specs.Writer.{Done, Met, appendOf, keptNumber}
 use Rattle.journal.specs.declared.Kept.{Kept}
 use Rattle.journal.specs.declared.Kept.the-variants.{Written}

@@ -7,7 +7,7 @@ ghost use Rattle.server.specs.Events.{Called, Replied};
 ghost use Rattle.state.specs.Tidy.{Tidy};
 ghost use Rattle.state.specs.View.{memory, view};
 ghost use Rattle.journal.specs.Journal.{bodyLimit};
-ghost use Rattle.journal.specs.Moves.{numbered};
+ghost use Rattle.journal.specs.Numbered.{numbered};
 ghost use Rattle.keep.specs.Keeping.{Keeps, entryUnless, keeping, looked, ofAnswered, ofDelivery, ofDone};
 ghost use lib.Dec.{eqb};
 ghost use lib.ListN.{length};

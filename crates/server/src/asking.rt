@@ -3,7 +3,7 @@ ghost use Rattle.model.specs.Asking.{deadlineAnswer, sizeAnswer};
 ghost use Rattle.server.specs.Asking.{deadlineNumbers, sizeNumbers};
 ghost use Rattle.state.specs.View.{memory, view};
 ghost use mathlib.Core.Path.{_≡_};
-use locks::deadline;
+use holding::deadline;
 use queue::requests;
 use state::search;
 use state::sizes::SESSION_LIMIT;

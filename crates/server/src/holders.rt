@@ -8,7 +8,7 @@ ghost use Rattle.state.specs.View.{locksOf, memory, view};
 ghost use lib.ListN.{drop, length, take};
 ghost use mathlib.Core.List.{List, _++_};
 ghost use mathlib.Core.Path.{_≡_};
-use locks::info;
+use holding::info;
 use state::holders as kept;
 use state::sizes::SESSION_LIMIT;
 use state::sizes::Strings;

@@ -24,7 +24,7 @@ pub mod watches;
 use delivery::deliver;
 use effects::events;
 use effects::interrupted;
-use locks::waiting;
+use holding::waiting;
 use sessions::Delivery;
 use sessions::answer;
 use sessions::closing;
