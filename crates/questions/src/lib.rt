@@ -1,0 +1,3 @@
+// The four questions of a host, which change nothing.
+mod asking;
+mod holders;
