@@ -21,7 +21,7 @@ ghost use Rattle.model.specs.Sizes.{connectionLimit, outputMinimum, payloadLimi
 use crate::numbering::step_number;
 use exchanges::interrupted::in_turn;
 use exchanges::interrupted::out_of_turn;
-use exchanges::rmt::is_command;
+pub use exchanges::rmt::is_command;
 use exchanges::rmt::note_rmt;
 use locks::complete;
 use sessions::Delivery;
