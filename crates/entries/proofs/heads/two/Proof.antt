@@ -1,8 +1,8 @@
 -- `heads::two` meets its contract: the bytes of a field, written out.
 use Rattle.wire.specs.Field.{field}
 use borrow.Author.Needs.{needs}
-use Rattle.keep.proofs.heads.two.Statement.{statement}
-use Rattle.keep.proofs.heads.two.Tie as tie
+use Rattle.entries.proofs.heads.two.Statement.{statement}
+use Rattle.entries.proofs.heads.two.Tie as tie
 
 returns : tie.Need-returns
 unfolding field

@@ -1,10 +1,10 @@
 -- `keep_numbers` meets its contract: the parts between are empty.
 use native.Mathlib.Omega.{arith}
 use lib.ListN.{length-take}
-use Rattle.keep.specs.Parts.{two-parts}
+use Rattle.entries.specs.Parts.{two-parts}
 use borrow.Author.Needs.{needs}
-use Rattle.keep.proofs.keep_numbers.Statement.{statement}
-use Rattle.keep.proofs.keep_numbers.Tie as tie
+use Rattle.entries.proofs.keep_numbers.Statement.{statement}
+use Rattle.entries.proofs.keep_numbers.Tie as tie
 
 keep-entry-requires : tie.Need-keep-entry-requires
 keep-entry-requires c κs = λ z. simp length-take (omega (arith, c .before .before .before .before .before .before .before .pre z))

@@ -1,8 +1,8 @@
 -- `heads::row` meets its contract: the length, and the bytes behind it.
-use Rattle.keep.specs.Parts.{row-taken}
+use Rattle.entries.specs.Parts.{row-taken}
 use borrow.Author.Needs.{needs}
-use Rattle.keep.proofs.heads.row.Statement.{statement}
-use Rattle.keep.proofs.heads.row.Tie as tie
+use Rattle.entries.proofs.heads.row.Statement.{statement}
+use Rattle.entries.proofs.heads.row.Tie as tie
 
 returns : tie.Need-returns
 returns c = (

@@ -1,10 +1,10 @@
 -- `keep_delivery` meets its contract: nothing of a refused delivery, else what the writer does.
 use mathlib.Core.Path.{refl}
 use borrow.Author.Tests.{eq-eqb, ne-eqb}
-use Rattle.keep.specs.Parts.{met, not-kept, then-kept}
+use Rattle.entries.specs.Parts.{met, not-kept, then-kept}
 use borrow.Author.Needs.{needs}
-use Rattle.keep.proofs.keep_delivery.Statement.{statement}
-use Rattle.keep.proofs.keep_delivery.Tie as tie
+use Rattle.entries.proofs.keep_delivery.Statement.{statement}
+use Rattle.entries.proofs.keep_delivery.Tie as tie
 
 append-numbered-requires : tie.Need-append-numbered-requires
 append-numbered-requires c κs = c .before .before .before .before .before .before .pre (c .before .before .if1 .taken)

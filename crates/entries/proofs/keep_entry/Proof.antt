@@ -1,10 +1,10 @@
 -- `keep_entry` meets its contract: nothing of a refused event, else what the writer does.
 use mathlib.Core.Path.{refl}
 use borrow.Author.Tests.{eq-eqb, ne-eqb}
-use Rattle.keep.specs.Parts.{met, not-kept, then-kept}
+use Rattle.entries.specs.Parts.{met, not-kept, then-kept}
 use borrow.Author.Needs.{needs}
-use Rattle.keep.proofs.keep_entry.Statement.{statement}
-use Rattle.keep.proofs.keep_entry.Tie as tie
+use Rattle.entries.proofs.keep_entry.Statement.{statement}
+use Rattle.entries.proofs.keep_entry.Tie as tie
 
 returns : tie.Need-returns
 returns c = not-kept _ _ _ _ (ne-eqb (c .before .before .before .before .before .before .args .refusal) 0 (c .if1 .taken)) refl

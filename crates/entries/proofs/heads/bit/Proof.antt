@@ -4,8 +4,8 @@ use mathlib.Core.Bool.{Bool, cond, not}
 use Prim.Native.Nat.{ℕ}
 use borrow.Author.Tests.{eq-eqb, ne-eqb}
 use borrow.Author.Needs.{needs}
-use Rattle.keep.proofs.heads.bit.Statement.{statement}
-use Rattle.keep.proofs.heads.bit.Tie as tie
+use Rattle.entries.proofs.heads.bit.Statement.{statement}
+use Rattle.entries.proofs.heads.bit.Tie as tie
 
 returns : tie.Need-returns
 returns c = sym (ap (λ (x : Bool). cond {A = ℕ} (not x) 1 0) (eq-eqb (c .before .args .end) 0 (c .if1 .taken)))
