@@ -9,7 +9,7 @@ use Rattle.model.specs.Interface.{noSuchSession}
 use Rattle.model.specs.Asking.{DeadlineAnswer, SizeAnswer, sizeAnswer, ReadingsAnswer, noReadings, readingsTold, readingsAnswer}
 use Rattle.questions.specs.declared.asking.Deadline.{Deadline}
 use Rattle.questions.specs.declared.asking.Size.{Size}
-use Rattle.questions.specs.declared.asking.Readings.{Readings}
+use Rattle.questions.specs.declared.watched.Readings.{Readings}
 
 abbrev pub deadlineNumbers : Deadline → DeadlineAnswer
 deadlineNumbers r = record { waiting = r .waiting; deadline = r .deadline }

@@ -1,4 +1,4 @@
--- `asking::hislip_readings` meets its contract: no such slot, a free one, a session's, seen or not.
+-- `watched::hislip_readings` meets its contract: no such slot, a free one, a session's, seen or not.
 use mathlib.Core.Path.{_≡_, refl, sym, _∙_}
 use mathlib.Core.Bool.{true}
 use borrow.Author.Tests.{not-true, not-false}
@@ -9,8 +9,8 @@ use Rattle.state.specs.Search.{number-read}
 use Rattle.questions.specs.Found.{not-there, not-live, is-live}
 use Rattle.questions.specs.Asking.{nobody-told, none-told, some-told}
 use borrow.Author.Needs.{needs}
-use Rattle.questions.proofs.asking.hislip_readings.Statement.{statement}
-use Rattle.questions.proofs.asking.hislip_readings.Tie as tie
+use Rattle.questions.proofs.watched.hislip_readings.Statement.{statement}
+use Rattle.questions.proofs.watched.hislip_readings.Tie as tie
 
 returns : tie.Need-returns
 returns c =
