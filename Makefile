@@ -2,7 +2,7 @@
 RT      ?= rt
 ARCHIVE ?= target/libhislip.a
 # the crates whose exported functions are the interface
-EXPORTS  = server keep
+EXPORTS  = server questions keep
 
 # the program that judges a journal, and where the prover leaves it
 VERIFY  ?= target/verify

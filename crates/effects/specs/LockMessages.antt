@@ -24,7 +24,7 @@ use Rattle.sessions.specs.Did.{Did}
 use Rattle.sessions.specs.declared.Delivery.{Delivery}
 use Rattle.sessions.specs.Asynchronous.{DidKind, delivered, planWith, did-with, one-length}
 use Rattle.sessions.specs.Synchronous.{slot-changed}
-use Rattle.locks.specs.Outcome.{Met}
+use Rattle.holding.specs.Outcome.{Met}
 use Rattle.locks.specs.Settled.{bytesOf-append, settled}
 
 -- frames behind frames

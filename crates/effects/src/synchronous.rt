@@ -4,7 +4,7 @@ ghost use Rattle.sessions.specs.Did.{Did};
 ghost use Rattle.effects.specs.Interrupted.{Turned};
 ghost use Rattle.sessions.specs.Synchronous.{commandNotes, isCommand, withSlot};
 ghost use Rattle.model.specs.Acts.{acts};
-ghost use Rattle.model.specs.Exchange.{ask, differs, leaveClear, noteRmt};
+ghost use Rattle.model.specs.Exchange.{ask, differs, leaveClear};
 ghost use Rattle.model.specs.Locks.{stands};
 ghost use Rattle.model.specs.Place.{Role.r-synchronous};
 ghost use Rattle.model.specs.State.{at, exchangeAt};
@@ -14,13 +14,15 @@ ghost use Rattle.state.specs.Tidy.{Tidy};
 ghost use Rattle.state.specs.View.{locksOf, memory, restOf, view};
 ghost use lib.Dec.{eqb};
 ghost use lib.ListN.{length};
-ghost use mathlib.Core.Bool.{_&&_, cond, false, not, true};
+ghost use mathlib.Core.Bool.{false, true};
 ghost use mathlib.Core.List.{List};
 ghost use mathlib.Core.Path.{_≡_};
 ghost use Rattle.model.specs.Sizes.{connectionLimit, outputMinimum, payloadLimit, sessionLimit};
-use crate::interrupted::in_turn;
-use crate::interrupted::out_of_turn;
 use crate::numbering::step_number;
+use exchanges::interrupted::in_turn;
+use exchanges::interrupted::out_of_turn;
+pub use exchanges::rmt::is_command;
+use exchanges::rmt::note_rmt;
 use locks::complete;
 use sessions::Delivery;
 use sessions::answer;
@@ -30,41 +32,6 @@ use state::tables;
 use wire::frame;
 use wire::message_id::MessageId;
 use wire::types;
-
-// 1 where the two are one number, else 0: a number, so that no branch is made of it.
-pub fn same_number(a: u64, b: u64) -> u64
-    ensures { λ r. ⌜ (r ≡ cond (eqb a b) 1 0) × (r ≤ 1) ⌝ }
-{
-    if a == b {
-        return 1;
-    }
-    0
-}
-
-pub fn wide(b: u8) -> u64
-    ensures { λ r. ⌜ r ≡ b ⌝ }
-{
-    b as u64
-}
-
-// The word of message available, or of the expectation, behind a message with this control code: a product, for no processor foresees the code.
-pub fn left_by(word: u64, code: u8) -> u64
-    ensures { λ r. ⌜ (eqb r 1 ≡ (not (eqb code 1) && eqb word 1)) × (r ≤ 1) ⌝ }
-{
-    let available = same_number(word, 1);
-    let delivered = same_number(wide(code), 1);
-    available * (1 - delivered)
-}
-
-// RMT-delivered (code 1) turns message available off.
-pub fn note_rmt(w: &mut Words, i: usize, code: u8)
-    requires { ⌜ i < sessionLimit ⌝ }
-    ensures { λ _. ⌜ ((s : List ℕ) → view (memory (now (w .exit)) s) ≡ onRest (view (memory (now (w .entry)) s)) (withSlot i (noteRmt code)))
-        × ((s : List ℕ) → Tidy (memory (now (w .entry)) s) → Tidy (memory (now (w .exit)) s)) ⌝ }
-{
-    let available = tables::exchange(w, i, tables::AVAILABLE);
-    tables::set_exchange(w, i, tables::AVAILABLE, left_by(available, code));
-}
 
 // What is asked is this message. The word kept is its number plus 1; 0 is nothing asked.
 fn note_asked(w: &mut Words, i: usize, code: u8, id: MessageId)
@@ -84,19 +51,6 @@ fn leave_clear(w: &mut Words, i: usize, code: u8)
 {
     tables::set_exchange(w, i, tables::IN_CLEAR, 0);
     tables::set_exchange(w, i, tables::OVERLAP, (code % 2) as u64);
-}
-
-// Is this a Data, DataEND or Trigger?
-pub fn is_command(kind: u8) -> bool
-    ensures { λ r. ⌜ isCommand kind ≡ r ⌝ }
-{
-    if kind == types::DATA {
-        return true;
-    }
-    if kind == types::DATA_END {
-        return true;
-    }
-    kind == types::TRIGGER
 }
 
 // What a Data notes, and what a DataEND or Trigger does.

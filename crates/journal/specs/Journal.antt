@@ -6,15 +6,12 @@ use lib.Dec.{eqb, leb}
 use lib.ListN.{length, take, drop}
 use Rattle.wire.specs.Field.{field, number, numberAt, Bytes}
 use Rattle.crc.specs.Crc.{crcOf}
+pub use Rattle.moves.specs.Body.{bodyLimit}
 
 -- a choice by a test; shut, so that a row of choices is taken one at a time
 unfoldable pub choose : {A : Type 0} → Bool → A → A → A
 choose true a b = a
 choose false a b = b
-
--- 02: bodies may reach 5,000 bytes
-abbrev pub bodyLimit : ℕ
-bodyLimit = 5000
 
 -- length and body: what the sum is over. All numbers are big endian
 abbrev pub headed : List ℕ → List ℕ

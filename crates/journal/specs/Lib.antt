@@ -5,7 +5,7 @@ pub mod Example
 pub mod Forward
 pub mod Holds
 pub mod Journal
-pub mod Moves
+pub mod Numbered
 pub mod Places
 pub mod Prefix
 pub mod Reach

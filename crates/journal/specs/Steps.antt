@@ -1,16 +1,16 @@
 -- The laws that the readers' code cites: one for each way out. Assumes nothing.
 use mathlib.Core.Path.{_≡_, sym, ap, _∙_}
 use mathlib.Core.Bool.{true, false, _&&_}
-use mathlib.Core.List.{List, [], _∷_}
-use Prim.Native.Nat.{ℕ, zero, suc, _+_, _-_, _≤_, _<_, min}
-use native.Mathlib.Nat.{sub-zero}
+use mathlib.Core.List.{List, []}
+use Prim.Native.Nat.{ℕ, _+_, _-_, _≤_, _<_, min}
 use native.Mathlib.Omega.{arith}
 use lib.Dec.{eqb, leb}
 use lib.ListN.{length, take, drop, length-take, length-drop, drop-of-length-le}
-use lib.Seq.{take-all, take-take, take-nil}
+use lib.Seq.{take-all, take-take}
 use borrow.Author.Tests.{le-leb, lt-leb, eq-eqb, ne-eqb, leb-true}
 use Rattle.wire.specs.Field.{number, numberAt}
 use Rattle.crc.specs.Crc.{crcOf}
+pub use Rattle.moves.specs.Moves.{drop-take}
 use Rattle.journal.specs.Journal.{bodyLimit, mark, lengthOf, whole, distanceOf, startOf, ends, closed, reach, used}
 use Rattle.journal.specs.Bytes.{yes-is, no-is, and-left, and-is, and-not, not-and}
 use Rattle.journal.specs.Entry.{passed, short, too-long}
@@ -46,12 +46,6 @@ module _ (s : List ℕ) (n : ℕ) (e : n ≡ lengthOf s) where
   unfolding whole
   last-test d x y l w p q a b =
       rw (← e, ← p, ← a, ← b, le-leb (n + 12) (length s) l, le-leb n bodyLimit w, eq-eqb d (n + 4) q)
-
-pub drop-take : (a m : ℕ) (l : List ℕ) → drop a (take m l) ≡ take (m - a) (drop a l)
-drop-take zero m l = rw sub-zero
-drop-take (suc a) zero l = let z : 0 - suc a ≡ 0 = omega arith in rw z
-drop-take (suc a) (suc m) [] = sym (take-nil (suc m - suc a))
-drop-take (suc a) (suc m) (x ∷ l) = let e : suc m - suc a ≡ m - a = omega arith in rw e (drop-take a m l)
 
 -- a part of the book that ends where its use ends
 pub used-part : (book : List ℕ) (m place : ℕ) → m ≡ min (length book) reach → take (m - place) (drop place book) ≡ drop place (used book)

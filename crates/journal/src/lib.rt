@@ -2,7 +2,6 @@
 ghost use Rattle.journal.specs.Writer.{keptNumber};
 ghost use mathlib.Core.Path.{_≡_};
 
-mod moves;
 pub mod reader;
 pub mod writer;
 

@@ -7,7 +7,7 @@ ghost use mathlib.Core.Path.{_≡_};
 use crate::Found;
 
 // A body has at most so many bytes (specs: bodyLimit).
-pub const BODY_LIMIT: usize = 5000;
+pub const BODY_LIMIT: usize = moves::BODY_LIMIT;
 
 // No byte of a book past these is used (specs: reach).
 const REACH: usize = 2147483648;

@@ -35,7 +35,7 @@ use Rattle.server.specs.declared.listing.Listed.{Listed}
 use Rattle.server.specs.Events.{Called, Replied}
 use Rattle.server.specs.Listing.{SetsList}
 use Rattle.journal.specs.Journal.{bodyLimit}
-use Rattle.journal.specs.Moves.{numbered, numbered-size}
+use Rattle.journal.specs.Numbered.{numbered, numbered-size}
 use Rattle.journal.specs.Writer as Book
 use Rattle.record.specs.Layout as layout
 use Rattle.record.specs.Layout.{encode, row}

@@ -1,9 +1,7 @@
 -- 02, Q-7, the calls that keep a journal: what such a call looks at, what is kept of its event, and what it ensures beside the plain call's
 -- promise. Assumes nothing.
-use mathlib.Core.Path.{_≡_}
 use mathlib.Core.List.{List}
 use Prim.Native.Nat.{ℕ}
-use lib.Dec.{eqb}
 use lib.ListN.{take}
 use Rattle.wire.specs.Frame.{bytesOf}
 use Rattle.model.specs.State.{Server}
@@ -14,10 +12,10 @@ use Rattle.sessions.specs.declared.Delivery.{Delivery}
 use Rattle.server.specs.declared.Answered.{Answered}
 use Rattle.server.specs.declared.Done.{Done as Called}
 use Rattle.server.specs.declared.listing.Listed.{Listed}
-use Rattle.journal.specs.Journal.{choose}
-use Rattle.journal.specs.Writer.{Done, appendOf, keptNumber}
-use Rattle.journal.specs.declared.Kept.the-variants.{Written}
+use Rattle.journal.specs.Writer.{Done}
 use Rattle.record.specs.Layout as layout
+unfoldable pub use Rattle.entries.specs.Entries.{entryUnless}
+pub use Rattle.entries.specs.Entries.{Keeps}
 use Rattle.judging.specs.Kept.{recorded}
 use Rattle.keep.specs.declared.KeptDelivery.{KeptDelivery}
 use Rattle.keep.specs.declared.KeptDone.{KeptDone}
@@ -42,19 +40,9 @@ refusedBy done = 0
 refusedBy withheld = 0
 refusedBy (took o k n) = 0
 
--- 02: "The body is one event that was not refused, and its parcels": of a refused one nothing is kept, and that is no failing of the journal
-unfoldable pub entryUnless : ℕ → List ℕ → List ℕ → List ℕ → Done
-entryUnless number words book body = choose (eqb number 0) (appendOf words book body) (record { answer = Written; words = words; book = book })
-
 -- what a kept call on server d does to the writer's words and the book
 abbrev pub keeping : Server → Event → List ℕ → List ℕ → Done
 keeping d e words book = entryUnless (refusal d e) words book (layout.bodyBytes (recorded e) (bytesOf ((step d e) .frames)))
-
--- the number `kept`, the words and the book after a call that does D to them
-pub record Keeps (D : Done) (kept : ℕ) (words book : List ℕ) : Type 0 where
-  pub answer : kept ≡ keptNumber (D .answer)
-  pub words-are : words ≡ D .words
-  pub book-is : book ≡ D .book
 
 -- what a kept call tells of the event: the plain call's struct
 abbrev pub ofDelivery : KeptDelivery → Delivery

@@ -2,35 +2,33 @@
 use mathlib.Core.Path.{_≡_, refl, sym, ap, subst, _∙_}
 use mathlib.Core.Logic.{_⊎_, ⊎-elim}
 use mathlib.Core.Bool.{Bool, true, false, true≢false, _||_}
-use mathlib.Core.List.{List, [], _∷_, _++_, append-assoc, append-nil}
+use mathlib.Core.List.{List, _∷_, _++_, append-assoc}
 use Prim.Native.Nat.{ℕ, zero, suc, _+_, _≤_, _<_, min}
 use native.Mathlib.Omega.{arith}
-use lib.Dec.{eqb, ltb}
+use lib.Dec.{eqb}
 use lib.ListN.{length, take, length-take, length-append}
 use lib.Seq.{take-all}
 use borrow.Author.Tests.{ltb-false, ne-eqb}
 use Rattle.wire.specs.Field.{field, length-field}
-use Rattle.wire.specs.Frame.{Frame, bytesOf, written}
-use Rattle.wire.specs.Splice.{splice, length-splice, take-front, splice-then}
+use Rattle.wire.specs.Frame.{bytesOf, written}
+use Rattle.wire.specs.Splice.{splice, length-splice, take-front}
 use Rattle.model.specs.Sizes.{outputMinimum, payloadLimit, sessionLimit}
-use Rattle.readings.specs.Watch.{Limits, Limits.off, Limits.above, Limits.outside}
+use Rattle.readings.specs.Watch.{Limits.off, Limits.above, Limits.outside}
 use Rattle.model.specs.State.{Server}
 use Rattle.model.specs.Interface.{Event, Event.opening, Event.delivery, Event.cut, Event.clock, Event.answer, Event.status, Event.setting, Setting.watch}
 use Rattle.model.specs.Interface.{Setting.patterns, Reply, Reply.refused, Reply.done, Reply.withheld, Reply.took}
 use Rattle.model.specs.Refusals.{causes, refusal}
 use Rattle.model.specs.Step.{Result, answered, step}
-use Rattle.model.specs.Bound.{roomOf, outputBound}
+use Rattle.model.specs.Bound.{roomOf}
 use Rattle.claims.proofs.Bound.{bound}
 use Rattle.claims.proofs.Fits.{uncaused}
 use Rattle.claims.proofs.Refused.{for-its-cause, changes-nothing}
 use Rattle.state.specs.View.{Memory, view}
 use Rattle.queue.specs.Queue.{count-is}
-use Rattle.queue.specs.Requests.{countOf}
-use Rattle.journal.specs.Journal.{choose, bodyLimit}
-use Rattle.journal.specs.Bytes.{below, yes-is, no-is}
-use Rattle.journal.specs.Moves.{numbered}
-use Rattle.journal.specs.Writer.{Done, Met, appendOf, keptNumber}
-use Rattle.journal.specs.declared.Kept.{Kept}
+use Rattle.journal.specs.Journal.{bodyLimit}
+use Rattle.journal.specs.Bytes.{below, no-is}
+use Rattle.journal.specs.Numbered.{numbered}
+use Rattle.journal.specs.Writer.{Done, appendOf}
 use Rattle.journal.specs.declared.Kept.the-variants.{Written}
 use Rattle.record.specs.Layout as layout
 use Rattle.record.specs.Layout.{encode, row}
@@ -102,21 +100,6 @@ kept-call d e z body words book k words′ book′ p q h =
     subst (λ (x : ℕ). Keeps (entryUnless x words book (layout.bodyBytes (recorded e) (bytesOf ((step d e) .frames)))) k words′ book′) p
     (subst (λ (x : List ℕ). Keeps (entryUnless z words book x) k words′ book′) q h)
 
--- the writer's answer as its number
-pub met : {D : Done} {r : Kept} {k : ℕ} {words book : List ℕ} → Met D r words book → k ≡ keptNumber r → Keeps D k words book
-met h e = record { answer = e ∙ ap keptNumber (h .answer); words-are = h .words; book-is = h .book }
-
--- the two ways of an entry
-pub not-kept : (z : ℕ) (words book body : List ℕ) → eqb z 0 ≡ false → {k : ℕ} → k ≡ 0 → Keeps (entryUnless z words book body) k words book
-unfolding entryUnless
-not-kept z words book body e {k} y = rw (no-is {A = Done} (appendOf words book body) (record { answer = Written; words = words; book = book }) e)
-    (record { answer = y; words-are = refl; book-is = refl })
-
-pub then-kept : (z : ℕ) (words book body : List ℕ) → eqb z 0 ≡ true → {k : ℕ} {words′ book′ : List ℕ} → Keeps (appendOf words book body) k words′ book′
-    → Keeps (entryUnless z words book body) k words′ book′
-unfolding entryUnless
-then-kept z words book body e h = rw (yes-is {A = Done} (appendOf words book body) (record { answer = Written; words = words; book = book }) e) h
-
 -- the first bytes of a slice, as the code takes them
 pub first-of : (n most : ℕ) (bs : List ℕ) → n ≡ min (length bs) most → take n bs ≡ take most bs
 first-of n most bs e =
@@ -177,17 +160,6 @@ answer-parts n end head payload behind shown frames given p r q =
     (λ i. p i ++ payload ++ r i ++ q i)
     ∙ ap (λ (x : List ℕ). 4 ∷ (x ++ d ++ given)) (append-assoc a (b ++ c) payload ∙ ap (λ (x : List ℕ). a ++ x) (append-assoc b c payload))
     ∙ ap (λ (x : List ℕ). 4 ∷ (x ++ given)) (append-assoc a (b ++ (c ++ payload)) d ∙ ap (λ (x : List ℕ). a ++ x) (append-assoc b (c ++ payload) d))
-
-pub two-parts : (head frames : List ℕ) → head ++ [] ++ [] ++ frames ≡ head ++ frames
-two-parts head frames = ap (λ (x : List ℕ). x ++ frames) (append-nil (head ++ []) ∙ append-nil head)
-
--- a length and bytes, laid into a row of bytes one behind the other
-pub row-taken : (blank one both s : List ℕ) → 4 + length s ≤ length blank → one ≡ splice blank 0 (field 4 (length s)) → both ≡ splice one 4 s → take (4 + length s) both ≡ field 4 (length s) ++ s
-row-taken blank one both s h p q =
-    let x : List ℕ = field 4 (length s) ++ s in
-    let l : length x ≡ 4 + length s = length-append (field 4 (length s)) s ∙ ap (λ (n : ℕ). n + length s) (length-field 4 (length s)) in
-    let e : both ≡ splice blank 0 x = q ∙ ap (λ (y : List ℕ). splice y 4 s) p ∙ splice-then blank 0 (field 4 (length s)) 4 s (length-field 4 (length s)) (omega arith) in
-    ap (λ (n : ℕ). take n both) (sym l) ∙ ap (take (length x)) e ∙ take-front blank x (omega (arith, l))
 
 -- of a refused event the body does not matter
 pub kept-if : (z : ℕ) (words book x y : List ℕ) (k : ℕ) (words′ book′ : List ℕ) → (z ≡ 0 → x ≡ y) → Keeps (entryUnless z words book x) k words′ book′ →

@@ -4,7 +4,7 @@ ghost use Rattle.journal.specs.Writer.{closeOf, newOf};
 ghost use Rattle.keep.specs.Keeping.{Keeps};
 ghost use mathlib.Core.Path.{_≡_};
 use crate::KeptAlone;
-use crate::Writer;
+use entries::Writer;
 use journal::Found;
 use journal::reader;
 use journal::writer;

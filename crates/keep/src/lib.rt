@@ -1,34 +1,32 @@
 // The calls that keep a journal (02, Q-7): each does the plain call's event, and then writes its entry.
-ghost use Prim.Native.Nat.{_+_, _≤_, min};
+ghost use Prim.Native.Nat.{min};
 ghost use Rattle.model.specs.Interface.{Event, Event.answer, Event.clock, Event.cut, Event.delivery, Event.opening, Reply};
 ghost use Rattle.model.specs.Post.{Post};
 ghost use Rattle.server.specs.Calls.{Delivered};
 ghost use Rattle.server.specs.Events.{Called, Replied};
 ghost use Rattle.state.specs.Tidy.{Tidy};
 ghost use Rattle.state.specs.View.{memory, view};
-ghost use Rattle.journal.specs.Journal.{bodyLimit};
-ghost use Rattle.journal.specs.Moves.{numbered};
-ghost use Rattle.keep.specs.Keeping.{Keeps, entryUnless, keeping, looked, ofAnswered, ofDelivery, ofDone};
+ghost use Rattle.keep.specs.Keeping.{Keeps, keeping, looked, ofAnswered, ofDelivery, ofDone};
 ghost use lib.Dec.{eqb};
 ghost use lib.ListN.{length};
 ghost use mathlib.Core.Bool.{not};
-ghost use mathlib.Core.List.{[], _++_};
+ghost use mathlib.Core.List.{[]};
 ghost use mathlib.Core.Path.{_≡_};
 
 mod book;
-mod heads;
 mod lists;
 mod watches;
 
-use journal::writer;
+use entries::Writer;
+use entries::heads;
+use entries::keep_delivery;
+use entries::keep_entry;
+use entries::keep_numbers;
 use record::events::MOST_DELIVERED;
 use record::events::MOST_SHOWN;
 use server::Done;
 use state::sizes::Strings;
 use state::sizes::Words;
-
-// The writer's own four words, lent.
-pub type Writer = [u64; 4];
 
 // What the calls answer: the plain call's numbers, then what became of the entry: 0 written (or the event was refused), 1 no room, 2 closed.
 #[repr(C)]
@@ -60,63 +58,6 @@ pub struct KeptAnswered {
 #[repr(C)]
 pub struct KeptAlone {
     pub kept: u64,
-}
-
-// The entry of an event, its body in four parts, unless the event was refused. Every kept call ends with this.
-fn keep_entry(
-    journal: &mut Writer,
-    book: &mut [u8],
-    refusal: u64,
-    a: &[u8],
-    b: &[u8],
-    c: &[u8],
-    d: &[u8],
-) -> u64
-    requires { ⌜ (refusal ≡ 0 → length (now a) + length (now b) + length (now c) + length (now d) ≤ bodyLimit) ⌝ }
-    ensures { λ r. ⌜ Keeps (entryUnless refusal (now (journal .entry)) (now (book .entry))
-        (now (a .entry) ++ now (b .entry) ++ now (c .entry) ++ now (d .entry))) r (now (journal .exit)) (now (book .exit)) ⌝ }
-{
-    if refusal != 0 {
-        return 0;
-    }
-    let kept = writer::append(journal, book, a, b, c, d);
-    journal::kept_number(kept)
-}
-
-// The same of a delivery, whose head goes straight to the book: most events are deliveries.
-fn keep_delivery(
-    journal: &mut Writer,
-    book: &mut [u8],
-    refusal: u64,
-    connection: u64,
-    shown: &[u8],
-    frames: &[u8],
-) -> u64
-    requires { ⌜ (refusal ≡ 0 → 9 + length (now shown) + length (now frames) ≤ bodyLimit) ⌝ }
-    ensures { λ r. ⌜ Keeps (entryUnless refusal (now (journal .entry)) (now (book .entry))
-        (numbered 1 connection (length (now (shown .entry))) ++ now (shown .entry) ++ now (frames .entry))) r (now (journal .exit)) (now (book .exit)) ⌝ }
-{
-    if refusal == 0 {
-        let n = shown.len() as u64;
-        let tag = heads::DELIVERY;
-        let told = writer::append_numbered(journal, book, tag, connection, n, shown, frames);
-        return journal::kept_number(told);
-    }
-    0
-}
-
-// The same of an event of numbers alone.
-fn keep_numbers(
-    journal: &mut Writer,
-    book: &mut [u8],
-    refusal: u64,
-    head: &[u8],
-    frames: &[u8],
-) -> u64
-    requires { ⌜ (refusal ≡ 0 → length (now head) + length (now frames) ≤ bodyLimit) ⌝ }
-    ensures { λ r. ⌜ Keeps (entryUnless refusal (now (journal .entry)) (now (book .entry)) (now (head .entry) ++ now (frames .entry))) r (now (journal .exit)) (now (book .exit)) ⌝ }
-{
-    keep_entry(journal, book, refusal, head, &head[..0], &head[..0], frames)
 }
 
 // At most so many.

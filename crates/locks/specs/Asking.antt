@@ -17,8 +17,8 @@ use Rattle.queue.specs.Queue.{noRequest, onWaiting, count-is}
 use Rattle.queue.specs.Requests.{countOf}
 use Rattle.state.specs.Tidy.{Tidy}
 use Rattle.state.specs.View.{Memory, memory, locksOf, view}
-use Rattle.locks.specs.Outcome.{Met, ends, ends-nil, met, told}
-use Rattle.locks.specs.Waiting.{next}
+use Rattle.holding.specs.Outcome.{Met, ends, ends-nil, met, told}
+use Rattle.holding.specs.Waiting.{next}
 
 -- answered 3: that kind is held, a request waits, the string is too long, or a release stands
 unfoldable pub unable : Locks → ℕ → List ℕ → Bool

@@ -14,10 +14,10 @@ use Rattle.model.specs.Locks.{releaseCode, dueAt, dueAny, completed, isDue, sta
 use Rattle.state.specs.Change.{onEntry, orderWith}
 use Rattle.state.specs.Grid.{upd, upd-upd, upd-set}
 use Rattle.state.specs.View.{Memory, view, standingOf}
-use Rattle.locks.specs.Outcome.{Met, told}
+use Rattle.holding.specs.Outcome.{Met, told}
 use Rattle.locks.specs.Settled.{both, settled, met-both}
-use Rattle.locks.specs.Standing.{word-none}
-use Rattle.locks.specs.Sweep.{turnedAway}
+use Rattle.holding.specs.Standing.{word-none}
+use Rattle.holding.specs.Sweep.{turnedAway}
 
 -- the last message's number is n; and besides, the release took effect
 abbrev pub noted : Locks → ℕ → ℕ → Locks

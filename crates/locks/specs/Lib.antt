@@ -1,15 +1,5 @@
-pub mod Outcome
-pub mod Access
-pub mod Granting
 pub mod Settled
-pub mod Standing
 pub mod Release
-pub mod Info
-pub mod Sessions
-pub mod Waiting
-pub mod Sweep
 pub mod Complete
-pub mod Pass
 pub mod Asking
-pub mod Deadline
 pub mod Quick

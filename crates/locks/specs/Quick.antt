@@ -12,10 +12,10 @@ use Rattle.model.specs.Lists.{all}
 use Rattle.model.specs.State.{Waiting, Locks, Kind.exclusive-lock, at}
 use Rattle.model.specs.Locks.{LockEvent.release, LockEvent.request, noExclusive, noShared, mayGrant, giveAt, tell, withEntries, elsewhere, stands, change, grantPass}
 use Rattle.state.specs.Grid.{upd}
-use Rattle.locks.specs.Access.{but-one, one-of}
+use Rattle.holding.specs.Access.{but-one, one-of}
 use Rattle.locks.specs.Asking.{decided-granted, holds-none, request-decided, unable-waits}
-use Rattle.locks.specs.Granting.{may-alone}
-use Rattle.locks.specs.Outcome.{told}
+use Rattle.grants.specs.Granting.{may-alone}
+use Rattle.holding.specs.Outcome.{told}
 use Rattle.locks.specs.Release.{freed, release-now, ruled-exclusive, ruled-now}
 use Rattle.locks.specs.Settled.{both, settled}
 

@@ -11,9 +11,9 @@ use Rattle.model.specs.Locks.{withEntries, unanswered, releaseCode, stands, rel
 use Rattle.state.specs.Change.{onEntry, orderWith}
 use Rattle.state.specs.Grid.{upd, upd-set}
 use Rattle.state.specs.View.{standingOf}
-use Rattle.locks.specs.Outcome.{told}
+use Rattle.holding.specs.Outcome.{told}
 use Rattle.locks.specs.Settled.{both, settled}
-use Rattle.locks.specs.Standing.{kindOf}
+use Rattle.holding.specs.Standing.{kindOf}
 
 -- by the lock that it frees (0: none, or a release stands) and whether the number that it names is the last message's
 abbrev pub ruledBy : ℕ → Bool → Releasing

@@ -10,7 +10,7 @@ use Rattle.model.specs.State.{Locks, Server}
 use Rattle.model.specs.Locks.{Answer, LockEvent, LockResult, change, grantPass, frees, settle}
 use Rattle.model.specs.Step.{lockFrame}
 use Rattle.state.specs.View.{Memory, view}
-use Rattle.locks.specs.Outcome.{Met}
+use Rattle.holding.specs.Outcome.{Met}
 
 -- one event behind another
 abbrev pub both : LockResult → LockResult → LockResult

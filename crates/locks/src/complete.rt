@@ -1,8 +1,8 @@
 // A release that stands takes effect: with the message that it names, or with a device clear.
 ghost use Prim.Native.Nat.{ℕ, _+_, _<_, _≤_, _^_};
-ghost use Rattle.locks.specs.Outcome.{Met};
+ghost use Rattle.holding.specs.Outcome.{Met};
 ghost use Rattle.locks.specs.Settled.{settled};
-ghost use Rattle.locks.specs.Standing.{kindOf};
+ghost use Rattle.holding.specs.Standing.{kindOf};
 ghost use Rattle.model.specs.Bound.{answersRoom};
 ghost use Rattle.model.specs.Locks.Due.{due-now};
 ghost use Rattle.model.specs.Locks.LockEvent.{clear, command};
@@ -15,11 +15,11 @@ ghost use lib.ListN.{length};
 ghost use mathlib.Core.Bool.{false};
 ghost use mathlib.Core.List.{List};
 ghost use mathlib.Core.Path.{_≡_};
-use crate::answers::put_answer;
-use crate::grant_pass;
-use crate::standing;
-use crate::standing::NUMBERS;
-use crate::waiting;
+use grants::grant_pass;
+use holding::answers::put_answer;
+use holding::standing;
+use holding::standing::NUMBERS;
+use holding::waiting;
 use state::sizes::BEFORE_FIRST;
 use state::sizes::Strings;
 use state::sizes::Words;

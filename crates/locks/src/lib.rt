@@ -1,15 +1,9 @@
-// The lock rules of 01 in code: access, granting, requests, releases, and the queue of those that wait. Each function does to the lent
-// memory and the output what the model says of one lock event.
-pub mod access;
-pub mod answers;
+// The lock rules of 01 in code: requests, releases, and a release that takes effect later. Each function does to the lent memory and the
+// output what the model says of one lock event.
 pub mod complete;
-pub mod deadline;
-pub mod grant_pass;
-pub mod granting;
-pub mod info;
 pub mod quick;
 pub mod release;
 pub mod request;
-pub mod sessions;
-pub mod standing;
-pub mod waiting;
+
+// whoever asks in few steps asks whether a release stands, too
+pub use holding::standing;

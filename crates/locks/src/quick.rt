@@ -2,7 +2,7 @@
 // waits. All else is the request, or the release, in full: a call. `c` is the asynchronous connection of slot i; the delivery that asks has
 // confirmed it.
 ghost use Prim.Native.Nat.{ℕ, _+_, _<_, _≤_};
-ghost use Rattle.locks.specs.Outcome.{Met};
+ghost use Rattle.holding.specs.Outcome.{Met};
 ghost use Rattle.locks.specs.Quick.{Ended, Free};
 ghost use Rattle.locks.specs.Settled.{settled};
 ghost use Rattle.model.specs.Bound.{answersRoom};
@@ -15,12 +15,12 @@ ghost use lib.ListN.{length};
 ghost use mathlib.Core.Bool.{true};
 ghost use mathlib.Core.List.{List};
 ghost use mathlib.Core.Path.{_≡_};
-use crate::answers::put_answer_to;
-use crate::granting;
 use crate::release::release_lock;
 use crate::request::request_lock;
-use crate::standing;
-use crate::standing::EXCLUSIVE;
+use grants::granting;
+use holding::answers::put_answer_to;
+use holding::standing;
+use holding::standing::EXCLUSIVE;
 use queue::requests;
 use state::holders;
 use state::sizes::Strings;

@@ -1,9 +1,9 @@
 // Giving a lock back.
 ghost use Prim.Native.Nat.{ℕ, _+_, _<_, _≤_};
-ghost use Rattle.locks.specs.Outcome.{Met};
+ghost use Rattle.holding.specs.Outcome.{Met};
 ghost use Rattle.locks.specs.Release.{ruledBy};
 ghost use Rattle.locks.specs.Settled.{settled};
-ghost use Rattle.locks.specs.Standing.{kindOf};
+ghost use Rattle.holding.specs.Standing.{kindOf};
 ghost use Rattle.model.specs.Bound.{answersRoom};
 ghost use Rattle.model.specs.Locks.LockEvent.{release};
 ghost use Rattle.model.specs.Locks.{releaseCode, releasingOf};
@@ -14,11 +14,11 @@ ghost use lib.Dec.{eqb};
 ghost use lib.ListN.{length};
 ghost use mathlib.Core.List.{List};
 ghost use mathlib.Core.Path.{_≡_};
-use crate::answers::put_answer;
-use crate::grant_pass;
-use crate::standing;
-use crate::standing::EXCLUSIVE;
-use crate::standing::SHARED;
+use grants::grant_pass;
+use holding::answers::put_answer;
+use holding::standing;
+use holding::standing::EXCLUSIVE;
+use holding::standing::SHARED;
 use state::holders;
 use state::sizes::Strings;
 use state::sizes::Words;

@@ -1,7 +1,7 @@
 // Asking for a lock.
 ghost use Prim.Native.Nat.{ℕ, _+_, _<_, _≤_};
 ghost use Rattle.locks.specs.Asking.{decided, unable};
-ghost use Rattle.locks.specs.Outcome.{Met};
+ghost use Rattle.holding.specs.Outcome.{Met};
 ghost use Rattle.model.specs.Lists.{all};
 ghost use Rattle.model.specs.Locks.LockEvent.{request};
 ghost use Rattle.model.specs.Locks.{change, elsewhere, holds, noPlace};
@@ -15,9 +15,9 @@ ghost use mathlib.Core.Bool.{_||_, true};
 ghost use mathlib.Core.List.{List, [], _++_, _∷_};
 ghost use mathlib.Core.Path.{_≡_};
 ghost use Rattle.model.specs.Sizes.{sessionLimit, stringLimit};
-use crate::answers::put_answer;
-use crate::granting;
-use crate::standing;
+use grants::granting;
+use holding::answers::put_answer;
+use holding::standing;
 use queue::requests;
 use state::holders;
 use state::sizes::SESSION_LIMIT;

@@ -2,4 +2,3 @@ pub mod Contracts
 pub mod Numbering
 pub mod Watching
 pub mod Program
-pub mod Table

@@ -4,25 +4,23 @@ use mathlib.Core.Bool.{Bool, true, false, not, _||_, cond}
 use mathlib.Core.List.{List, [], _∷_, _++_, append-nil}
 use Prim.Native.Nat.{ℕ, _≤_, _<_}
 use lib.Dec.{ltb}
-use lib.ListN.{length, List·getD-eq-default}
-use borrow.Author.Tests.{lt-ltb, le-ltb, eq-eqb, ne-eqb}
+use lib.ListN.{length}
+use borrow.Author.Tests.{lt-ltb, le-ltb}
 use Rattle.wire.specs.Frame.{Frame, bytesOf, written}
 use Rattle.wire.specs.Message.{header}
 use Rattle.readings.specs.Watch.{Limits, refused}
-use Rattle.model.specs.Sizes.{sessionLimit, outputMinimum, payloadLimit}
-use Rattle.model.specs.State.{Server, Entry, Exchange, at, blank, live, slotOfNumber, exchangeAt}
+use Rattle.model.specs.Sizes.{outputMinimum, payloadLimit}
+use Rattle.model.specs.State.{Server, at, live, slotOfNumber, exchangeAt}
 use Rattle.model.specs.Interface.{Event.answer, Reply.done, Reply.withheld, answeredAnswer, Event.setting, Setting.watch}
 use Rattle.model.specs.Exchange.{mayAnswer, interrupted}
 use Rattle.model.specs.Acts.{interruptions}
 use Rattle.model.specs.Canonical.{omits}
 use Rattle.model.specs.Refusals.{causes, refusal, firstCause, Cause, smallRoom}
 use Rattle.model.specs.Sensing.{serviceAt}
-use Rattle.state.specs.Change.{exchangeWith}
 use Rattle.state.specs.Tidy.{Tidy}
-use Rattle.state.specs.View.{Memory, view, locksOf}
-use Rattle.sessions.specs.Closing.{sessions-held}
-use Rattle.effects.specs.Events.{Sends, answerFrame, answeredAs, answer-finishes}
-use Rattle.effects.specs.Interrupted.{Noted, withheldAt}
+use Rattle.state.specs.View.{Memory, view}
+use Rattle.exchanges.specs.Events.{Sends, answerFrame, answeredAs, answer-finishes}
+use Rattle.exchanges.specs.Interrupted.{Noted, withheldAt}
 use Rattle.server.specs.declared.Answered.{Answered}
 use Rattle.server.specs.Causes.{short-room, enough-room}
 use Rattle.server.specs.Events.{Replied, answeredNumbers, taken-answer}
@@ -74,21 +72,6 @@ module _ (d : Server) (n i : ℕ) (p : List ℕ) (end : Bool) (sh : List ℕ) (r
   pub answer-refused : outputMinimum ≤ room → refusal d (answer n p end sh room) ≡ refusedAt d i (length p)
   unfolding refusedAt
   answer-refused = enough-room d (answer n p end sh room) room (answerRow d i (length p)) at-row
-
--- what the words say
-pub not-there : (w s : List ℕ) (i : ℕ) → sessionLimit ≤ i → live (at (locksOf w s .entries) i) ≡ false
-not-there w s i h =
-    let l : length (locksOf w s .entries) ≤ i = rw (sessions-held w s) h in
-    ap live (List·getD-eq-default (locksOf w s .entries) blank l)
-
-pub not-live : (e : Entry) (r : ℕ) → e .number ≡ r → r ≡ 0 → live e ≡ false
-not-live e r p q = ap not (eq-eqb (e .number) 0 (p ∙ q))
-
-pub is-live : (e : Entry) (r : ℕ) → e .number ≡ r → (r ≡ 0 → ⊥) → live e ≡ true
-is-live e r p q = ap not (ne-eqb (e .number) 0 (λ z. q (sym p ∙ z)))
-
-pub size-read : (x : Exchange) (r : ℕ) → exchangeWith 3 r x ≡ x → r ≡ x .clientSize
-size-read x r e = ap (λ (y : Exchange). y .clientSize) e
 
 -- 02, Q-5: an answer that is not refused, withheld or sent: the exchange, the frames, the numbers
 pub record Gives (d : Server) (i : ℕ) (end : Bool) (p sh : List ℕ) (r : Answered) (d′ : Server) (out out′ : List ℕ) : Type 0 where

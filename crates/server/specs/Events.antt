@@ -21,7 +21,7 @@ use Rattle.state.specs.Tidy.{Tidy}
 use Rattle.state.specs.View.{Memory, view}
 use Rattle.state.specs.Change.{onRest}
 use Rattle.state.specs.Fresh.{freshWords, freshStrings}
-use Rattle.locks.specs.Outcome.{Met}
+use Rattle.holding.specs.Outcome.{Met}
 use Rattle.sessions.specs.Closing.{ClosesPlace, closedServer}
 use Rattle.server.specs.declared.Answered.{Answered}
 use Rattle.server.specs.declared.Done.{Done}

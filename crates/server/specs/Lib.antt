@@ -4,6 +4,3 @@ pub mod Events
 pub mod Listing
 pub mod Answers
 pub mod Program
-pub mod Asking
-pub mod Fill
-pub mod Holders

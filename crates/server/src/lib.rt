@@ -16,15 +16,13 @@ ghost use Rattle.model.specs.Sizes.{outputMinimum, payloadLimit, sessionLimit};
 ghost use Prim.Native.Nat.{ℕ, _<_, _≤_};
 ghost use Rattle.state.specs.Layout.{STRINGS, WORDS};
 
-mod asking;
-mod holders;
 pub mod listing;
 pub mod watches;
 
 use delivery::deliver;
-use effects::events;
-use effects::interrupted;
-use locks::waiting;
+use exchanges::events;
+use exchanges::interrupted;
+use holding::waiting;
 use sessions::Delivery;
 use sessions::answer;
 use sessions::closing;

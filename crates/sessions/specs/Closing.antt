@@ -20,7 +20,7 @@ use Rattle.model.specs.Locks.{LockResult, LockEvent.close, elsewhere, change, g
 use Rattle.model.specs.Step.{channels, shutAll, closing, lockFrame}
 use Rattle.wire.specs.Frame.{bytesOf}
 use Rattle.wire.specs.Splice.{splice}
-use Rattle.locks.specs.Outcome.{Met}
+use Rattle.holding.specs.Outcome.{Met}
 use Rattle.state.specs.Table.{tab, length-tab, all-tab}
 use Rattle.state.specs.Grid.{upd, upd-upd, upd-set, grid}
 use Rattle.state.specs.Change.{onRest, onConnection as onRow, connectionWith, onExchange, exchangeWith}

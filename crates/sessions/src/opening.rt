@@ -20,7 +20,7 @@ use crate::answer;
 use crate::closing::renew_exchange;
 use crate::mode;
 use crate::session_id;
-use locks::sessions;
+use holding::sessions;
 use state::search;
 use state::sizes::Strings;
 use state::sizes::Words;

@@ -7,7 +7,8 @@ use native.Mathlib.Omega.{arith}
 use borrow.Author.Tests.{not-true, not-false}
 use Rattle.model.specs.Exchange.{mayAnswer}
 use Rattle.model.specs.State.{at, live, exchangeAt}
-use Rattle.server.specs.Answers.{refused-nobody, refused-unasked, refused-long, refused-over, not-refused, not-there, not-live, is-live, size-read}
+use Rattle.questions.specs.Found.{not-there, not-live, is-live, size-read}
+use Rattle.server.specs.Answers.{refused-nobody, refused-unasked, refused-long, refused-over, not-refused}
 use Rattle.state.specs.Search.{number-read}
 use Rattle.state.specs.View.{memory, view, locksOf, restOf}
 use borrow.Author.Needs.{needs}

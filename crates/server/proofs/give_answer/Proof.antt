@@ -3,7 +3,7 @@ use mathlib.Core.Path.{_∙_}
 use mathlib.Core.List.{[]}
 use Prim.Native.Nat.{_≤_}
 use lib.ListN.{length}
-use Rattle.effects.specs.Interrupted.{header-shown}
+use Rattle.exchanges.specs.Interrupted.{header-shown}
 use Rattle.server.specs.Answers.{gives-sent, gives-withheld}
 use Rattle.state.specs.View.{memory, view}
 use borrow.Author.Needs.{needs}

@@ -7,7 +7,7 @@ use borrow.Author.Tests.{eq-eqb, ne-eqb}
 use Rattle.model.specs.State.{Connection}
 use Rattle.state.specs.View.{memory, view}
 use Rattle.model.specs.Interface.{Event.opening}
-use Rattle.effects.specs.Events.{opening-finishes}
+use Rattle.exchanges.specs.Events.{opening-finishes}
 use Rattle.server.specs.Events.{refused-call, taken-call, open-no-number, open-already, open-taken, empty-buffer, empty-output}
 use borrow.Author.Needs.{needs}
 use Rattle.server.proofs.hislip_open.Statement.{statement}

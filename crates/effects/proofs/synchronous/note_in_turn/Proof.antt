@@ -1,7 +1,8 @@
 -- `synchronous::note_in_turn` meets its contract: the expectation, what the command notes, then the number expected.
 use native.Mathlib.Omega.{arith}
 use Rattle.model.specs.Exchange.{stepped, tested}
-use Rattle.effects.specs.Interrupted.{noted-then, tested-in-turn}
+use Rattle.exchanges.specs.Interrupted.{tested-in-turn}
+use Rattle.effects.specs.Interrupted.{noted-then}
 use Rattle.sessions.specs.Synchronous.{commandNotes}
 use Rattle.state.specs.View.{memory, view}
 use borrow.Author.Needs.{needs}

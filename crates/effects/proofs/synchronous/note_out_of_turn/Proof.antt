@@ -1,6 +1,7 @@
 -- `synchronous::note_out_of_turn` meets its contract: the interruption, what the command notes, then the number expected.
 use Rattle.model.specs.Exchange.{stepped, tested}
-use Rattle.effects.specs.Interrupted.{noted-then, tested-out-of-turn}
+use Rattle.exchanges.specs.Interrupted.{tested-out-of-turn}
+use Rattle.effects.specs.Interrupted.{noted-then}
 use Rattle.sessions.specs.Synchronous.{commandNotes}
 use Rattle.state.specs.View.{memory, view}
 use borrow.Author.Needs.{needs}

@@ -6,7 +6,7 @@ use lib.ListN.{length}
 use borrow.Author.Tests.{leb-true, not-true, not-false}
 use Rattle.journal.specs.Journal.{entry, reach}
 use Rattle.journal.specs.Writer.{place, appendOf}
-use Rattle.journal.specs.Moves.{numberedBody, numbered-entry-size}
+use Rattle.journal.specs.Numbered.{numberedBody, numbered-entry-size}
 use Rattle.journal.specs.Written.{words-then, write-closed, write-no-room, write-done}
 use borrow.Author.Needs.{needs}
 use Rattle.journal.proofs.writer.append_numbered.Statement.{statement}

@@ -1,7 +1,7 @@
 -- `writer::put_head` meets its contract: four writes in a row are one.
 use mathlib.Core.Path.{_∙_}
 use native.Mathlib.Omega.{arith}
-use Rattle.journal.specs.Moves.{head-written}
+use Rattle.journal.specs.Numbered.{head-written}
 use borrow.Author.Needs.{needs}
 use Rattle.journal.proofs.writer.put_head.Statement.{statement}
 use Rattle.journal.proofs.writer.put_head.Tie as tie

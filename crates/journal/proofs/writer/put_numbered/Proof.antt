@@ -1,7 +1,7 @@
 -- `writer::put_numbered` meets its contract: the parts in a row are the entry.
 use mathlib.Core.Path.{sym, _∙_}
 use native.Mathlib.Omega.{arith}
-use Rattle.journal.specs.Moves.{numberedBody, numbered-size, numbered-then}
+use Rattle.journal.specs.Numbered.{numberedBody, numbered-size, numbered-then}
 use Rattle.journal.specs.Written.{entry-written}
 use borrow.Author.Needs.{needs}
 use Rattle.journal.proofs.writer.put_numbered.Statement.{statement}

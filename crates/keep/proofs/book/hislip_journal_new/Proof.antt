@@ -1,5 +1,5 @@
 -- `hislip_journal_new` meets its contract.
-use Rattle.keep.specs.Parts.{met}
+use Rattle.entries.specs.Parts.{met}
 use borrow.Author.Needs.{needs}
 use Rattle.keep.proofs.book.hislip_journal_new.Statement.{statement}
 use Rattle.keep.proofs.book.hislip_journal_new.Tie as tie

@@ -2,7 +2,7 @@
 use mathlib.Core.List.{[]}
 use native.Mathlib.Omega.{arith}
 use Rattle.locks.specs.Complete.{met-clear}
-use Rattle.locks.specs.Sweep.{turned-short}
+use Rattle.holding.specs.Sweep.{turned-short}
 use borrow.Author.Needs.{needs}
 use Rattle.locks.proofs.complete.at_clear.Statement.{statement}
 use Rattle.locks.proofs.complete.at_clear.Tie as tie

@@ -4,9 +4,9 @@ use native.Mathlib.Omega.{arith}
 use Rattle.model.specs.State.{at}
 use Rattle.locks.specs.Asking.{met-none}
 use Rattle.locks.specs.Complete.{due-none, due-other, due-this, message-due, message-not, noted-stored}
-use Rattle.locks.specs.Outcome.{met-is}
+use Rattle.holding.specs.Outcome.{met-is}
 use Rattle.locks.specs.Settled.{met-pass}
-use Rattle.locks.specs.Standing.{kindOf, standing-read}
+use Rattle.holding.specs.Standing.{kindOf, standing-read}
 use Rattle.state.specs.View.{locksOf, memory, view}
 use borrow.Author.Needs.{needs}
 use Rattle.locks.proofs.complete.at_message.Statement.{statement}

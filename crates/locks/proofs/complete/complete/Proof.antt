@@ -5,8 +5,8 @@ use native.Mathlib.Omega.{arith}
 use Rattle.wire.specs.Frame.{frameBytes}
 use Rattle.wire.specs.Splice.{splice}
 use Rattle.locks.specs.Complete.{completed-due, ended-stored}
-use Rattle.locks.specs.Outcome.{lockAnswerFrame, met-one}
-use Rattle.locks.specs.Standing.{kindOf}
+use Rattle.holding.specs.Outcome.{lockAnswerFrame, met-one}
+use Rattle.holding.specs.Standing.{kindOf}
 use Rattle.state.specs.View.{locksOf, memory, view}
 use borrow.Author.Needs.{needs}
 use Rattle.locks.proofs.complete.complete.Statement.{statement}

@@ -6,8 +6,8 @@ use Rattle.model.specs.Sizes.{beforeFirst}
 use Rattle.model.specs.State.{at}
 use Rattle.locks.specs.Asking.{met-none}
 use Rattle.locks.specs.Complete.{completed-not, due-any, due-any-none, noted-stored}
-use Rattle.locks.specs.Outcome.{met-is}
-use Rattle.locks.specs.Standing.{kindOf, standing-read}
+use Rattle.holding.specs.Outcome.{met-is}
+use Rattle.holding.specs.Standing.{kindOf, standing-read}
 use Rattle.state.specs.View.{locksOf, memory, view}
 use borrow.Author.Needs.{needs}
 use Rattle.locks.proofs.complete.complete_any.Statement.{statement}

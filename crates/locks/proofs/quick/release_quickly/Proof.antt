@@ -3,8 +3,8 @@ use mathlib.Core.Path.{refl, sym, ap, _∙_}
 use native.Mathlib.Omega.{arith}
 use lib.ListN.{length}
 use Rattle.model.specs.State.{Server}
-use Rattle.locks.specs.Outcome.{met-is, met-one}
-use Rattle.locks.specs.Pass.{pass-met, pass-none}
+use Rattle.holding.specs.Outcome.{met-is, met-one}
+use Rattle.grants.specs.Pass.{pass-met, pass-none}
 use Rattle.locks.specs.Quick.{ended-release}
 use Rattle.locks.specs.Settled.{met-pass}
 use Rattle.state.specs.View.{locksOf, memory, view}

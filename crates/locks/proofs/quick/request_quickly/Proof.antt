@@ -3,8 +3,8 @@ use mathlib.Core.Path.{sym, ap, _∙_}
 use mathlib.Core.List.{List}
 use Prim.Native.Nat.{ℕ}
 use Rattle.model.specs.Locks.{give}
-use Rattle.locks.specs.Granting.{given-noted, may-exclusive, no-string}
-use Rattle.locks.specs.Outcome.{met-one}
+use Rattle.grants.specs.Granting.{given-noted, may-exclusive, no-string}
+use Rattle.holding.specs.Outcome.{met-one}
 use Rattle.locks.specs.Quick.{free-grants, free-request}
 use Rattle.state.specs.Change.{onEntry}
 use Rattle.state.specs.Holders.{no-other}

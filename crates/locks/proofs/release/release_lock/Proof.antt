@@ -7,10 +7,10 @@ use Rattle.wire.specs.Frame.{frameBytes}
 use Rattle.wire.specs.Splice.{splice}
 use Rattle.model.specs.State.{at}
 use Rattle.locks.specs.Asking.{met-none}
-use Rattle.locks.specs.Outcome.{lockAnswerFrame, met-is, met-one}
+use Rattle.holding.specs.Outcome.{lockAnswerFrame, met-is, met-one}
 use Rattle.locks.specs.Release.{release-invalid, release-now, release-stands, ruled-invalid, ruled-now, ruled-stands, standing-stored}
 use Rattle.locks.specs.Settled.{met-pass}
-use Rattle.locks.specs.Standing.{kindOf}
+use Rattle.holding.specs.Standing.{kindOf}
 use Rattle.state.specs.View.{locksOf, memory, view}
 use borrow.Author.Needs.{needs}
 use Rattle.locks.proofs.release.release_lock.Statement.{statement}

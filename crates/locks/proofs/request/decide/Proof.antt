@@ -1,8 +1,8 @@
 -- `request::decide` meets its contract: the ways of the rule that are left.
 use mathlib.Core.Path.{refl, _∙_}
 use Rattle.locks.specs.Asking.{decided-denied, decided-granted, decided-queued, has-place, met-none}
-use Rattle.locks.specs.Granting.{given-noted}
-use Rattle.locks.specs.Outcome.{met-one}
+use Rattle.grants.specs.Granting.{given-noted}
+use Rattle.holding.specs.Outcome.{met-one}
 use Rattle.state.specs.View.{locksOf, memory, view}
 use borrow.Author.Needs.{needs}
 use Rattle.locks.proofs.request.decide.Statement.{statement}

@@ -8,7 +8,7 @@ use borrow.Author.Tests.{eqb-true}
 use Rattle.model.specs.Lists.{all}
 use Rattle.model.specs.Locks.{elsewhere}
 use Rattle.locks.specs.Asking.{idle-end, idle-on, idle-stop}
-use Rattle.locks.specs.Waiting.{slot-is}
+use Rattle.holding.specs.Waiting.{slot-is}
 use Rattle.queue.specs.Queue.{count-is}
 use Rattle.queue.specs.Requests.{countOf}
 use Rattle.state.specs.View.{locksOf, requestAt}

@@ -1,7 +1,7 @@
 -- `request::request_lock` meets its contract: answered 3, or decided.
 use mathlib.Core.Path.{refl, sym, _∙_}
 use Rattle.locks.specs.Asking.{able-idle, able-short, request-decided, request-invalid}
-use Rattle.locks.specs.Outcome.{met-is, met-one}
+use Rattle.holding.specs.Outcome.{met-is, met-one}
 use Rattle.state.specs.View.{locksOf}
 use borrow.Author.Needs.{needs}
 use Rattle.locks.proofs.request.request_lock.Statement.{statement}

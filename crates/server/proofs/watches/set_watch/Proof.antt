@@ -7,8 +7,9 @@ use Rattle.model.specs.State.{at, live}
 use Rattle.model.specs.Interface.{Event.setting, Setting.watch}
 use Rattle.state.specs.View.{memory, view, locksOf}
 use Rattle.state.specs.Search.{number-read}
-use Rattle.effects.specs.Events.{watch-finishes}
-use Rattle.server.specs.Answers.{not-there, not-live, is-live, watch-nobody, watch-bad, watch-taken}
+use Rattle.exchanges.specs.Events.{watch-finishes}
+use Rattle.questions.specs.Found.{not-there, not-live, is-live}
+use Rattle.server.specs.Answers.{watch-nobody, watch-bad, watch-taken}
 use Rattle.server.specs.Events.{refused-call, taken-call, empty-buffer, empty-output}
 use borrow.Author.Needs.{needs}
 use Rattle.server.proofs.watches.set_watch.Statement.{statement}

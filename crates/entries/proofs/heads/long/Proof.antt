@@ -1,0 +1,12 @@
+-- `heads::long` meets its contract: the bytes of a field, written out.
+use Rattle.wire.specs.Field.{field}
+use borrow.Author.Needs.{needs}
+use Rattle.entries.proofs.heads.long.Statement.{statement}
+use Rattle.entries.proofs.heads.long.Tie as tie
+
+returns : tie.Need-returns
+unfolding field
+returns c = search needs
+
+pub long-spec : {M : Type 1} → statement M
+long-spec = tie.close (tie.spec (λ c. search needs) (λ c. search needs) (λ c. search needs) (λ c. search needs) (λ c. search needs) (λ c. search needs) (λ c. search needs) (λ c. search needs) returns)

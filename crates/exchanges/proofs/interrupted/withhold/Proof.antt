@@ -1,0 +1,18 @@
+-- `interrupted::withhold` meets its contract: the number is the header's.
+use mathlib.Core.Path.{ap}
+use Rattle.wire.specs.declared.Header.{Header}
+use Rattle.exchanges.specs.Interrupted.{noted-number}
+use Rattle.state.specs.View.{memory, view}
+use borrow.Author.Needs.{needs}
+use Rattle.exchanges.proofs.interrupted.withhold.Statement.{statement}
+use Rattle.exchanges.proofs.interrupted.withhold.Tie as tie
+
+returns : tie.Need-returns
+returns c = let a = c .before .before .before .before .before .before .before .before .args in (
+  λ s. noted-number (view (memory (a .w .now) s)) (a .i) _ _ _ _ _ _
+      (ap (λ (h : Header). h .param) (c .before .before .before .before .before .header-at .ensures)) (c .before .before .interrupt .ensures .1 s),
+  c .before .before .interrupt .ensures .2,
+)
+
+pub withhold-spec : {M : Type 1} → statement M
+withhold-spec = tie.close (tie.spec (λ c κs. search needs) (λ c κs. search needs) (λ c. search needs) returns)

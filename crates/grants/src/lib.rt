@@ -1,0 +1,3 @@
+// Who may be granted a lock, the grant, and the pass over those that wait.
+pub mod grant_pass;
+pub mod granting;

@@ -1,0 +1,4 @@
+pub mod Found
+pub mod Asking
+pub mod Holders
+pub mod Fill
