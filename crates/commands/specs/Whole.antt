@@ -13,10 +13,14 @@ use borrow.Author.Tests.{leb-true}
 use Rattle.scpi.specs.Bytes.{Capital, querySign, starSign, upper, caseless}
 use Rattle.scpi.specs.Grammar.{Word, short, long, Row, text, Within, mark, Tree, Tree.t-path, Tree.t-star, source, Fine, GoodPattern}
 use Rattle.commands.specs.Spelling.{SpellsWord, SpellsWord.in-short, SpellsWord.in-long, SpellsRow, SpellsRow.s-none, SpellsRow.s-word, SpellsRow.s-kept}
-use Rattle.commands.specs.Spelling.{SpellsRow.s-dropped, SpellsTree, SpellsTree.s-path, SpellsTree.s-star, Spells}
+use Rattle.commands.specs.Spelling.{SpellsRow.s-dropped, SpellsTree, SpellsTree.s-path, SpellsTree.s-star, Spells, Matches}
 use Rattle.commands.specs.Cuts.{Cut, cut-behind, cut-append, cut-first, cut-last, cut-inside}
 use Rattle.commands.specs.Sets.{On, Lands, Reach}
 use Rattle.scpi.specs.Answers.{Says, says-as}
+use Rattle.scpi.specs.Scans.{PathRead, path-end, path-stay, word-on, whole-end, EndRead, end-good, end-asked}
+use Rattle.scpi.specs.Verdicts.{Verdict, verdict-short}
+use Rattle.scpi.specs.declared.Checked.the-variants.{Good}
+use Rattle.scpi.specs.declared.Found.the-variants.{On as read-on}
 use Rattle.scpi.specs.Words.{leading, starts, part, Begins, begins-starts, starts-begins, like-length, between-yes}
 use Rattle.commands.specs.Walks.{Ends, NoLetter, Walked, no-letter, behind-word, part-short, part-long}
 
@@ -256,7 +260,7 @@ module _ (p c : List ℕ) where
   star-first : (b : ℕ) (bs : List ℕ) (q : Bool) → source (t-star b bs q) ≡ p → getD p 0 0 ≡ starSign
   star-first b bs q e = subst (λ (l : List ℕ). getD l 0 0 ≡ starSign) e refl
 
-  pub says-path : (b : Bool) → (getD p 0 0 ≡ starSign → ⊥) → PathSays p c b → GoodPattern p → Says b (Spells p c)
+  says-path : (b : Bool) → (getD p 0 0 ≡ starSign → ⊥) → PathSays p c b → GoodPattern p → Says b (Spells p c)
   says-path true n f g = yes (g .pattern .tree) (g .pattern .fine) (g .pattern .same)
     where
       yes : (t : Tree) → Fine t → source t ≡ p → Spells p c
@@ -267,6 +271,14 @@ module _ (p c : List ℕ) where
       no : (t : Tree) → Fine t → source t ≡ p → SpellsTree t c → ⊥
       no (t-path w r q) h e s = f w r q h e s
       no (t-star a bs q) h e s = n (star-first a bs q e)
+
+  -- of one that spells nothing it need not be asked whether it is good
+  pub path-refused : (getD p 0 0 ≡ starSign → ⊥) → PathSays p c false → Matches p c → ⊥
+  path-refused n f m = says-path false n f (m .good) (m .spells)
+
+  path-matches : (b : Bool) → (getD p 0 0 ≡ starSign → ⊥) → PathSays p c b → GoodPattern p → Says b (Matches p c)
+  path-matches true n f g = record { good = g; spells = says-path true n f g }
+  path-matches false n f g = path-refused n f
 
   pub says-star : (b : Bool) → getD p 0 0 ≡ starSign → Says b (caseless c ≡ caseless p) → GoodPattern p → Says b (Spells p c)
   says-star true n f g = yes (g .pattern .tree) (g .pattern .fine) (g .pattern .same)
@@ -296,7 +308,7 @@ module _ (p c : List ℕ) where
 
 -- a path, read and walked along
 module _ (p c : List ℕ) (m e : ℕ) (s t : List ℕ) (to : ℕ) (u : List ℕ)
-    (em : m ≡ 0 + leading 65 90 (drop 0 p)) (ee : e ≡ m + leading 97 122 (drop m p))
+    (em : m ≡ 0 + leading 65 90 (drop 0 p)) (ee : e ≡ m + leading 97 122 (drop m p)) (le : e ≤ length p)
     (origin : (j : ℕ) → On s j ↔ (j ≡ 0)) (step : (k : ℕ) → On t k ↔ (Lands (part 0 m p) c s k ⊎ Lands (part 0 e p) c s k)) (walk : Walked 0 p e c t to u) where
   module _ (w : Word) (r : Row) (q : Bool) (h : Within 0 r) (same : source (t-path w r q) ≡ p) where
     ends : (q : Bool) → Ends (mark q)
@@ -309,8 +321,8 @@ module _ (p c : List ℕ) (m e : ℕ) (s t : List ℕ) (to : ℕ) (u : List ℕ)
     nl : NoLetter (text r ++ mark q)
     nl = no-letter r (mark q) (ends q)
 
-    walked : (drop to p ≡ mark q) × ((j : ℕ) → On u j ↔ Reach r c t j)
-    walked = walk .row r (mark q) h (ends q) (behind-word p 0 w (text r ++ mark q) here nl m em e ee)
+    walked : (to ≤ length p) × (drop to p ≡ mark q) × ((j : ℕ) → On u j ↔ Reach r c t j)
+    walked = walk .row le r (mark q) h (ends q) (behind-word p 0 w (text r ++ mark q) here nl m em e ee)
 
     stepped : (k : ℕ) → On t k ↔ (Lands (short w) c s k ⊎ Lands (long w) c s k)
     stepped =
@@ -318,21 +330,49 @@ module _ (p c : List ℕ) (m e : ℕ) (s t : List ℕ) (to : ℕ) (u : List ℕ)
         let pl : part 0 e p ≡ long w = part-long p 0 w (text r ++ mark q) here nl m em e ee 0 [] here refl in
         subst (λ (a : List ℕ). (k : ℕ) → On t k ↔ (Lands (short w) c s k ⊎ Lands a c s k)) pl (subst (λ (a : List ℕ). (k : ℕ) → On t k ↔ (Lands a c s k ⊎ Lands (part 0 e p) c s k)) ps step)
 
-  -- the pattern ended with the row
-  pub says-plain : length p ≤ to → (b : Bool) → Says b (On u (length c)) → PathSays p c b
-  says-plain l b y w r true h same =
-      let z : drop to p ≡ [] = drop-of-length-le p l in
-      let f : drop to p ≡ querySign ∷ [] = walked w r true h same .0 in
-      absurd (let k : _≡_ {A = ℕ} 0 1 = cc in omega arith)
-  says-plain l b y w r false h same = says-as b y (on-plain w r c s t u origin (stepped w r false h same) (walked w r false h same .1))
+    left : length p - to ≡ length (mark q)
+    left = sym (length-drop to p) ∙ ap length (walked .1)
 
-  -- "?" is left
-  pub says-asked : to < length p → (b : Bool) → Says b ((0 < length c) × (getD c (length c - 1) 0 ≡ querySign) × On u (length c - 1)) → PathSays p c b
-  says-asked l b y w r true h same = says-as b y (on-asked w r c s t u origin (stepped w r true h same) (walked w r true h same .1))
-  says-asked l b y w r false h same =
-      let z : drop to p ≡ getD p to 0 ∷ drop (suc to) p = drop-cons p to 0 l in
-      let f : drop to p ≡ [] = walked w r false h same .0 in
-      absurd (let k : _≡_ {A = ℕ} 0 1 = cc in omega arith)
+  says-plain : to ≡ length p → (b : Bool) → Says b (On u (length c)) → PathSays p c b
+  says-plain l b y w r true h same = absurd (omega (arith, left w r true h same))
+  says-plain l b y w r false h same = says-as b y (on-plain w r c s t u origin (stepped w r false h same) (walked w r false h same .2))
+
+  says-asked : to + 1 ≡ length p → (b : Bool) → Says b ((0 < length c) × (getD c (length c - 1) 0 ≡ querySign) × On u (length c - 1)) → PathSays p c b
+  says-asked l b y w r true h same = says-as b y (on-asked w r c s t u origin (stepped w r true h same) (walked w r true h same .2))
+  says-asked l b y w r false h same = absurd (omega (arith, left w r false h same))
+
+  says-behind : (to ≡ length p → ⊥) → (to + 1 ≡ length p → getD p to 0 ≡ querySign → ⊥) → PathSays p c false
+  says-behind f g w r true h same = λ s.
+      let x = walked w r true h same in
+      let l : to + 1 ≡ length p = omega (arith, left w r true h same, x .0) in
+      let d : getD p to 0 ∷ drop (suc to) p ≡ querySign ∷ [] = sym (drop-cons p to 0 (omega arith)) ∙ x .1 in
+      g l (let b : getD p to 0 ≡ querySign = cc in b)
+  says-behind f g w r false h same = λ s. let x = walked w r false h same in f (omega (arith, left w r false h same, x .0))
+
+  -- what the walk read up to a good end is a good pattern
+  module _ (fits : length p ≤ 128) (some : 0 < m) (n : getD p 0 0 ≡ starSign → ⊥) where
+    read-whole : PathRead 0 p e (read-on to) → EndRead p to Good → GoodPattern p
+    read-whole x f =
+        let l : m ≤ e = omega arith in
+        subst (Verdict p) (whole-end p (omega arith) n e (word-on p 0 m em e some (omega arith) ee le) to x Good f) (verdict-short p fits)
+
+    -- the pattern ended with the row
+    pub matches-plain : to ≡ length p → (b : Bool) → Says b (On u (length c)) → Says b (Matches p c)
+    matches-plain l b y =
+        let g : length p ≤ to = omega arith in
+        let h : to ≤ length p = omega arith in
+        path-matches p c b n (says-plain l b y) (read-whole (walk .onward, h, path-end 0 p to h g .2, walk .read h) (end-good p to g))
+
+    -- "?" is left
+    pub matches-asked : to + 1 ≡ length p → getD p to 0 ≡ querySign → (b : Bool) → Says b ((0 < length c) × (getD c (length c - 1) 0 ≡ querySign) × On u (length c - 1)) → Says b (Matches p c)
+    matches-asked l q b y =
+        let g : to < length p = omega arith in
+        let h : to ≤ length p = omega arith in
+        path-matches p c b n (says-asked l b y) (read-whole (walk .onward, h, path-stay 0 p to g (λ z. omega arith) (λ z. omega arith) .2, walk .read h) (end-asked p to g q (omega arith)))
+
+    -- something else is left, or the walk found the pattern bad
+    pub matches-none : (to ≡ length p → ⊥) → (to + 1 ≡ length p → getD p to 0 ≡ querySign → ⊥) → Matches p c → ⊥
+    matches-none f g = path-refused p c n (says-behind f g)
 
 -- the command does not begin with the pattern's capitals
 pub says-other : (p c : List ℕ) (m : ℕ) → m ≡ 0 + leading 65 90 (drop 0 p) → starts (part 0 m p) (drop 0 c) ≡ false → PathSays p c false

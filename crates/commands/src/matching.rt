@@ -9,19 +9,18 @@ ghost use mathlib.Core.Bool.{false, true};
 ghost use lib.Dec.{eqb};
 ghost use Prim.Native.Nat.{ℕ, _+_, _-_, _^_, _≤_, _<_};
 ghost use lib.ListN.{drop, getD, length};
-ghost use Rattle.scpi.specs.Bytes.{caseless, upper};
-ghost use Rattle.scpi.specs.Grammar.{GoodPattern};
-ghost use Rattle.commands.specs.Spelling.{Spells, Matches};
-ghost use Rattle.commands.specs.Whole.{PathSays};
+ghost use Rattle.scpi.specs.Bytes.{upper};
+ghost use Rattle.commands.specs.Spelling.{Matches};
 ghost use Rattle.scpi.specs.Words.{part, starts};
 ghost use Rattle.commands.specs.Bits.{bit};
 ghost use Rattle.commands.specs.Landing.{Spread};
 ghost use Rattle.commands.specs.Places.{Member, weight};
 ghost use Rattle.commands.specs.Sets.{On, Lands};
 ghost use Rattle.scpi.specs.Answers.{Says};
-ghost use Rattle.commands.specs.Walks.{Bracketed, ItemAt, Walked, Worded};
+ghost use Rattle.commands.specs.Walks.{Bracketed, Closes, ItemAt, Walked, Worded};
 
-// Where a walk came to: a place of the pattern and a set of places of the command, a bit for each.
+// Where a walk came to: a place of the pattern and a set of places of the command, a bit for each. Where the pattern is bad the place is the one
+// behind its end: nobody reads on there, and a bracket or a pattern that should end there is refused.
 struct Walk {
     at: usize,
     on: [u64; 3],
@@ -202,12 +201,18 @@ fn step(s: &[u64; 3], p: &[u8], a: usize, m: usize, e: usize, c: &[u8]) -> [u64;
     w.on
 }
 
-// A colon and a word.
+// A colon and a word: bad where no capital is behind the colon.
 fn match_word(p: &[u8], at: usize, c: &[u8], s: [u64; 3]) -> Walk
-    requires { ⌜ (at < length (now p)) × (length (now c) ≤ 128) ⌝ }
+    requires { ⌜ (at < length (now p)) × (length (now p) ≤ 128) × (length (now c) ≤ 128) ⌝ }
     ensures { λ r. ⌜ Worded (now (p .entry)) at (now (c .entry)) s (r .at) (r .on) ⌝ }
 {
     let m = run_end(p, at + 1, 65, 90);
+    if m == at + 1 {
+        return Walk {
+            at: p.len() + 1,
+            on: s,
+        };
+    }
     let end = run_end(p, m, 97, 122);
     let t = step(&s, p, at, m, end, c);
     Walk { at: end, on: t }
@@ -234,7 +239,7 @@ fn begins_item(p: &[u8], at: usize, left: usize) -> bool
 
 // A row of colon-and-word and brackets, from `at` on, item by item: so only brackets deepen the stack.
 fn match_path(p: &[u8], at: usize, left: usize, c: &[u8], s: [u64; 3]) -> Walk
-    requires { ⌜ (left ≤ 8) × (at ≤ length (now p)) × (length (now c) ≤ 128) ⌝ }
+    requires { ⌜ (left ≤ 8) × (at ≤ length (now p)) × (length (now p) ≤ 128) × (length (now c) ≤ 128) ⌝ }
     ensures { λ r. ⌜ Walked (8 - left) (now (p .entry)) at (now (c .entry)) s (r .at) (r .on) ⌝ }
 {
     let mut w = Walk { at, on: s };
@@ -250,29 +255,58 @@ fn match_path(p: &[u8], at: usize, left: usize, c: &[u8], s: [u64; 3]) -> Walk
     w
 }
 
-// Behind "[": the row that it holds, kept or dropped, and "]".
+// Does "]" stand at i, behind a row from `at` on that is not empty?
+fn closes(p: &[u8], at: usize, i: usize) -> bool
+    ensures { λ r. ⌜ Says r (Closes (now (p .entry)) at i) ⌝ }
+{
+    if i >= p.len() {
+        return false;
+    }
+    if p[i] != 93 {
+        return false;
+    }
+    if i == at {
+        return false;
+    }
+    true
+}
+
+// Behind "[": the row that it holds, kept or dropped, and "]". Bad where one of the two is not there: an empty set would not tell, since what
+// a bracket holds may be dropped.
 fn match_bracket(p: &[u8], at: usize, left: usize, c: &[u8], s: [u64; 3]) -> Walk
-    requires { ⌜ (left < 8) × (at ≤ length (now p)) × (length (now c) ≤ 128) ⌝ }
-    ensures { λ r. ⌜ Bracketed (8 - left) (now (p .entry)) at (now (c .entry)) s (r .at) (r .on) ⌝ }
+    requires { ⌜ (left < 8) × (at ≤ length (now p)) × (length (now p) ≤ 128) × (length (now c) ≤ 128) ⌝ }
+    ensures { λ r. ⌜ Bracketed (7 - left) (now (p .entry)) at (now (c .entry)) s (r .at) (r .on) ⌝ }
 {
     let w = match_path(p, at, left, c, s);
     let i = w.at;
     let t = w.on;
-    let u = union(&s, &t);
-    if i >= p.len() {
-        return Walk { at: i, on: u };
+    if !closes(p, at, i) {
+        return Walk {
+            at: p.len() + 1,
+            on: s,
+        };
     }
+    let u = union(&s, &t);
     Walk { at: i + 1, on: u }
 }
 
+// Behind the star there is no row to walk along: the bytes are compared, and of the few that are alike `check` tells whether they are a pattern.
 fn match_star(p: &[u8], c: &[u8]) -> bool
-    ensures { λ r. ⌜ Says r (caseless (now (c .entry)) ≡ caseless (now (p .entry))) ⌝ }
+    requires { ⌜ getD (now p) 0 0 ≡ 42 ⌝ }
+    ensures { λ r. ⌜ Says r (Matches (now (p .entry)) (now (c .entry))) ⌝ }
 {
     let n = p.len();
     if n != c.len() {
         return false;
     }
-    goes_on(p, 0, n, c, 0)
+    if !goes_on(p, 0, n, c, 0) {
+        return false;
+    }
+    let k = check(p);
+    match k {
+        Checked::Good => true,
+        Checked::Bad(_) => false,
+    }
 }
 
 // Is the command's last byte "?", and the place before it in the set?
@@ -291,10 +325,10 @@ fn asked(u: &[u64; 3], c: &[u8]) -> bool
     holds(u, k)
 }
 
-// A word, a row, and perhaps "?".
+// A word, a row, and perhaps "?": then the end.
 fn match_whole(p: &[u8], c: &[u8]) -> bool
-    requires { ⌜ length (now c) ≤ 128 ⌝ }
-    ensures { λ r. ⌜ PathSays (now (p .entry)) (now (c .entry)) r ⌝ }
+    requires { ⌜ (length (now p) ≤ 128) × (length (now c) ≤ 128) × (getD (now p) 0 0 ≡ 42 → ⊥) ⌝ }
+    ensures { λ r. ⌜ Says r (Matches (now (p .entry)) (now (c .entry))) ⌝ }
 {
     let m = run_end(p, 0, 65, 90);
     if m == 0 {
@@ -308,15 +342,21 @@ fn match_whole(p: &[u8], c: &[u8]) -> bool
     let w = match_path(p, e, 8, c, t);
     let i = w.at;
     let u = w.on;
-    if i >= p.len() {
+    if i == p.len() {
         return holds(&u, c.len());
+    }
+    if i + 1 != p.len() {
+        return false;
+    }
+    if p[i] != 63 {
+        return false;
     }
     asked(&u, c)
 }
 
-// Does the pattern, which `check` finds good, spell the command? (Of any other bytes the answer says nothing.)
-fn matches_good(p: &[u8], c: &[u8]) -> bool
-    ensures { λ r. ⌜ (GoodPattern (now (p .entry)) → Says r (Spells (now (p .entry)) (now (c .entry)))) ⌝ }
+// Is it a good pattern that spells the command?
+pub fn matches(p: &[u8], c: &[u8]) -> bool
+    ensures { λ r. ⌜ (r ≡ true) ↔ Matches (now (p .entry)) (now (c .entry)) ⌝ }
 {
     if p.len() > 128 {
         return false;
@@ -331,18 +371,4 @@ fn matches_good(p: &[u8], c: &[u8]) -> bool
         return match_star(p, c);
     }
     match_whole(p, c)
-}
-
-// Is it a good pattern that spells the command? Most do not, so that is asked first.
-pub fn matches(p: &[u8], c: &[u8]) -> bool
-    ensures { λ r. ⌜ (r ≡ true) ↔ Matches (now (p .entry)) (now (c .entry)) ⌝ }
-{
-    if !matches_good(p, c) {
-        return false;
-    }
-    let k = check(p);
-    match k {
-        Checked::Good => true,
-        Checked::Bad(_) => false,
-    }
 }

@@ -2,14 +2,16 @@
 -- A path at n = bytes left + depth left has the measure 2n, and a bracket 2n + 1: behind "[" both have fallen, and a bracket reads its row at the
 -- same place and depth. The loop's invariant: what is walked from the item on is walked from the first on.
 use mathlib.Core.Path.{_≡_}
-use Prim.Native.Nat.{ℕ, suc, _+_, _-_, _*_, _≤_, _<_}
+use Prim.Native.Nat.{ℕ, _+_, _-_, _*_, _≤_, _<_}
 use native.Mathlib.Omega.{arith}
 use lib.ListN.{length}
 use borrow.Author.Needs.{needs}
+use borrow.Author.Tests.{not-true, not-false}
 use borrow.Fn.Kinds.{In}
 use borrow.Fn.PlainCycle.{Measures, is, falls, and}
 use Rattle.scpi.specs.Answers.{says-yes, says-no}
-use Rattle.commands.specs.Walks.{ItemAt, Leads, leads-word, leads-bracket, leads-end, item-open, bracket-close, bracket-out, deeper}
+use Rattle.scpi.specs.Scans.{shallower, outer, not-deep}
+use Rattle.commands.specs.Walks.{ItemAt, Leads, leads-word, leads-bracket, leads-end, item-open, bracket-close, bracket-open}
 use Rattle.commands.proofs.matching.match_bracket.Reads as match-bracket
 use Rattle.commands.proofs.matching.match_bracket.Kinds as match-bracket-kinds
 use Rattle.commands.proofs.matching.+match_bracket+match_path.Lts-match_bracket as match-bracket-lts
@@ -18,6 +20,7 @@ use Rattle.commands.proofs.matching.match_path.Kinds as match-path-kind
 use Rattle.commands.proofs.matching.+match_bracket+match_path.Lts-match_path as match-path-lts
 use Rattle.commands.proofs.matching.begins_item.Reads as begins-item-reads
 use Rattle.commands.proofs.matching.match_word.Reads as match-word-reads
+use Rattle.commands.proofs.matching.closes.Reads as closes-reads
 use Rattle.commands.proofs.matching.union.Reads as union-reads
 use Rattle.commands.proofs.matching.+match_bracket+match_path.{statement}
 use Rattle.commands.proofs.matching.+match_bracket+match_path.Tie.{close}
@@ -48,24 +51,41 @@ abbrev match-path-below : ℕ → In 2 match-path-kinds.ps
 match-path-below t =
     and 2 match-path-kinds.ps (falls 2 match-path-kinds.ps _<_ μ-match-path t) match-path.Pre
 
-match-bracket-returns : (t : ℕ) → match-bracket-lts.Need-returns (match-path-below t, match-path.Post, union-reads.Asked, union-reads.Learnt) (match-bracket-at t) match-bracket.Post
+match-bracket-returns : (t : ℕ) → match-bracket-lts.Need-returns
+    (match-path-below t, match-path.Post, closes-reads.Asked, closes-reads.Learnt, union-reads.Asked, union-reads.Learnt)
+    (match-bracket-at t) match-bracket.Post
 match-bracket-returns t c =
-    let u = c .before in
-    let w = u .before .before .before .before in
+    let k = c .before in
+    let w = k .before .before in
     let a = w .before .before .before .args in
-    bracket-out (8 - a .left) (a .p .now) (a .at) (a .c .now) (a .t5) (w .match-path .result .at) (w .match-path .result .on) (u .union .result)
-    (w .match-path .ensures) (u .union .ensures) (search needs)
+    bracket-open (7 - a .left) (a .p .now) (a .at) (a .c .now) (a .t5) (w .match-path .result .at) (w .match-path .result .on) (search needs)
+    (rw (shallower (a .left) (search needs)) at (w .match-path .ensures)) (says-no (k .closes .result) (k .closes .ensures) (not-true _ (c .if1 .taken)))
 
-match-bracket-returns-2 : (t : ℕ) → match-bracket-lts.Need-returns-2 (match-path-below t, match-path.Post, union-reads.Asked, union-reads.Learnt) (match-bracket-at t) match-bracket.Post
-match-bracket-returns-2 t c =
-    let u = c .before in
-    let w = u .before .before .before .before in
+match-bracket-add-t19 : (t : ℕ) → match-bracket-lts.Need-add-t19
+    (match-path-below t, match-path.Post, closes-reads.Asked, closes-reads.Learnt, union-reads.Asked, union-reads.Learnt)
+    (match-bracket-at t) match-bracket.Post
+match-bracket-add-t19 t c =
+    let f = c .before .before .before in
+    let k = f .before in
+    let w = k .before .before in
     let a = w .before .before .before .args in
-    bracket-close (8 - a .left) (a .p .now) (a .at) (a .c .now) (a .t5) (w .match-path .result .at) (w .match-path .result .on) (u .union .result)
-    (w .match-path .ensures) (u .union .ensures) (search needs)
+    let y : w .match-path .result .at < length (a .p .now) = says-yes (k .closes .result) (k .closes .ensures) (not-false _ (f .if1 .left)) .0 in
+    search needs
+
+match-bracket-returns-2 : (t : ℕ) → match-bracket-lts.Need-returns-2
+    (match-path-below t, match-path.Post, closes-reads.Asked, closes-reads.Learnt, union-reads.Asked, union-reads.Learnt)
+    (match-bracket-at t) match-bracket.Post
+match-bracket-returns-2 t c =
+    let f = c .before .before .before in
+    let k = f .before in
+    let w = k .before .before in
+    let a = w .before .before .before .args in
+    bracket-close (7 - a .left) (a .p .now) (a .at) (a .c .now) (a .t5) (w .match-path .result .at) (w .match-path .result .on) (search needs)
+    (rw (shallower (a .left) (search needs)) at (w .match-path .ensures)) (c .union .result) (c .union .ensures)
+    (says-yes (k .closes .result) (k .closes .ensures) (not-false _ (f .if1 .left)))
 
 abbrev match-path-Inv-loop : match-path-lts.InvT-loop
-match-path-Inv-loop p at left c w₀ w = (at ≤ w .at) × (w .at ≤ length p) × Leads (8 - left) p at c (w₀ .on) (w .at) (w .on)
+match-path-Inv-loop p at left c w₀ w = (at ≤ w .at) × (w .at ≤ length p + 1) × Leads (8 - left) p at c (w₀ .on) (w .at) (w .on)
 
 abbrev match-path-μ-loop : match-path-lts.MeasureT-loop
 match-path-μ-loop p at left c w₀ w = length p - w .at
@@ -93,7 +113,7 @@ match-path-match-word-requires t c κs =
     let l = c .before .before .before .before .before .loop in
     let a = c .before .before .before .before .before .before .before .before .args in
     let i : ItemAt (a .left) (a .p .now) (l .w .at) = says-yes (b .result) (b .ensures) (c .before .before .before .if1 .taken) in
-    (i .0, search needs)
+    (i .0, search needs, search needs)
 
 match-path-loop-less : (t : ℕ) → match-path-lts.Need-loop-less
     (begins-item-reads.Asked, begins-item-reads.Learnt, match-word-reads.Asked, match-word-reads.Learnt, match-bracket-below t, match-bracket.Post)
@@ -177,10 +197,11 @@ match-path-loop-again-2 t c =
     let o = item-open (a .left) (a .p .now) (l .w .at) i (c .before .if2 .left) in
     let z : 0 < a .left = o .1 in
     let n : l .w .at + 1 ≤ w .result .at = w .ensures .onward in
-    let d : 8 - (a .left - 1) ≡ suc (8 - a .left) = deeper (a .left) (search needs) (λ e. omega arith) in (
+    let d : 7 - (a .left - 1) ≡ 8 - a .left = outer (a .left) (search needs) (λ e. omega arith) in (
       omega (arith, l .inv .0),
       w .ensures .inside,
-      leads-bracket (8 - a .left) (a .p .now) (a .at) (a .c .now) (a .s) (l .w .at) (l .w .on) (l .inv .2) (i .0) (w .result .at) (w .result .on) (o .0) (rw d at (w .ensures)),
+      leads-bracket (8 - a .left) (a .p .now) (a .at) (a .c .now) (a .s) (l .w .at) (l .w .on) (l .inv .2) (i .0) (w .result .at) (w .result .on) (o .0)
+          (not-deep (a .left) (λ e. omega arith)) (rw d at (w .ensures)),
     )
 
 match-path-returns : (t : ℕ) → match-path-lts.Need-returns
@@ -196,6 +217,8 @@ pub +match-bracket+match-path-spec : {M : Type 1} → statement M
 +match-bracket+match-path-spec = close μ-match-bracket μ-match-path (λ t. match-bracket-lts.spec (
   match-path-below t,
   match-path.Post,
+  closes-reads.Asked,
+  closes-reads.Learnt,
   union-reads.Asked,
   union-reads.Learnt,
 )
@@ -203,8 +226,10 @@ pub +match-bracket+match-path-spec : {M : Type 1} → statement M
     match-bracket.Post
     (λ c κs. search needs)
     (λ c κs. search needs)
-    (match-bracket-returns t)
     (λ c. search needs)
+    (match-bracket-returns t)
+    (λ c κs. search needs)
+    (match-bracket-add-t19 t)
     (match-bracket-returns-2 t))
     λ t. match-path-lts.spec (
       begins-item-reads.Asked,

@@ -1,37 +1,40 @@
--- `matching::matches` meets its contract: of a good pattern `matches_good` says all, and `check` tells whether it is one.
-use mathlib.Core.Path.{refl, sym, _∙_}
+-- `matching::matches` meets its contract.
 use borrow.Author.Needs.{needs}
-use borrow.Author.Tests.{not-true, not-false}
-use Rattle.scpi.specs.declared.Checked.the-variants.{Good}
-use Rattle.scpi.specs.Answers.{says-yes, says-no, untrue, good-or-bad}
+use Rattle.scpi.specs.Answers.{says-exactly, untrue}
+use Rattle.commands.specs.Whole.{says-long, says-longer, says-empty}
 use Rattle.commands.proofs.matching.matches.Statement.{statement}
 use Rattle.commands.proofs.matching.matches.Tie as tie
 
 returns : tie.Need-returns
 returns c =
-    let g = c .before .matches-good in
-    (λ e. untrue e, λ m. absurd (says-no (g .result) (g .ensures (m .good)) (not-true (g .result) (c .if1 .taken)) (m .spells)))
+    let a = c .before .before .before .args in
+    (λ e. untrue e, λ m. absurd (says-long (a .p .now) (a .c .now) (c .if1 .taken) (m .good) (m .spells)))
 
 returns-2 : tie.Need-returns-2
 returns-2 c =
-    let k = c .before .before .check in
-    let g = c .before .before .before .before .matches-good in
-    let h = k .ensures Good .1 (sym (c .enum-told .given .1)) in
-    (λ e. record { good = h; spells = says-yes (g .result) (g .ensures h) (not-false (g .result) (c .before .before .before .if1 .left)) }, λ m. refl)
+    let a = c .before .before .before .before .args in
+    (λ e. untrue e, λ m. absurd (says-longer (a .p .now) (a .c .now) (c .if2 .taken) (m .good) (m .spells)))
 
 returns-3 : tie.Need-returns-3
 returns-3 c =
-    let k = c .before .before .check in
-    (λ e. untrue e, λ m. absurd (good-or-bad (c .enum-told2 .given .0 .0) (k .ensures Good .0 (m .good) ∙ c .enum-told2 .given .1)))
+    let a = c .before .before .before .before .before .args in
+    (λ e. untrue e, λ m. absurd (says-empty (a .p .now) (a .c .now) (c .if3 .taken) (m .good) (m .spells)))
+
+returns-4 : tie.Need-returns-4
+returns-4 c = says-exactly (c .match-star .result) (c .match-star .ensures)
+
+returns-5 : tie.Need-returns-5
+returns-5 c = says-exactly (c .match-whole .result) (c .match-whole .ensures)
 
 pub matches-spec : {M : Type 1} → statement M
 matches-spec =
     tie.close
     (tie.spec
-    (λ c κs. search needs)
     returns
-    (λ c κs. search needs)
-    (λ c. search needs)
-    (λ c. search needs)
     returns-2
-    returns-3)
+    returns-3
+    (λ c. search needs)
+    (λ c κs. search needs)
+    returns-4
+    (λ c κs. search needs)
+    returns-5)
