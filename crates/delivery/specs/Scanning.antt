@@ -187,3 +187,27 @@ pub received-as : (d : Server) (c i : ℕ) (r : Delivery) (m m′ : Memory) (out
 unfolding received
 received-as d c i r m m′ out out′ left here s e q =
     subst (λ (j : ℕ). DidOn d c j r m m′ out out′ left here (roleOf (d .locks .entries) c) s) (sym e) q
+
+-- what a delivery of the bytes bs to connection c does, with what is missing
+abbrev pub DidDeliver : Server → ℕ → List ℕ → Delivery → Memory → Memory → List ℕ → List ℕ → Type 0
+DidDeliver d c bs r m m′ out out′ =
+    let left : ℕ = (connectionAt (d .rest) c) .remainder in
+    DidWith (ifMore ((finish d (received d c (scan left bs))) .reply) (lacking left (length bs) (scan left bs))) (finish d (received d c (scan left bs))) r m m′ out out′
+
+-- nothing to skip: a header is here at least, or not even that
+module _ (d : Server) (c : ℕ) (bs : List ℕ) (r : Delivery) (m m′ : Memory) (out out′ : List ℕ) (none : (connectionAt (d .rest) c) .remainder ≡ 0) where
+  abbrev left : ℕ
+  left = (connectionAt (d .rest) c) .remainder
+
+  abbrev role : Role
+  role = roleOf (d .locks .entries) c
+
+  pub message-received : 16 ≤ length bs → DidOn d c (slotOf d c) r m m′ out out′ 0 (length bs) role (freshScan bs) → DidDeliver d c bs r m m′ out out′
+  message-received h q =
+      received-as d c (slotOf d c) r m m′ out out′ left (length bs) (scan left bs) refl
+      (on-scan d c (slotOf d c) r m m′ out out′ left (length bs) role (scan left bs) (freshScan bs) (scan-fresh left bs (omega arith) none)
+      (subst (λ (x : ℕ). DidOn d c (slotOf d c) r m m′ out out′ x (length bs) role (freshScan bs)) (sym none) q))
+
+  pub short-received : length bs < 16 → DidWith (16 - length bs) (finish d (idle d (took more-needed 0 0))) r m m′ out out′ → DidDeliver d c bs r m m′ out out′
+  short-received h q =
+      received-as d c (slotOf d c) r m m′ out out′ left (length bs) (scan left bs) refl (short-done d c (slotOf d c) r m m′ out out′ left bs role none h q)

@@ -1,7 +1,7 @@
 // A delivery, stage by stage as the model has it: scan, verdict, effect.
 ghost use Prim.Native.Nat.{ℕ, _+_, _<_, _≤_, min};
 ghost use Rattle.checks.specs.Numbers.{message, verdictOf};
-ghost use Rattle.sessions.specs.Did.{Did, DidWith};
+ghost use Rattle.sessions.specs.Did.{Did};
 ghost use Rattle.model.specs.Acts.{acts};
 ghost use Rattle.model.specs.Allowing.{admits};
 ghost use Rattle.model.specs.Checks.{Verdict.v-acts, judged};
@@ -9,12 +9,11 @@ ghost use Rattle.effects.specs.Numbering.{movedBy};
 ghost use Rattle.sessions.specs.Synchronous.{isCommand};
 ghost use Rattle.model.specs.Locks.{stands};
 ghost use Rattle.model.specs.Place.{Role, Role.r-asynchronous, Role.r-synchronous, roleOf, slotIn};
-ghost use Rattle.model.specs.Missing.{ifMore, lacking};
-ghost use Rattle.model.specs.Scan.{Scan, Scan.whole, freshScan, leftover, scan, size};
+ghost use Rattle.model.specs.Scan.{Scan, Scan.whole, freshScan, leftover, size};
 ghost use Rattle.model.specs.State.{at, connectionAt, exchangeAt};
 ghost use Rattle.delivery.specs.Numbering.{movesOn};
-ghost use Rattle.delivery.specs.Scanning.{DidOn};
-ghost use Rattle.model.specs.Step.{effect, finish, numberTaken, received};
+ghost use Rattle.delivery.specs.Scanning.{DidDeliver, DidOn};
+ghost use Rattle.model.specs.Step.{effect, finish, numberTaken};
 ghost use Rattle.state.specs.Channels.{Unshown};
 ghost use Rattle.state.specs.Search.{roleNumber};
 ghost use Rattle.state.specs.View.{allowedOf, locksOf, memory, restOf, view};
@@ -503,7 +502,7 @@ fn deliver_whole(
 
 // At least sixteen bytes, with nothing to skip. The place of the connection is looked up on each way by itself, right before its role is
 // asked: the compiler then makes one branch of the two.
-fn deliver_message(
+pub fn deliver_message(
     w: &mut Words,
     strings: &mut Strings,
     out: &mut [u8],
@@ -553,35 +552,15 @@ fn least(a: u64, b: usize) -> u64
     b as u64
 }
 
-// The unread bytes of an open connection.
-pub fn deliver_open(
-    w: &mut Words,
-    strings: &mut Strings,
-    out: &mut [u8],
-    c: u64,
-    bytes: &[u8],
-) -> Delivery
-    requires { ⌜ (c < connectionLimit) × (outputMinimum ≤ length (now out)) ⌝ }
-    ensures { λ r. ⌜ DidWith
-        (ifMore ((finish (view (memory (now (w .entry)) (now (strings .entry))))
-        (received (view (memory (now (w .entry)) (now (strings .entry)))) c
-        (scan ((connectionAt (restOf (now (w .entry))) c) .remainder) (now (bytes .entry))))) .reply)
-        (lacking ((connectionAt (restOf (now (w .entry))) c) .remainder) (length (now (bytes .entry)))
-        (scan ((connectionAt (restOf (now (w .entry))) c) .remainder) (now (bytes .entry)))))
-        (finish (view (memory (now (w .entry)) (now (strings .entry))))
-        (received (view (memory (now (w .entry)) (now (strings .entry)))) c
-        (scan ((connectionAt (restOf (now (w .entry))) c) .remainder) (now (bytes .entry))))) r (memory (now (w .entry)) (now (strings .entry)))
-        (memory (now (w .exit)) (now (strings .exit))) (now (out .entry)) (now (out .exit)) ⌝ }
+// The unread bytes of a connection that has some to skip: so many of them are skipped, or, if none are here, the rest is missing.
+pub fn deliver_remainder(w: &mut Words, c: u64, bytes: &[u8]) -> Delivery
+    requires { ⌜ (c < connectionLimit) × (0 < (connectionAt (restOf (now w)) c) .remainder) ⌝ }
+    ensures { λ r. ⌜ ((s out : List ℕ) → DidDeliver (view (memory (now (w .entry)) s)) c (now (bytes .entry)) r (memory (now (w .entry)) s)
+        (memory (now (w .exit)) s) out out) ⌝ }
 {
     let left = tables::connection(w, c as usize, tables::REMAINDER);
-    if left > 0 {
-        if bytes.len() == 0 {
-            return answer::more_needed(left);
-        }
-        return replies::skip(w, c, left, least(left, bytes.len()));
+    if bytes.len() == 0 {
+        return answer::more_needed(left);
     }
-    if bytes.len() < 16 {
-        return answer::more_needed((16 - bytes.len()) as u64);
-    }
-    deliver_message(w, strings, out, c, bytes)
+    replies::skip(w, c, left, least(left, bytes.len()))
 }

@@ -39,6 +39,12 @@ flag-one zero (suc (suc y)) h l e = absurd (omega arith)
 flag-one (suc zero) (suc (suc y)) h l e = absurd (omega arith)
 flag-one (suc (suc x)) y h l e = absurd (omega arith)
 
+odd-one : (x y : ℕ) → x ≤ 1 → y ≤ 1 → eqb (x % 2) 1 ≡ eqb (y % 2) 1 → x ≡ y
+odd-one x y h l e =
+    let ex : x % 2 ≡ x = omega arith in
+    let ey : y % 2 ≡ y = omega arith in
+    flag-one x y h l (ap (λ (z : ℕ). eqb z 1) (sym ex) ∙ e ∙ ap (λ (z : ℕ). eqb z 1) ey)
+
 mod-one : (x y n : ℕ) → x < n → y < n → x % n ≡ y % n → x ≡ y
 mod-one x y n h l e = sym (mod-eq-of-lt h) ∙ e ∙ mod-eq-of-lt l
 
@@ -293,8 +299,8 @@ module _ (w s w′ s′ : List ℕ) (t : Tidy (memory w s)) (t′ : Tidy (memory
       ∙ getD-grid connectionOf CONNECTIONS CONNECTION connectionLimit w′ i closedConnection h
 
   connection-word : (i f : ℕ) → i < connectionLimit → f < HOME → word w (CONNECTIONS + i * CONNECTION + f) ≡ word w′ (CONNECTIONS + i * CONNECTION + f)
-  connection-word i zero h l = flag-one _ _ (t .connections i 0 h l) (t′ .connections i 0 h l)
-      (read (λ (x : ℕ). eqb x 1) (CONNECTIONS + i * CONNECTION) CONNECTION 0 (lit< tt) (ap (λ (x : Connection). x .isOpen) (connection-same i h)))
+  connection-word i zero h l = odd-one _ _ (t .connections i 0 h l) (t′ .connections i 0 h l)
+      (read (λ (x : ℕ). eqb (x % 2) 1) (CONNECTIONS + i * CONNECTION) CONNECTION 0 (lit< tt) (ap (λ (x : Connection). x .isOpen) (connection-same i h)))
   connection-word i (suc zero) h l = read (λ (x : ℕ). x) (CONNECTIONS + i * CONNECTION) CONNECTION 1 (lit< tt) (ap (λ (x : Connection). x .remainder) (connection-same i h))
   connection-word i (suc (suc f)) h l = absurd (omega arith)
 

@@ -42,6 +42,9 @@ use state::tables;
 // Connection numbers at the C interface are 32 bits wide.
 const CONNECTIONS: u32 = CONNECTION_LIMIT as u32;
 
+// The bytes of a message's header.
+const HEADER: usize = 16;
+
 // What the other calls answer the host: the refusal (0: none), and how many bytes of the output hold frames.
 #[repr(C)]
 pub struct Done {
@@ -49,7 +52,8 @@ pub struct Done {
     pub output: u64,
 }
 
-// Unread bytes of a connection are delivered.
+// Unread bytes of a connection are delivered. The way of a message is the first at each test, so that the compiler lays it out in one row, and a
+// piece of a header is answered here, where the answer has not to be joined with others.
 #[no_mangle]
 pub extern "C" fn hislip_deliver(
     words: &mut Words,
@@ -60,16 +64,23 @@ pub extern "C" fn hislip_deliver(
 ) -> Delivery
     ensures { λ r. ⌜ Delivered (delivery connection (now (bytes .entry)) (length (now (out .entry)))) r (memory (now (words .entry)) (now (strings .entry))) (memory (now (words .exit)) (now (strings .exit))) (now (out .entry)) (now (out .exit)) ⌝ }
 {
-    if out.len() < OUTPUT_MINIMUM {
-        return answer::refuse(7);
-    }
-    if connection >= CONNECTIONS {
+    if out.len() >= OUTPUT_MINIMUM {
+        if connection < CONNECTIONS {
+            let c = connection as u64;
+            if tables::is_ready(words, connection as usize) {
+                if bytes.len() >= HEADER {
+                    return deliver::deliver_message(words, strings, out, c, bytes);
+                }
+                return answer::more_needed((HEADER - bytes.len()) as u64);
+            }
+            if tables::is_open(words, connection as usize) {
+                return deliver::deliver_remainder(words, c, bytes);
+            }
+            return answer::refuse(1);
+        }
         return answer::refuse(1);
     }
-    if tables::connection(words, connection as usize, tables::IS_OPEN) != 1 {
-        return answer::refuse(1);
-    }
-    deliver::deliver_open(words, strings, out, connection as u64, bytes)
+    answer::refuse(7)
 }
 
 fn told(refusal: u64, output: u64) -> Done
@@ -86,7 +97,7 @@ pub extern "C" fn hislip_open(words: &mut Words, strings: &mut Strings, connecti
     if connection >= CONNECTIONS {
         return told(1, 0);
     }
-    if tables::connection(words, connection as usize, tables::IS_OPEN) == 1 {
+    if tables::is_open(words, connection as usize) {
         return told(2, 0);
     }
     events::open_connection(words, connection as u64);
@@ -110,7 +121,7 @@ pub extern "C" fn hislip_cut(
     if connection >= CONNECTIONS {
         return told(1, 0);
     }
-    if tables::connection(words, connection as usize, tables::IS_OPEN) != 1 {
+    if !tables::is_open(words, connection as usize) {
         return told(1, 0);
     }
     let place = search::place_of(words, connection as u64);

@@ -2,7 +2,7 @@
 use mathlib.Core.Path.{_≡_, refl, sym, ap, ap₂, _∙_}
 use mathlib.Core.Bool.{Bool, true, false, cond, true≢false}
 use mathlib.Core.List.{List, [], _∷_, _++_, map, append-nil, append-assoc}
-use Prim.Native.Nat.{ℕ, _+_, _-_, _≤_, min}
+use Prim.Native.Nat.{ℕ, _+_, _-_, _%_, _≤_, min}
 use native.Mathlib.Nat.{add-zero, zero-add}
 use native.Mathlib.Omega.{arith}
 use lib.Dec.{eqb}
@@ -43,7 +43,7 @@ fatals n xs = map (λ (x : ℕ). frameOf x FatalError n 0 []) xs
 
 -- two stores write a connection's row
 pub connection-written : (x v l : ℕ) (d d₁ d₂ : Server) → d₁ ≡ onConnection d x (connectionWith 0 v) → d₂ ≡ onConnection d₁ x (connectionWith 1 l)
-    → d₂ ≡ onRest d (λ (r : Rest). withConnection r x (record { isOpen = flag v; remainder = l }))
+    → d₂ ≡ onRest d (λ (r : Rest). withConnection r x (record { isOpen = flag (v % 2); remainder = l }))
 connection-written x v l d d₁ d₂ e₁ e₂ =
     e₂
     ∙ ap (λ (y : Server). onConnection y x (connectionWith 1 l)) e₁
@@ -58,7 +58,7 @@ connection-written x v l d d₁ d₂ e₁ e₂ =
       allowed = r .allowed;
     }))
     (upd-upd (d .rest .connections) x (connectionWith 0 v) (connectionWith 1 l)
-    ∙ sym (upd-set (d .rest .connections) x (record { isOpen = flag v; remainder = l }) (λ (y : Connection). record { isOpen = flag v; remainder = l })))
+    ∙ sym (upd-set (d .rest .connections) x (record { isOpen = flag (v % 2); remainder = l }) (λ (y : Connection). record { isOpen = flag (v % 2); remainder = l })))
 
 -- frames in a row
 pub bytes-append : (xs ys : List Frame) → bytesOf (xs ++ ys) ≡ bytesOf xs ++ bytesOf ys

@@ -1,10 +1,9 @@
 -- `hislip_cut` meets its contract: the refusals in their order, then the closing.
-use mathlib.Core.Path.{_≡_, sym, ap, _∙_}
+use mathlib.Core.Path.{_≡_, _∙_}
 use mathlib.Core.List.{[]}
 use native.Mathlib.Omega.{arith}
 use lib.ListN.{length}
-use borrow.Author.Tests.{eq-eqb, ne-eqb}
-use Rattle.model.specs.State.{Connection}
+use borrow.Author.Tests.{not-true, not-false}
 use Rattle.state.specs.View.{memory, view}
 use Rattle.model.specs.Interface.{Event.cut}
 use Rattle.server.specs.Causes.{unknown, cut-causes, short-room, no-number, not-open, is-open}
@@ -42,8 +41,7 @@ returns-3 c = let a = c .before .before .before .before .before .before .before 
     let room = length out in
     refused-call (cut (a .connection) room) 0 _ m out (not-open d (cut (a .connection) room) room (a .connection) (cut-causes d room (a .connection))
     (c .before .before .before .before .before .if1 .left) (omega arith)
-    (sym (ap (λ (x : Connection). x .isOpen) (c .before .before .connection .ensures .0))
-    ∙ ne-eqb (c .before .before .connection .result) 1 (c .before .if3 .taken))) (c .told3 .ensures)
+    (c .before .before .is-open .ensures ∙ not-true _ (c .before .if3 .taken))) (c .told3 .ensures)
 
 returns-4 : tie.Need-returns-4
 returns-4 c = let a = c .before .before .before .before .before .before .before .before .before .before .before .before .before .before .before .args in
@@ -55,9 +53,8 @@ returns-4 c = let a = c .before .before .before .before .before .before .before 
     cut-call (a .connection) (c .before .before .before .before .before .before .before .place-of .result .slot) room _ m _ out _
     (c .before .before .before .close-place .result) (is-open d (cut (a .connection) room) room (a .connection) (cut-causes d room (a .connection))
     (c .before .before .before .before .before .before .before .before .before .before .before .before .before .if1 .left) (omega arith)
-    (sym (ap (λ (x : Connection). x .isOpen) (c .before .before .before .before .before .before .before .before .before .before .connection .ensures .0))
-    ∙ eq-eqb (c .before .before .before .before .before .before .before .before .before .before .connection .result) 1
-    (c .before .before .before .before .before .before .before .before .before .if3 .left)))
+    (c .before .before .before .before .before .before .before .before .before .before .is-open .ensures
+    ∙ not-false _ (c .before .before .before .before .before .before .before .before .before .if3 .left)))
     (c .before .before .before .before .before .before .before .place-of .ensures .1 s) (c .before .before .before .close-place .ensures .0)
     (c .told4 .ensures) (c .before .before .before .close-place .ensures .1)
 

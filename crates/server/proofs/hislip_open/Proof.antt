@@ -1,10 +1,8 @@
 -- `hislip_open` meets its contract: the refusals in their order, then the connection is open.
-use mathlib.Core.Path.{_≡_, sym, ap, _∙_}
+use mathlib.Core.Path.{_≡_, _∙_}
 use mathlib.Core.List.{[]}
 use native.Mathlib.Omega.{arith}
 use lib.ListN.{length}
-use borrow.Author.Tests.{eq-eqb, ne-eqb}
-use Rattle.model.specs.State.{Connection}
 use Rattle.state.specs.View.{memory, view}
 use Rattle.model.specs.Interface.{Event.opening}
 use Rattle.exchanges.specs.Events.{opening-finishes}
@@ -26,8 +24,7 @@ returns-2 c = let a = c .before .before .before .before .before .args in
     let m = memory (a .words .now) s in
     let d = view m in
     refused-call (opening (a .connection)) 1 _ m [] (open-already d (a .connection) (omega arith)
-    (sym (ap (λ (x : Connection). x .isOpen) (c .before .before .connection .ensures .0))
-    ∙ eq-eqb (c .before .before .connection .result) 1 (c .before .if2 .taken))) (c .told2 .ensures)
+    (c .before .before .is-open .ensures ∙ c .before .if2 .taken)) (c .told2 .ensures)
 
 returns-3 : tie.Need-returns-3
 returns-3 c = let a = c .before .before .before .before .before .before .before .args in
@@ -35,8 +32,7 @@ returns-3 c = let a = c .before .before .before .before .before .before .before 
     let m = memory (a .words .now) s in
     let d = view m in
     taken-call (opening (a .connection)) _ [] _ m _ [] [] (open-taken d (a .connection) (omega arith)
-    (sym (ap (λ (x : Connection). x .isOpen) (c .before .before .before .before .connection .ensures .0))
-    ∙ ne-eqb (c .before .before .before .before .connection .result) 1 (c .before .before .before .if2 .left))) (opening-finishes d (a .connection))
+    (c .before .before .before .before .is-open .ensures ∙ c .before .before .before .if2 .left)) (opening-finishes d (a .connection))
     (c .before .open-connection .ensures .0 s) (empty-buffer []) (empty-output _ (c .told3 .ensures)) (c .before .open-connection .ensures .1 s)
 
 pub hislip-open-spec : {M : Type 1} → statement M
