@@ -33,8 +33,10 @@
  * WHAT IS WRITTEN. `words`, `strings` and the first `output` bytes of `out`; the bytes of `out` after
  * them keep their values, and `bytes`, `payload`, `shown` and `text` are only read. A refused call, a delivery
  * answered more needed or held, and the questions hislip_deadline, hislip_client_size and
- * hislip_readings write nothing at all. hislip_holders, a question too, writes the first rows of its list, as many as it answers, and
- * nothing else.
+ * hislip_readings write nothing at all. hislip_holders, a question too, writes the first rows of its
+ * list, as many as it answers, and nothing else. A hislip_keep_ call (JOURNAL, below) also writes
+ * `journal` and `book`: the entry of each event that was not refused, and so of a delivery answered more
+ * needed or held too.
  *
  * MESSAGE NUMBERS. A client counts its Data, DataEND and Trigger from ffffff00 hex by two, wrapping, from
  * its opening and again from each AsyncDeviceClear. A message that carries another number than the one
@@ -73,9 +75,10 @@
  * its case; the question mark is there exactly if the pattern has it. With a list set, a DataEND whose
  * payload up to its first space (20 hex), newline (0a hex) or end matches no pattern is answered Error 128,
  * taken, and does not act; this is tested behind all other checks of the message, so the session's count has
- * moved on, and its RMT-delivered is not read. Only the DataEND's own payload is looked at, not Data before it; a semicolon, a tab or a leading
- * colon are bytes like others, so a row of commands in one message matches nothing. While no list was ever
- * set, all is allowed; an empty list allows nothing. There is no way back but hislip_new.
+ * moved on, and its RMT-delivered is not read. Only the DataEND's own payload is looked at, not Data before
+ * it; a semicolon, a tab or a leading colon are bytes like others, so a row of commands in one message
+ * (without a space before the semicolon) matches nothing. While no list was ever set, all is allowed; an
+ * empty list allows nothing. There is no way back but hislip_new.
  *
  * JOURNAL. The hislip_keep_ calls do what the calls without that word do, and write an entry of the event
  * and its frames into `book`, a lent slice of bytes; docs/JOURNAL.md has its layout. `journal` points to
@@ -86,8 +89,8 @@
  * "keep" is not in the journal, and a journal with an event left out is not accepted by a verifier.
  *
  * REFUSALS. A refused call has a number and one cause. It changes nothing: neither the server nor
- * any lent byte, and every other field of the answer is 0 (with refusal 11 alone two say where). If several causes hold, the first in the
- * order given at each function is told.
+ * any lent byte, and every other field of the answer is 0 (with refusal 11 alone two say where). If
+ * several causes hold, the first in the order given at each function is told.
  *
  * EXAMPLE (host/c/example.c runs it):
  *
@@ -243,7 +246,8 @@ typedef struct {
     uint64_t refusal, withheld, output;
 } hislip_answered;
 
-/* The answer to any other event that has one. `output` of an opening or a watch is 0. */
+/* The answer to an opening, a cut, a clock reading and the setting of a watch. `output`: bytes of frames
+ * in `out`; of an opening and a watch it is 0. */
 typedef struct {
     uint64_t refusal, output;
 } hislip_done;
@@ -323,8 +327,9 @@ HISLIP_NOT_NULL HISLIP_USE_RESULT
 hislip_done hislip_cut(uint64_t *words, uint8_t *strings, uint32_t connection,
                        uint8_t *out, size_t out_len);
 
-/* The clock reads so many milliseconds, counted from any start. Lock requests whose time is over are
- * answered. Refusals, in this order: 7, 4 (above 2^62), 3 (below the last reading; equal is fine). */
+/* The clock reads so many milliseconds, counted from any start. Lock requests whose deadline is at or
+ * below it are answered 0, oldest first. Refusals, in this order: 7, 4 (above 2^62), 3 (below the last
+ * reading; equal is fine). */
 HISLIP_NOT_NULL HISLIP_USE_RESULT
 hislip_done hislip_clock(uint64_t *words, uint8_t *strings, uint64_t milliseconds,
                          uint8_t *out, size_t out_len);
@@ -332,9 +337,9 @@ hislip_done hislip_clock(uint64_t *words, uint8_t *strings, uint64_t millisecond
 /* The instrument answers a session: sent as Data, or as DataEND if `end` is not 0, with the MessageID
  * of the question; to a session in overlap mode, with a count of its answers, from ffffff00 hex by two.
  * `len` may be 0. Refusals, in this order: 7, 8 (no live session of that number), 5 (it has asked
- * nothing: no DataEND or Trigger since the last answer with END, or a device clear came after it; in
- * overlap mode: it is half-open or in a device clear), 6 (`len` above 1,024 or above the size the client
- * announced).
+ * nothing: no DataEND or Trigger has acted since the last answer with END, the last device clear or the
+ * last interruption, which is told below; in overlap mode: it is half-open or in a device clear), 6 (`len`
+ * above 1,024 or above the size the client announced).
  *
  * `shown`: all unread bytes of the session's synchronous connection, from the first one not yet taken.
  * They are looked at with `end`, in synchronized mode, after the refusals. If they begin with a whole
@@ -343,9 +348,9 @@ hislip_done hislip_clock(uint64_t *words, uint8_t *strings, uint64_t millisecond
  * more, message available goes off, and AsyncInterrupted and Interrupted are in the output. The message
  * itself stays unread, to be delivered as any other. A host that shows nothing (`shown_len` 0) never has an
  * answer withheld. The server also looks at RMT-delivered of each Data, DataEND and Trigger: a client that
- * does not tell of an END sent to it, or tells of one that was not, is sent the same two messages with that
- * delivery. Behind an answer that trips the session's watch (READINGS, above) there is one
- * AsyncServiceRequest. */
+ * does not tell of an END sent to it, or tells of one that was not, is interrupted too: it is sent the same
+ * two messages with that delivery, nothing is asked any more, and then the message acts. Behind an answer
+ * that trips the session's watch (READINGS, above) there is one AsyncServiceRequest. */
 HISLIP_NOT_NULL HISLIP_USE_RESULT
 hislip_answered hislip_answer(uint64_t *words, uint8_t *strings, uint32_t session,
                               const uint8_t *payload, size_t len, uint8_t end,
@@ -429,8 +434,8 @@ typedef struct {
     uint64_t refusal, pattern, place, kept;
 } hislip_kept_listed;
 
-/* An entry in a book. `found`: 0 if there is none, and then the rest is 0. `body`, `length`: where its body is.
- * `next`: the next place. */
+/* An entry in a book. `found`: 1, or 0 if there is none, and then the rest is 0. `body`, `length`: where its
+ * body is. `next`: the next place. */
 typedef struct {
     uint64_t found, body, length, next;
 } hislip_entry;
@@ -440,12 +445,14 @@ typedef struct {
 HISLIP_NOT_NULL HISLIP_USE_RESULT
 hislip_kept hislip_journal_new(uint64_t *journal, uint8_t *book, size_t book_len);
 
-/* Writes the closing trailer behind the last entry. From `hislip_journal_new` on there is always room for it. */
+/* Writes the closing trailer behind the last entry: `kept` is 0, or 2 if the journal is closed already. From
+ * hislip_journal_new on there is always room for it; with other bits in the words it may be 1. */
 HISLIP_NOT_NULL HISLIP_USE_RESULT
 hislip_kept hislip_journal_close(uint64_t *journal, uint8_t *book, size_t book_len);
 
-/* The entry that begins at `at`: the first is at 0, each next at `next`. It looks at no more of the book than
- * the entry, so a book that is still written, or was cut short, may be read. */
+/* The whole entry that begins at `at`, with right distance and sum: the first is at 0, each next at `next`. It
+ * looks at no more of the book than the entry, so a book that is still written, or was cut short, may be read;
+ * a closing trailer is no entry, and ends the reading. */
 HISLIP_NOT_NULL HISLIP_USE_RESULT
 hislip_entry hislip_journal_forward(const uint8_t *book, size_t book_len, uint64_t at);
 
@@ -454,8 +461,9 @@ hislip_entry hislip_journal_forward(const uint8_t *book, size_t book_len, uint64
 HISLIP_NOT_NULL HISLIP_USE_RESULT
 hislip_entry hislip_journal_backward(const uint8_t *book, size_t book_len, uint64_t at);
 
-/* Each does the plain call's event and writes its entry. Refusals are the plain call's; of a refused event
- * nothing is written, and `kept` is 0. */
+/* Each does the plain call's event and writes its entry. Arguments and answer are the plain call's, then the
+ * writer's words and the book, and `kept`. Refusals are the plain call's; of a refused event nothing is
+ * written, and `kept` is 0, also where the journal is closed or full. */
 HISLIP_NOT_NULL HISLIP_USE_RESULT
 hislip_kept_done hislip_keep_open(uint64_t *words, uint8_t *strings, uint32_t connection,
                                   uint64_t *journal, uint8_t *book, size_t book_len);

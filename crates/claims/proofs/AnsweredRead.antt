@@ -1,4 +1,4 @@
--- The codes with which a call answers the request of a session, as a host reads them (specs/AnsweredOnce.antt), are those of the frames that answer
+-- The codes with which a call answers the request of a session, as a host reads them (model/specs/AnsweredOnce.antt), are those of the frames that answer
 -- waiting requests, since the host knows whether a release of the session stands; and the calls after the request was answered.
 use mathlib.Core.Path.{_≡_, refl, sym, ap, ap₂, subst, _∙_}
 use mathlib.Core.Bool.{Bool, true, false, not, _&&_, _||_, cond, true≢false}

@@ -1,4 +1,4 @@
--- The reader of specs/GrantsSeen.antt knows every live session's second connection and its grants: kept from call to call, by the table of
+-- The reader of model/specs/GrantsSeen.antt knows every live session's second connection and its grants: kept from call to call, by the table of
 -- locality. Its answers are found by that connection, so it goes by that every session whose request waits has one.
 use mathlib.Core.Path.{_≡_, refl, sym, ap, subst, _∙_}
 use mathlib.Core.Bool.{Bool, true, false, not, _&&_, _||_, cond, true≢false, false≢true}

@@ -1,4 +1,4 @@
--- Numbers in step: what the reader of specs/InStep.antt knows, and that a client that counts is never out of step.
+-- Numbers in step: what the reader of model/specs/InStep.antt knows, and that a client that counts is never out of step.
 use mathlib.Core.Path.{_≡_, refl, sym, ap, ap₂, subst, _∙_}
 use mathlib.Core.Bool.{Bool, true, false, not, _&&_, cond, true≢false}
 use mathlib.Core.List.{List, [], _∷_}

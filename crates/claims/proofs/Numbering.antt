@@ -1,4 +1,4 @@
--- The reader of specs/InStep.antt knows every live session's synchronous connection, whether it is in a clear, and the number expected: kept from
+-- The reader of model/specs/InStep.antt knows every live session's synchronous connection, whether it is in a clear, and the number expected: kept from
 -- call to call, by the table of locality.
 use mathlib.Core.Path.{_≡_, refl, sym, ap, subst, _∙_}
 use mathlib.Core.Bool.{Bool, true, false, not, _&&_, cond, false≢true}

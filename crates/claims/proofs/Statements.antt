@@ -1,4 +1,4 @@
--- Every statement of specs/Statements.antt, proved: each by the theorem of its own file.
+-- Every statement of model/specs/Statements.antt, proved: each by the theorem of its own file.
 use Rattle.model.specs.Statements.{Demand1, Demand2, Demand3Parts, Beyond, Statements}
 use Rattle.claims.proofs.Refused.{for-its-cause, changes-nothing}
 use Rattle.claims.proofs.Bound.{output-fits}

@@ -245,4 +245,4 @@ pub extern "C" fn hislip_keep_answer(
     }
 }
 
-// An event more is a call like these (watches.rt has three, lists.rt one), with a line each in `looked` and `recorded` (specs/Keeping.antt) and a head in heads.rt.
+// An event more is a call like these (watches.rt has three, lists.rt one), with a line each in `looked` (specs/Keeping.antt) and `recorded` (judging/specs/Kept.antt) and a head in heads.rt.

@@ -55,7 +55,7 @@ openingRules d h p =
     record { test = not (either Initialize AsyncInitialize t); then = v-fatal 3 }
     -- check 10: payload where none belongs
     ∷ record { test = eqb t AsyncInitialize && ltb 0 (h .len); then = v-fatal 3 }
-    -- Initialize, in this order: sub-address empty or "hislip0", else FatalError 3; 16 live sessions, FatalError 4
+    -- Initialize, in this order: sub-address empty or "hislip0", else FatalError 3; 16 (02, Q-6: 32) live sessions, FatalError 4
     ∷ record { test = eqb t Initialize && not (isNil p || same p hislip0); then = v-fatal 3 }
     ∷ record { test = eqb t Initialize && all live es; then = v-fatal 4 }
     -- AsyncInitialize: the parameter must equal a half-open session's number, else FatalError 3

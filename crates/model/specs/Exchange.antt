@@ -1,5 +1,5 @@
 -- 01, "Clear, status, remote, sizes": what a session has asked and been sent. Three definitions are shut, and proofs go by the laws in
--- proofs/Exchange.antt: whether an answer may be given, the number that it carries, message available at a status query.
+-- claims/proofs/Exchange.antt: whether an answer may be given, the number that it carries, message available at a status query.
 -- Assumes nothing.
 use mathlib.Core.Bool.{Bool, true, false, not, _&&_, _||_, cond}
 use mathlib.Core.List.{List}

@@ -58,7 +58,7 @@ fits k e = isNil (e .shared) || same (e .shared) k
 
 -- the granting rule. Exclusive (empty string) may be granted to S if no other session holds exclusive, and nobody else holds
 -- shared or S itself holds shared; shared with string K if no other holds exclusive and every shared holder's string is K.
--- Shut: proofs go by the laws in proofs/GrantingRule.antt
+-- Shut: proofs go by the laws in claims/proofs/GrantingRule.antt
 unfoldable pub mayGrant : List Entry → ℕ → List ℕ → Bool
 mayGrant es i [] = allBut noExclusive i es && (allBut noShared i es || not (noShared (at es i)))
 mayGrant es i (x ∷ xs) = allBut noExclusive i es && all (fits (x ∷ xs)) es
@@ -307,7 +307,7 @@ grantPass l =
     record { locks = record { clock = l .clock; entries = r .entries; waiting = r .waiting }; answers = r .answers }
 
 -- the events that free a lock: the server passes over the waiting requests only after these. That a pass would do nothing after any
--- other event is a theorem (proofs/Events.antt, always-settled)
+-- other event is a theorem (claims/proofs/Events.antt, always-settled)
 abbrev pub freesNow : Releasing → Bool
 freesNow r-invalid = false
 freesNow (r-now k) = true

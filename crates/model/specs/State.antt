@@ -185,7 +185,7 @@ sensingAt r i = getD (r .sensings) i freshSensing
 abbrev pub connectionAt : Rest → ℕ → Connection
 connectionAt r c = getD (r .connections) c closedConnection
 
--- 01: 16 live sessions, half-open ones included
+-- 01: 16 (02, Q-6: 32) live sessions, half-open ones included
 abbrev pub live : Entry → Bool
 live e = not (eqb (e .number) 0)
 

@@ -1,5 +1,5 @@
 -- Every statement about the definitions, fully quantified, in the order of the customer's demands (00). A reader may stop here: the predicates
--- that it names are this folder's, and proofs/Statements.antt proves all of it. What a host meets is the program: server/specs/Program.antt.
+-- that it names are this folder's, and claims/proofs/Statements.antt proves all of it. What a host meets is the program: server/specs/Program.antt.
 use mathlib.Core.Path.{_≡_}
 use mathlib.Core.Bool.{Bool, true, not}
 use mathlib.Core.Logic.{_↔_}

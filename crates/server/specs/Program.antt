@@ -124,8 +124,8 @@ shownOf v ss n = trackIn (v .prefersOverlap) ss n (nothingYet (v .prefersOverlap
 
 -- F about the program: an answer of the instrument that is not refused and not withheld writes one frame, to the session's synchronous connection (02,
 -- Q-11: and behind it the request for service, if it is the first to trip the watch). In
--- synchronized mode its MessageID is that of the last DataEND or Trigger of the session that acted, with no device clear and no END answer
--- since; 02, Q-1: in overlap mode it is the count of the session's answers since it opened or was cleared
+-- synchronized mode its MessageID is that of the last DataEND or Trigger of the session that acted, with no device clear, no END answer and
+-- no interruption (02, Q-5) since; 02, Q-1: in overlap mode it is the count of the session's answers since it opened or was cleared
 pub record Tied (v : Making) (ss : List Seen) (m : Memory) (n : ℕ) (payload : List ℕ) (end : Bool) (output : List ℕ) : Type 0 where
   pub number : ℕ
   pub asked : (shownOf v ss n) .overlap ≡ false → (shownOf v ss n) .asked ≡ some number
