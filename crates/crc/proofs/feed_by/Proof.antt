@@ -16,7 +16,10 @@ abbrev μ-loop : tie.MeasureT-loop
 μ-loop c bytes x₀ i₀ m x i = length bytes - i
 
 loop-again : tie.Need-loop-again Inv-loop μ-loop
-loop-again c = let l = c .before .before .before .before .before .before .before .before .before .before in
+loop-again c =
+    let on = c .before .before .before .before .before .before in
+    let at-before = on .before .before .before in
+    let l = at-before .before in
     let a = l .before .before .args in
     (omega arith, omega arith, l .loop .inv .2, rw (c .step8 .ensures) (sym (feed-eight (l .loop .x) (a .bytes .now) (l .loop .i) (omega arith))) ∙ l .loop .inv .3)
 

@@ -10,8 +10,11 @@ append-numbered-requires : tie.Need-append-numbered-requires
 append-numbered-requires c κs = c .before .before .before .before .before .before .pre (c .before .before .if1 .taken)
 
 returns : tie.Need-returns
-returns c = then-kept _ _ _ _ (eq-eqb (c .before .before .before .before .before .before .before .before .before .before .args .refusal) 0
-    (c .before .before .before .before .before .before .if1 .taken)) (met (c .before .before .before .append-numbered .ensures) (c .kept-number .ensures))
+returns c =
+    let at-append-numbered = c .before .before .before in
+    let at-if1 = at-append-numbered .before .before .before in
+    then-kept _ _ _ _ (eq-eqb (at-if1 .before .before .before .before .args .refusal) 0
+    (at-if1 .if1 .taken)) (met (at-append-numbered .append-numbered .ensures) (c .kept-number .ensures))
 
 returns-2 : tie.Need-returns-2
 returns-2 c = not-kept _ _ _ _ (ne-eqb (c .before .before .before .before .args .refusal) 0 (c .if1 .left)) refl

@@ -10,11 +10,16 @@ returns : tie.Need-returns
 returns c = not-kept _ _ _ _ (ne-eqb (c .before .before .before .before .before .before .args .refusal) 0 (c .if1 .taken)) refl
 
 append-requires : tie.Need-append-requires
-append-requires c κs = c .before .before .before .before .before .before .before .before .pre (c .before .before .if1 .left)
+append-requires c κs =
+    let at-if1 = c .before .before in
+    at-if1 .before .before .before .before .before .before .pre (at-if1 .if1 .left)
 
 returns-2 : tie.Need-returns-2
-returns-2 c = then-kept _ _ _ _ (eq-eqb (c .before .before .before .before .before .before .before .before .before .before .before .before .args .refusal) 0
-    (c .before .before .before .before .before .before .if1 .left)) (met (c .before .before .before .append .ensures) (c .kept-number .ensures))
+returns-2 c =
+    let at-append = c .before .before .before in
+    let at-if1 = at-append .before .before .before in
+    then-kept _ _ _ _ (eq-eqb (at-if1 .before .before .before .before .before .before .args .refusal) 0
+    (at-if1 .if1 .left)) (met (at-append .append .ensures) (c .kept-number .ensures))
 
 pub keep-entry-spec : {M : Type 1} → statement M
 keep-entry-spec =

@@ -10,8 +10,11 @@ keep-entry-requires : tie.Need-keep-entry-requires
 keep-entry-requires c κs = λ z. simp length-take (omega (arith, c .before .before .before .before .before .before .before .pre z))
 
 returns : tie.Need-returns
-returns c = let a = c .before .before .before .before .before .before .before .before .before .before .args in
-    rw (two-parts (a .head .now) (a .frames .now)) at (c .before .before .keep-entry .ensures)
+returns c =
+    let at-keep-entry = c .before .before in
+    let on = at-keep-entry .before .before .before .before .before .before in
+    let a = on .before .before .args in
+    rw (two-parts (a .head .now) (a .frames .now)) at (at-keep-entry .keep-entry .ensures)
 
 pub keep-numbers-spec : {M : Type 1} → statement M
 keep-numbers-spec =

@@ -7,14 +7,18 @@ use Rattle.keep.proofs.hislip_keep_status.Statement.{statement}
 use Rattle.keep.proofs.hislip_keep_status.Tie as tie
 
 returns : tie.Need-returns
-returns c = let a = c .before .before .before .before .before .before .before .before .before .before .before .before .args in
+returns c =
+    let at-keep-numbers = c .before .before in
+    let at-byte = at-keep-numbers .before .before .before .before .before in
+    let at-hislip-status = at-byte .before in
+    let a = at-hislip-status .before .before .before .before .args in
     let m = memory (a .words .now) (a .strings .now) in
     let e : Event = status (a .status) in
-    let t = told-status m _ (a .status) (c .before .before .before .before .before .before .before .before .hislip-status .ensures .0) in (
-      c .before .before .before .before .before .before .before .before .hislip-status .ensures,
+    let t = told-status m _ (a .status) (at-hislip-status .hislip-status .ensures .0) in (
+      at-hislip-status .hislip-status .ensures,
       body-kept m e _ _ _ t _ _ _ _ _ _
-          (numbers-are m e _ _ _ t _ (status-head (a .status) (c .before .before .before .before .before .before .before .byte .ensures)))
-          (c .before .before .keep-numbers .ensures),
+          (numbers-are m e _ _ _ t _ (status-head (a .status) (at-byte .byte .ensures)))
+          (at-keep-numbers .keep-numbers .ensures),
     )
 
 pub hislip-keep-status-spec : {M : Type 1} → statement M

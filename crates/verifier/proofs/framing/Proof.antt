@@ -30,18 +30,36 @@ slice-aggregate-crc32 : tie.Need-slice-aggregate-crc32
 slice-aggregate-crc32 c = simp length-take (omega arith)
 
 returns-7 : tie.Need-returns-7
-returns-7 c = bad-sum _ _ (c .before .before .before .before .before .before .before .before .before .number4 .ensures .0)
-    (c .before .before .before .before .before .before .before .before .before .before .if1 .left)
-    (c .before .before .before .before .before .before .before .before .if2 .left) (c .before .before .before .before .before .before .before .if4 .left)
-    (c .before .before .before .before .before .before .if5 .left) _ (c .before .before .before .before .before .number42 .ensures .0)
-    (c .before .before .before .before .if6 .left) _ _ (c .before .number43 .ensures .0) (c .before .before .crc32 .ensures) (c .if7 .taken)
+returns-7 c =
+    let at-crc32 = c .before .before in
+    let at-if6 = at-crc32 .before .before in
+    let at-number42 = at-if6 .before in
+    let at-if5 = at-number42 .before in
+    let at-if4 = at-if5 .before in
+    let at-if2 = at-if4 .before in
+    let at-number4 = at-if2 .before in
+    let at-if1 = at-number4 .before in
+    bad-sum _ _ (at-number4 .number4 .ensures .0)
+    (at-if1 .if1 .left)
+    (at-if2 .if2 .left) (at-if4 .if4 .left)
+    (at-if5 .if5 .left) _ (at-number42 .number42 .ensures .0)
+    (at-if6 .if6 .left) _ _ (c .before .number43 .ensures .0) (at-crc32 .crc32 .ensures) (c .if7 .taken)
 
 returns-8 : tie.Need-returns-8
-returns-8 c = all-right _ _ (c .before .before .before .before .before .before .before .before .before .number4 .ensures .0)
-    (c .before .before .before .before .before .before .before .before .before .before .if1 .left)
-    (c .before .before .before .before .before .before .before .before .if2 .left) (c .before .before .before .before .before .before .before .if4 .left)
-    (c .before .before .before .before .before .before .if5 .left) _ (c .before .before .before .before .before .number42 .ensures .0)
-    (c .before .before .before .before .if6 .left) _ _ (c .before .number43 .ensures .0) (c .before .before .crc32 .ensures) (c .if7 .left)
+returns-8 c =
+    let at-crc32 = c .before .before in
+    let at-if6 = at-crc32 .before .before in
+    let at-number42 = at-if6 .before in
+    let at-if5 = at-number42 .before in
+    let at-if4 = at-if5 .before in
+    let at-if2 = at-if4 .before in
+    let at-number4 = at-if2 .before in
+    let at-if1 = at-number4 .before in
+    all-right _ _ (at-number4 .number4 .ensures .0)
+    (at-if1 .if1 .left)
+    (at-if2 .if2 .left) (at-if4 .if4 .left)
+    (at-if5 .if5 .left) _ (at-number42 .number42 .ensures .0)
+    (at-if6 .if6 .left) _ _ (c .before .number43 .ensures .0) (at-crc32 .crc32 .ensures) (c .if7 .left)
 
 pub framing-spec : {M : Type 1} → statement M
 framing-spec =

@@ -4,7 +4,10 @@ use Rattle.verify.proofs.judge_file.Statement.{statement}
 use Rattle.verify.proofs.judge_file.Tie as tie
 
 verdict-requires-2 : tie.Need-verdict-requires-2
-verdict-requires-2 c κs = c .before .before .before .before .before .before .before .before .before .judge .ensures .have (c .before .if3 .left)
+verdict-requires-2 c κs =
+    let on = c .before .before .before .before .before .before in
+    let at-judge = on .before .before .before in
+    at-judge .judge .ensures .have (c .before .if3 .left)
 
 pub judge-file-spec : {M : Type 1} → statement M
 judge-file-spec =

@@ -6,10 +6,14 @@ use Rattle.allowed.proofs.listing.put_list_in.Statement.{statement}
 use Rattle.allowed.proofs.listing.put_list_in.Tie as tie
 
 returns : tie.Need-returns
-returns c = let a = c .before .before .before .before .before .before .before .before .before .before .before .before .before .args in
-    let p = c .before .before .before .before .before .before .before .before .before .before .before .before .before .pre in
-    let x = rw (c .before .before .before .before .before .before .before .before .least .ensures .0) at (c .before .before .before .before .before .before .wipe .ensures) in
-    rw (c .before .before .put-bytes .ensures) (
+returns c =
+    let at-put-bytes = c .before .before in
+    let at-wipe = at-put-bytes .before .before .before .before in
+    let at-least = at-wipe .before .before in
+    let a = at-least .before .before .before .before .before .args in
+    let p = at-least .before .before .before .before .before .pre in
+    let x = rw (at-least .least .ensures .0) at (at-wipe .wipe .ensures) in
+    rw (at-put-bytes .put-bytes .ensures) (
       list-laid (a .w .now) (a .strings .now) _ (a .text .now) (p .0) (p .1) (p .2) x,
       λ t. list-tidy (a .w .now) (a .strings .now) _ (a .text .now) (p .0) (p .1) (p .2) x t,
     )

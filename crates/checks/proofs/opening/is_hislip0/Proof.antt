@@ -18,21 +18,34 @@ returns-4 : tie.Need-returns-4
 returns-4 c = differ (c .before .before .before .before .before .before .before .args .p .now) hislip0 2 (c .if4 .taken)
 
 returns-5 : tie.Need-returns-5
-returns-5 c = differ (c .before .before .before .before .before .before .before .before .before .args .p .now) hislip0 3 (c .if5 .taken)
+returns-5 c =
+    let on = c .before .before .before .before .before .before in
+    differ (on .before .before .before .args .p .now) hislip0 3 (c .if5 .taken)
 
 returns-6 : tie.Need-returns-6
-returns-6 c = differ (c .before .before .before .before .before .before .before .before .before .before .before .args .p .now) hislip0 4 (c .if6 .taken)
+returns-6 c =
+    let on = c .before .before .before .before .before .before in
+    differ (on .before .before .before .before .before .args .p .now) hislip0 4 (c .if6 .taken)
 
 returns-7 : tie.Need-returns-7
-returns-7 c = differ (c .before .before .before .before .before .before .before .before .before .before .before .before .before .args .p .now) hislip0 5 (c .if7 .taken)
+returns-7 c =
+    let on = c .before .before .before .before .before .before in
+    differ (on .before .before .before .before .before .before .before .args .p .now) hislip0 5 (c .if7 .taken)
 
 returns-8 : tie.Need-returns-8
-returns-8 c = is-hislip0 (c .before .before .before .before .before .before .before .before .before .before .before .before .before .before .args .p .now)
-    (c .before .before .before .before .before .before .before .before .before .before .before .before .before .if1 .left)
-    (c .before .before .before .before .before .before .before .before .before .before .before .if2 .left)
-    (c .before .before .before .before .before .before .before .before .before .if3 .left)
-    (c .before .before .before .before .before .before .before .if4 .left) (c .before .before .before .before .before .if5 .left)
-    (c .before .before .before .if6 .left) (c .before .if7 .left)
+returns-8 c =
+    let at-if6 = c .before .before .before in
+    let at-if5 = at-if6 .before .before in
+    let at-if4 = at-if5 .before .before in
+    let at-if3 = at-if4 .before .before in
+    let at-if2 = at-if3 .before .before in
+    let at-if1 = at-if2 .before .before in
+    is-hislip0 (at-if1 .before .args .p .now)
+    (at-if1 .if1 .left)
+    (at-if2 .if2 .left)
+    (at-if3 .if3 .left)
+    (at-if4 .if4 .left) (at-if5 .if5 .left)
+    (at-if6 .if6 .left) (c .before .if7 .left)
 
 pub is-hislip0-spec : {M : Type 1} → statement M
 is-hislip0-spec =

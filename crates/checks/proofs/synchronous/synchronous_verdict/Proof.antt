@@ -37,33 +37,57 @@ returns-5 c = let a = c .before .before .before .before .before .before .before 
     (is-vendor (classOf synchronous (a .kind)) (c .before .class-of .result) (c .before .class-of .ensures) (c .if5 .taken))) refl
 
 returns-6 : tie.Need-returns-6
-returns-6 c = let a = c .before .before .before .before .before .before .before .before .args in
+returns-6 c =
+    let at-class-of = c .before .before in
+    let at-if4 = at-class-of .before in
+    let at-if3 = at-if4 .before in
+    let at-in-clear = at-if3 .before in
+    let at-if2 = at-in-clear .before in
+    let at-if1 = at-if2 .before in
+    let a = at-if1 .before .args in
     λ s p. numbered _ _ (sync-unrecognised (anyCommand (view (memory (a .w .now) s))) (a .i) (a .kind) (a .code) (a .param) (a .len) p
-    (c .before .before .before .before .before .before .before .if1 .left) (c .before .before .before .before .before .before .if2 .left)
-    (c .before .before .before .before .if3 .left) (c .before .before .before .before .before .in-clear .ensures ∙ c .before .before .before .if4 .left)
-    (not-vendor (classOf synchronous (a .kind)) (c .before .before .class-of .result) (c .before .before .class-of .ensures) (c .before .if5 .left))
-    (is-unrecognised (classOf synchronous (a .kind)) (c .before .before .class-of .result) (c .before .before .class-of .ensures) (c .if6 .taken))) refl
+    (at-if1 .if1 .left) (at-if2 .if2 .left)
+    (at-if3 .if3 .left) (at-in-clear .in-clear .ensures ∙ at-if4 .if4 .left)
+    (not-vendor (classOf synchronous (a .kind)) (at-class-of .class-of .result) (at-class-of .class-of .ensures) (c .before .if5 .left))
+    (is-unrecognised (classOf synchronous (a .kind)) (at-class-of .class-of .result) (at-class-of .class-of .ensures) (c .if6 .taken))) refl
 
 returns-7 : tie.Need-returns-7
-returns-7 c = let a = c .before .before .before .before .before .before .before .before .before .args in
+returns-7 c =
+    let at-if5 = c .before .before in
+    let at-class-of = at-if5 .before in
+    let at-if4 = at-class-of .before in
+    let at-if3 = at-if4 .before in
+    let at-in-clear = at-if3 .before in
+    let at-if2 = at-in-clear .before in
+    let at-if1 = at-if2 .before in
+    let a = at-if1 .before .args in
     λ s p. numbered _ _ (sync-again (anyCommand (view (memory (a .w .now) s))) (a .i) (a .kind) (a .code) (a .param) (a .len) p
-    (c .before .before .before .before .before .before .before .before .if1 .left) (c .before .before .before .before .before .before .before .if2 .left)
-    (c .before .before .before .before .before .if3 .left)
-    (c .before .before .before .before .before .before .in-clear .ensures ∙ c .before .before .before .before .if4 .left)
-    (not-vendor (classOf synchronous (a .kind)) (c .before .before .before .class-of .result) (c .before .before .before .class-of .ensures)
-    (c .before .before .if5 .left)) (not-unrecognised (classOf synchronous (a .kind)) (c .before .before .before .class-of .result)
-    (c .before .before .before .class-of .ensures) (c .before .if6 .left)) (c .if7 .taken)) refl
+    (at-if1 .if1 .left) (at-if2 .if2 .left)
+    (at-if3 .if3 .left)
+    (at-in-clear .in-clear .ensures ∙ at-if4 .if4 .left)
+    (not-vendor (classOf synchronous (a .kind)) (at-class-of .class-of .result) (at-class-of .class-of .ensures)
+    (at-if5 .if5 .left)) (not-unrecognised (classOf synchronous (a .kind)) (at-class-of .class-of .result)
+    (at-class-of .class-of .ensures) (c .before .if6 .left)) (c .if7 .taken)) refl
 
 returns-8 : tie.Need-returns-8
-returns-8 c = let a = c .before .before .before .before .before .before .before .before .before .before .args in
+returns-8 c =
+    let at-if6 = c .before .before in
+    let at-if5 = at-if6 .before in
+    let at-class-of = at-if5 .before in
+    let at-if4 = at-class-of .before in
+    let at-if3 = at-if4 .before in
+    let at-in-clear = at-if3 .before in
+    let at-if2 = at-in-clear .before in
+    let at-if1 = at-if2 .before in
+    let a = at-if1 .before .args in
     λ s p. same-number _ _ _ (sync-command (anyCommand (view (memory (a .w .now) s))) (a .i) (a .kind) (a .code) (a .param) (a .len) p
-    (c .before .before .before .before .before .before .before .before .before .if1 .left)
-    (c .before .before .before .before .before .before .before .before .if2 .left) (c .before .before .before .before .before .before .if3 .left)
-    (c .before .before .before .before .before .before .before .in-clear .ensures ∙ c .before .before .before .before .before .if4 .left)
-    (not-vendor (classOf synchronous (a .kind)) (c .before .before .before .before .class-of .result)
-    (c .before .before .before .before .class-of .ensures) (c .before .before .before .if5 .left))
-    (not-unrecognised (classOf synchronous (a .kind)) (c .before .before .before .before .class-of .result)
-    (c .before .before .before .before .class-of .ensures) (c .before .before .if6 .left)) (c .before .if7 .left) _ _ refl refl refl)
+    (at-if1 .if1 .left)
+    (at-if2 .if2 .left) (at-if3 .if3 .left)
+    (at-in-clear .in-clear .ensures ∙ at-if4 .if4 .left)
+    (not-vendor (classOf synchronous (a .kind)) (at-class-of .class-of .result)
+    (at-class-of .class-of .ensures) (at-if5 .if5 .left))
+    (not-unrecognised (classOf synchronous (a .kind)) (at-class-of .class-of .result)
+    (at-class-of .class-of .ensures) (at-if6 .if6 .left)) (c .before .if7 .left) _ _ refl refl refl)
     (c .command-verdict .ensures s)
 
 pub synchronous-verdict-spec : {M : Type 1} → statement M

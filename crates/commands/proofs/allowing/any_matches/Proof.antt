@@ -37,13 +37,18 @@ loop-holds c =
 
 returns-2 : tie.Need-returns-2 Inv-loop μ-loop
 returns-2 c =
+    let at-line-end = c .before .before .before in
+    let at-loop-test = at-line-end .before in
+    let at-loop = at-loop-test .before in
+    let at-raised-at2 = at-loop .before .before .before .before in
+    let at-raised-at = at-raised-at2 .before in
     let m = c .before .matches in
-    let e = c .before .before .before .line-end in
-    let t = c .before .before .before .before .loop-test in
-    let l = c .before .before .before .before .before .loop in
-    let g = c .before .before .before .before .before .before .before .before .before .raised-at2 in
-    let f = c .before .before .before .before .before .before .before .before .before .before .raised-at in
-    let a = c .before .before .before .before .before .before .before .before .before .before .before .before .before .args in
+    let e = at-line-end .line-end in
+    let t = at-loop-test .loop-test in
+    let l = at-loop .loop in
+    let g = at-raised-at2 .raised-at2 in
+    let f = at-raised-at .raised-at in
+    let a = at-raised-at .before .before .before .args in
     let b = behind-newline (a .text .now) (a .c .now) (l .at) (search needs) (opens-newline (a .text .now) (l .at) (f .result) (g .result) (l .inv .1 (t .taken))) in (
       λ x. l .inv .2 .1 (subst (λ (y : List (List ℕ)). Allows y (a .c .now)) (sym b)
           (line-matched (a .text .now) (a .c .now) (l .at + 1) (e .result) (e .ensures .0) (t .taken) (m .ensures .0 (c .if2 .taken)))),
@@ -61,14 +66,20 @@ loop-less c =
 
 loop-again : tie.Need-loop-again Inv-loop μ-loop
 loop-again c =
+    let at-matches = c .before .before in
+    let at-line-end = at-matches .before .before in
+    let at-loop-test = at-line-end .before in
+    let at-loop = at-loop-test .before in
+    let at-raised-at2 = at-loop .before .before .before .before in
+    let at-raised-at = at-raised-at2 .before in
     let n = c .next-opening in
-    let m = c .before .before .matches in
-    let e = c .before .before .before .before .line-end in
-    let t = c .before .before .before .before .before .loop-test in
-    let l = c .before .before .before .before .before .before .loop in
-    let g = c .before .before .before .before .before .before .before .before .before .before .raised-at2 in
-    let f = c .before .before .before .before .before .before .before .before .before .before .before .raised-at in
-    let a = c .before .before .before .before .before .before .before .before .before .before .before .before .before .before .args in
+    let m = at-matches .matches in
+    let e = at-line-end .line-end in
+    let t = at-loop-test .loop-test in
+    let l = at-loop .loop in
+    let g = at-raised-at2 .raised-at2 in
+    let f = at-raised-at .raised-at in
+    let a = at-raised-at .before .before .before .args in
     let b = behind-newline (a .text .now) (a .c .now) (l .at) (search needs) (opens-newline (a .text .now) (l .at) (f .result) (g .result) (l .inv .1 (t .taken))) in (
       n .ensures .1,
       n .ensures .3,
@@ -80,8 +91,9 @@ loop-again c =
 
 returns-3 : tie.Need-returns-3 Inv-loop μ-loop
 returns-3 c =
+    let on = c .before .before .before .before .before .before in
     let l = c .before .loop in
-    let a = c .before .before .before .before .before .before .before .before .before .args in
+    let a = on .before .before .before .args in
     (λ t. untrue t, λ x. absurd (behind-end (a .text .now) (a .c .now) (l .at) (search needs) (l .inv .2 .0 x)))
 
 pub any-matches-spec : {M : Type 1} → statement M

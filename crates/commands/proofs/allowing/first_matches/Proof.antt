@@ -31,9 +31,11 @@ slice-aggregate-matches c = sym (length-take-le (c .before .line-end .result) _ 
 
 returns-4 : tie.Need-returns-4
 returns-4 c =
+    let at-line-end = c .before .before in
+    let on = at-line-end .before .before .before .before .before .before in
     let m = c .matches in
-    let e = c .before .before .line-end in
-    let a = c .before .before .before .before .before .before .before .before .before .before .args in (
+    let e = at-line-end .line-end in
+    let a = on .before .before .args in (
       λ t. first-matched (a .text .now) (a .c .now) (e .result) (e .ensures .0) (m .ensures .0 t),
       λ t. first-passed (a .text .now) (a .c .now) (e .result)
           (e .ensures .0) (λ x. untrue (sym t ∙ m .ensures .1 x)),

@@ -54,8 +54,9 @@ returns c =
 
 loop3-again : tie.Need-loop3-again Inv-loop μ-loop Inv-loop2 μ-loop2 Inv-loop3 μ-loop3
 loop3-again c =
-    let a = c .before .before .before .before .before .before .before .before .before .args in
-    let l = c .before .before .before .loop3 in
+    let at-loop3 = c .before .before .before in
+    let a = at-loop3 .before .before .before .before .before .before .args in
+    let l = at-loop3 .loop3 in
     (search needs, search needs, shut-one (a .text .now) (a .f) (a .g) (a .at) (l .i) (l .inv .2) (sym (c .before .opens-at .ensures) ∙ c .if3 .left))
 
 returns-2 : tie.Need-returns-2 Inv-loop μ-loop Inv-loop2 μ-loop2 Inv-loop3 μ-loop3

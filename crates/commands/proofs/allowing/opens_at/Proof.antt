@@ -22,15 +22,20 @@ returns-3 c =
 
 returns-4 : tie.Need-returns-4
 returns-4 c =
-    let a = c .before .before .before .before .before .before .before .before .args in
-    sym (opens-second (a .text .now) (a .i) (a .f) (a .g) (c .before .before .before .before .before .if1 .left) (c .before .before .before .if2 .left) (c .if4 .taken))
+    let at-if2 = c .before .before .before in
+    let at-if1 = at-if2 .before .before in
+    let a = at-if1 .before .before .before .args in
+    sym (opens-second (a .text .now) (a .i) (a .f) (a .g) (at-if1 .if1 .left) (at-if2 .if2 .left) (c .if4 .taken))
 
 returns-5 : tie.Need-returns-5
 returns-5 c =
-    let a = c .before .before .before .before .before .before .before .before .before .before .args in
+    let at-if4 = c .before .before in
+    let at-if2 = at-if4 .before .before .before in
+    let at-if1 = at-if2 .before .before in
+    let a = at-if1 .before .before .before .args in
     ap not (c .is-between .ensures) ∙ sym (opens-other (a .text .now) (a .i) (a .f) (a .g)
-    (c .before .before .before .before .before .before .before .if1 .left) (c .before .before .before .before .before .if2 .left)
-    (c .before .before .if4 .left))
+    (at-if1 .if1 .left) (at-if2 .if2 .left)
+    (at-if4 .if4 .left))
 
 pub opens-at-spec : {M : Type 1} → statement M
 opens-at-spec = tie.close (tie.spec (λ c. search needs) returns (λ c. search needs) (λ c. search needs) returns-2 (λ c. search needs) returns-3

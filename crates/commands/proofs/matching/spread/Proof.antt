@@ -39,7 +39,8 @@ returns-2 c =
 
 returns-3 : tie.Need-returns-3
 returns-3 c =
-    let a = c .before .before .before .before .before .before .before .before .before .args in
+    let on = c .before .before .before .before .before .before in
+    let a = on .before .before .before .args in
     let n : starts (part (a .a) (a .m) (a .p .now)) (drop (a .i) (a .c .now)) ≡ false = sym (c .before .goes-on .ensures) ∙ not-true _ (c .if3 .taken) in
     let o : starts (part (a .a) (a .e) (a .p .now)) (drop (a .i) (a .c .now)) ≡ false = long-not (a .p .now) (a .c .now) (a .a) (a .m) (a .e) (a .i) (search needs) (search needs) (search needs) n in
     λ k. (

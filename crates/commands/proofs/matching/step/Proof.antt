@@ -30,8 +30,9 @@ loop-less c = c .from-place .ensures .1
 
 loop-again : tie.Need-loop-again Inv-loop μ-loop
 loop-again c =
-    let l = c .before .before .before .before .before .loop in
-    let a = c .before .before .before .before .before .before .before .before .before .before .before .before .args in
+    let at-loop = c .before .before .before .before .before in
+    let l = at-loop .loop in
+    let a = at-loop .before .before .before .before .before .before .before .args in
     let f = c .from-place in (
       landing-more (part (a .a) (a .m) (a .p .now)) (part (a .a) (a .e) (a .p .now)) (a .c .now) (a .s .now) (l .w .on) (l .w .left) (f .result .left)
           (f .result .on) (l .w .next) (f .ensures .0) (f .ensures .2) (l .inv .0),
@@ -40,8 +41,9 @@ loop-again c =
 
 returns : tie.Need-returns Inv-loop μ-loop
 returns c =
-    let l = c .before .before .before .loop in
-    let a = c .before .before .before .before .before .before .before .before .before .before .args in
+    let at-loop = c .before .before .before in
+    let l = at-loop .loop in
+    let a = at-loop .before .before .before .before .before .before .before .args in
     landing-last (part (a .a) (a .m) (a .p .now)) (part (a .a) (a .e) (a .p .now)) (a .c .now) (a .s .now) (l .w .on) (l .w .left) (l .inv .1 .1 (search needs)) (l .inv .0)
 
 pub step-spec : {M : Type 1} → statement M

@@ -19,13 +19,16 @@ act-asynchronous-requires c κs = let a = c .before .before .before .before .bef
     (q .4 (λ z. omega arith), search needs, search needs, q .2, search needs, λ k. size-eight h p (q .6 s r-asynchronous (sym (c .before .before .before .if1 .taken))) k)
 
 returns : tie.Need-returns
-returns c = let a = c .before .before .before .before .before .before .before .before .before .args in
-    let q = c .before .before .before .before .before .before .before .before .before .pre in
+returns c =
+    let at-act-asynchronous = c .before .before in
+    let at-if1 = at-act-asynchronous .before .before .before .before in
+    let a = at-if1 .before .before .before .args in
+    let q = at-if1 .before .before .before .pre in
     let s = a .strings .now in
     let h = message (a .kind) (a .code) (a .param) (a .len) in
     let p = a .payload .now in
     λ ro e. acts-as (view (memory (a .w .now) s)) (a .i) (a .c) h p _ _ _ _ _ ro r-asynchronous
-    (role-async ro (e ∙ c .before .before .before .before .before .before .if1 .taken)) (c .before .before .act-asynchronous .ensures)
+    (role-async ro (e ∙ at-if1 .if1 .taken)) (at-act-asynchronous .act-asynchronous .ensures)
 
 act-opening-requires : tie.Need-act-opening-requires
 act-opening-requires c κs = let a = c .before .before .before .before .before .before .before .args in
@@ -45,13 +48,16 @@ act-opening-requires c κs = let a = c .before .before .before .before .before .
     )
 
 returns-2 : tie.Need-returns-2
-returns-2 c = let a = c .before .before .before .before .before .before .before .before .before .before .args in
-    let q = c .before .before .before .before .before .before .before .before .before .before .pre in
+returns-2 c =
+    let at-act-opening = c .before .before in
+    let at-if2 = at-act-opening .before .before .before .before in
+    let a = at-if2 .before .before .before .before .args in
+    let q = at-if2 .before .before .before .before .pre in
     let s = a .strings .now in
     let h = message (a .kind) (a .code) (a .param) (a .len) in
     let p = a .payload .now in
     λ ro e. acts-as (view (memory (a .w .now) s)) (a .i) (a .c) h p _ _ _ _ _ ro r-none
-    (role-none ro (e ∙ c .before .before .before .before .before .before .if2 .taken)) (c .before .before .act-opening .ensures p (a .i) (a .code))
+    (role-none ro (e ∙ at-if2 .if2 .taken)) (at-act-opening .act-opening .ensures p (a .i) (a .code))
 
 returns-3 : tie.Need-returns-3
 returns-3 c = let a = c .before .before .before .before .before .args in

@@ -17,24 +17,32 @@ count-refused-requires c κs = c .before .before .before .pre .5
 
 returns : tie.Need-returns
 returns c =
-    let a = c .before .before .before .before .before .before .before .before .before .args in
+    let at-send-error = c .before .before in
+    let at-count-refused = at-send-error .before .before .before in
+    let at-if1 = at-count-refused .before .before in
+    let a = at-if1 .before .before .args in
     λ ro x e f g. error-done (view (memory (a .w .now) (a .strings .now))) (a .c) (a .i) x ro _ _ _ _ _ (a .v)
-    (c .before .before .before .before .before .before .before .if1 .taken) (a .taken) (a .left) e f (a .moves) g _ _
-    (c .before .before .before .before .before .count-refused .ensures .0 (a .strings .now))
-    (c .before .before .before .before .before .count-refused .ensures .1 (a .strings .now)) (c .before .before .send-error .ensures (a .strings .now))
+    (at-if1 .if1 .taken) (a .taken) (a .left) e f (a .moves) g _ _
+    (at-count-refused .count-refused .ensures .0 (a .strings .now))
+    (at-count-refused .count-refused .ensures .1 (a .strings .now)) (at-send-error .send-error .ensures (a .strings .now))
 
 returns-2 : tie.Need-returns-2
 returns-2 c =
-    let a = c .before .before .before .before .before .before .before .before .before .args in
+    let at-send-fatal = c .before .before in
+    let at-if2 = at-send-fatal .before .before .before .before in
+    let at-if1 = at-if2 .before in
+    let a = at-if1 .before .before .args in
     λ ro x e f g. fatal-done (view (memory (a .w .now) (a .strings .now))) (a .c) (a .i) x ro _ _ _ _ _ (a .v)
-    (c .before .before .before .before .before .before .if2 .taken) (c .before .before .before .before .before .before .before .if1 .left)
-    (c .before .before .send-fatal .ensures)
+    (at-if2 .if2 .taken) (at-if1 .if1 .left)
+    (at-send-fatal .send-fatal .ensures)
 
 returns-3 : tie.Need-returns-3
 returns-3 c =
-    let a = c .before .before .before .before .before .before .before .before .before .before .args in
+    let at-close-silently = c .before .before in
+    let at-if3 = at-close-silently .before .before .before .before in
+    let a = at-if3 .before .before .before .before .args in
     λ ro x e f g. closed-done (view (memory (a .w .now) (a .strings .now))) (a .c) (a .i) x ro _ _ _ _ _ (a .v)
-    (c .before .before .before .before .before .before .if3 .taken) (c .before .before .close-silently .ensures)
+    (at-if3 .if3 .taken) (at-close-silently .close-silently .ensures)
 
 returns-4 : tie.Need-returns-4
 unfolding bytesOf

@@ -16,9 +16,11 @@ deliver-status-requires c κs =
 
 returns : tie.Need-returns
 returns c =
-    let a = c .before .before .before .before .before .before .before .before .before .args in
+    let at-deliver-status = c .before .before in
+    let at-if1 = at-deliver-status .before .before .before .before in
+    let a = at-if1 .before .before .before .args in
     of-kind (view (memory (a .w .now) (a .strings .now))) (a .c) (a .i) (message (a .kind) (a .code) (a .param) (a .len)) (a .payload .now) r-asynchronous _ _ _
-    _ _ 21 (c .before .before .before .before .before .before .if1 .taken) (c .before .before .deliver-status .ensures)
+    _ _ 21 (at-if1 .if1 .taken) (at-deliver-status .deliver-status .ensures)
 
 deliver-lock-requires : tie.Need-deliver-lock-requires
 deliver-lock-requires c κs =
@@ -27,9 +29,11 @@ deliver-lock-requires c κs =
 
 returns-2 : tie.Need-returns-2
 returns-2 c =
-    let a = c .before .before .before .before .before .before .before .before .before .before .args in
+    let at-deliver-lock = c .before .before in
+    let at-if2 = at-deliver-lock .before .before .before .before in
+    let a = at-if2 .before .before .before .before .args in
     of-kind (view (memory (a .w .now) (a .strings .now))) (a .c) (a .i) (message (a .kind) (a .code) (a .param) (a .len)) (a .payload .now) r-asynchronous _ _ _
-    _ _ 4 (c .before .before .before .before .before .before .if2 .taken) (c .before .before .deliver-lock .ensures)
+    _ _ 4 (at-if2 .if2 .taken) (at-deliver-lock .deliver-lock .ensures)
 
 deliver-kind-requires : tie.Need-deliver-kind-requires
 deliver-kind-requires c κs =

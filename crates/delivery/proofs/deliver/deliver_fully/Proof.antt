@@ -17,18 +17,22 @@ use Rattle.delivery.proofs.deliver.deliver_fully.Tie as tie
 
 returns : tie.Need-returns
 returns c =
-    let a = c .before .before .before .before .before .before .before .before .before .before .before .before .args in
-    let v = c .before .before .before .before .before .before .before .whole-verdict in
+    let at-act-synchronous = c .before .before in
+    let at-if1 = at-act-synchronous .before .before .before .before in
+    let at-whole-verdict = at-if1 .before in
+    let a = at-whole-verdict .before .before .before .before .before .args in
+    let v = at-whole-verdict .whole-verdict in
     let d = view (memory (a .w .now) (a .strings .now)) in
     let h = message (a .kind) (a .code) (a .param) (a .len) in
     let e : judged r-synchronous d (a .i) h (a .payload .now) ≡ verdictOf (v .result) = v .ensures (a .strings .now) r-synchronous refl (λ z. refl) .case in
     acts-done d (a .c) (a .i) h (a .payload .now) r-synchronous _ _ _ _ _ (judged r-synchronous d (a .i) h (a .payload .now))
-    (e ∙ ap verdictOf (c .before .before .before .before .before .before .if1 .taken)) (c .before .before .act-synchronous .ensures (a .payload .now))
+    (e ∙ ap verdictOf (at-if1 .if1 .taken)) (at-act-synchronous .act-synchronous .ensures (a .payload .now))
 
 returns-2 : tie.Need-returns-2
 returns-2 c =
-    let a = c .before .before .before .before .before .before .before .before .args in
-    let v = c .before .before .before .whole-verdict in
+    let at-whole-verdict = c .before .before .before in
+    let a = at-whole-verdict .before .before .before .before .before .args in
+    let v = at-whole-verdict .whole-verdict in
     let d = view (memory (a .w .now) (a .strings .now)) in
     let h = message (a .kind) (a .code) (a .param) (a .len) in
     let e : judged r-synchronous d (a .i) h (a .payload .now) ≡ verdictOf (v .result) = v .ensures (a .strings .now) r-synchronous refl (λ z. refl) .case in
@@ -37,19 +41,24 @@ returns-2 c =
     (held-done d (a .c) (a .i) x r-synchronous _ _ _ _ _ (v .result) (c .before .if2 .taken) (did-nothing 0 (took held 0 0) _ _ _ (ap numbersOf (c .quiet .ensures))))
 
 carries-requires : tie.Need-carries-requires
-carries-requires c κs = λ e. c .before .before .before .before .before .before .before .before .pre .5
+carries-requires c κs =
+    let on = c .before .before .before .before .before .before in
+    λ e. on .before .before .pre .5
 
 returns-3 : tie.Need-returns-3
 returns-3 c =
-    let a = c .before .before .before .before .before .before .before .before .before .before .before .before .before .before .before .args in
-    let v = c .before .before .before .before .before .before .before .before .before .before .whole-verdict in
+    let at-apply = c .before .before in
+    let at-carries = at-apply .before .before .before .before in
+    let at-whole-verdict = at-carries .before .before .before .before in
+    let a = at-whole-verdict .before .before .before .before .before .args in
+    let v = at-whole-verdict .whole-verdict in
     let d = view (memory (a .w .now) (a .strings .now)) in
     let h = message (a .kind) (a .code) (a .param) (a .len) in
     let e : judged r-synchronous d (a .i) h (a .payload .now) ≡ verdictOf (v .result) = v .ensures (a .strings .now) r-synchronous refl (λ z. refl) .case in
     by-verdict d (a .c) (a .i) (whole h (a .payload .now)) r-synchronous _ _ _ _ _ (judged r-synchronous d (a .i) h (a .payload .now)) (verdictOf (v .result)) e
-    (c .before .before .apply .ensures r-synchronous (whole h (a .payload .now)) refl refl
+    (at-apply .apply .ensures r-synchronous (whole h (a .payload .now)) refl refl
     (moved-whole h (exchangeAt (restOf (a .w .now)) (a .i)) r-synchronous (a .payload .now) _
-    (c .before .before .before .before .before .before .carries .ensures .1 r-synchronous (a .code) (a .len) refl)))
+    (at-carries .carries .ensures .1 r-synchronous (a .code) (a .len) refl)))
 
 pub deliver-fully-spec : {M : Type 1} → statement M
 deliver-fully-spec =

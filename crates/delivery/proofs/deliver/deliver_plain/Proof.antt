@@ -19,15 +19,18 @@ use Rattle.delivery.proofs.deliver.deliver_plain.Tie as tie
 
 returns : tie.Need-returns
 returns c =
-    let a = c .before .before .before .before .before .before .before .before .before .before .args in
-    let v = c .before .before .before .before .before .before .synchronous-verdict in
+    let at-act-plainly = c .before .before in
+    let at-if1 = at-act-plainly .before .before .before in
+    let at-synchronous-verdict = at-if1 .before in
+    let a = at-synchronous-verdict .before .before .before .before .args in
+    let v = at-synchronous-verdict .synchronous-verdict in
     let d = view (memory (a .w .now) (a .strings .now)) in
     let h = message (a .kind) (a .code) (a .param) (a .len) in
     let e : judged r-synchronous d (a .i) h (a .payload .now) ≡ verdictOf (v .result) = judged-synchronous d (a .i) h (a .payload .now) r-synchronous refl
     ∙ list-passed d (a .i) (a .kind) (a .code) (a .param) (a .len) (a .payload .now)
-    (c .before .before .before .before .before .before .before .before .before .before .pre .7) ∙ v .ensures (a .strings .now) (a .payload .now) .case in
+    (at-synchronous-verdict .before .before .before .before .pre .7) ∙ v .ensures (a .strings .now) (a .payload .now) .case in
     acts-done d (a .c) (a .i) h (a .payload .now) r-synchronous _ _ _ _ _ (judged r-synchronous d (a .i) h (a .payload .now))
-    (e ∙ ap verdictOf (c .before .before .before .before .before .if1 .taken)) (c .before .before .act-plainly .ensures (a .strings .now) (a .payload .now) (a .c))
+    (e ∙ ap verdictOf (at-if1 .if1 .taken)) (at-act-plainly .act-plainly .ensures (a .strings .now) (a .payload .now) (a .c))
 
 returns-2 : tie.Need-returns-2
 returns-2 c =
@@ -47,18 +50,21 @@ carries-requires c κs = λ e. c .before .before .before .before .before .before
 
 returns-3 : tie.Need-returns-3
 returns-3 c =
-    let a = c .before .before .before .before .before .before .before .before .before .before .before .before .before .before .args in
-    let v = c .before .before .before .before .before .before .before .before .before .before .synchronous-verdict in
+    let at-apply = c .before .before in
+    let at-carries = at-apply .before .before .before .before in
+    let at-synchronous-verdict = at-carries .before .before .before .before in
+    let a = at-synchronous-verdict .before .before .before .before .args in
+    let v = at-synchronous-verdict .synchronous-verdict in
     let d = view (memory (a .w .now) (a .strings .now)) in
     let h = message (a .kind) (a .code) (a .param) (a .len) in
     let e : judged r-synchronous d (a .i) h (a .payload .now) ≡ verdictOf (v .result) = judged-synchronous d (a .i) h (a .payload .now) r-synchronous refl
     ∙ list-passed d (a .i) (a .kind) (a .code) (a .param) (a .len) (a .payload .now)
-    (c .before .before .before .before .before .before .before .before .before .before .before .before .before .before .pre .7)
+    (at-synchronous-verdict .before .before .before .before .pre .7)
     ∙ v .ensures (a .strings .now) (a .payload .now) .case in
     by-verdict d (a .c) (a .i) (whole h (a .payload .now)) r-synchronous _ _ _ _ _ (judged r-synchronous d (a .i) h (a .payload .now)) (verdictOf (v .result)) e
-    (c .before .before .apply .ensures r-synchronous (whole h (a .payload .now)) refl refl
+    (at-apply .apply .ensures r-synchronous (whole h (a .payload .now)) refl refl
     (moved-whole h (exchangeAt (restOf (a .w .now)) (a .i)) r-synchronous (a .payload .now) _
-    (c .before .before .before .before .before .before .carries .ensures .1 r-synchronous (a .code) (a .len) refl)))
+    (at-carries .carries .ensures .1 r-synchronous (a .code) (a .len) refl)))
 
 pub deliver-plain-spec : {M : Type 1} → statement M
 deliver-plain-spec =

@@ -6,11 +6,14 @@ use Rattle.effects.proofs.asynchronous.control.Tie as tie
 
 returns : tie.Need-returns
 returns c =
-    let a = c .before .before .before .before .before .before .before .before .before .before .args in
-    λ s p param. control-told (a .w .now) s _ (a .out .now) _ (a .i) (a .c) (c .before .before .before .before .before .before .before .entry .result)
-    (c .before .before .before .before .before .before .before .entry .ensures .0 s) _
-    (a .code) param (a .len) p (c .acted .ensures) (c .before .before .before .before .before .set-control .ensures .0 s)
-    (c .before .before .before .put-frame .ensures) (c .before .before .before .before .before .set-control .ensures .1 s)
+    let at-put-frame = c .before .before .before in
+    let at-set-control = at-put-frame .before .before in
+    let at-entry = at-set-control .before .before in
+    let a = at-entry .before .before .before .args in
+    λ s p param. control-told (a .w .now) s _ (a .out .now) _ (a .i) (a .c) (at-entry .entry .result)
+    (at-entry .entry .ensures .0 s) _
+    (a .code) param (a .len) p (c .acted .ensures) (at-set-control .set-control .ensures .0 s)
+    (at-put-frame .put-frame .ensures) (at-set-control .set-control .ensures .1 s)
 
 pub control-spec : {M : Type 1} → statement M
 control-spec =

@@ -5,20 +5,28 @@ use Rattle.effects.proofs.asynchronous.lock.Statement.{statement}
 use Rattle.effects.proofs.asynchronous.lock.Tie as tie
 
 returns : tie.Need-returns
-returns c = let a = c .before .before .before .before .before .before .before .before .before .before .before .before .args in
+returns c =
+    let at-release-lock = c .before .before .before in
+    let at-if1 = at-release-lock .before .before .before .before in
+    let at-entry = at-if1 .before in
+    let a = at-entry .before .before .before .before .args in
     λ k. release-told (a .w .now) (a .strings .now) _ _ (a .out .now) _ (a .i) k
-    (c .before .before .before .before .before .before .before .before .entry .result) (a .code) (a .param) (a .len)
-    (c .before .before .before .release-lock .result) (a .payload .now) _ (c .acted .ensures)
-    (c .before .before .before .before .before .before .before .before .entry .ensures .0 (a .strings .now))
-    (c .before .before .before .before .before .before .before .if1 .taken) (c .before .before .before .release-lock .ensures)
+    (at-entry .entry .result) (a .code) (a .param) (a .len)
+    (at-release-lock .release-lock .result) (a .payload .now) _ (c .acted .ensures)
+    (at-entry .entry .ensures .0 (a .strings .now))
+    (at-if1 .if1 .taken) (at-release-lock .release-lock .ensures)
 
 returns-2 : tie.Need-returns-2
-returns-2 c = let a = c .before .before .before .before .before .before .before .before .before .before .before .before .args in
+returns-2 c =
+    let at-request-lock = c .before .before .before in
+    let at-if1 = at-request-lock .before .before .before .before in
+    let at-entry = at-if1 .before in
+    let a = at-entry .before .before .before .before .args in
     λ k. request-told (a .w .now) (a .strings .now) _ _ (a .out .now) _ (a .i) k
-    (c .before .before .before .before .before .before .before .before .entry .result) (a .code) (a .param) (a .len)
-    (c .before .before .before .request-lock .result) (a .payload .now) _ (c .acted2 .ensures)
-    (c .before .before .before .before .before .before .before .before .entry .ensures .0 (a .strings .now))
-    (c .before .before .before .before .before .before .before .if1 .left) (c .before .before .before .request-lock .ensures)
+    (at-entry .entry .result) (a .code) (a .param) (a .len)
+    (at-request-lock .request-lock .result) (a .payload .now) _ (c .acted2 .ensures)
+    (at-entry .entry .ensures .0 (a .strings .now))
+    (at-if1 .if1 .left) (at-request-lock .request-lock .ensures)
 
 pub lock-spec : {M : Type 1} → statement M
 lock-spec =

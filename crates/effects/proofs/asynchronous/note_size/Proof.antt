@@ -7,14 +7,18 @@ use Rattle.effects.proofs.asynchronous.note_size.Tie as tie
 
 returns : tie.Need-returns
 returns c =
-    let a = c .before .before .before .before .before .before .before .before .before .before .before .before .before .args in
+    let at-put-message = c .before .before .before in
+    let at-set-exchange = at-put-message .before .before .before in
+    let at-number8 = at-set-exchange .before .before in
+    let at-entry = at-number8 .before in
+    let a = at-entry .before .before .before .before .args in
     λ s code param. size-told (a .w .now) s _ (a .out .now) _ (a .i) (a .c)
-    (c .before .before .before .before .before .before .before .before .before .entry .result)
-    (c .before .before .before .before .before .before .before .before .before .entry .ensures .0 s) _
-    code param (a .len) (c .before .before .before .before .before .before .before .before .number8 .result) (a .payload .now) (c .acted .ensures)
-    (search needs) (c .before .before .before .before .before .before .before .before .number8 .ensures)
-    (c .before .before .before .before .before .before .set-exchange .ensures .0 s) (c .before .before .before .put-message .ensures)
-    (c .before .before .before .before .before .before .set-exchange .ensures .1 s (omega arith))
+    (at-entry .entry .result)
+    (at-entry .entry .ensures .0 s) _
+    code param (a .len) (at-number8 .number8 .result) (a .payload .now) (c .acted .ensures)
+    (search needs) (at-number8 .number8 .ensures)
+    (at-set-exchange .set-exchange .ensures .0 s) (at-put-message .put-message .ensures)
+    (at-set-exchange .set-exchange .ensures .1 s (omega arith))
 
 pub note-size-spec : {M : Type 1} → statement M
 note-size-spec =

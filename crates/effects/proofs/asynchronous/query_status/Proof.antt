@@ -6,12 +6,16 @@ use Rattle.effects.proofs.asynchronous.query_status.Tie as tie
 
 returns : tie.Need-returns
 returns c =
-    let a = c .before .before .before .before .before .before .before .before .before .before .before .before .args in
-    λ s p. status-told (a .w .now) s _ (a .out .now) _ (a .i) (a .c) (c .before .before .before .before .before .before .before .before .before .entry .result)
-    (search needs) (c .before .before .before .before .before .before .before .before .before .entry .ensures .0 s) _
-    (a .code) (a .param) (a .len) (c .before .before .before .before .before .status-of .result) p (c .acted .ensures)
-    (c .before .before .before .before .before .before .before .note-query .ensures .0 s) (c .before .before .before .before .before .status-of .ensures)
-    (c .before .before .before .put-frame .ensures) (c .before .before .before .before .before .before .before .note-query .ensures .1 s)
+    let at-put-frame = c .before .before .before in
+    let at-status-of = at-put-frame .before .before in
+    let at-note-query = at-status-of .before .before in
+    let at-entry = at-note-query .before .before in
+    let a = at-entry .before .before .before .args in
+    λ s p. status-told (a .w .now) s _ (a .out .now) _ (a .i) (a .c) (at-entry .entry .result)
+    (search needs) (at-entry .entry .ensures .0 s) _
+    (a .code) (a .param) (a .len) (at-status-of .status-of .result) p (c .acted .ensures)
+    (at-note-query .note-query .ensures .0 s) (at-status-of .status-of .ensures)
+    (at-put-frame .put-frame .ensures) (at-note-query .note-query .ensures .1 s)
 
 pub query-status-spec : {M : Type 1} → statement M
 query-status-spec =

@@ -8,9 +8,11 @@ use Rattle.effects.proofs.asynchronous.set_flags.Tie as tie
 
 returns : tie.Need-returns
 returns c =
-    let a = c .before .before .before .before .before .before .before .before .before .args in
-    let x = c .before .before .before .before .before .before in
-    let y = c .before .before .before in
+    let at-before = c .before .before in
+    let at-before′ = at-before .before .before .before in
+    let a = at-before′ .before .before .before .before .args in
+    let x = at-before′ .before in
+    let y = at-before .before in
     let e = x .before .word-of in
     let l = y .before .word-of2 in
     let m = c .before .word-of3 in (

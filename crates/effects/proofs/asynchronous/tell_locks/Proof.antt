@@ -6,14 +6,18 @@ use Rattle.effects.proofs.asynchronous.tell_locks.Tie as tie
 
 returns : tie.Need-returns
 returns c =
-    let a = c .before .before .before .before .before .before .before .before .before .args in
+    let at-put-frame = c .before .before .before in
+    let at-holder-count = at-put-frame .before .before in
+    let at-exclusive-code = at-holder-count .before in
+    let at-entry = at-exclusive-code .before in
+    let a = at-entry .before .before .args in
     λ s p code param. info-told (a .w .now) s (a .w .now) (a .out .now) _ (a .i) (a .c)
-    (c .before .before .before .before .before .before .before .entry .result)
-    (c .before .before .before .before .before .before .before .entry .ensures .0 s) _
-    code param (a .len) (c .before .before .before .before .before .before .exclusive-code .result)
-    (c .before .before .before .before .before .holder-count .result) p (c .acted .ensures)
-    (c .before .before .before .before .before .before .exclusive-code .ensures s) (c .before .before .before .before .before .holder-count .ensures .1 s)
-    (c .before .before .before .put-frame .ensures)
+    (at-entry .entry .result)
+    (at-entry .entry .ensures .0 s) _
+    code param (a .len) (at-exclusive-code .exclusive-code .result)
+    (at-holder-count .holder-count .result) p (c .acted .ensures)
+    (at-exclusive-code .exclusive-code .ensures s) (at-holder-count .holder-count .ensures .1 s)
+    (at-put-frame .put-frame .ensures)
 
 pub tell-locks-spec : {M : Type 1} → statement M
 tell-locks-spec =

@@ -17,21 +17,33 @@ returns c = let a = c .before .before .args in
     (unread-none x (a .param) (sent-read x (r .result) (r .ensures .0) ∙ ne-eqb (r .result) 1 (c .if1 .taken)), search needs)
 
 returns-2 : tie.Need-returns-2
-returns-2 c = let a = c .before .before .before .before .before .before .before .before .args in
+returns-2 c =
+    let at-next = c .before .before .before in
+    let at-new = at-next .before in
+    let at-count-of = at-new .before in
+    let at-if1 = at-count-of .before in
+    let at-exchange = at-if1 .before in
+    let a = at-exchange .before .args in
     let x = exchangeAt (restOf (a .w .now)) (a .i) in
-    let r = c .before .before .before .before .before .before .before .exchange in (
-      unread-last x (a .param) (sent-read x (r .result) (r .ensures .0) ∙ eq-eqb (r .result) 1 (c .before .before .before .before .before .before .if1 .left))
-          (ap next (sym (c .before .before .before .before .new .ensures)) ∙ sym (c .before .before .before .next .ensures) ∙ c .if2 .taken
-          ∙ sym (c .before .before .before .before .before .count-of .ensures)),
+    let r = at-exchange .exchange in (
+      unread-last x (a .param) (sent-read x (r .result) (r .ensures .0) ∙ eq-eqb (r .result) 1 (at-if1 .if1 .left))
+          (ap next (sym (at-new .new .ensures)) ∙ sym (at-next .next .ensures) ∙ c .if2 .taken
+          ∙ sym (at-count-of .count-of .ensures)),
       search needs,
     )
 
 returns-3 : tie.Need-returns-3
-returns-3 c = let a = c .before .before .before .before .before .before .before .before .args in
+returns-3 c =
+    let at-next = c .before .before .before in
+    let at-new = at-next .before in
+    let at-count-of = at-new .before in
+    let at-if1 = at-count-of .before in
+    let at-exchange = at-if1 .before in
+    let a = at-exchange .before .args in
     let x = exchangeAt (restOf (a .w .now)) (a .i) in
-    let r = c .before .before .before .before .before .before .before .exchange in (
-      unread-other x (a .param) (sent-read x (r .result) (r .ensures .0) ∙ eq-eqb (r .result) 1 (c .before .before .before .before .before .before .if1 .left))
-          (λ z. c .if2 .left (c .before .before .before .next .ensures ∙ ap next (c .before .before .before .before .new .ensures) ∙ z ∙ c .before .before .before .before .before .count-of .ensures)),
+    let r = at-exchange .exchange in (
+      unread-other x (a .param) (sent-read x (r .result) (r .ensures .0) ∙ eq-eqb (r .result) 1 (at-if1 .if1 .left))
+          (λ z. c .if2 .left (at-next .next .ensures ∙ ap next (at-new .new .ensures) ∙ z ∙ at-count-of .count-of .ensures)),
       search needs,
     )
 

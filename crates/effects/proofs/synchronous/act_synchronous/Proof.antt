@@ -22,38 +22,50 @@ use Rattle.effects.proofs.synchronous.act_synchronous.Statement.{statem
 use Rattle.effects.proofs.synchronous.act_synchronous.Tie as tie
 
 returns : tie.Need-returns
-returns c = let a = c .before .before .before .before .before .before .before .before .before .before .before .before .before .before .before .before .before .args in
+returns c =
+    let at-at-message = c .before .before .before in
+    let at-take-turn = at-at-message .before .before .before .before .before .before in
+    let at-if1 = at-take-turn .before .before .before in
+    let at-is-command = at-if1 .before in
+    let at-entry = at-is-command .before in
+    let a = at-entry .before .before .before .args in
     let h : Header = record { kind = a .kind; code = a .code; param = a .param; len = a .len } in
     let s = a .strings .now in
     let d : Server = view (memory (a .w .now) s) in
-    let t = c .before .before .before .before .before .before .before .before .before .take-turn in
+    let t = at-take-turn .take-turn in
     let l : t .result ≤ 34 = t .ensures .0 in
-    let o : outputMinimum ≤ length (a .out .now) = c .before .before .before .before .before .before .before .before .before .before .before .before .before .before .before .before .before .pre .3 in
+    let o : outputMinimum ≤ length (a .out .now) = at-entry .before .before .before .pre .3 in
     let fits : t .result ≤ length (a .out .now) = omega arith in
     λ p. did-plan d (acts r-synchronous d (a .i) (a .c) h p) _ _ _ _ _ _
     (plan-command d (a .i) (a .c) h p
-    (c .before .before .before .before .before .before .before .before .before .before .before .before .before .is-command .ensures
-    ∙ c .before .before .before .before .before .before .before .before .before .before .before .before .if1 .taken))
+    (at-is-command .is-command .ensures
+    ∙ at-if1 .if1 .taken))
     (did-noted (memory (a .w .now) s) _ _ (a .out .now) _ _ (a .i)
-    (c .before .before .before .before .before .before .before .before .before .before .before .before .before .before .entry .result) (a .len)
-    (t .result) (c .before .before .before .at-message .result) _ _ (command (a .i) (a .param)) _
-    (c .acted .ensures) (c .before .before .before .before .before .before .before .before .before .before .before .before .before .before .entry .ensures .0 s)
-    fits (t .ensures .1 s) (t .ensures .2 s) (c .before .before .before .at-message .ensures))
+    (at-entry .entry .result) (a .len)
+    (t .result) (at-at-message .at-message .result) _ _ (command (a .i) (a .param)) _
+    (c .acted .ensures) (at-entry .entry .ensures .0 s)
+    fits (t .ensures .1 s) (t .ensures .2 s) (at-at-message .at-message .ensures))
 
 returns-2 : tie.Need-returns-2
-returns-2 c = let a = c .before .before .before .before .before .before .before .before .before .before .before .before .args in
+returns-2 c =
+    let at-put-frame = c .before .before .before in
+    let at-leave-clear = at-put-frame .before .before in
+    let at-if1 = at-leave-clear .before .before in
+    let at-is-command = at-if1 .before in
+    let at-entry = at-is-command .before in
+    let a = at-entry .before .before .before .args in
     let h : Header = record { kind = a .kind; code = a .code; param = a .param; len = a .len } in
     let s = a .strings .now in
     let d : Server = view (memory (a .w .now) s) in
     λ p. did-plan d (acts r-synchronous d (a .i) (a .c) h p) _ _ _ _ _ _
-    (plan-complete d (a .i) (a .c) h p (c .before .before .before .before .before .before .before .before .is-command .ensures
-    ∙ c .before .before .before .before .before .before .before .if1 .left))
-    (did-one d (a .i) (c .before .before .before .before .before .before .before .before .before .entry .result) (a .len) 0
+    (plan-complete d (a .i) (a .c) h p (at-is-command .is-command .ensures
+    ∙ at-if1 .if1 .left))
+    (did-one d (a .i) (at-entry .entry .result) (a .len) 0
     (withSlot (a .i) (leaveClear (a .code)) (d .rest)) (frameOf (a .c) DeviceClearAcknowledge (bit0 (a .code)) 0 [])
     (frameOf (a .c) DeviceClearAcknowledge (bit0 (a .code)) 0 []) _ _ _ _ _
-    (c .acted2 .ensures) (c .before .before .before .before .before .before .before .before .before .entry .ensures .0 s) refl refl
-    (c .before .before .before .before .before .leave-clear .ensures .0 s) (c .before .before .before .put-frame .ensures)
-    (c .before .before .before .before .before .leave-clear .ensures .1 s))
+    (c .acted2 .ensures) (at-entry .entry .ensures .0 s) refl refl
+    (at-leave-clear .leave-clear .ensures .0 s) (at-put-frame .put-frame .ensures)
+    (at-leave-clear .leave-clear .ensures .1 s))
 
 pub act-synchronous-spec : {M : Type 1} → statement M
 act-synchronous-spec =

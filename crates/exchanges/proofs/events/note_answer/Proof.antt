@@ -15,14 +15,19 @@ returns c = let a = c .before .before .before .before .before .args in (
 )
 
 returns-2 : tie.Need-returns-2
-returns-2 c = let a = c .before .before .before .before .before .before .before .before .before .args in (
-  λ s. answered-whole (view (memory (a .w .now) s)) _ _ (a .i) (c .before .before .before .before .before .before .before .set-exchange .ensures .0 s)
-      (c .before .before .before .before .before .count-answer .ensures .0 s) (a .«end») (not-false (a .«end») (c .before .before .before .before .if1 .left))
-      _ _ (c .before .before .set-exchange2 .ensures .0 s) (c .set-exchange3 .ensures .0 s),
-  λ s t. c .set-exchange3 .ensures .1 s (omega arith) (c .before .before .set-exchange2 .ensures .1 s (omega arith)
-      (c .before .before .before .before .before .count-answer .ensures .1 s
-      (c .before .before .before .before .before .before .before .set-exchange .ensures .1 s (omega arith) t))),
-)
+returns-2 c =
+    let at-set-exchange2 = c .before .before in
+    let at-if1 = at-set-exchange2 .before .before in
+    let at-count-answer = at-if1 .before in
+    let at-set-exchange = at-count-answer .before .before in
+    let a = at-set-exchange .before .before .args in (
+      λ s. answered-whole (view (memory (a .w .now) s)) _ _ (a .i) (at-set-exchange .set-exchange .ensures .0 s)
+          (at-count-answer .count-answer .ensures .0 s) (a .«end») (not-false (a .«end») (at-if1 .if1 .left))
+          _ _ (at-set-exchange2 .set-exchange2 .ensures .0 s) (c .set-exchange3 .ensures .0 s),
+      λ s t. c .set-exchange3 .ensures .1 s (omega arith) (at-set-exchange2 .set-exchange2 .ensures .1 s (omega arith)
+          (at-count-answer .count-answer .ensures .1 s
+          (at-set-exchange .set-exchange .ensures .1 s (omega arith) t))),
+    )
 
 pub note-answer-spec : {M : Type 1} → statement M
 note-answer-spec =

@@ -13,11 +13,15 @@ use Rattle.exchanges.proofs.events.put_request.Tie as tie
 
 returns : tie.Need-returns
 returns c =
-    let a = c .before .before .before .before .before .before .before .before .args in
-    let x = c .before .before .before .before .before .before .entry in
-    let b = c .before .before .before .before .before .single in
-    let r = c .before .before .before .request-code in
-    λ s. c .before .before .put-frame .ensures
+    let at-put-frame = c .before .before in
+    let at-request-code = at-put-frame .before in
+    let at-single = at-request-code .before .before in
+    let at-entry = at-single .before in
+    let a = at-entry .before .before .args in
+    let x = at-entry .entry in
+    let b = at-single .single in
+    let r = at-request-code .request-code in
+    λ s. at-put-frame .put-frame .ensures
     ∙ (λ k. splice (a .out .now) (a .place)
     (frameBytes (frameOf (sym (asynchronous-read (at (locksOf (a .w .now) s .entries) (a .i)) (x .result) (x .ensures .0 s)) k) 20
     ((r .ensures ∙ ap (λ (q : Rest). requestCode (q .status)) (b .ensures .0)) k) 0 [])))

@@ -16,12 +16,16 @@ returns c = let a = c .before .before .before .before .before .before .args in (
 )
 
 returns-2 : tie.Need-returns-2
-returns-2 c = let a = c .before .before .before .before .before .before .before .before .before .before .before .args in
-    let x = c .before .before .before .before .interrupt in (
+returns-2 c =
+    let at-interrupt = c .before .before .before .before in
+    let at-if1 = at-interrupt .before .before .before in
+    let at-is-overlap = at-if1 .before in
+    let a = at-is-overlap .before .before .before .args in
+    let x = at-interrupt .interrupt in (
       x .ensures .0,
       λ s. interrupting-turn (view (memory (a .w .now) s)) (a .i) (a .id) _ _ _ _ _ (x .ensures .1 s) (c .set-exchange2 .ensures .0 s)
-          (c .before .before .before .before .before .before .before .before .is-overlap .ensures
-          ∙ c .before .before .before .before .before .before .before .if1 .left),
+          (at-is-overlap .is-overlap .ensures
+          ∙ at-if1 .if1 .left),
       λ s t. c .set-exchange2 .ensures .1 s (omega arith) (x .ensures .2 s t),
     )
 

@@ -64,8 +64,10 @@ loop-again c = let l = c .before .before .before .before .before .before .before
     (c .if1 .came)
 
 returns : tie.Need-returns Inv-loop μ-loop
-returns c = let a = c .before .before .before .before .before .before .before .before .args in
-    let l = c .before .before .before .before .loop in
+returns c =
+    let at-loop = c .before .before .before .before in
+    let a = at-loop .before .before .before .before .args in
+    let l = at-loop .loop in
     pass-met (memory (a .w .now) (a .strings .now)) _ _ _ _ _
     (l .inv .5 ∙ pass-end (view (memory (l .w) (l .strings))) _ (l .j) (l .k) (l .out) (l .at) (omega (arith, count-is (l .w) (l .strings))) (c .keep-first .ensures .0))
     (λ t. c .keep-first .ensures .1 (l .inv .6 t))

@@ -7,9 +7,12 @@ use Rattle.grants.proofs.granting.grant_and_answer.Statement.{statement
 use Rattle.grants.proofs.granting.grant_and_answer.Tie as tie
 
 returns : tie.Need-returns
-returns c = let a = c .before .before .before .before .before .before .before .before .before .before .before .args in
-    let p = c .before .before .before .before .before .before .before .put-answer .ensures in
-    let g = c .before .before .grant .ensures in
+returns c =
+    let at-grant = c .before .before in
+    let at-put-answer = at-grant .before .before .before .before .before in
+    let a = at-put-answer .before .before .before .before .args in
+    let p = at-put-answer .put-answer .ensures in
+    let g = at-grant .grant .ensures in
     let n = c .note-grant .ensures in
     record {
       server = given-noted (view (memory (a .w .now) (a .strings .now))) _ _ (a .i) (stringAt (a .w .now) (a .strings .now) (a .i)) (g .0) (n .0 _);

@@ -34,15 +34,20 @@ loop-holds c = let a = c .before .before .before .before .args in
     )
 
 loop-again : tie.Need-loop-again Inv-loop μ-loop
-loop-again c = let l = c .before .before .before .before .loop in
-    let a = c .before .before .before .before .before .before .before .before .before .args in
-    let x = c .before .before .waiting-slot2 in
+loop-again c =
+    let at-waiting-slot2 = c .before .before in
+    let at-loop-test = at-waiting-slot2 .before in
+    let at-loop = at-loop-test .before in
+    let at-waiting-count = at-loop .before .before .before .before in
+    let l = at-loop .loop in
+    let a = at-waiting-count .before .args in
+    let x = at-waiting-slot2 .waiting-slot2 in
     let h : (s : List ℕ) → l .j < length (locksOf (a .w .now) s .waiting) =
     (λ s. omega (
       arith,
       count-is (a .w .now) s,
-      c .before .before .before .before .before .before .before .before .waiting-count .ensures .0,
-      c .before .before .before .loop-test .taken,
+      at-waiting-count .waiting-count .ensures .0,
+      at-loop-test .loop-test .taken,
     )) in (
       omega arith,
       λ s.

@@ -5,10 +5,13 @@ use Rattle.holding.proofs.sessions.close_slot.Statement.{statement}
 use Rattle.holding.proofs.sessions.close_slot.Tie as tie
 
 returns : tie.Need-returns
-returns c = let a = c .before .before .before .before .before .before .before .before .args in
+returns c =
+    let at-drop-locks = c .before .before .before in
+    let at-close-session = at-drop-locks .before .before .before in
+    let a = at-close-session .before .before .args in
     let s = a .strings .now in
-    let o = c .before .before .before .before .before .before .close-session .ensures in
-    let x = c .before .before .before .drop-locks .ensures in
+    let o = at-close-session .close-session .ensures in
+    let x = at-drop-locks .drop-locks .ensures in
     let y = c .drop-request .ensures in
     closed _ _ _ _ (a .i) (o .0 s) (x .0) (y .0) (λ t. y .1 (x .1 (o .1 s t)))
 

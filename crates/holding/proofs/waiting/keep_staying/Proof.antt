@@ -32,9 +32,12 @@ loop-holds : tie.Need-loop-holds Inv-loop μ-loop
 loop-holds c = (search needs, search needs, sym (c .waiting-count .ensures .0), refl, λ t. t)
 
 loop-again : tie.Need-loop-again Inv-loop μ-loop
-loop-again c = let a = c .before .before .before .before .before .before .before .before .before .args in
-    let l = c .before .before .before .before .before .before .loop in
-    let x = c .before .before .before .waiting-slot in
+loop-again c =
+    let at-waiting-slot = c .before .before .before in
+    let at-loop = at-waiting-slot .before .before .before in
+    let a = at-loop .before .before .before .args in
+    let l = at-loop .loop in
+    let x = at-waiting-slot .waiting-slot in
     let s = a .strings .now in
     let h : l .j < length (locksOf (l .w) s .waiting) = omega (arith, count-is (l .w) s) in
     ⊎-elim

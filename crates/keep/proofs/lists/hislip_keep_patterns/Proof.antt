@@ -6,17 +6,24 @@ use Rattle.keep.proofs.lists.hislip_keep_patterns.Statement.{statement}
 use Rattle.keep.proofs.lists.hislip_keep_patterns.Tie as tie
 
 keep-numbers-requires : tie.Need-keep-numbers-requires
-keep-numbers-requires c κs = let a = c .before .before .before .before .before .before .before .before .before .args in
+keep-numbers-requires c κs =
+    let at-one = c .before .before .before in
+    let at-hislip-patterns = at-one .before in
+    let a = at-hislip-patterns .before .before .before .before .before .args in
     let m = memory (a .words .now) (a .strings .now) in
-    let t = told-list m _ (a .text .now) _ (c .before .before .before .before .hislip-patterns .ensures) in
-    list-within m (a .text .now) _ t _ (c .before .before .before .one .ensures)
+    let t = told-list m _ (a .text .now) _ (at-hislip-patterns .hislip-patterns .ensures) in
+    list-within m (a .text .now) _ t _ (at-one .one .ensures)
 
 returns : tie.Need-returns
-returns c = let a = c .before .before .before .before .before .before .before .before .before .before .before .before .args in
+returns c =
+    let at-keep-numbers = c .before .before in
+    let at-one = at-keep-numbers .before .before .before .before in
+    let at-hislip-patterns = at-one .before in
+    let a = at-hislip-patterns .before .before .before .before .before .args in
     let m = memory (a .words .now) (a .strings .now) in
-    let g = c .before .before .before .before .before .before .before .hislip-patterns .ensures in
+    let g = at-hislip-patterns .hislip-patterns .ensures in
     let t = told-list m _ (a .text .now) _ g in
-    (g, list-kept m (a .text .now) _ t _ (c .before .before .before .before .before .before .one .ensures) _ _ _ _ _ (c .before .before .keep-numbers .ensures))
+    (g, list-kept m (a .text .now) _ t _ (at-one .one .ensures) _ _ _ _ _ (at-keep-numbers .keep-numbers .ensures))
 
 pub hislip-keep-patterns-spec : {M : Type 1} → statement M
 hislip-keep-patterns-spec =

@@ -11,16 +11,21 @@ use Rattle.keep.proofs.watches.hislip_keep_watch_above.Statement.{state
 use Rattle.keep.proofs.watches.hislip_keep_watch_above.Tie as tie
 
 returns : tie.Need-returns
-returns c = let a = c .before .before .before .before .before .before .before .before .before .before .before .before .before .before .args in
+returns c =
+    let at-keep-numbers = c .before .before .before in
+    let at-two = at-keep-numbers .before .before .before .before .before in
+    let at-bits-of = at-two .before in
+    let at-hislip-watch-above = at-bits-of .before in
+    let a = at-hislip-watch-above .before .before .before .before .args in
     let m = memory (a .words .now) (a .strings .now) in
     let e : Event = setting (watch (a .session) (above (bits (a .limit)))) in
-    let t = none-handed (told-done m _ e [] [] refl _ (c .before .before .before .before .before .before .before .before .before .before .hislip-watch-above .ensures)) in (
-      called-again (c .done .ensures .0) (c .before .before .before .before .before .before .before .before .before .before .hislip-watch-above .ensures),
+    let t = none-handed (told-done m _ e [] [] refl _ (at-hislip-watch-above .hislip-watch-above .ensures)) in (
+      called-again (c .done .ensures .0) (at-hislip-watch-above .hislip-watch-above .ensures),
       kept-again (c .done .ensures .1)
           (numbers-kept-if m e _ _ _ t _ _ _ _ _ _ (above-head m (a .session) (bits (a .limit)) _ _ _ t
-          (c .before .before .before .before .before .before .before .before .before .bits-of .ensures .0)
-          (c .before .before .before .before .before .before .before .before .two .ensures))
-          (c .before .before .before .keep-numbers .ensures)),
+          (at-bits-of .bits-of .ensures .0)
+          (at-two .two .ensures))
+          (at-keep-numbers .keep-numbers .ensures)),
     )
 
 pub hislip-keep-watch-above-spec : {M : Type 1} → statement M

@@ -11,17 +11,23 @@ use Rattle.keep.proofs.watches.hislip_keep_watch_outside.Statement.{sta
 use Rattle.keep.proofs.watches.hislip_keep_watch_outside.Tie as tie
 
 returns : tie.Need-returns
-returns c = let a = c .before .before .before .before .before .before .before .before .before .before .before .before .before .before .before .args in
+returns c =
+    let at-keep-numbers = c .before .before .before in
+    let at-triple = at-keep-numbers .before .before .before .before .before in
+    let at-bits-of2 = at-triple .before in
+    let at-bits-of = at-bits-of2 .before in
+    let at-hislip-watch-outside = at-bits-of .before in
+    let a = at-hislip-watch-outside .before .before .before .before .args in
     let m = memory (a .words .now) (a .strings .now) in
     let e : Event = setting (watch (a .session) (outside (bits (a .low)) (bits (a .high)))) in
-    let t = none-handed (told-done m _ e [] [] refl _ (c .before .before .before .before .before .before .before .before .before .before .before .hislip-watch-outside .ensures)) in (
-      called-again (c .done .ensures .0) (c .before .before .before .before .before .before .before .before .before .before .before .hislip-watch-outside .ensures),
+    let t = none-handed (told-done m _ e [] [] refl _ (at-hislip-watch-outside .hislip-watch-outside .ensures)) in (
+      called-again (c .done .ensures .0) (at-hislip-watch-outside .hislip-watch-outside .ensures),
       kept-again (c .done .ensures .1)
           (numbers-kept-if m e _ _ _ t _ _ _ _ _ _ (outside-head m (a .session) (bits (a .low)) (bits (a .high)) _ _ _ _ t
-          (c .before .before .before .before .before .before .before .before .before .before .bits-of .ensures .0)
-          (c .before .before .before .before .before .before .before .before .before .bits-of2 .ensures .0)
-          (c .before .before .before .before .before .before .before .before .triple .ensures))
-          (c .before .before .before .keep-numbers .ensures)),
+          (at-bits-of .bits-of .ensures .0)
+          (at-bits-of2 .bits-of2 .ensures .0)
+          (at-triple .triple .ensures))
+          (at-keep-numbers .keep-numbers .ensures)),
     )
 
 pub hislip-keep-watch-outside-spec : {M : Type 1} → statement M

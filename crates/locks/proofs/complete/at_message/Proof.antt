@@ -37,21 +37,27 @@ grant-waiting-requires : tie.Need-grant-waiting-requires
 grant-waiting-requires c κs = omega (arith, c .before .before .before .before .before .complete .ensures .0)
 
 returns-3 : tie.Need-returns-3
-returns-3 c = let a = c .before .before .before .before .before .before .before .before .before .before .before .before .before .before .before .before .before .before .args in
+returns-3 c =
+    let at-grant-waiting = c .before .before in
+    let at-complete = at-grant-waiting .before .before .before .before .before .before in
+    let at-kind-in = at-complete .before in
+    let at-if2 = at-kind-in .before .before .before .before in
+    let at-order = at-if2 .before .before in
+    let a = at-order .before .before .before .args in
     let s = a .strings .now in
     let e = at (locksOf (a .w .now) s .entries) (a .i) in
     met-is _ _ _ _ _ _ _ _
     (sym (message-due (locksOf (a .w .now) s) (a .i) (a .n)
-    (kindOf (c .before .before .before .before .before .before .before .before .before .kind-in .result))
+    (kindOf (at-kind-in .kind-in .result))
     (due-this (e .standing)
-    (c .before .before .before .before .before .before .before .before .before .before .before .before .before .before .before .order .result) (a .n)
-    (standing-read e (c .before .before .before .before .before .before .before .before .before .before .before .before .before .before .before .order
-    .result) (c .before .before .before .before .before .before .before .before .before .before .before .before .before .before .before .order .ensures .0
-    s)) (kindOf (c .before .before .before .before .before .before .before .before .before .kind-in .result))
-    (c .before .before .before .before .before .before .before .before .before .kind-in .ensures .1)
-    (c .before .before .before .before .before .before .before .before .before .before .before .before .before .if2 .left))))
-    (met-pass _ _ _ _ _ _ _ _ _ _ (omega (arith, c .before .before .before .before .before .before .before .before .complete .ensures .0))
-    (c .before .before .before .before .before .before .before .before .complete .ensures .1) (c .before .before .grant-waiting .ensures))
+    (at-order .order .result) (a .n)
+    (standing-read e (at-order .order
+    .result) (at-order .order .ensures .0
+    s)) (kindOf (at-kind-in .kind-in .result))
+    (at-kind-in .kind-in .ensures .1)
+    (at-if2 .if2 .left))))
+    (met-pass _ _ _ _ _ _ _ _ _ _ (omega (arith, at-complete .complete .ensures .0))
+    (at-complete .complete .ensures .1) (at-grant-waiting .grant-waiting .ensures))
 
 pub at-message-spec : {M : Type 1} → statement M
 at-message-spec =

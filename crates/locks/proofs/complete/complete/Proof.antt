@@ -13,19 +13,23 @@ use Rattle.locks.proofs.complete.complete.Statement.{statement}
 use Rattle.locks.proofs.complete.complete.Tie as tie
 
 returns : tie.Need-returns
-returns c = let a = c .before .before .before .before .before .before .before .before .before .before .before .before .before .args in
+returns c =
+    let at-set-order = c .before .before in
+    let at-free-lock = at-set-order .before .before in
+    let at-put-answer = at-free-lock .before .before .before .before .before in
+    let a = at-put-answer .before .before .before .before .args in
     let s = a .strings .now in
-    let p = c .before .before .before .before .before .before .before .before .before .put-answer .ensures in
-    let f = c .before .before .before .before .free-lock .ensures in
-    let o₁ = c .before .before .set-order .ensures in
+    let p = at-put-answer .put-answer .ensures in
+    let f = at-free-lock .free-lock .ensures in
+    let o₁ = at-set-order .set-order .ensures in
     let o₂ = c .set-order2 .ensures in (
       p .0,
       met-one _ _ _ _ _ _ _ _ _ (completed-due (locksOf (a .w .now) s) (a .i) (a .n) (kindOf (a .kind)))
           (ended-stored (view (memory (a .w .now) s)) _ _ _ (a .i) (a .n) (kindOf (a .kind))
-          (c .before .before .before .before .before .before .before .before .before .before .before .before .before .pre .2) (f .0) (o₁ .0 _) (o₂ .0 _))
+          (at-put-answer .before .before .before .before .pre .2) (f .0) (o₁ .0 _) (o₂ .0 _))
           (p .1 s ∙ ap (λ (x : ℕ). splice (a .out .now) (a .at) (frameBytes (lockAnswerFrame (locksOf (a .w .now) s .entries) (a .i) x)))
-          (sym (c .before .before .before .before .before .before .before .before .before .before .before .before .before .pre .3))) (p .0) (search needs)
-          (λ t. o₂ .1 _ (omega arith) (o₁ .1 _ (c .before .before .before .before .before .before .before .before .before .before .before .before .before .pre .2) (f .1 t))),
+          (sym (at-put-answer .before .before .before .before .pre .3))) (p .0) (search needs)
+          (λ t. o₂ .1 _ (omega arith) (o₁ .1 _ (at-put-answer .before .before .before .before .pre .2) (f .1 t))),
     )
 
 pub complete-spec : {M : Type 1} → statement M

@@ -27,18 +27,22 @@ returns c = let a = c .before .before .before .before .before .before .args in (
 )
 
 returns-2 : tie.Need-returns-2
-returns-2 c = let a = c .before .before .before .before .before .before .before .before .before .before .before .args in (
-  omega (arith, c .before .before .complete .ensures .0),
-  let s = a .strings .now in
-      let e = at (locksOf (a .w .now) s .entries) (a .i) in
-      met-is _ _ _ _ _ _ _ _
-      (ap (λ (x : Due). completed x (locksOf (a .w .now) s) (a .i) beforeFirst)
-      (sym (due-any (e .standing) (c .before .before .before .before .before .before .before .before .order .result) 0
-      (standing-read e (c .before .before .before .before .before .before .before .before .order .result)
-      (c .before .before .before .before .before .before .before .before .order .ensures .0 s)) (kindOf (c .before .before .before .kind-in .result))
-      (c .before .before .before .kind-in .ensures .1))))
-      (c .before .before .complete .ensures .1),
-)
+returns-2 c =
+    let at-complete = c .before .before in
+    let at-kind-in = at-complete .before in
+    let at-order = at-kind-in .before .before .before .before .before in
+    let a = at-order .before .before .before .args in (
+      omega (arith, at-complete .complete .ensures .0),
+      let s = a .strings .now in
+          let e = at (locksOf (a .w .now) s .entries) (a .i) in
+          met-is _ _ _ _ _ _ _ _
+          (ap (λ (x : Due). completed x (locksOf (a .w .now) s) (a .i) beforeFirst)
+          (sym (due-any (e .standing) (at-order .order .result) 0
+          (standing-read e (at-order .order .result)
+          (at-order .order .ensures .0 s)) (kindOf (at-kind-in .kind-in .result))
+          (at-kind-in .kind-in .ensures .1))))
+          (at-complete .complete .ensures .1),
+    )
 
 pub complete-any-spec : {M : Type 1} → statement M
 complete-any-spec =

@@ -16,11 +16,15 @@ put-answer-to-requires : tie.Need-put-answer-to-requires
 put-answer-to-requires c κs = (search needs, c .before .before .before .before .before .before .pre .2)
 
 returns : tie.Need-returns
-returns c = let a = c .before .before .before .before .before .before .before .before .before .before .before .args in
+returns c =
+    let at-put-answer-to = c .before .before .before .before in
+    let at-if1 = at-put-answer-to .before .before .before in
+    let at-ends-at-once = at-if1 .before in
+    let a = at-ends-at-once .before .before .before .args in
     let s = a .strings .now in
-    let p = c .before .before .before .before .put-answer-to .ensures in
+    let p = at-put-answer-to .put-answer-to .ensures in
     let g = c .drop-exclusive .ensures in
-    let f = c .before .before .before .before .before .before .before .before .ends-at-once .ensures (c .before .before .before .before .before .before .before .if1 .taken) s in
+    let f = at-ends-at-once .ends-at-once .ensures (at-if1 .if1 .taken) s in
     met-is _ _ _ _ _ _ _ _
     (sym (ended-release (locksOf (a .w .now) s) (a .i) (a .n) f))
     (met-pass _ _ _ _ _ _ _ _ _ _ (omega (arith, p .0))

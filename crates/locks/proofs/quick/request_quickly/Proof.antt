@@ -14,27 +14,39 @@ use Rattle.locks.proofs.quick.request_quickly.Statement.{statement}
 use Rattle.locks.proofs.quick.request_quickly.Tie as tie
 
 put-answer-to-requires : tie.Need-put-answer-to-requires
-put-answer-to-requires c κs = (search needs, c .before .before .before .before .before .before .before .before .pre .2)
+put-answer-to-requires c κs =
+    let on = c .before .before .before .before .before .before in
+    (search needs, on .before .before .pre .2)
 
 give-exclusive-requires : tie.Need-give-exclusive-requires
-give-exclusive-requires c κs = let a = c .before .before .before .before .before .before .before .before .before .before .before .before .args in
+give-exclusive-requires c κs =
+    let at-if2 = c .before .before .before .before .before .before in
+    let at-is-free = at-if2 .before in
+    let at-if1 = at-is-free .before .before in
+    let a = at-if1 .before .before .before .args in
     let l = locksOf (a .w .now) (a .strings .now) in
-    let f = c .before .before .before .before .before .before .before .is-free .ensures (c .before .before .before .before .before .before .if2 .taken) (a .strings .now) in (
+    let f = at-is-free .is-free .ensures (at-if2 .if2 .taken) (a .strings .now) in (
       search needs,
       no-other (a .w .now) (a .strings .now) (a .i)
           (may-exclusive (l .entries) (a .i) (a .string .now) (free-grants l (a .i) (a .string .now)
-          (c .before .before .before .before .before .before .before .before .before .if1 .taken) f)),
+          (at-if1 .if1 .taken) f)),
     )
 
 returns : tie.Need-returns
-returns c = let a = c .before .before .before .before .before .before .before .before .before .before .before .before .before .before .before .args in
+returns c =
+    let at-give-exclusive = c .before .before in
+    let at-put-answer-to = at-give-exclusive .before .before .before .before in
+    let at-if2 = at-put-answer-to .before .before .before in
+    let at-is-free = at-if2 .before in
+    let at-if1 = at-is-free .before .before in
+    let a = at-if1 .before .before .before .args in
     let s = a .strings .now in
-    let p = c .before .before .before .before .before .before .put-answer-to .ensures in
-    let g = c .before .before .give-exclusive .ensures in
+    let p = at-put-answer-to .put-answer-to .ensures in
+    let g = at-give-exclusive .give-exclusive .ensures in
     let n = c .note-grant .ensures in
-    let e = c .before .before .before .before .before .before .before .before .before .before .before .before .if1 .taken in
-    let f = c .before .before .before .before .before .before .before .before .before .before .is-free .ensures
-    (c .before .before .before .before .before .before .before .before .before .if2 .taken) s in
+    let e = at-if1 .if1 .taken in
+    let f = at-is-free .is-free .ensures
+    (at-if2 .if2 .taken) s in
     met-one _ _ _ _ _ _ _ _ _ (free-request (locksOf (a .w .now) s) (a .i) (a .string .now) e f (a .timeout))
     (given-noted (view (memory (a .w .now) s)) _ _ (a .i) (a .string .now)
     (g .0 s ∙ ap (λ (k : List ℕ). onEntry (view (memory (a .w .now) s)) (a .i) (give k)) (sym (no-string (a .string .now) e))) (n .0 s)) (p .1 s) (p .0)

@@ -8,21 +8,32 @@ use Rattle.locks.proofs.request.request_lock.Statement.{statement}
 use Rattle.locks.proofs.request.request_lock.Tie as tie
 
 returns : tie.Need-returns
-returns c = let a = c .before .before .before .before .before .before .before .before .before .before .args in
-    let p = c .before .before .put-answer .ensures in
+returns c =
+    let at-put-answer = c .before .before in
+    let at-if1 = at-put-answer .before .before .before in
+    let at-is-invalid = at-if1 .before in
+    let a = at-is-invalid .before .before .before .before .args in
+    let p = at-put-answer .put-answer .ensures in
     met-one _ _ _ _ _ _ _ _ _ (request-invalid (locksOf (a .w .now) (a .strings .now)) (a .i) (a .string .now) (a .timeout)
-    (c .before .before .before .before .before .before .is-invalid .ensures (a .strings .now) (a .string .now) refl
-    ∙ c .before .before .before .before .before .if1 .taken)) refl (p .1 (a .strings .now)) (p .0) (search needs) (λ t. t)
+    (at-is-invalid .is-invalid .ensures (a .strings .now) (a .string .now) refl
+    ∙ at-if1 .if1 .taken)) refl (p .1 (a .strings .now)) (p .0) (search needs) (λ t. t)
 
 decide-requires : tie.Need-decide-requires
-decide-requires c κs = let a = c .before .before .before .before .before .before .before .before .args in
-    let u = c .before .before .before .before .is-invalid .ensures (a .strings .now) (a .string .now) refl ∙ c .before .before .before .if1 .left in
+decide-requires c κs =
+    let at-if1 = c .before .before .before in
+    let at-is-invalid = at-if1 .before in
+    let a = at-is-invalid .before .before .before .before .args in
+    let u = at-is-invalid .is-invalid .ensures (a .strings .now) (a .string .now) refl ∙ at-if1 .if1 .left in
     (search needs, search needs, able-short (locksOf (a .w .now) (a .strings .now)) (a .i) (a .string .now) u, able-idle (locksOf (a .w .now) (a .strings .now)) (a .i) (a .string .now) u)
 
 returns-2 : tie.Need-returns-2
-returns-2 c = let a = c .before .before .before .before .before .before .before .before .before .before .before .args in
-    let u = c .before .before .before .before .before .before .before .is-invalid .ensures (a .strings .now) (a .string .now) refl ∙ c .before .before .before .before .before .before .if1 .left in
-    met-is _ _ _ _ _ _ _ _ (sym (request-decided (locksOf (a .w .now) (a .strings .now)) (a .i) (a .string .now) (a .timeout) u)) (c .before .before .decide .ensures)
+returns-2 c =
+    let at-decide = c .before .before in
+    let at-if1 = at-decide .before .before .before .before in
+    let at-is-invalid = at-if1 .before in
+    let a = at-is-invalid .before .before .before .before .args in
+    let u = at-is-invalid .is-invalid .ensures (a .strings .now) (a .string .now) refl ∙ at-if1 .if1 .left in
+    met-is _ _ _ _ _ _ _ _ (sym (request-decided (locksOf (a .w .now) (a .strings .now)) (a .i) (a .string .now) (a .timeout) u)) (at-decide .decide .ensures)
 
 pub request-lock-spec : {M : Type 1} → statement M
 request-lock-spec =

@@ -35,15 +35,19 @@ returns-2 c =
 returns-3 : tie.Need-returns-3
 unfolding recorded
 returns-3 c =
-    let a = c .before .before .before .before .before .before .before .before .args in
+    let at-record-at = c .before .before .before in
+    let at-if2 = at-record-at .before in
+    let at-entry = at-if2 .before in
+    let at-slot-of-number = at-entry .before .before in
+    let a = at-slot-of-number .before .args in
     let w = a .words .now in
     let s = a .strings .now in
-    let f = c .before .before .before .before .before .before .before .slot-of-number in
+    let f = at-slot-of-number .slot-of-number in
     let e = at (locksOf w s .entries) (f .result) in
-    let r = c .before .before .before .before .before .entry in
-    let x = c .before .before .before .record-at in
+    let r = at-entry .entry in
+    let x = at-record-at .record-at in
     none-told (view (memory w s)) (a .session) (f .result) (f .ensures .1 s) _ (recorded (x .result))
-    (is-live e (r .result) (number-read e (r .result) (r .ensures .0 s)) (c .before .before .before .before .if2 .left)) (x .ensures)
+    (is-live e (r .result) (number-read e (r .result) (r .ensures .0 s)) (at-if2 .if2 .left)) (x .ensures)
     (not-true (x .result .seen) (c .before .if3 .taken)) (c .no-readings3 .ensures)
 
 returns-4 : tie.Need-returns-4

@@ -25,10 +25,13 @@ wipe-request-requires c κs = let a = c .before .before .before .before .before 
 
 returns-2 : tie.Need-returns-2
 unfolding slotAt
-returns-2 c = let a = c .before .before .before .before .before .before .before .before .before .before .before .before .args in
-    let p = c .before .before .before .before .before .before .before .before .before .before .before .before .pre in
-    let e : bit (a .stay) (slotAt (a .w .now) (a .p)) ≡ 0 = omega (arith, c .before .before .before .before .before .before .before .before .bit-of .ensures) in
-    let x = c .before .before .before .before .wipe-request .ensures in
+returns-2 c =
+    let at-wipe-request = c .before .before .before .before in
+    let at-bit-of = at-wipe-request .before .before .before .before in
+    let a = at-bit-of .before .before .before .before .args in
+    let p = at-bit-of .before .before .before .before .pre in
+    let e : bit (a .stay) (slotAt (a .w .now) (a .p)) ≡ 0 = omega (arith, at-bit-of .bit-of .ensures) in
+    let x = at-wipe-request .wipe-request .ensures in
     rw (x .0)
     (wiped-left (a .w .now) (a .strings .now) (a .p) (p .0) (p .1) (p .2) (p .3) _ (p .4 (slotAt (a .w .now) (a .p)) (slot-small (a .w .now) (a .p)) .1 e) (x .1))
 

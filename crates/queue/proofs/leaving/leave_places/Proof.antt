@@ -30,8 +30,11 @@ leave-place-requires c κs = let l = c .before .before .before .loop in
     (search needs, search needs, search needs, search needs, rw e (l .inv .5))
 
 loop-again : tie.Need-loop-again Inv-loop μ-loop
-loop-again c = let l = c .before .before .before .before .before .before .before .before .loop in
-    let x = c .before .before .before .before .leave-place .ensures in (
+loop-again c =
+    let at-leave-place = c .before .before .before .before in
+    let at-loop = at-leave-place .before .before .before .before in
+    let l = at-loop .loop in
+    let x = at-leave-place .leave-place .ensures in (
       omega arith,
       omega arith,
       x .long,

@@ -10,12 +10,15 @@ use Rattle.queue.proofs.requests.copy_to_front.Statement.{statement}
 use Rattle.queue.proofs.requests.copy_to_front.Tie as tie
 
 returns : tie.Need-returns
-returns c = let a = c .before .before .before .before .before .before .before .before .before .before .args in
+returns c =
+    let at-lay-first = c .before .before in
+    let at-pick-up = at-lay-first .before .before .before .before in
+    let a = at-pick-up .before .before .before .before .args in
     let s : List ℕ = a .strings .now in
     let x : List ℕ = take (a .n) (drop (a .a) s) in
     let e : length x ≡ a .n = simp (length-take, length-drop) (omega arith) in
-    c .before .before .lay-first .ensures
-    ∙ ap (λ (l : List ℕ). splice s 0 (take (a .n) l)) (c .before .before .before .before .before .before .pick-up .ensures)
+    at-lay-first .lay-first .ensures
+    ∙ ap (λ (l : List ℕ). splice s 0 (take (a .n) l)) (at-pick-up .pick-up .ensures)
     ∙ ap (splice s 0) (ap (λ (m : ℕ). take m (splice _ 0 x)) (sym e) ∙ take-front _ x (search needs))
 
 pub copy-to-front-spec : {M : Type 1} → statement M

@@ -23,9 +23,11 @@ slice-aggregate-same-bytes : tie.Need-slice-aggregate-same-bytes
 slice-aggregate-same-bytes c = simp length-take (omega arith)
 
 returns-2 : tie.Need-returns-2
-returns-2 c = let a = c .before .before .before .before .before .before .before .before .before .args in
+returns-2 c =
+    let at-least = c .before .before .before .before .before in
+    let a = at-least .before .before .before .before .args in
     let s = a .strings .now in
-    ap (λ (l : List ℕ). same l (a .string .now)) (key-part (a .w .now) s (omega arith) ∙ ap (λ (m : ℕ). take (m + 1) s) (sym (c .before .before .before .before .before .least .ensures .0)))
+    ap (λ (l : List ℕ). same l (a .string .now)) (key-part (a .w .now) s (omega arith) ∙ ap (λ (m : ℕ). take (m + 1) s) (sym (at-least .least .ensures .0)))
     ∙ c .same-bytes .ensures
 
 pub is-key-in-spec : {M : Type 1} → statement M

@@ -16,9 +16,12 @@ slice-write-w-4 : tie.Need-slice-write-w-4
 slice-write-w-4 c = simp length-set (omega arith)
 
 returns : tie.Need-returns
-returns c = let a = c .before .before .before .before .before .before .before .before .before .args in
-    let p = c .before .before .before .before .before .before .before .before .before .pre in
-    rw (c .before .before .put-payload .ensures, c .before .before .before .before .least .ensures .0) (
+returns c =
+    let at-put-payload = c .before .before in
+    let at-least = at-put-payload .before .before in
+    let a = at-least .before .before .before .before .before .args in
+    let p = at-least .before .before .before .before .before .pre in
+    rw (at-put-payload .put-payload .ensures, at-least .least .ensures .0) (
       put-view (a .w .now) (a .strings .now) (a .i) (a .deadline) (a .string .now) (p .0) (p .1) (p .2) (p .3) (p .5) (p .4),
       λ t. queued-tidy (a .w .now) (a .strings .now) (a .i) (a .deadline) (a .string .now) t (p .0) (p .1) (p .5) (p .4),
     )

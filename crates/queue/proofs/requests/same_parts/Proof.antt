@@ -20,7 +20,9 @@ slice-aggregate-same-bytes : tie.Need-slice-aggregate-same-bytes
 slice-aggregate-same-bytes c = simp length-take (omega arith)
 
 returns-2 : tie.Need-returns-2
-returns-2 c = let a = c .before .before .before .before .before .before .before .before .args in
+returns-2 c =
+    let on = c .before .before .before .before .before .before in
+    let a = on .before .before .args in
     let e : a .a + a .n - a .a ≡ a .n = omega arith in
     ap (λ (m : ℕ). same (take (a .k) (a .strings .now)) (take m (drop (a .a) (a .strings .now)))) (sym e) ∙ c .same-bytes .ensures
 

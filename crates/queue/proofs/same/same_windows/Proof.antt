@@ -37,13 +37,15 @@ loop-holds c =
 
 returns-2 : tie.Need-returns-2 Inv-loop μ-loop
 returns-2 c =
-    let a = c .before .before .before .before .before .before .before .before .args in
-    window-differs (a .a .now) (a .b .now) (c .before .before .before .loop .i) (a .v) (c .before .same-from2 .ensures ∙ not-true _ (c .if2 .taken))
+    let at-loop = c .before .before .before in
+    let a = at-loop .before .before .before .before .before .args in
+    window-differs (a .a .now) (a .b .now) (at-loop .loop .i) (a .v) (c .before .same-from2 .ensures ∙ not-true _ (c .if2 .taken))
 
 loop-again : tie.Need-loop-again Inv-loop μ-loop
 loop-again c =
-    let a = c .before .before .before .before .before .before .before .before .args in
-    let l = c .before .before .before .loop in (
+    let at-loop = c .before .before .before in
+    let a = at-loop .before .before .before .before .before .args in
+    let l = at-loop .loop in (
       l .inv .0,
       l .inv .1,
       l .inv .2,

@@ -21,19 +21,26 @@ lay-key-requires c κs = let a = c .before .before .before .before .before .befo
 )
 
 first-sharer-requires : tie.Need-first-sharer-requires
-first-sharer-requires c κs = let a = c .before .before .before .before .before .before .before .before .args in (
-  search needs,
-  no-sharers _ _ (ap (λ (d : Server). all noShared (d .locks .entries)) (c .before .lay-key .ensures .0)
-      ∙ c .before .before .before .before .before .nobody-shares .ensures (a .strings .now) ∙ c .before .before .before .before .if1 .taken),
-)
+first-sharer-requires c κs =
+    let at-if1 = c .before .before .before .before in
+    let at-nobody-shares = at-if1 .before in
+    let a = at-nobody-shares .before .before .before .args in (
+      search needs,
+      no-sharers _ _ (ap (λ (d : Server). all noShared (d .locks .entries)) (c .before .lay-key .ensures .0)
+          ∙ at-nobody-shares .nobody-shares .ensures (a .strings .now) ∙ at-if1 .if1 .taken),
+    )
 
 returns : tie.Need-returns
-returns c = let a = c .before .before .before .before .before .before .before .before .before .args in
-    let y = c .before .before .lay-key .ensures in
-    let q = c .before .before .before .before .before .before .before .before .before .pre in
+returns c =
+    let at-lay-key = c .before .before in
+    let at-if1 = at-lay-key .before .before .before in
+    let at-nobody-shares = at-if1 .before in
+    let a = at-nobody-shares .before .before .before .args in
+    let y = at-lay-key .lay-key .ensures in
+    let q = at-nobody-shares .before .before .before .pre in
     let f = c .first-sharer .ensures in
-    let none = no-sharers (a .w .now) (a .strings .now) (c .before .before .before .before .before .before .nobody-shares .ensures (a .strings .now)
-    ∙ c .before .before .before .before .before .if1 .taken) in (
+    let none = no-sharers (a .w .now) (a .strings .now) (at-nobody-shares .nobody-shares .ensures (a .strings .now)
+    ∙ at-if1 .if1 .taken) in (
       given-laid (memory (a .w .now) (a .strings .now)) _ _ (a .i) _ (a .string .now) (y .0) (y .1) (f .0 _),
       λ t. rw (f .1, y .2, y .3)
           (first-tidy (a .w .now) (a .strings .now) (a .string .now) (a .i) t (q .0) (search needs) (search needs) none (f .2)),

@@ -31,12 +31,16 @@ first-sharer-requires c κs = let a = c .before .before .before .before .before 
 )
 
 returns : tie.Need-returns
-returns c = let a = c .before .before .before .before .before .before .before .before .args in
-    let y = c .before .before .copy-key .ensures in
-    let q = c .before .before .before .before .before .before .before .before .pre in
+returns c =
+    let at-copy-key = c .before .before in
+    let at-if1 = at-copy-key .before .before .before in
+    let at-nobody-shares = at-if1 .before in
+    let a = at-nobody-shares .before .before .args in
+    let y = at-copy-key .copy-key .ensures in
+    let q = at-nobody-shares .before .before .pre in
     let f = c .first-sharer .ensures in
-    let none = no-sharers (a .w .now) (a .strings .now) (c .before .before .before .before .before .before .nobody-shares .ensures (a .strings .now)
-    ∙ c .before .before .before .before .before .if1 .taken) in (
+    let none = no-sharers (a .w .now) (a .strings .now) (at-nobody-shares .nobody-shares .ensures (a .strings .now)
+    ∙ at-if1 .if1 .taken) in (
       given-laid (memory (a .w .now) (a .strings .now)) _ _ (a .i) _ (stringAt (a .w .now) (a .strings .now) (a .i)) (y .0) (y .1) (f .0 _),
       λ t. rw
           (f .1, y .2, y .3) (first-tidy (a .w .now) (a .strings .now) (stringAt (a .w .now) (a .strings .now) (a .i)) (a .i) t (q .0) (search needs)

@@ -31,19 +31,25 @@ returns-2 c = let a = c .before .before .before .before .before .before .args in
     (ap (λ (x : ℕ). view (memory (set w SHARERS x) s)) e ∙ shared-dropped w s (a .i) (p .0) (p .1), λ t. others-left w s (a .i) _ t e (c .if2 .taken))
 
 wipe-key-requires : tie.Need-wipe-key-requires
-wipe-key-requires c κs = let a = c .before .before .before .before .before .before .before .before .args in
-    let p = c .before .before .before .before .before .before .before .before .pre in
+wipe-key-requires c κs =
+    let at-if2 = c .before .before in
+    let at-taken-out = at-if2 .before .before in
+    let a = at-taken-out .before .before .before .before .args in
+    let p = at-taken-out .before .before .before .before .pre in
     let w : List ℕ = a .w .now in
-    let left = c .before .before .before .before .taken-out .result in
-    (length-set w SHARERS left ∙ p .1, p .2, ap (λ (x : ℕ). x % 2 ^ sessionLimit) (here w SHARERS left (omega (arith, p .1))) ∙ c .before .before .if2 .left)
+    let left = at-taken-out .taken-out .result in
+    (length-set w SHARERS left ∙ p .1, p .2, ap (λ (x : ℕ). x % 2 ^ sessionLimit) (here w SHARERS left (omega (arith, p .1))) ∙ at-if2 .if2 .left)
 
 returns-3 : tie.Need-returns-3
-returns-3 c = let a = c .before .before .before .before .before .before .before .before .before .before .before .before .before .args in
-    let p = c .before .before .before .before .before .before .before .before .before .before .before .before .before .pre in
+returns-3 c =
+    let at-wipe-key = c .before .before .before .before in
+    let at-taken-out = at-wipe-key .before .before .before .before .before in
+    let a = at-taken-out .before .before .before .before .args in
+    let p = at-taken-out .before .before .before .before .pre in
     let w : List ℕ = a .w .now in
     let s : List ℕ = a .strings .now in
-    let e = c .before .before .before .before .before .before .before .before .before .taken-out .ensures in
-    let x = c .before .before .before .before .wipe-key .ensures in
+    let e = at-taken-out .taken-out .ensures in
+    let x = at-wipe-key .wipe-key .ensures in
     (x .0 ∙ ap (λ (x : ℕ). view (memory (set w SHARERS x) s)) e ∙ shared-dropped w s (a .i) (p .0) (p .1), λ t. rw (x .1) (last-left w s (a .i) _ t e _ (x .2)))
 
 pub leave-sharers-in-spec : {M : Type 1} → statement M

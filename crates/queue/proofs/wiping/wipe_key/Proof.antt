@@ -9,10 +9,13 @@ use Rattle.queue.proofs.wiping.wipe_key.Statement.{statement}
 use Rattle.queue.proofs.wiping.wipe_key.Tie as tie
 
 returns : tie.Need-returns
-returns c = let a = c .before .before .before .before .before .before .before .before .args in
-    let p = c .before .before .before .before .before .before .before .before .pre in
-    let k = c .before .before .before .before .least .ensures in
-    let x = c .before .before .wipe .ensures in
+returns c =
+    let at-wipe = c .before .before in
+    let at-least = at-wipe .before .before in
+    let a = at-least .before .before .before .before .args in
+    let p = at-least .before .before .before .before .pre in
+    let k = at-least .least .ensures in
+    let x = at-wipe .wipe .ensures in
     (key-wiped (a .w .now) (a .strings .now) _ _ (p .1) (omega (arith, k .0)) x (p .2), search needs, rw (k .0) at x, length-set (a .w .now) KEY 0 ∙ p .0)
 
 pub wipe-key-spec : {M : Type 1} → statement M

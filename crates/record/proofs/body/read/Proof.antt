@@ -24,28 +24,54 @@ returns-6 : tie.Need-returns-6
 returns-6 c = tag-clock _ _ _ (c .before .before .before .before .before .before .before .if1 .left) refl (c .before .if6 .taken) (c .clock .ensures)
 
 returns-7 : tie.Need-returns-7
-returns-7 c = tag-answer _ _ _ (c .before .before .before .before .before .before .before .before .if1 .left) refl (c .before .if7 .taken) (c .answer .ensures)
+returns-7 c =
+    let on = c .before .before .before .before .before .before in
+    let at-if1 = on .before .before in
+    tag-answer _ _ _ (at-if1 .if1 .left) refl (c .before .if7 .taken) (c .answer .ensures)
 
 returns-8 : tie.Need-returns-8
-returns-8 c = tag-status _ _ _ (c .before .before .before .before .before .before .before .before .before .if1 .left) refl (c .before .if8 .taken) (c .status .ensures)
+returns-8 c =
+    let on = c .before .before .before .before .before .before in
+    let at-if1 = on .before .before .before in
+    tag-status _ _ _ (at-if1 .if1 .left) refl (c .before .if8 .taken) (c .status .ensures)
 
 returns-9 : tie.Need-returns-9
-returns-9 c = tag-off _ _ _ (c .before .before .before .before .before .before .before .before .before .before .if1 .left) refl (c .before .if9 .taken) (c .watch-off .ensures)
+returns-9 c =
+    let on = c .before .before .before .before .before .before in
+    let at-if1 = on .before .before .before .before in
+    tag-off _ _ _ (at-if1 .if1 .left) refl (c .before .if9 .taken) (c .watch-off .ensures)
 
 returns-10 : tie.Need-returns-10
-returns-10 c = tag-above _ _ _ (c .before .before .before .before .before .before .before .before .before .before .before .if1 .left) refl (c .before .if10 .taken) (c .watch-above .ensures)
+returns-10 c =
+    let on = c .before .before .before .before .before .before in
+    let at-if1 = on .before .before .before .before .before in
+    tag-above _ _ _ (at-if1 .if1 .left) refl (c .before .if10 .taken) (c .watch-above .ensures)
 
 returns-11 : tie.Need-returns-11
-returns-11 c = tag-outside _ _ _ (c .before .before .before .before .before .before .before .before .before .before .before .before .if1 .left) refl
+returns-11 c =
+    let on = c .before .before .before .before .before .before in
+    let at-if1 = on .before .before .before .before .before .before in
+    tag-outside _ _ _ (at-if1 .if1 .left) refl
     (c .before .if11 .taken) (c .watch-outside .ensures)
 
 returns-12 : tie.Need-returns-12
-returns-12 c = tag-patterns _ _ _ (c .before .before .before .before .before .before .before .before .before .before .before .before .if1 .left) refl
-    (nine _ (c .before .before .before .before .before .before .before .before .before .before .if2 .left)
-    (c .before .before .before .before .before .before .before .before .before .if3 .left)
-    (c .before .before .before .before .before .before .before .before .if4 .left) (c .before .before .before .before .before .before .before .if5 .left)
-    (c .before .before .before .before .before .before .if6 .left) (c .before .before .before .before .before .if7 .left)
-    (c .before .before .before .before .if8 .left) (c .before .before .before .if9 .left) (c .before .before .if10 .left) (c .before .if11 .left))
+returns-12 c =
+    let at-if10 = c .before .before in
+    let at-if9 = at-if10 .before in
+    let at-if8 = at-if9 .before in
+    let at-if7 = at-if8 .before in
+    let at-if6 = at-if7 .before in
+    let at-if5 = at-if6 .before in
+    let at-if4 = at-if5 .before in
+    let at-if3 = at-if4 .before in
+    let at-if2 = at-if3 .before in
+    let at-if1 = at-if2 .before .before in
+    tag-patterns _ _ _ (at-if1 .if1 .left) refl
+    (nine _ (at-if2 .if2 .left)
+    (at-if3 .if3 .left)
+    (at-if4 .if4 .left) (at-if5 .if5 .left)
+    (at-if6 .if6 .left) (at-if7 .if7 .left)
+    (at-if8 .if8 .left) (at-if9 .if9 .left) (at-if10 .if10 .left) (c .before .if11 .left))
     (c .patterns .ensures)
 
 pub read-spec : {M : Type 1} → statement M

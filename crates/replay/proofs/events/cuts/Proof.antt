@@ -7,10 +7,11 @@ use Rattle.replay.proofs.events.cuts.Tie as tie
 
 returns : tie.Need-returns
 returns c =
-    let a = c .before .before .before .before .before .before .before .before .before .before .args in
+    let at-hislip-cut = c .before .before .before .before in
+    let a = at-hislip-cut .before .before .before .before .before .before .args in
     cut-off (memory (a .words .now) (a .strings .now)) _ (a .frames .now) (a .out .now) _
-    (c .before .before .before .before .before .before .before .before .before .before .pre .1)
-    (c .before .before .before .before .hislip-cut .kept .1 .1 .1 .0) (a .connection) _ _ (c .before .before .before .before .hislip-cut .ensures)
+    (at-hislip-cut .before .before .before .before .before .before .pre .1)
+    (at-hislip-cut .hislip-cut .kept .1 .1 .1 .0) (a .connection) _ _ (at-hislip-cut .hislip-cut .ensures)
     (c .compared .ensures)
 
 pub cuts-spec : {M : Type 1} → statement M

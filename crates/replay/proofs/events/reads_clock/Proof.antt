@@ -7,10 +7,11 @@ use Rattle.replay.proofs.events.reads_clock.Tie as tie
 
 returns : tie.Need-returns
 returns c =
-    let a = c .before .before .before .before .before .before .before .before .before .before .args in
+    let at-hislip-clock = c .before .before .before .before in
+    let a = at-hislip-clock .before .before .before .before .before .before .args in
     clock-read (memory (a .words .now) (a .strings .now)) _ (a .frames .now) (a .out .now) _
-    (c .before .before .before .before .before .before .before .before .before .before .pre)
-    (c .before .before .before .before .hislip-clock .kept .1 .1 .1 .0) (a .milliseconds) _ _ (c .before .before .before .before .hislip-clock .ensures)
+    (at-hislip-clock .before .before .before .before .before .before .pre)
+    (at-hislip-clock .hislip-clock .kept .1 .1 .1 .0) (a .milliseconds) _ _ (at-hislip-clock .hislip-clock .ensures)
     (c .compared .ensures)
 
 pub reads-clock-spec : {M : Type 1} → statement M

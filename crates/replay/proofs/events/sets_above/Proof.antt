@@ -12,11 +12,14 @@ returns c = let a = c .before .before .before .args in no-above (memory (a .word
 
 returns-2 : tie.Need-returns-2
 returns-2 c =
-    let a = c .before .before .before .before .before .before .before .before .args in
-    let n = sym (c .before .before .before .before .before .before .is-no-number .ensures) ∙ c .before .before .before .before .before .if1 .left in
+    let at-float-of = c .before .before .before .before in
+    let at-if1 = at-float-of .before in
+    let at-is-no-number = at-if1 .before in
+    let a = at-is-no-number .before .before .args in
+    let n = sym (at-is-no-number .is-no-number .ensures) ∙ at-if1 .if1 .left in
     set-above (memory (a .words .now) (a .strings .now)) _ (a .frames .now) (a .session) (a .limit) _
-    (float-bits _ (a .limit) (c .before .before .before .before .float-of .ensures)
-    (c .before .before .before .before .before .before .before .before .pre .1) n) _ _ (c .before .hislip-watch-above .ensures) (c .silent .ensures)
+    (float-bits _ (a .limit) (at-float-of .float-of .ensures)
+    (at-is-no-number .before .before .pre .1) n) _ _ (c .before .hislip-watch-above .ensures) (c .silent .ensures)
 
 pub sets-above-spec : {M : Type 1} → statement M
 sets-above-spec =

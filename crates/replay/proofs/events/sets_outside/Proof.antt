@@ -17,15 +17,21 @@ returns-2 c = let a = c .before .before .before .before .before .args in
 
 returns-3 : tie.Need-returns-3
 returns-3 c =
-    let a = c .before .before .before .before .before .before .before .before .before .before .before .args in
-    let l = float-bits _ (a .low) (c .before .before .before .before .before .float-of .ensures)
-    (c .before .before .before .before .before .before .before .before .before .before .before .pre .1)
-    (sym (c .before .before .before .before .before .before .before .before .before .is-no-number .ensures)
-    ∙ c .before .before .before .before .before .before .before .before .if1 .left) in
-    let h = float-bits _ (a .high) (c .before .before .before .before .float-of2 .ensures)
-    (c .before .before .before .before .before .before .before .before .before .before .before .pre .2)
-    (sym (c .before .before .before .before .before .before .before .is-no-number2 .ensures)
-    ∙ c .before .before .before .before .before .before .if2 .left) in
+    let at-float-of2 = c .before .before .before .before in
+    let at-float-of = at-float-of2 .before in
+    let at-if2 = at-float-of .before in
+    let at-is-no-number2 = at-if2 .before in
+    let at-if1 = at-is-no-number2 .before in
+    let at-is-no-number = at-if1 .before in
+    let a = at-is-no-number .before .before .args in
+    let l = float-bits _ (a .low) (at-float-of .float-of .ensures)
+    (at-is-no-number .before .before .pre .1)
+    (sym (at-is-no-number .is-no-number .ensures)
+    ∙ at-if1 .if1 .left) in
+    let h = float-bits _ (a .high) (at-float-of2 .float-of2 .ensures)
+    (at-is-no-number .before .before .pre .2)
+    (sym (at-is-no-number2 .is-no-number2 .ensures)
+    ∙ at-if2 .if2 .left) in
     set-outside (memory (a .words .now) (a .strings .now)) _ (a .frames .now) (a .session) (a .low) (a .high) _ _ l h _ _ (c .before .hislip-watch-outside .ensures) (c .silent .ensures)
 
 pub sets-outside-spec : {M : Type 1} → statement M

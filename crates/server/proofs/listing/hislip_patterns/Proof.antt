@@ -26,11 +26,14 @@ returns-2 c = let a = c .before .before .before .before .before .before .args in
     bad-pattern t _ (memory (a .words .now) (a .strings .now)) _ _ (subst (λ (x : Judged). Ruled (linesOf t) x) (g .1) (c .before .before .before .before .judge .ensures)) (c .told2 .ensures)
 
 returns-3 : tie.Need-returns-3
-returns-3 c = let a = c .before .before .before .before .before .before .before .before .args in
+returns-3 c =
+    let at-enum-told2 = c .before .before .before .before in
+    let at-judge = at-enum-told2 .before .before in
+    let a = at-judge .before .before .args in
     let t = a .text .now in
     taken-list t _ (memory (a .words .now) (a .strings .now)) _
-    (subst (λ (x : Judged). Ruled (linesOf t) x) (c .before .before .before .before .enum-told2 .given .1)
-    (c .before .before .before .before .before .before .judge .ensures)) (c .before .put-list .ensures .0) (c .before .put-list .ensures .1)
+    (subst (λ (x : Judged). Ruled (linesOf t) x) (at-enum-told2 .enum-told2 .given .1)
+    (at-judge .judge .ensures)) (c .before .put-list .ensures .0) (c .before .put-list .ensures .1)
     (c .told3 .ensures)
 
 pub hislip-patterns-spec : {M : Type 1} → statement M

@@ -19,13 +19,17 @@ returns c = let a = c .before .before .before .args in
     (closed-alone (a .w .now) s (a .c) (a .i) (c .before .before .before .pre s) (search needs) _ (x .0 s), x .1 s)
 
 returns-2 : tie.Need-returns-2
-returns-2 c = let a = c .before .before .before .before .before .before .before .before .before .before .args in
+returns-2 c =
+    let at-forget = c .before .before .before in
+    let at-renew-exchange = at-forget .before .before in
+    let at-shut-channels = at-renew-exchange .before .before in
+    let a = at-shut-channels .before .before .before .args in
     let s = a .strings .now in
     let d : Server = view (memory (a .w .now) s) in
-    let f = c .before .before .before .before .before .before .before .before .before .before .pre s in
-    let x = c .before .before .before .before .before .before .before .shut-channels .ensures in
-    let y = c .before .before .before .before .before .renew-exchange .ensures in
-    let f₂ = c .before .before .before .forget .ensures in
+    let f = at-shut-channels .before .before .before .pre s in
+    let x = at-shut-channels .shut-channels .ensures in
+    let y = at-renew-exchange .renew-exchange .ensures in
+    let f₂ = at-forget .forget .ensures in
     let z = c .close-slot .ensures in (
       closed-session (a .w .now) s (a .c) (a .i) f (search needs) _ _ _ _
           (x .0 s ∙ ap (λ (l : List ℕ). onRest d (λ (r : Rest). withConnections r (shutAll (r .connections) l))) (sym (channels-of (a .w .now) s (a .c) (a .i) f (search needs))))

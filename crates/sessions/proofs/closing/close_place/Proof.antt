@@ -6,9 +6,12 @@ use Rattle.sessions.proofs.closing.close_place.Statement.{statement}
 use Rattle.sessions.proofs.closing.close_place.Tie as tie
 
 returns : tie.Need-returns
-returns c = let a = c .before .before .before .before .before .before .before .before .before .before .args in
-    let x = c .before .before .before .before .before .before .close-parts .ensures in
-    let y = c .before .before .pass-waiting .ensures in
+returns c =
+    let at-pass-waiting = c .before .before in
+    let at-close-parts = at-pass-waiting .before .before .before .before in
+    let a = at-close-parts .before .before .before .before .args in
+    let x = at-close-parts .close-parts .ensures in
+    let y = at-pass-waiting .pass-waiting .ensures in
     (closes _ (a .c) (a .i) _ _ _ _ _ _ (x .0) y, λ t. y .tidy (x .1 t))
 
 pub close-place-spec : {M : Type 1} → statement M

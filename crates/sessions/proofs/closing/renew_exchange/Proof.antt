@@ -6,23 +6,31 @@ use Rattle.sessions.proofs.closing.renew_exchange.Statement.{statement}
 use Rattle.sessions.proofs.closing.renew_exchange.Tie as tie
 
 returns : tie.Need-returns
-returns c = let a = c .before .before .before .before .before .before .before .before .before .before .before .before .before .before .before .before .args in (
-  λ s. renewed (a .i) (a .mode) _ _ _ _ _ _ _ _ _
-      (c .before .before .before .before .before .before .before .before .before .before .before .before .before .before .set-exchange .ensures .0 s)
-      (c .before .before .before .before .before .before .before .before .before .before .before .before .set-exchange2 .ensures .0 s)
-      (c .before .before .before .before .before .before .before .before .before .before .set-exchange3 .ensures .0 s)
-      (c .before .before .before .before .before .before .before .before .set-exchange4 .ensures .0 s)
-      (c .before .before .before .before .before .before .set-exchange5 .ensures .0 s)
-      (c .before .before .before .before .set-exchange6 .ensures .0 s) (c .before .before .set-exchange7 .ensures .0 s) (c .reset-count .ensures .0 s),
-  λ s m t. c .reset-count .ensures .1 s (c .before .before .set-exchange7 .ensures .1 s (omega arith)
-      (c .before .before .before .before .set-exchange6 .ensures .1 s (omega arith)
-      (c .before .before .before .before .before .before .set-exchange5 .ensures .1 s m
-      (c .before .before .before .before .before .before .before .before .set-exchange4 .ensures .1 s (omega arith)
-      (c .before .before .before .before .before .before .before .before .before .before .set-exchange3 .ensures .1 s (omega arith)
-      (c .before .before .before .before .before .before .before .before .before .before .before .before .set-exchange2 .ensures .1 s (omega arith)
-      (c .before .before .before .before .before .before .before .before .before .before .before .before .before .before .set-exchange .ensures .1 s
-      (omega arith) t))))))),
-)
+returns c =
+    let at-set-exchange7 = c .before .before in
+    let at-set-exchange6 = at-set-exchange7 .before .before in
+    let at-set-exchange5 = at-set-exchange6 .before .before in
+    let at-set-exchange4 = at-set-exchange5 .before .before in
+    let at-set-exchange3 = at-set-exchange4 .before .before in
+    let at-set-exchange2 = at-set-exchange3 .before .before in
+    let at-set-exchange = at-set-exchange2 .before .before in
+    let a = at-set-exchange .before .before .args in (
+      λ s. renewed (a .i) (a .mode) _ _ _ _ _ _ _ _ _
+          (at-set-exchange .set-exchange .ensures .0 s)
+          (at-set-exchange2 .set-exchange2 .ensures .0 s)
+          (at-set-exchange3 .set-exchange3 .ensures .0 s)
+          (at-set-exchange4 .set-exchange4 .ensures .0 s)
+          (at-set-exchange5 .set-exchange5 .ensures .0 s)
+          (at-set-exchange6 .set-exchange6 .ensures .0 s) (at-set-exchange7 .set-exchange7 .ensures .0 s) (c .reset-count .ensures .0 s),
+      λ s m t. c .reset-count .ensures .1 s (at-set-exchange7 .set-exchange7 .ensures .1 s (omega arith)
+          (at-set-exchange6 .set-exchange6 .ensures .1 s (omega arith)
+          (at-set-exchange5 .set-exchange5 .ensures .1 s m
+          (at-set-exchange4 .set-exchange4 .ensures .1 s (omega arith)
+          (at-set-exchange3 .set-exchange3 .ensures .1 s (omega arith)
+          (at-set-exchange2 .set-exchange2 .ensures .1 s (omega arith)
+          (at-set-exchange .set-exchange .ensures .1 s
+          (omega arith) t))))))),
+    )
 
 pub renew-exchange-spec : {M : Type 1} → statement M
 renew-exchange-spec =

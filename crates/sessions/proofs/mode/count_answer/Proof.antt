@@ -11,13 +11,17 @@ use Rattle.sessions.proofs.mode.count_answer.Statement.{statement}
 use Rattle.sessions.proofs.mode.count_answer.Tie as tie
 
 returns : tie.Need-returns
-returns c = let a = c .before .before .before .before .before .before .before .before .args in
-    let m = c .before .before .before .before .before .before .count-of in
-    let n = c .before .before .before .before .before .next in (
+returns c =
+    let at-set-exchange = c .before .before in
+    let at-next = at-set-exchange .before .before .before in
+    let at-count-of = at-next .before in
+    let a = at-count-of .before .before .args in
+    let m = at-count-of .count-of in
+    let n = at-next .next in (
       λ s. count-stepped (a .i) (n .result .number) (view (memory (a .w .now) s)) _ _
           (ap (λ (x : ℕ). x % 2 ^ 32) (n .ensures) ∙ mod-eq-of-lt (next-fits (m .result .number)) ∙ ap next (sym (m .ensures)))
-          (c .before .before .set-exchange .ensures .0 s) (c .set-exchange2 .ensures .0 s),
-      λ s t. c .set-exchange2 .ensures .1 s (omega arith) (c .before .before .set-exchange .ensures .1 s (omega (arith, n .ensures, next-fits (m .result .number))) t),
+          (at-set-exchange .set-exchange .ensures .0 s) (c .set-exchange2 .ensures .0 s),
+      λ s t. c .set-exchange2 .ensures .1 s (omega arith) (at-set-exchange .set-exchange .ensures .1 s (omega (arith, n .ensures, next-fits (m .result .number))) t),
     )
 
 pub count-answer-spec : {M : Type 1} → statement M

@@ -12,10 +12,13 @@ initialize-requires : tie.Need-initialize-requires
 initialize-requires c κs = let p = c .before .before .before .before .before .pre in (p .0, p .1, omega arith, λ s. p .3 s (c .before .before .before .if1 .taken), p .6)
 
 returns : tie.Need-returns
-returns c = let a = c .before .before .before .before .before .before .before .before .args in
+returns c =
+    let at-initialize = c .before .before in
+    let at-if1 = at-initialize .before .before .before .before in
+    let a = at-if1 .before .before .args in
     λ p i code. let s = a .strings .now in
     let h : Header = record { kind = a .kind; code = code; param = a .param; len = a .len } in
-    opens-by (view (memory (a .w .now) s)) i (a .c) h p _ _ _ _ _ _ (eq-eqb (a .kind) 0 (c .before .before .before .before .before .before .if1 .taken)) (c .before .before .initialize .ensures)
+    opens-by (view (memory (a .w .now) s)) i (a .c) h p _ _ _ _ _ _ (eq-eqb (a .kind) 0 (at-if1 .if1 .taken)) (at-initialize .initialize .ensures)
 
 async-initialize-requires : tie.Need-async-initialize-requires
 async-initialize-requires c κs = let p = c .before .before .before .before .pre in

@@ -28,16 +28,21 @@ join-slot-requires c κs = let a = c .before .before .before .before .before .be
     )
 
 returns : tie.Need-returns
-returns c = let a = c .before .before .before .before .before .before .before .before .before .before .before .before .args in
+returns c =
+    let at-put-frame = c .before .before .before in
+    let at-join-slot = at-put-frame .before .before in
+    let at-single = at-join-slot .before .before in
+    let at-slot-of-number = at-single .before .before in
+    let a = at-slot-of-number .before .before .before .args in
     let h : Header = record { kind = 17; code = 0; param = a .param; len = a .len } in
     λ s. async-initialized (view (memory (a .w .now) s)) (a .c)
-    (c .before .before .before .before .before .before .before .before .before .slot-of-number .result)
-    (c .before .before .before .before .before .before .before .single .result % 65536) h _ _ _ _ _
-    (c .before .before .before .before .before .before .before .before .before .slot-of-number .ensures .1 s)
-    (vendor-read (restOf (a .w .now)) (c .before .before .before .before .before .before .before .single .result)
-    (c .before .before .before .before .before .before .before .single .ensures .0)) (ap numbersOf (c .acted .ensures))
-    (c .before .before .before .before .before .join-slot .ensures s .locks) (c .before .before .before .before .before .join-slot .ensures s .rest)
-    (c .before .before .before .put-frame .ensures) (c .before .before .before .before .before .join-slot .ensures s .tidy)
+    (at-slot-of-number .slot-of-number .result)
+    (at-single .single .result % 65536) h _ _ _ _ _
+    (at-slot-of-number .slot-of-number .ensures .1 s)
+    (vendor-read (restOf (a .w .now)) (at-single .single .result)
+    (at-single .single .ensures .0)) (ap numbersOf (c .acted .ensures))
+    (at-join-slot .join-slot .ensures s .locks) (at-join-slot .join-slot .ensures s .rest)
+    (at-put-frame .put-frame .ensures) (at-join-slot .join-slot .ensures s .tidy)
 
 pub async-initialize-spec : {M : Type 1} → statement M
 async-initialize-spec =

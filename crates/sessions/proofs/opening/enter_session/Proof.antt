@@ -12,10 +12,14 @@ enter-slot-requires : tie.Need-enter-slot-requires
 enter-slot-requires c κs = let p = c .before .before .pre in (search needs, p .2, search needs, p .4, p .5)
 
 returns : tie.Need-returns
-returns c = let a = c .before .before .before .before .before .before .before .before .before .args in
-    let x = c .before .before .before .before .single in
-    let e = c .before .before .before .before .before .before .enter-slot .ensures in
-    let y = c .before .before .renew-exchange .ensures in
+returns c =
+    let at-renew-exchange = c .before .before in
+    let at-single = at-renew-exchange .before .before in
+    let at-enter-slot = at-single .before .before in
+    let a = at-enter-slot .before .before .before .args in
+    let x = at-single .single in
+    let e = at-enter-slot .enter-slot .ensures in
+    let y = at-renew-exchange .renew-exchange .ensures in
     let z = c .set-single .ensures in (
       session-entered (view (memory (a .w .now) (a .strings .now))) _ _ _ _ (a .i) (a .n) (eqb (x .result) 1) (search needs) (e .locks) (e .rest)
           (preference-read _ (x .result) (x .ensures .0)) (y .0 _) (z .0 _),

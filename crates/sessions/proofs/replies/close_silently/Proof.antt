@@ -13,12 +13,15 @@ use Rattle.sessions.proofs.replies.close_silently.Statement.{statement}
 use Rattle.sessions.proofs.replies.close_silently.Tie as tie
 
 returns : tie.Need-returns
-returns c = let a = c .before .before .before .before .before .before .before .before .before .before .args in
+returns c =
+    let at-close-place = c .before .before .before in
+    let at-number-of = at-close-place .before .before .before .before in
+    let a = at-number-of .before .before .before .args in
     let s = a .strings .now in
-    let q = c .before .before .before .close-place in
+    let q = at-close-place .close-place in
     did-closing (view (memory (a .w .now) s)) (a .c) (a .i) [] _ _ _ (a .out .now) _ _ _ (q .result) (nothing-said (a .out .now)) nothing-long (omega (arith, nothing-long)) (q .ensures .0)
     (ap numbersOf (c .closed .ensures) ∙ ap (λ (x : ℕ). record { refusal = 0; outcome = 5; session = x; taken = 0; output = q .result; missing = 0 })
-    (sym (c .before .before .before .before .before .before .before .number-of .ensures s)))
+    (sym (at-number-of .number-of .ensures s)))
     (q .ensures .1)
 
 pub close-silently-spec : {M : Type 1} → statement M

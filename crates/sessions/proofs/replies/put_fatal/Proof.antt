@@ -20,40 +20,50 @@ returns c = let a = c .before .before .before .before .before .before .args in
     (omega arith, λ s. fatal-one (a .out .now) _ (a .code) (a .c) _ (e s) (c .before .before .put-frame .ensures), λ s. fatal-one-length (a .out .now) (a .out .now) (a .code) (a .c) _ (e s))
 
 returns-2 : tie.Need-returns-2
-returns-2 c = let a = c .before .before .before .before .before .before .before .before .before .args in
-    let f = c .before .before .before .before .before .before .before .before .before .pre .2 in
-    let x = c .before .before .before .before .before .before .entry .result % 256 in
-    let y = c .before .before .before .before .before .entry2 .result % 256 in
+returns-2 c =
+    let at-put-frame2 = c .before .before .before in
+    let at-entry2 = at-put-frame2 .before .before in
+    let at-entry = at-entry2 .before in
+    let a = at-entry .before .before .before .args in
+    let f = at-entry .before .before .before .pre .2 in
+    let x = at-entry .entry .result % 256 in
+    let y = at-entry2 .entry2 .result % 256 in
     let out = a .out .now in
     let e : (s : List ℕ) → (at (locksOf (a .w .now) s .entries) (a .i)) .synchronous ≡ x =
-    λ s. synchronous-read (at (locksOf (a .w .now) s .entries) (a .i)) (c .before .before .before .before .before .before .entry .result)
-    (c .before .before .before .before .before .before .entry .ensures .0 s) in
+    λ s. synchronous-read (at (locksOf (a .w .now) s .entries) (a .i)) (at-entry .entry .result)
+    (at-entry .entry .ensures .0 s) in
     let g : (s : List ℕ) → (at (locksOf (a .w .now) s .entries) (a .i)) .asynchronous ≡ y =
-    λ s. asynchronous-read (at (locksOf (a .w .now) s .entries) (a .i)) (c .before .before .before .before .before .entry2 .result)
-    (c .before .before .before .before .before .entry2 .ensures .0 s) in
+    λ s. asynchronous-read (at (locksOf (a .w .now) s .entries) (a .i)) (at-entry2 .entry2 .result)
+    (at-entry2 .entry2 .ensures .0 s) in
     let q : (s : List ℕ) → channels (view (memory (a .w .now) s)) (a .c) ≡ x ∷ [] = λ s. channels-of (a .w .now) s (a .c) (a .i) (f s) (search needs)
     ∙ one-channel (at (locksOf (a .w .now) s .entries) (a .i)) x y (e s) (g s) (c .if2 .taken) in
-    (omega arith, λ s. fatal-one out _ (a .code) x _ (q s) (c .before .before .before .put-frame2 .ensures), λ s. fatal-one-length out out (a .code) x _ (q s))
+    (omega arith, λ s. fatal-one out _ (a .code) x _ (q s) (at-put-frame2 .put-frame2 .ensures), λ s. fatal-one-length out out (a .code) x _ (q s))
 
 returns-3 : tie.Need-returns-3
-returns-3 c = let a = c .before .before .before .before .before .before .before .before .before .before .before .before .before .args in
-    let f = c .before .before .before .before .before .before .before .before .before .before .before .before .before .pre .2 in
-    let x = c .before .before .before .before .before .before .before .before .before .before .entry .result % 256 in
-    let y = c .before .before .before .before .before .before .before .before .before .entry2 .result % 256 in
+returns-3 c =
+    let at-put-frame3 = c .before .before in
+    let at-if2 = at-put-frame3 .before .before in
+    let at-put-frame2 = at-if2 .before .before .before in
+    let at-entry2 = at-put-frame2 .before .before in
+    let at-entry = at-entry2 .before in
+    let a = at-entry .before .before .before .args in
+    let f = at-entry .before .before .before .pre .2 in
+    let x = at-entry .entry .result % 256 in
+    let y = at-entry2 .entry2 .result % 256 in
     let out = a .out .now in
     let e : (s : List ℕ) → (at (locksOf (a .w .now) s .entries) (a .i)) .synchronous ≡ x =
     λ s. synchronous-read (at (locksOf (a .w .now) s .entries) (a .i))
-    (c .before .before .before .before .before .before .before .before .before .before .entry .result)
-    (c .before .before .before .before .before .before .before .before .before .before .entry .ensures .0 s) in
+    (at-entry .entry .result)
+    (at-entry .entry .ensures .0 s) in
     let g : (s : List ℕ) → (at (locksOf (a .w .now) s .entries) (a .i)) .asynchronous ≡ y =
     λ s. asynchronous-read (at (locksOf (a .w .now) s .entries) (a .i))
-    (c .before .before .before .before .before .before .before .before .before .entry2 .result)
-    (c .before .before .before .before .before .before .before .before .before .entry2 .ensures .0 s) in
+    (at-entry2 .entry2 .result)
+    (at-entry2 .entry2 .ensures .0 s) in
     let q : (s : List ℕ) → channels (view (memory (a .w .now) s)) (a .c) ≡ x ∷ y ∷ [] = λ s. channels-of (a .w .now) s (a .c) (a .i) (f s) (search needs)
-    ∙ two-channels (at (locksOf (a .w .now) s .entries) (a .i)) x y (e s) (g s) (c .before .before .before .before .if2 .left) in (
+    ∙ two-channels (at (locksOf (a .w .now) s .entries) (a .i)) x y (e s) (g s) (at-if2 .if2 .left) in (
       omega arith,
-      λ s. fatal-two out _ (a .code) x _ _ y (q s) (omega arith) (c .before .before .before .before .before .before .before .put-frame2 .ensures)
-          (c .before .before .put-frame3 .ensures),
+      λ s. fatal-two out _ (a .code) x _ _ y (q s) (omega arith) (at-put-frame2 .put-frame2 .ensures)
+          (at-put-frame3 .put-frame3 .ensures),
       λ s. fatal-two-length out out (a .code) x _ y (q s),
     )
 

@@ -15,14 +15,17 @@ use Rattle.sessions.proofs.replies.send_error.Statement.{statement}
 use Rattle.sessions.proofs.replies.send_error.Tie as tie
 
 returns : tie.Need-returns
-returns c = let a = c .before .before .before .before .before .before .before .before .args in
+returns c =
+    let at-put-frame = c .before .before .before in
+    let at-keep-open = at-put-frame .before .before in
+    let a = at-keep-open .before .before .before .args in
     λ s. did-plainly (view (memory (a .w .now) s)) (took error-sent (a .taken) 0)
     (withConnection (view (memory (a .w .now) s) .rest) (a .c) (openConnection (a .left))) (say (a .c) Error (a .code) 0) _ _ _ _ _
     (ap numbersOf (c .error-sent .ensures) ∙ ap (λ (x : ℕ). deliveryAnswer (took error-sent (a .taken) 0) x 0) (sym (length-one (a .c) Error (a .code) 0)))
-    (c .before .before .before .before .before .keep-open .ensures .0 s)
-    (one-frame _ _ (frameOf (a .c) Error (a .code) 0 []) (c .before .before .before .put-frame .ensures))
+    (at-keep-open .keep-open .ensures .0 s)
+    (one-frame _ _ (frameOf (a .c) Error (a .code) 0 []) (at-put-frame .put-frame .ensures))
     refl
-    (c .before .before .before .before .before .keep-open .ensures .1 s)
+    (at-keep-open .keep-open .ensures .1 s)
 
 pub send-error-spec : {M : Type 1} → statement M
 send-error-spec =

@@ -12,14 +12,18 @@ use Rattle.sessions.proofs.replies.send_fatal.Statement.{statement}
 use Rattle.sessions.proofs.replies.send_fatal.Tie as tie
 
 returns : tie.Need-returns
-returns c = let a = c .before .before .before .before .before .before .before .before .before .before .before .before .before .before .before .args in
+returns c =
+    let at-close-place = c .before .before .before in
+    let at-put-fatal = at-close-place .before .before .before .before .before .before in
+    let at-number-of = at-put-fatal .before .before .before in
+    let a = at-number-of .before .before .before .args in
     let s = a .strings .now in
-    let p = c .before .before .before .before .before .before .before .before .before .put-fatal .ensures in
-    let q = c .before .before .before .close-place in
+    let p = at-put-fatal .put-fatal .ensures in
+    let q = at-close-place .close-place in
     did-closing (view (memory (a .w .now) s)) (a .c) (a .i) (fatals (a .code) (channels (view (memory (a .w .now) s)) (a .c))) _ _ _ (a .out .now) _ _ _
     (q .result) (p .1 s) (p .2 s) (omega (arith, p .2 s)) (q .ensures .0)
     (ap numbersOf (c .closed .ensures) ∙ ap (λ (x : ℕ). record { refusal = 0; outcome = 5; session = x; taken = 0; output = q .result; missing = 0 })
-    (sym (c .before .before .before .before .before .before .before .before .before .before .before .before .number-of .ensures s)))
+    (sym (at-number-of .number-of .ensures s)))
     (q .ensures .1)
 
 pub send-fatal-spec : {M : Type 1} → statement M

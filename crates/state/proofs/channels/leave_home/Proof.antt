@@ -23,13 +23,18 @@ returns-2 c = let a = c .before .before .before .before .before .before .before 
     )
 
 returns-3 : tie.Need-returns-3
-returns-3 c = let a = c .before .before .before .before .before .before .before .before .before .args in
-    let p = c .before .before .before .before .before .before .before .before .before .pre in
+returns-3 c =
+    let at-if2 = c .before .before in
+    let at-home-in = at-if2 .before in
+    let at-home = at-home-in .before in
+    let at-row = at-home .before .before .before in
+    let a = at-row .before .before .args in
+    let p = at-row .before .before .pre in
     let w = a .w .now in
-    let x = c .before .before .before .before .before .before .before .row .result in
+    let x = at-row .row .result in
     let e = c .set-home .ensures in
-    let q = sym (c .before .before .before .before .home .ensures) ∙ c .before .before .if2 .left ∙ c .before .before .before .home-in .ensures in
-    let r = c .before .before .before .before .before .before .before .row .ensures in (
+    let q = sym (at-home .home .ensures) ∙ at-if2 .if2 .left ∙ at-home-in .home-in .ensures in
+    let r = at-row .row .ensures in (
       λ s. ap (λ (y : List ℕ). view (memory y s)) (e .0) ∙ home-cleared w s (a .i) (a .f) (e .1) (search needs) (p .3) (search needs) (search needs) x (search needs) q,
       ap (λ (y : List ℕ). rowWord y (a .i) 0) (e .0) ∙ free-still w [] (a .i) (a .f) (e .1) (search needs) (p .3) (search needs) (search needs) x (search needs) q,
       subst (λ (y : List ℕ). LeftHome w y (a .i) (a .f)) (sym (e .0)) (left-wiped w (a .i) (a .f) x (e .1) (search needs) (sym r) q),

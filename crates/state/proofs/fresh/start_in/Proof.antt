@@ -8,11 +8,15 @@ use Rattle.state.proofs.fresh.start_in.Statement.{statement}
 use Rattle.state.proofs.fresh.start_in.Tie as tie
 
 returns : tie.Need-returns
-returns c = let a = c .before .before .before .before .before .before .before .before .before .before .before .args in
-    let p = c .before .before .before .before .before .before .before .before .before .before .before .pre in (
-      ap₂ (λ (l : List ℕ) (x : ℕ). set (set l 0 (a .vendor)) 1 x) (c .before .before .before .before .before .before .before .put-words .ensures)
-          (c .before .before .before .before .word-of .ensures),
-      c .before .before .put-zeros .ensures ∙ ap (λ (n : ℕ). replicate n 0) (p .1),
+returns c =
+    let at-put-zeros = c .before .before in
+    let at-word-of = at-put-zeros .before .before in
+    let at-put-words = at-word-of .before .before .before in
+    let a = at-put-words .before .before .before .before .args in
+    let p = at-put-words .before .before .before .before .pre in (
+      ap₂ (λ (l : List ℕ) (x : ℕ). set (set l 0 (a .vendor)) 1 x) (at-put-words .put-words .ensures)
+          (at-word-of .word-of .ensures),
+      at-put-zeros .put-zeros .ensures ∙ ap (λ (n : ℕ). replicate n 0) (p .1),
     )
 
 pub start-in-spec : {M : Type 1} → statement M

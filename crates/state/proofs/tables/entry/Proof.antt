@@ -27,23 +27,34 @@ returns-3 c = let a = c .before .before .before .before .before .args in
     (sym (field-past w (a .i) (a .f) (c .before .before .before .if1 .left) (omega (arith, c .before .before .before .before .row .ensures, c .if3 .taken))))
 
 returns-4 : tie.Need-returns-4
-returns-4 c = let a = c .before .before .before .before .before .before .before .before .args in
+returns-4 c =
+    let at-home = c .before .before in
+    let at-if1 = at-home .before .before .before .before in
+    let at-row = at-if1 .before in
+    let a = at-row .before .args in
     let w = a .w .now in
-    let r = c .before .before .before .before .before .before .before .row .ensures in
+    let r = at-row .row .ensures in
     entry-told w (a .i) (a .f) 255 (search needs) (search needs)
-    (sym (field-stray w (a .i) (a .f) (c .before .before .before .before .before .before .if1 .left)
-    (λ q. c .if4 .taken (c .before .before .home .ensures ∙ ap (homeOf w) r ∙ q ∙ sym (c .before .home-in .ensures)))))
+    (sym (field-stray w (a .i) (a .f) (at-if1 .if1 .left)
+    (λ q. c .if4 .taken (at-home .home .ensures ∙ ap (homeOf w) r ∙ q ∙ sym (c .before .home-in .ensures)))))
 
 returns-5 : tie.Need-returns-5
-returns-5 c = let a = c .before .before .before .before .before .before .before .before .args in
+returns-5 c =
+    let at-home = c .before .before in
+    let at-if3 = at-home .before in
+    let at-if2 = at-if3 .before in
+    let at-row2 = at-if2 .before in
+    let at-if1 = at-row2 .before in
+    let at-row = at-if1 .before in
+    let a = at-row .before .args in
     let w = a .w .now in
-    let r = c .before .before .before .before .before .before .before .row in
+    let r = at-row .row in
     entry-told w (a .i) (a .f) (r .result) (search needs) (search needs)
     (r .ensures
-    ∙ sym (field-shown w (a .i) (a .f) (c .before .before .before .before .before .before .if1 .left)
-    (λ q. c .before .before .before .before .if2 .left (c .before .before .before .before .before .row2 .ensures ∙ q))
-    (omega (arith, r .ensures, c .before .before .before .if3 .left))
-    (ap (homeOf w) (sym (r .ensures)) ∙ sym (c .before .before .home .ensures) ∙ c .if4 .left ∙ c .before .home-in .ensures)))
+    ∙ sym (field-shown w (a .i) (a .f) (at-if1 .if1 .left)
+    (λ q. at-if2 .if2 .left (at-row2 .row2 .ensures ∙ q))
+    (omega (arith, r .ensures, at-if3 .if3 .left))
+    (ap (homeOf w) (sym (r .ensures)) ∙ sym (at-home .home .ensures) ∙ c .if4 .left ∙ c .before .home-in .ensures)))
 
 pub entry-spec : {M : Type 1} → statement M
 entry-spec =
