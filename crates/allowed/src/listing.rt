@@ -13,7 +13,7 @@ ghost use mathlib.Core.List.{List};
 ghost use mathlib.Core.Path.{_≡_};
 use commands::allowing;
 use queue::requests::least;
-use queue::wiping::wipe;
+use shares::wiping::wipe;
 use state::layout::LIST;
 use state::layout::LISTED;
 use state::sizes::LIST_LIMIT;

@@ -6,8 +6,8 @@ ghost use Rattle.model.specs.Locks.{grantPass};
 ghost use Rattle.state.specs.View.{locksOf, memory};
 ghost use lib.ListN.{length};
 use crate::granting;
-use queue::leaving;
 use queue::requests;
+use shares::leaving;
 use state::sizes::Strings;
 use state::sizes::Words;
 

@@ -14,7 +14,7 @@ ghost use Rattle.model.specs.Sizes.{sessionLimit, stringLimit};
 ghost use Rattle.state.specs.Layout.{STRINGS};
 use holding::answers::put_answer;
 use queue::requests;
-use queue::sharing;
+use shares::sharing;
 use state::holders;
 use state::sizes::Strings;
 use state::sizes::Words;

@@ -12,7 +12,7 @@ ghost use mathlib.Core.List.{List};
 ghost use mathlib.Core.Path.{_≡_};
 ghost use Rattle.model.specs.Sizes.{connectionLimit, noConnection, sessionLimit};
 use crate::waiting::drop_request;
-use queue::sharing;
+use shares::sharing;
 use state::channels;
 use state::holders;
 use state::sizes::BEFORE_FIRST;

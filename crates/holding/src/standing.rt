@@ -11,7 +11,7 @@ ghost use Rattle.state.specs.View.{locksOf, memory, standingOf, view};
 ghost use lib.Dec.{eqb};
 ghost use mathlib.Core.List.{List};
 ghost use mathlib.Core.Path.{_≡_};
-use queue::sharing;
+use shares::sharing;
 use state::holders;
 use state::sizes::Strings;
 use state::sizes::Words;

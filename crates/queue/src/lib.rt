@@ -1,6 +1,3 @@
-// The waiting requests with their strings, and the string of the shared lock: how a request is laid, moved and wiped, and strings compared.
-pub mod leaving;
+// The waiting requests with their strings: how a request is laid and moved, and strings compared.
 pub mod requests;
 mod same;
-pub mod sharing;
-pub mod wiping;
