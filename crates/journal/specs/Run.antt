@@ -17,18 +17,8 @@ use Rattle.journal.specs.Places.{forwardAt, backwardAt}
 use Rattle.journal.specs.Prefix.{within, stopped}
 use Rattle.journal.specs.Trailer.{says-last, says-count}
 use Rattle.journal.specs.Walks.{walk, forward-all, backward-all, used-short}
-use Rattle.journal.specs.Writer.{Done, place, shut, left, newOf, appendOf, closeOf}
+use Rattle.journal.specs.Writer.{Done, place, shut, left, newOf, appendOf, closeOf, offered, kept, bytesWritten}
 use Rattle.journal.specs.declared.Kept.the-variants.{Written, NoRoom, Closed}
-
--- A run: bodies are offered one after the other.
-unfoldable pub offered : Done → List (List ℕ) → Done
-offered d [] = d
-offered d (b ∷ bs) = offered (appendOf (d .words) (d .book) b) bs
-
--- Of these the ones that fit, behind the entries that are there. One left out does not stop a later, smaller one.
-unfoldable pub kept : ℕ → List (List ℕ) → List (List ℕ) → List (List ℕ)
-kept size there [] = there
-kept size there (b ∷ bs) = kept size (choose (leb (length (entry b) + 12) (size - length (entries there))) (there ++ (b ∷ [])) there) bs
 
 module _ (size : ℕ) (there : List (List ℕ)) (d : Done) (b : List ℕ) (bs : List (List ℕ)) (e : size ≡ min (length (d .book)) reach)
     (o : Holds there (d .words) (d .book)) (f : Fine b)
@@ -63,10 +53,6 @@ pub open-run : (words book : List ℕ) (bs : List (List ℕ)) → 12 ≤ left bo
     → (let d : Done = offered (newOf words book) bs in Holds (kept (min (length book) reach) [] bs) (d .words) (d .book))
 open-run words book bs h f =
     from bs (min (length book) reach) [] (newOf words book) (ap (λ (n : ℕ). min n reach) (sym (new-length words book))) (new-holds words book h .1) f
-
--- just the bytes written
-abbrev pub bytesWritten : Done → List ℕ
-bytesWritten done = take (place (done .words)) (done .book)
 
 -- What the host may count on after a run that kept bs: the closing was written; the bytes written are the closed journal of these
 -- entries; its last eight say where the last one begins and how many there are; the readers, from place to place, find them, the second

@@ -1,11 +1,11 @@
 -- What the writer does, for any bits in its words. Assumes nothing.
 use mathlib.Core.Path.{_≡_}
-use mathlib.Core.List.{List, [], _∷_}
+use mathlib.Core.List.{List, [], _∷_, _++_}
 use Prim.Native.Nat.{ℕ, _+_, _-_, _%_, _^_, min}
 use lib.Dec.{eqb, leb}
-use lib.ListN.{length, getD}
+use lib.ListN.{length, getD, take}
 use Rattle.wire.specs.Splice.{splice}
-use Rattle.journal.specs.Journal.{choose, entry, closing, reach}
+use Rattle.journal.specs.Journal.{choose, entry, entries, closing, reach}
 use Rattle.journal.specs.declared.Kept.{Kept}
 use Rattle.journal.specs.declared.Kept.the-variants.{Written, NoRoom, Closed}
 
@@ -71,3 +71,17 @@ pub record Met (D : Done) (r : Kept) (w b : List ℕ) : Type 0 where
   pub answer : r ≡ D .answer
   pub words : w ≡ D .words
   pub book : b ≡ D .book
+
+-- A run: bodies are offered one after the other.
+unfoldable pub offered : Done → List (List ℕ) → Done
+offered d [] = d
+offered d (b ∷ bs) = offered (appendOf (d .words) (d .book) b) bs
+
+-- Of these the ones that fit, behind the entries that are there. One left out does not stop a later, smaller one.
+unfoldable pub kept : ℕ → List (List ℕ) → List (List ℕ) → List (List ℕ)
+kept size there [] = there
+kept size there (b ∷ bs) = kept size (choose (leb (length (entry b) + 12) (size - length (entries there))) (there ++ (b ∷ [])) there) bs
+
+-- just the bytes written
+abbrev pub bytesWritten : Done → List ℕ
+bytesWritten done = take (place (done .words)) (done .book)

@@ -14,15 +14,16 @@ use Rattle.journal.specs.Journal.{choose, entry, entries, closedJournal, lastOf
 use Rattle.journal.specs.Bytes.{yes-is}
 use Rattle.journal.specs.Entry.{length-closing}
 use Rattle.journal.specs.Backward.{entries-append, entries-last}
-use Rattle.journal.specs.Writer.{Done, newOf, closeOf, left}
+use Rattle.journal.specs.Writer.{Done, newOf, closeOf, left, offered, kept, bytesWritten}
 use Rattle.journal.specs.Holds.{Holds}
-use Rattle.journal.specs.Run.{offered, kept, bytesWritten, open-run}
+use Rattle.journal.specs.Run.{open-run}
 use Rattle.record.specs.Layout.{bodyBytes}
 use Rattle.verifier.specs.Judge.{Fault, Verdict, accepted, wrong, first, stops, placeOf, judge}
 use Rattle.verifier.specs.Feed.{reading, feedPieces, finish, joined}
 use Rattle.verifier.specs.Pieces.{pieces-judge}
 use Rattle.verifier.specs.Right.{Right}
-use Rattle.verifier.specs.Verdict.{after, Accepted, accepted-is, closed-accepted, writer-accepted, Named, wrong-is, stopped-is}
+use Rattle.verifier.specs.Naming.{after, Named}
+use Rattle.verifier.specs.Verdict.{Accepted, accepted-is, closed-accepted, writer-accepted, wrong-is, stopped-is}
 use Rattle.model.specs.State.{Making, Server, fresh}
 use Rattle.model.specs.Interface.{Event, Event.answer, Reply.done}
 use Rattle.model.specs.Step.{Line, step, final, log}

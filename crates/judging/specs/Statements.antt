@@ -9,12 +9,11 @@ use lib.ListN.{length}
 use Rattle.wire.specs.Field.{Bytes}
 use Rattle.wire.specs.Frame.{frameBytes, frameOf, bytesOf}
 use Rattle.journal.specs.Journal.{closedJournal, reach}
-use Rattle.journal.specs.Writer.{newOf, closeOf}
-use Rattle.journal.specs.Run.{offered, bytesWritten}
+use Rattle.journal.specs.Writer.{newOf, closeOf, offered, bytesWritten}
 use Rattle.record.specs.Layout.{bodyBytes}
 use Rattle.verifier.specs.Judge.{Fault, accepted, wrong, first}
 use Rattle.verifier.specs.Feed.{reading, feedPieces, finish, joined}
-use Rattle.verifier.specs.Verdict.{Named}
+use Rattle.verifier.specs.Naming.{Named}
 use Rattle.model.specs.State.{Making, fresh, at, slotOfNumber}
 use Rattle.model.specs.Interface.{Event, Event.answer, Reply.done}
 use Rattle.model.specs.Step.{step, final, log, answerType}

@@ -2,6 +2,7 @@ pub mod Judge
 pub mod Feed
 pub mod Pieces
 pub mod Right
+pub mod Naming
 pub mod Places
 pub mod Verdict
 pub mod Framing

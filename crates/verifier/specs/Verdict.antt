@@ -23,12 +23,8 @@ use Rattle.verifier.specs.Judge.{stops, isBack, enough, byStep, trailerO
 use Rattle.verifier.specs.Feed.{Reading, reading, done, byNext, settle, feedByte, feed}
 use Rattle.verifier.specs.Pieces.{enough-is, at-stop, at-goes, place-entry, place-back}
 use Rattle.verifier.specs.Right.{Yields, Right, none, more}
+use Rattle.verifier.specs.Naming.{after, Named}
 use Rattle.verifier.specs.Places.{chosen, yields-step, moved, Gone, place-gone}
-
-module _ {S : Type 0} where
-  -- the place behind some entries, with the server there
-  abbrev pub after : Place S → List (List ℕ) → S → Place S
-  after p bs d = record { count = p .count + length bs; at = p .at + length (entries bs); last = lastFrom (p .at) (p .last) bs; server = d }
 
 module _ {S : Type 0} (deed : S → Event → Deed S) where
   after-none : (p : Place S) → after p [] (p .server) ≡ p
@@ -365,17 +361,7 @@ module _ {S : Type 0} (deed : S → Event → Deed S) where
       refl)
       refl)
 
-  -- Which entry a verdict names: right entries up to its number, each in turn, and the fault of the place behind them.
-  pub record Named (d : S) (book : List ℕ) (n : ℕ) (f : Fault) : Type 0 where
-    pub bodies : List (List ℕ)
-    pub rest : List ℕ
-    pub server : S
-    pub all : entries bodies ++ rest ≡ book
-    pub right : Right deed d bodies server
-    pub number : n ≡ length bodies
-    pub stopped : placeOf deed (after (first d) bodies server) rest ≡ stops (wrong n f)
-
-  pub wrong-is : (d : S) (book : List ℕ) (n : ℕ) (f : Fault) → Bytes book → judge deed d book ≡ wrong n f → Named d book n f
+  pub wrong-is : (d : S) (book : List ℕ) (n : ℕ) (f : Fault) → Bytes book → judge deed d book ≡ wrong n f → Named deed d book n f
   wrong-is d book n f y e =
       let j = subst (Judged deed (first d) book) e (judge-says deed d book y) in
       let q : Place S = after (first d) (j .bodies) (j .server) in
