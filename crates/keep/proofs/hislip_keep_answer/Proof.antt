@@ -19,119 +19,89 @@ slice-aggregate-s : tie.Need-slice-aggregate-s
 slice-aggregate-s c = simp length-take (omega (arith, c .before .least .ensures))
 
 row-requires : tie.Need-row-requires
-row-requires c κs =
-    let on = c .before .before .before .before .before .before in
-    let at-least = on .before .before .before in
-    simp length-take (omega (arith, at-least .least .ensures))
+row-requires c κs = simp length-take (omega (arith, c .before .before .before .before .before .before .before .before .before .least .ensures))
 
 add-e : tie.Need-add-e
-add-e c =
-    let on = c .before .before .before .before .before .before in
-    let at-least = on .before .before .before .before in
-    omega (arith, at-least .least .ensures)
+add-e c = omega (arith, c .before .before .before .before .before .before .before .before .before .before .least .ensures)
 
 array-share-prefix-row : tie.Need-array-share-prefix-row
 array-share-prefix-row c =
-    let at-row = c .before .before .before in
-    let on = at-row .before .before .before .before .before .before in
-    let at-least = on .before .before .before .before in
     omega (
       arith,
-      at-least .least .ensures,
-      at-row .row .ensures .0,
+      c .before .before .before .before .before .before .before .before .before .before .before .before .before .least .ensures,
+      c .before .before .before .row .ensures .0,
     )
 
 slice-aggregate-keep-entry-2 : tie.Need-slice-aggregate-keep-entry-2
-slice-aggregate-keep-entry-2 c =
-    let at-row = c .before .before .before .before in
-    let on = at-row .before .before .before .before .before .before in
-    let at-least = on .before .before .before .before in
-    simp length-take (omega (
-      arith,
-      at-least .least .ensures,
-      at-row .row .ensures .0,
-    ))
+slice-aggregate-keep-entry-2 c = simp length-take (omega (
+  arith,
+  c .before .before .before .before .before .before .before .before .before .before .before .before .before .before .least .ensures,
+  c .before .before .before .before .row .ensures .0,
+))
 
 slice-reshare-prefix-keep-entry : tie.Need-slice-reshare-prefix-keep-entry
-slice-reshare-prefix-keep-entry c =
-    let on = c .before .before .before .before .before .before in
-    let at-hislip-answer = on .before .before .before in
-    let at-least = at-hislip-answer .before .before .before .before .before in
-    let a = at-least .before .before .before .before .before .args in
+slice-reshare-prefix-keep-entry c = let a = c .before .before .before .before .before .before .before .before .before .before .before .before .before .before
+    .before .before .before .before .before .args in
     let m = memory (a .words .now) (a .strings .now) in
     let p = a .payload .now in
     let end = not (eqb (a .end) 0) in
     let sh = a .shown .now in
     let room = length (a .out .now) in
     let e : Event = answer (a .session) p end sh room in
-    let q = at-least .least .ensures in
-    let g = answered-first (a .session) p end sh room _ q (at-hislip-answer .hislip-answer .ensures) in
+    let q = c .before .before .before .before .before .before .before .before .before .before .before .before .before .before .least .ensures in
+    let g = answered-first (a .session) p end sh room _ q (c .before .before .before .before .before .before .before .before .before .hislip-answer .ensures) in
     let t = told-answer m _ (looked e) (a .out .now) _ refl _ g in
     omega (arith, t .inside)
 
 slice-aggregate-keep-entry-3 : tie.Need-slice-aggregate-keep-entry-3
-slice-aggregate-keep-entry-3 c =
-    let on = c .before .before .before .before .before .before in
-    let at-hislip-answer = on .before .before .before .before in
-    let at-least = at-hislip-answer .before .before .before .before .before in
-    let a = at-least .before .before .before .before .before .args in
+slice-aggregate-keep-entry-3 c = let a = c .before .before .before .before .before .before .before .before .before .before .before .before .before .before
+    .before .before .before .before .before .before .args in
     let m = memory (a .words .now) (a .strings .now) in
     let p = a .payload .now in
     let end = not (eqb (a .end) 0) in
     let sh = a .shown .now in
     let room = length (a .out .now) in
     let e : Event = answer (a .session) p end sh room in
-    let q = at-least .least .ensures in
-    let g = answered-first (a .session) p end sh room _ q (at-hislip-answer .hislip-answer .ensures) in
+    let q = c .before .before .before .before .before .before .before .before .before .before .before .before .before .before .before .least .ensures in
+    let g = answered-first (a .session) p end sh room _ q (c .before .before .before .before .before .before .before .before .before .before .hislip-answer .ensures) in
     let t = told-answer m _ (looked e) (a .out .now) _ refl _ g in
     simp length-take (omega (arith, t .inside))
 
 keep-entry-requires : tie.Need-keep-entry-requires
-keep-entry-requires c κs =
-    let at-row = c .before .before .before .before .before in
-    let at-three = at-row .before in
-    let at-bit = at-three .before in
-    let at-hislip-answer = at-bit .before .before .before in
-    let at-least = at-hislip-answer .before .before .before .before .before in
-    let a = at-least .before .before .before .before .before .args in
+keep-entry-requires c κs = let a = c .before .before .before .before .before .before .before .before .before .before .before .before .before .before .before
+    .before .before .before .before .before .args in
     let m = memory (a .words .now) (a .strings .now) in
     let p = a .payload .now in
     let end = not (eqb (a .end) 0) in
     let sh = a .shown .now in
     let room = length (a .out .now) in
     let e : Event = answer (a .session) p end sh room in
-    let q = at-least .least .ensures in
-    let g = answered-first (a .session) p end sh room _ q (at-hislip-answer .hislip-answer .ensures) in
+    let q = c .before .before .before .before .before .before .before .before .before .before .before .before .before .before .before .least .ensures in
+    let g = answered-first (a .session) p end sh room _ q (c .before .before .before .before .before .before .before .before .before .before .hislip-answer .ensures) in
     let t = told-answer m _ (looked e) (a .out .now) _ refl _ g in
-    let h = at-three .three .ensures
+    let h = c .before .before .before .before .before .before .three .ensures
     ∙ ap (λ (i : ℕ). 4 ∷ (field 4 (a .session) ++ (field 1 i ++ field 4 (length p))))
-    (at-bit .bit .ensures) in
-    let r = row-is _ sh _ _ q (at-row .row .ensures .1) in
+    (c .before .before .before .before .before .before .before .bit .ensures) in
+    let r = row-is _ sh _ _ q (c .before .before .before .before .before .row .ensures .1) in
     λ z. answer-within m (a .session) p end sh room _ q _ _ _ t _ _ h r z
 
 returns : tie.Need-returns
-returns c =
-    let at-keep-entry = c .before .before in
-    let at-row = at-keep-entry .before .before .before .before .before .before in
-    let at-three = at-row .before in
-    let at-bit = at-three .before in
-    let at-hislip-answer = at-bit .before .before .before in
-    let at-least = at-hislip-answer .before .before .before .before .before in
-    let a = at-least .before .before .before .before .before .args in
+returns c = let a = c .before .before .before .before .before .before .before .before .before .before .before .before .before .before .before .before .before
+    .before .before .before .before .before .before .args in
     let m = memory (a .words .now) (a .strings .now) in
     let p = a .payload .now in
     let end = not (eqb (a .end) 0) in
     let sh = a .shown .now in
     let room = length (a .out .now) in
     let e : Event = answer (a .session) p end sh room in
-    let q = at-least .least .ensures in
-    let g = answered-first (a .session) p end sh room _ q (at-hislip-answer .hislip-answer .ensures) in
+    let q = c .before .before .before .before .before .before .before .before .before .before .before .before .before .before .before .before .before .before .least .ensures in
+    let g = answered-first (a .session) p end sh room _ q (c .before .before .before .before .before .before .before .before .before .before .before .before .before .hislip-answer .ensures) in
     let t = told-answer m _ (looked e) (a .out .now) _ refl _ g in
-    let h = at-three .three .ensures
+    let h = c .before .before .before .before .before .before .before .before .before .three .ensures
     ∙ ap (λ (i : ℕ). 4 ∷ (field 4 (a .session) ++ (field 1 i ++ field 4 (length p))))
-    (at-bit .bit .ensures) in
-    let r = row-is _ sh _ _ q (at-row .row .ensures .1) in
-    (g, body-kept m e _ _ _ t _ _ _ _ _ _ (answer-is m (a .session) p end sh room _ q _ _ _ t _ _ h r) (at-keep-entry .keep-entry .ensures))
+    (c .before .before .before .before .before .before .before .before .before .before .bit .ensures) in
+    let r = row-is _ sh _ _ q (c .before .before .before .before .before .before .before .before .row .ensures .1) in
+    (g, body-kept m e _ _ _ t _ _ _ _ _ _ (answer-is m (a .session) p end sh room _ q _ _ _ t _ _ h r) (c .before .before .keep-entry .ensures))
 
 pub hislip-keep-answer-spec : {M : Type 1} → statement M
 hislip-keep-answer-spec =

@@ -10,46 +10,35 @@ use Rattle.keep.proofs.hislip_keep_clock.Statement.{statement}
 use Rattle.keep.proofs.hislip_keep_clock.Tie as tie
 
 slice-reshare-prefix-keep-numbers : tie.Need-slice-reshare-prefix-keep-numbers
-slice-reshare-prefix-keep-numbers c =
-    let at-hislip-clock = c .before .before .before .before .before .before in
-    let a = at-hislip-clock .before .before .before .before .before .before .args in
+slice-reshare-prefix-keep-numbers c = let a = c .before .before .before .before .before .before .before .before .before .before .before .before .args in
     let m = memory (a .words .now) (a .strings .now) in
     let e : Event = clock (a .milliseconds) (length (a .out .now)) in
-    let t = told-done m _ e (a .out .now) _ refl _ (at-hislip-clock .hislip-clock .ensures) in
+    let t = told-done m _ e (a .out .now) _ refl _ (c .before .before .before .before .before .before .hislip-clock .ensures) in
     omega (arith, t .inside)
 
 slice-aggregate-keep-numbers-2 : tie.Need-slice-aggregate-keep-numbers-2
-slice-aggregate-keep-numbers-2 c =
-    let at-hislip-clock = c .before .before .before .before .before .before .before in
-    let a = at-hislip-clock .before .before .before .before .before .before .args in
+slice-aggregate-keep-numbers-2 c = let a = c .before .before .before .before .before .before .before .before .before .before .before .before .before .args in
     let m = memory (a .words .now) (a .strings .now) in
     let e : Event = clock (a .milliseconds) (length (a .out .now)) in
-    let t = told-done m _ e (a .out .now) _ refl _ (at-hislip-clock .hislip-clock .ensures) in
+    let t = told-done m _ e (a .out .now) _ refl _ (c .before .before .before .before .before .before .before .hislip-clock .ensures) in
     simp length-take (omega (arith, t .inside))
 
 keep-numbers-requires : tie.Need-keep-numbers-requires
-keep-numbers-requires c κs =
-    let at-long = c .before .before .before .before in
-    let at-hislip-clock = at-long .before .before .before in
-    let a = at-hislip-clock .before .before .before .before .before .before .args in
+keep-numbers-requires c κs = let a = c .before .before .before .before .before .before .before .before .before .before .before .before .before .args in
     let m = memory (a .words .now) (a .strings .now) in
     let e : Event = clock (a .milliseconds) (length (a .out .now)) in
-    let t = told-done m _ e (a .out .now) _ refl _ (at-hislip-clock .hislip-clock .ensures) in
-    λ z. numbers-within m e _ _ _ t _ (clock-head (a .milliseconds) (length (a .out .now)) (at-long .long .ensures)) z
+    let t = told-done m _ e (a .out .now) _ refl _ (c .before .before .before .before .before .before .before .hislip-clock .ensures) in
+    λ z. numbers-within m e _ _ _ t _ (clock-head (a .milliseconds) (length (a .out .now)) (c .before .before .before .before .long .ensures)) z
 
 returns : tie.Need-returns
-returns c =
-    let at-keep-numbers = c .before .before .before in
-    let at-long = at-keep-numbers .before .before .before .before .before in
-    let at-hislip-clock = at-long .before .before .before in
-    let a = at-hislip-clock .before .before .before .before .before .before .args in
+returns c = let a = c .before .before .before .before .before .before .before .before .before .before .before .before .before .before .before .before .before .args in
     let m = memory (a .words .now) (a .strings .now) in
     let e : Event = clock (a .milliseconds) (length (a .out .now)) in
-    let t = told-done m _ e (a .out .now) _ refl _ (at-hislip-clock .hislip-clock .ensures) in (
-      called-again (c .done .ensures .0) (at-hislip-clock .hislip-clock .ensures),
+    let t = told-done m _ e (a .out .now) _ refl _ (c .before .before .before .before .before .before .before .before .before .before .before .hislip-clock .ensures) in (
+      called-again (c .done .ensures .0) (c .before .before .before .before .before .before .before .before .before .before .before .hislip-clock .ensures),
       kept-again (c .done .ensures .1) (body-kept m e _ _ _ t _ _ _ _ _ _
           (numbers-are m e _ _ _ t _ (clock-head (a .milliseconds) (length (a .out .now))
-          (at-long .long .ensures))) (at-keep-numbers .keep-numbers .ensures)),
+          (c .before .before .before .before .before .before .before .before .long .ensures))) (c .before .before .before .keep-numbers .ensures)),
     )
 
 pub hislip-keep-clock-spec : {M : Type 1} → statement M

@@ -10,46 +10,35 @@ use Rattle.keep.proofs.hislip_keep_cut.Statement.{statement}
 use Rattle.keep.proofs.hislip_keep_cut.Tie as tie
 
 slice-reshare-prefix-keep-numbers : tie.Need-slice-reshare-prefix-keep-numbers
-slice-reshare-prefix-keep-numbers c =
-    let at-hislip-cut = c .before .before .before .before .before .before in
-    let a = at-hislip-cut .before .before .before .before .before .before .args in
+slice-reshare-prefix-keep-numbers c = let a = c .before .before .before .before .before .before .before .before .before .before .before .before .args in
     let m = memory (a .words .now) (a .strings .now) in
     let e : Event = cut (a .connection) (length (a .out .now)) in
-    let t = told-done m _ e (a .out .now) _ refl _ (at-hislip-cut .hislip-cut .ensures) in
+    let t = told-done m _ e (a .out .now) _ refl _ (c .before .before .before .before .before .before .hislip-cut .ensures) in
     omega (arith, t .inside)
 
 slice-aggregate-keep-numbers-2 : tie.Need-slice-aggregate-keep-numbers-2
-slice-aggregate-keep-numbers-2 c =
-    let at-hislip-cut = c .before .before .before .before .before .before .before in
-    let a = at-hislip-cut .before .before .before .before .before .before .args in
+slice-aggregate-keep-numbers-2 c = let a = c .before .before .before .before .before .before .before .before .before .before .before .before .before .args in
     let m = memory (a .words .now) (a .strings .now) in
     let e : Event = cut (a .connection) (length (a .out .now)) in
-    let t = told-done m _ e (a .out .now) _ refl _ (at-hislip-cut .hislip-cut .ensures) in
+    let t = told-done m _ e (a .out .now) _ refl _ (c .before .before .before .before .before .before .before .hislip-cut .ensures) in
     simp length-take (omega (arith, t .inside))
 
 keep-numbers-requires : tie.Need-keep-numbers-requires
-keep-numbers-requires c κs =
-    let at-one = c .before .before .before .before in
-    let at-hislip-cut = at-one .before .before .before in
-    let a = at-hislip-cut .before .before .before .before .before .before .args in
+keep-numbers-requires c κs = let a = c .before .before .before .before .before .before .before .before .before .before .before .before .before .args in
     let m = memory (a .words .now) (a .strings .now) in
     let e : Event = cut (a .connection) (length (a .out .now)) in
-    let t = told-done m _ e (a .out .now) _ refl _ (at-hislip-cut .hislip-cut .ensures) in
-    λ z. numbers-within m e _ _ _ t _ (cut-head (a .connection) (length (a .out .now)) (at-one .one .ensures)) z
+    let t = told-done m _ e (a .out .now) _ refl _ (c .before .before .before .before .before .before .before .hislip-cut .ensures) in
+    λ z. numbers-within m e _ _ _ t _ (cut-head (a .connection) (length (a .out .now)) (c .before .before .before .before .one .ensures)) z
 
 returns : tie.Need-returns
-returns c =
-    let at-keep-numbers = c .before .before .before in
-    let at-one = at-keep-numbers .before .before .before .before .before in
-    let at-hislip-cut = at-one .before .before .before in
-    let a = at-hislip-cut .before .before .before .before .before .before .args in
+returns c = let a = c .before .before .before .before .before .before .before .before .before .before .before .before .before .before .before .before .before .args in
     let m = memory (a .words .now) (a .strings .now) in
     let e : Event = cut (a .connection) (length (a .out .now)) in
-    let t = told-done m _ e (a .out .now) _ refl _ (at-hislip-cut .hislip-cut .ensures) in (
-      called-again (c .done .ensures .0) (at-hislip-cut .hislip-cut .ensures),
+    let t = told-done m _ e (a .out .now) _ refl _ (c .before .before .before .before .before .before .before .before .before .before .before .hislip-cut .ensures) in (
+      called-again (c .done .ensures .0) (c .before .before .before .before .before .before .before .before .before .before .before .hislip-cut .ensures),
       kept-again (c .done .ensures .1) (body-kept m e _ _ _ t _ _ _ _ _ _
           (numbers-are m e _ _ _ t _ (cut-head (a .connection) (length (a .out .now))
-          (at-one .one .ensures))) (at-keep-numbers .keep-numbers .ensures)),
+          (c .before .before .before .before .before .before .before .before .one .ensures))) (c .before .before .before .keep-numbers .ensures)),
     )
 
 pub hislip-keep-cut-spec : {M : Type 1} → statement M

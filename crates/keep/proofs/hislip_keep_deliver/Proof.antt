@@ -14,61 +14,48 @@ slice-aggregate-shown : tie.Need-slice-aggregate-shown
 slice-aggregate-shown c = simp length-take (omega (arith, c .before .least .ensures))
 
 slice-reshare-prefix-keep-delivery : tie.Need-slice-reshare-prefix-keep-delivery
-slice-reshare-prefix-keep-delivery c =
-    let at-hislip-deliver = c .before .before .before .before in
-    let at-least = at-hislip-deliver .before .before .before .before .before in
-    let a = at-least .before .before .before .before .args in
+slice-reshare-prefix-keep-delivery c = let a = c .before .before .before .before .before .before .before .before .before .before .before .before .before .args in
     let m = memory (a .words .now) (a .strings .now) in
     let bs = a .bytes .now in
     let room = length (a .out .now) in
     let e : Event = delivery (a .connection) bs room in
-    let q = at-least .least .ensures in
-    let g = delivered-first (a .connection) bs room _ q (at-hislip-deliver .hislip-deliver .ensures) in
+    let q = c .before .before .before .before .before .before .before .before .before .least .ensures in
+    let g = delivered-first (a .connection) bs room _ q (c .before .before .before .before .hislip-deliver .ensures) in
     let t = told-delivery m _ (looked e) (a .out .now) _ refl _ g in
     omega (arith, t .inside)
 
 slice-aggregate-keep-delivery : tie.Need-slice-aggregate-keep-delivery
-slice-aggregate-keep-delivery c =
-    let at-hislip-deliver = c .before .before .before .before .before in
-    let at-least = at-hislip-deliver .before .before .before .before .before in
-    let a = at-least .before .before .before .before .args in
+slice-aggregate-keep-delivery c = let a = c .before .before .before .before .before .before .before .before .before .before .before .before .before .before .args in
     let m = memory (a .words .now) (a .strings .now) in
     let bs = a .bytes .now in
     let room = length (a .out .now) in
     let e : Event = delivery (a .connection) bs room in
-    let q = at-least .least .ensures in
-    let g = delivered-first (a .connection) bs room _ q (at-hislip-deliver .hislip-deliver .ensures) in
+    let q = c .before .before .before .before .before .before .before .before .before .before .least .ensures in
+    let g = delivered-first (a .connection) bs room _ q (c .before .before .before .before .before .hislip-deliver .ensures) in
     let t = told-delivery m _ (looked e) (a .out .now) _ refl _ g in
     simp length-take (omega (arith, t .inside))
 
 keep-delivery-requires : tie.Need-keep-delivery-requires
-keep-delivery-requires c κs =
-    let at-hislip-deliver = c .before .before .before .before .before in
-    let at-least = at-hislip-deliver .before .before .before .before .before in
-    let a = at-least .before .before .before .before .args in
+keep-delivery-requires c κs = let a = c .before .before .before .before .before .before .before .before .before .before .before .before .before .before .args in
     let m = memory (a .words .now) (a .strings .now) in
     let bs = a .bytes .now in
     let room = length (a .out .now) in
     let e : Event = delivery (a .connection) bs room in
-    let q = at-least .least .ensures in
-    let g = delivered-first (a .connection) bs room _ q (at-hislip-deliver .hislip-deliver .ensures) in
+    let q = c .before .before .before .before .before .before .before .before .before .before .least .ensures in
+    let g = delivered-first (a .connection) bs room _ q (c .before .before .before .before .before .hislip-deliver .ensures) in
     let t = told-delivery m _ (looked e) (a .out .now) _ refl _ g in
     λ z. delivery-within m (a .connection) bs room _ q _ _ _ t z
 
 returns : tie.Need-returns
-returns c =
-    let at-keep-delivery = c .before .before in
-    let at-hislip-deliver = at-keep-delivery .before .before .before .before .before .before in
-    let at-least = at-hislip-deliver .before .before .before .before .before in
-    let a = at-least .before .before .before .before .args in
+returns c = let a = c .before .before .before .before .before .before .before .before .before .before .before .before .before .before .before .before .before .args in
     let m = memory (a .words .now) (a .strings .now) in
     let bs = a .bytes .now in
     let room = length (a .out .now) in
     let e : Event = delivery (a .connection) bs room in
-    let q = at-least .least .ensures in
-    let g = delivered-first (a .connection) bs room _ q (at-hislip-deliver .hislip-deliver .ensures) in
+    let q = c .before .before .before .before .before .before .before .before .before .before .before .before .before .least .ensures in
+    let g = delivered-first (a .connection) bs room _ q (c .before .before .before .before .before .before .before .before .hislip-deliver .ensures) in
     let t = told-delivery m _ (looked e) (a .out .now) _ refl _ g in
-    (g, body-kept m e _ _ _ t _ _ _ _ _ _ (delivery-is m (a .connection) bs room _ q _ _ _ t) (at-keep-delivery .keep-delivery .ensures))
+    (g, body-kept m e _ _ _ t _ _ _ _ _ _ (delivery-is m (a .connection) bs room _ q _ _ _ t) (c .before .before .keep-delivery .ensures))
 
 pub hislip-keep-deliver-spec : {M : Type 1} → statement M
 hislip-keep-deliver-spec =

@@ -36,9 +36,7 @@ portion-requires : tie.Need-portion-requires Inv-loop μ-loop
 portion-requires c κs = let l = c .before .before .before .before .loop in may-ask (l .s) (l .buf) (l .inv .1 .sound) (c .before .if1 .left)
 
 add-e : tie.Need-add-e Inv-loop μ-loop
-add-e c =
-    let on = c .before .before .before .before .before .before in
-    omega (arith, c .portion .ensures, on .before .before .before .good .1 .1 .1 .1 .1 .0)
+add-e c = omega (arith, c .portion .ensures, c .before .before .before .before .before .before .before .before .before .good .1 .1 .1 .1 .1 .0)
 
 sub-turn : tie.Need-sub-turn Inv-loop μ-loop
 sub-turn c = omega (arith, c .before .before .before .before .portion .ensures)
@@ -47,61 +45,41 @@ part-turn-start : tie.Need-part-turn-start Inv-loop μ-loop
 part-turn-start c = omega (arith, c .before .before .before .before .portion .ensures)
 
 part-turn-end : tie.Need-part-turn-end Inv-loop μ-loop
-part-turn-end c =
-    let at-portion = c .before .before .before .before in
-    let at-loop-test = at-portion .before .before .before .before in
-    omega (arith, at-portion .portion .ensures, at-loop-test .loop-test .taken)
+part-turn-end c = omega (arith, c .before .before .before .before .portion .ensures, c .before .before .before .before .before .before .before .before .loop-test .taken)
 
 turn-requires : tie.Need-turn-requires Inv-loop μ-loop
-turn-requires c κs =
-    let at-portion = c .before .before .before .before .before in
-    let at-if1 = at-portion .before .before in
-    let at-loop-test = at-if1 .before .before in
-    let at-loop = at-loop-test .before in
-    let l = at-loop .loop in
-    turn-ready _ _ _ _ _ _ _ (l .i) (l .inv .1) (at-loop-test .loop-test .taken)
-    (at-if1 .if1 .left) (at-portion .portion .result) _
-    (at-portion .portion .ensures) refl (l .out)
-    (at-loop .before .before .before .before .pre .1)
-    (l .inv .2 ∙ at-loop .before .before .before .before .pre .2)
+turn-requires c κs = let l = c .before .before .before .before .before .before .before .before .before .before .loop in
+    turn-ready _ _ _ _ _ _ _ (l .i) (l .inv .1) (c .before .before .before .before .before .before .before .before .before .loop-test .taken)
+    (c .before .before .before .before .before .before .before .if1 .left) (c .before .before .before .before .before .portion .result) _
+    (c .before .before .before .before .before .portion .ensures) refl (l .out)
+    (c .before .before .before .before .before .before .before .before .before .before .before .before .before .before .pre .1)
+    (l .inv .2 ∙ c .before .before .before .before .before .before .before .before .before .before .before .before .before .before .pre .2)
 
 loop-less : tie.Need-loop-less Inv-loop μ-loop
-loop-less c =
-    let on = c .before .before .before .before .before .before in
-    let at-portion = on .before .before .before .before in
-    let at-if1 = at-portion .before .before in
-    let at-loop-test = at-if1 .before .before in
-    let at-loop = at-loop-test .before in
-    let l = at-loop .loop in let f =
+loop-less c = let l = c .before .before .before .before .before .before .before .before .before .before .before .before .before .before .before .loop in let f =
     further _ _ _ _ _ _ _ (l .i) (l .inv .1)
-    (at-loop-test .loop-test .taken)
-    (at-if1 .if1 .left)
-    (at-portion .portion .result) _
-    (at-portion .portion .ensures) refl in omega (arith, f)
+    (c .before .before .before .before .before .before .before .before .before .before .before .before .before .before .loop-test .taken)
+    (c .before .before .before .before .before .before .before .before .before .before .before .before .if1 .left)
+    (c .before .before .before .before .before .before .before .before .before .before .portion .result) _
+    (c .before .before .before .before .before .before .before .before .before .before .portion .ensures) refl in omega (arith, f)
 
 loop-again : tie.Need-loop-again Inv-loop μ-loop
-loop-again c =
-    let at-turn = c .before .before .before .before in
-    let at-portion = at-turn .before .before .before .before .before .before in
-    let at-if1 = at-portion .before .before in
-    let at-loop-test = at-if1 .before .before in
-    let at-loop = at-loop-test .before in
-    let l = at-loop .loop in
+loop-again c = let l = c .before .before .before .before .before .before .before .before .before .before .before .before .before .before .before .loop in
     let f = further _ _ _ _ _ _ _ (l .i) (l .inv .1)
-    (at-loop-test .loop-test .taken)
-    (at-if1 .if1 .left)
-    (at-portion .portion .result) _
-    (at-portion .portion .ensures) refl in (
+    (c .before .before .before .before .before .before .before .before .before .before .before .before .before .before .loop-test .taken)
+    (c .before .before .before .before .before .before .before .before .before .before .before .before .if1 .left)
+    (c .before .before .before .before .before .before .before .before .before .before .portion .result) _
+    (c .before .before .before .before .before .before .before .before .before .before .portion .ensures) refl in (
       f .1,
       fed-more _ _ _ _ _ _ _ (l .i) (l .inv .1)
-          (at-loop-test .loop-test .taken)
-          (at-if1 .if1 .left)
-          (at-portion .portion .result) _
-          (at-portion .portion .ensures) refl _ _ _
-          (at-turn .turn .ensures),
-      at-turn .turn .kept .1 .1 .1 .1 .0
+          (c .before .before .before .before .before .before .before .before .before .before .before .before .before .before .loop-test .taken)
+          (c .before .before .before .before .before .before .before .before .before .before .before .before .if1 .left)
+          (c .before .before .before .before .before .before .before .before .before .before .portion .result) _
+          (c .before .before .before .before .before .before .before .before .before .before .portion .ensures) refl _ _ _
+          (c .before .before .before .before .turn .ensures),
+      c .before .before .before .before .turn .kept .1 .1 .1 .1 .0
           ∙ l .inv .2,
-      at-turn .turn .kept .1 .0 ∙ l .inv .3,
+      c .before .before .before .before .turn .kept .1 .0 ∙ l .inv .3,
     )
 
 same-length-3 : tie.Need-same-length-3 Inv-loop μ-loop

@@ -13,64 +13,50 @@ feed-requires c κs = let a = c .before .before .before .before .args in let p =
 
 returns : tie.Need-returns
 returns c =
-    let at-feed = c .before .before .before in
-    let a = at-feed .before .before .before .before .before .args in
-    let p = at-feed .before .before .before .before .before .pre in
-    more-turn (a .r) _ (a .buf .now) _ _ (memory (a .words .now) (a .strings .now)) (a .bytes .now) (p .0) (p .1) (p .2) (p .3) (at-feed .feed .ensures) (c .if1 .taken) refl
+    let a = c .before .before .before .before .before .before .before .before .args in
+    let p = c .before .before .before .before .before .before .before .before .pre in
+    more-turn (a .r) _ (a .buf .now) _ _ (memory (a .words .now) (a .strings .now)) (a .bytes .now) (p .0) (p .1) (p .2) (p .3) (c .before .before .before .feed .ensures) (c .if1 .taken) refl
 
 returns-2 : tie.Need-returns-2
 returns-2 c =
-    let at-if1 = c .before .before in
-    let at-feed = at-if1 .before .before .before in
-    let a = at-feed .before .before .before .before .before .args in
-    let p = at-feed .before .before .before .before .before .pre in
+    let a = c .before .before .before .before .before .before .before .before .before .before .args in
+    let p = c .before .before .before .before .before .before .before .before .before .before .pre in
     fault-turn (a .r) _ (a .buf .now) _ _ (memory (a .words .now) (a .strings .now)) (a .bytes .now) (p .0) (p .1) (p .2) (p .3)
-    (at-feed .feed .ensures) (at-if1 .if1 .left) (c .before .if2 .taken) (c .failed .ensures)
+    (c .before .before .before .before .before .feed .ensures) (c .before .before .if1 .left) (c .before .if2 .taken) (c .failed .ensures)
 
 sub-replay-part : tie.Need-sub-replay-part
 sub-replay-part c =
-    let at-if2 = c .before .before .before .before in
-    let at-feed = at-if2 .before .before .before .before in
-    let a = at-feed .before .before .before .before .before .args in
-    let p = at-feed .before .before .before .before .before .pre in
+    let a = c .before .before .before .before .before .before .before .before .before .before .before .before .before .args in
+    let p = c .before .before .before .before .before .before .before .before .before .before .before .before .before .pre in
     let w = whole-room (a .r) (a .r) (a .buf .now) _ _ (memory (a .words .now) (a .strings .now)) (a .bytes .now) (p .0) (p .1) (p .2) (p .3)
-    (at-feed .feed .ensures) (at-if2 .if2 .left) in
+    (c .before .before .before .before .before .before .before .before .feed .ensures) (c .before .before .before .before .if2 .left) in
     omega (arith, w .0)
 
 replay-part-requires : tie.Need-replay-part-requires
 replay-part-requires c κs =
-    let at-if2 = c .before .before .before .before in
-    let at-feed = at-if2 .before .before .before .before in
-    let a = at-feed .before .before .before .before .before .args in
-    let p = at-feed .before .before .before .before .before .pre in
+    let a = c .before .before .before .before .before .before .before .before .before .before .before .before .before .args in
+    let p = c .before .before .before .before .before .before .before .before .before .before .before .before .before .pre in
     let w = whole-room (a .r) (a .r) (a .buf .now) _ _ (memory (a .words .now) (a .strings .now)) (a .bytes .now) (p .0) (p .1) (p .2) (p .3)
-    (at-feed .feed .ensures) (at-if2 .if2 .left) in
+    (c .before .before .before .before .before .before .before .before .feed .ensures) (c .before .before .before .before .if2 .left) in
     (omega (arith, w .0), omega (arith, w .1), p .5)
 
 returns-3 : tie.Need-returns-3
 returns-3 c =
-    let at-replay-part = c .before .before .before .before in
-    let at-if2 = at-replay-part .before .before .before .before .before in
-    let at-feed = at-if2 .before .before .before .before in
-    let a = at-feed .before .before .before .before .before .args in
-    let p = at-feed .before .before .before .before .before .pre in
+    let a = c .before .before .before .before .before .before .before .before .before .before .before .before .before .before .before .before .before .before .args in
+    let p = c .before .before .before .before .before .before .before .before .before .before .before .before .before .before .before .before .before .before .pre in
     wrong-turn (a .r) _ (a .buf .now) _ _ (memory (a .words .now) (a .strings .now)) _ _ _ (a .bytes .now) (p .0) (p .1) (p .2) (p .3)
-    (at-feed .feed .ensures)
-    (at-if2 .if2 .left) refl (at-replay-part .replay-part .ensures)
+    (c .before .before .before .before .before .before .before .before .before .before .before .before .before .feed .ensures)
+    (c .before .before .before .before .before .before .before .before .before .if2 .left) refl (c .before .before .before .before .replay-part .ensures)
     (c .before .if3 .taken) (c .failed2 .ensures)
 
 returns-4 : tie.Need-returns-4
 returns-4 c =
-    let at-if3 = c .before .before in
-    let at-replay-part = at-if3 .before .before .before in
-    let at-if2 = at-replay-part .before .before .before .before .before in
-    let at-feed = at-if2 .before .before .before .before in
-    let a = at-feed .before .before .before .before .before .args in
-    let p = at-feed .before .before .before .before .before .pre in
+    let a = c .before .before .before .before .before .before .before .before .before .before .before .before .before .before .before .before .before .before .before .args in
+    let p = c .before .before .before .before .before .before .before .before .before .before .before .before .before .before .before .before .before .before .before .pre in
     pass-turn (a .r) _ (a .buf .now) _ _ (memory (a .words .now) (a .strings .now)) _ _ _ (a .bytes .now) (p .0) (p .1) (p .2) (p .3)
-    (at-feed .feed .ensures)
-    (at-if2 .if2 .left) refl
-    (at-replay-part .replay-part .ensures) (at-if3 .if3 .left) refl
+    (c .before .before .before .before .before .before .before .before .before .before .before .before .before .before .feed .ensures)
+    (c .before .before .before .before .before .before .before .before .before .before .if2 .left) refl
+    (c .before .before .before .before .before .replay-part .ensures) (c .before .before .if3 .left) refl
 
 pub turn-spec : {M : Type 1} → statement M
 turn-spec =

@@ -53,47 +53,34 @@ returns-4 c = let w = c .before .before .before .before .before .before .args .w
     (λ s. refused-long (view (memory w s)) i n (l s) (k s) (c .if4 .taken), λ e. absurd (omega arith))
 
 returns-5 : tie.Need-returns-5
-returns-5 c =
-    let at-if4 = c .before .before in
-    let at-if3 = at-if4 .before in
-    let at-may-answer = at-if3 .before in
-    let at-if2 = at-may-answer .before in
-    let at-entry = at-if2 .before in
-    let w = at-entry .before .before .args .words .now in
-    let i = at-entry .before .before .args .i in
-    let n = at-entry .before .before .args .n in
+returns-5 c = let w = c .before .before .before .before .before .before .before .before .args .words .now in
+    let i = c .before .before .before .before .before .before .before .before .args .i in
+    let n = c .before .before .before .before .before .before .before .before .args .n in
     let l : (s : List ℕ) → live (at (locksOf w s .entries) i) ≡ true =
-    λ s. is-live (at (locksOf w s .entries) i) (at-entry .entry .result)
-    (number-read (at (locksOf w s .entries) i) (at-entry .entry .result)
-    (at-entry .entry .ensures .0 s)) (at-if2 .if2 .left) in
+    λ s. is-live (at (locksOf w s .entries) i) (c .before .before .before .before .before .before .entry .result)
+    (number-read (at (locksOf w s .entries) i) (c .before .before .before .before .before .before .entry .result)
+    (c .before .before .before .before .before .before .entry .ensures .0 s)) (c .before .before .before .before .before .if2 .left) in
     let k : (s : List ℕ) → mayAnswer (at (locksOf w s .entries) i) (exchangeAt (restOf w) i) ≡ true =
-    λ s. at-may-answer .may-answer .ensures s
-    ∙ not-false (at-may-answer .may-answer .result) (at-if3 .if3 .left) in
+    λ s. c .before .before .before .before .may-answer .ensures s
+    ∙ not-false (c .before .before .before .before .may-answer .result) (c .before .before .before .if3 .left) in
     let z : c .before .exchange .result ≡ (exchangeAt (restOf w) i) .clientSize = size-read (exchangeAt (restOf w) i) (c .before .exchange .result) (c .before .exchange .ensures .0) in
-    (λ s. refused-over (view (memory w s)) i n (l s) (k s) (at-if4 .if4 .left) (omega arith), λ e. absurd (omega arith))
+    (λ s. refused-over (view (memory w s)) i n (l s) (k s) (c .before .before .if4 .left) (omega arith), λ e. absurd (omega arith))
 
 returns-6 : tie.Need-returns-6
-returns-6 c =
-    let at-if4 = c .before .before in
-    let at-if3 = at-if4 .before in
-    let at-may-answer = at-if3 .before in
-    let at-if2 = at-may-answer .before in
-    let at-entry = at-if2 .before in
-    let at-if1 = at-entry .before in
-    let w = at-if1 .before .args .words .now in
-    let i = at-if1 .before .args .i in
-    let n = at-if1 .before .args .n in
+returns-6 c = let w = c .before .before .before .before .before .before .before .before .args .words .now in
+    let i = c .before .before .before .before .before .before .before .before .args .i in
+    let n = c .before .before .before .before .before .before .before .before .args .n in
     let l : (s : List ℕ) → live (at (locksOf w s .entries) i) ≡ true =
-    λ s. is-live (at (locksOf w s .entries) i) (at-entry .entry .result)
-    (number-read (at (locksOf w s .entries) i) (at-entry .entry .result)
-    (at-entry .entry .ensures .0 s)) (at-if2 .if2 .left) in
+    λ s. is-live (at (locksOf w s .entries) i) (c .before .before .before .before .before .before .entry .result)
+    (number-read (at (locksOf w s .entries) i) (c .before .before .before .before .before .before .entry .result)
+    (c .before .before .before .before .before .before .entry .ensures .0 s)) (c .before .before .before .before .before .if2 .left) in
     let k : (s : List ℕ) → mayAnswer (at (locksOf w s .entries) i) (exchangeAt (restOf w) i) ≡ true =
-    λ s. at-may-answer .may-answer .ensures s
-    ∙ not-false (at-may-answer .may-answer .result) (at-if3 .if3 .left) in
+    λ s. c .before .before .before .before .may-answer .ensures s
+    ∙ not-false (c .before .before .before .before .may-answer .result) (c .before .before .before .if3 .left) in
     let z : c .before .exchange .result ≡ (exchangeAt (restOf w) i) .clientSize = size-read (exchangeAt (restOf w) i) (c .before .exchange .result) (c .before .exchange .ensures .0) in (
-      λ s. not-refused (view (memory w s)) i n (l s) (k s) (at-if4 .if4 .left) (omega arith),
+      λ s. not-refused (view (memory w s)) i n (l s) (k s) (c .before .before .if4 .left) (omega arith),
       λ e.
-          (at-if1 .if1 .left, at-if4 .if4 .left),
+          (c .before .before .before .before .before .before .before .if1 .left, c .before .before .if4 .left),
     )
 
 pub answer-refusal-spec : {M : Type 1} → statement M

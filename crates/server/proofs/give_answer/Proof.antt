@@ -12,39 +12,28 @@ use Rattle.server.proofs.give_answer.Tie as tie
 
 -- a whole header is shown
 withhold-requires : tie.Need-withhold-requires
-withhold-requires c κs =
-    let at-if1 = c .before .before in
-    let at-withholds = at-if1 .before in
-    let a = at-withholds .before .before .before .before .before .args in
+withhold-requires c κs = let a = c .before .before .before .before .before .before .before .before .args in
     let h : 16 ≤ length (a .shown .now) = header-shown (view (memory (a .words .now) [])) (a .i) (a .«end») (a .shown .now)
-    (at-withholds .withholds .ensures [] ∙ at-if1 .if1 .taken) in
+    (c .before .before .before .withholds .ensures [] ∙ c .before .before .if1 .taken) in
     search (needs, h)
 
 returns : tie.Need-returns
-returns c =
-    let at-withhold = c .before .before .before in
-    let at-if1 = at-withhold .before .before .before in
-    let at-withholds = at-if1 .before in
-    let a = at-withholds .before .before .before .before .before .args in (
-      λ s. gives-withheld (view (memory (a .words .now) s)) (a .i) (a .«end») (a .payload .now) (a .shown .now) _ _ _ _
-          (at-withhold .withhold .result) (at-withholds .withholds .ensures s
-          ∙ at-if1 .if1 .taken)
-          (at-withhold .withhold .ensures .0 s) (c .replied .ensures),
-      at-withhold .withhold .ensures .1,
-    )
+returns c = let a = c .before .before .before .before .before .before .before .before .before .before .before .before .args in (
+  λ s. gives-withheld (view (memory (a .words .now) s)) (a .i) (a .«end») (a .payload .now) (a .shown .now) _ _ _ _
+      (c .before .before .before .withhold .result) (c .before .before .before .before .before .before .before .withholds .ensures s
+      ∙ c .before .before .before .before .before .before .if1 .taken)
+      (c .before .before .before .withhold .ensures .0 s) (c .replied .ensures),
+  c .before .before .before .withhold .ensures .1,
+)
 
 returns-2 : tie.Need-returns-2
-returns-2 c =
-    let at-send-readings = c .before .before .before in
-    let at-if1 = at-send-readings .before .before .before in
-    let at-withholds = at-if1 .before in
-    let a = at-withholds .before .before .before .before .before .args in (
-      λ s. gives-sent (view (memory (a .words .now) s)) (a .i) (a .«end») (a .payload .now) (a .shown .now) _ _ _ _
-          (at-send-readings .send-readings .result) (at-withholds .withholds .ensures s
-          ∙ at-if1 .if1 .left)
-          (at-send-readings .send-readings .ensures .0 s) (c .replied2 .ensures),
-      at-send-readings .send-readings .ensures .1,
-    )
+returns-2 c = let a = c .before .before .before .before .before .before .before .before .before .before .before .before .args in (
+  λ s. gives-sent (view (memory (a .words .now) s)) (a .i) (a .«end») (a .payload .now) (a .shown .now) _ _ _ _
+      (c .before .before .before .send-readings .result) (c .before .before .before .before .before .before .before .withholds .ensures s
+      ∙ c .before .before .before .before .before .before .if1 .left)
+      (c .before .before .before .send-readings .ensures .0 s) (c .replied2 .ensures),
+  c .before .before .before .send-readings .ensures .1,
+)
 
 pub give-answer-spec : {M : Type 1} → statement M
 give-answer-spec =

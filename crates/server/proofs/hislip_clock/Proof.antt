@@ -42,23 +42,18 @@ returns-3 c = let a = c .before .before .before .before .before .before .before 
     (omega arith)) (c .told3 .ensures)
 
 returns-4 : tie.Need-returns-4
-returns-4 c =
-    let at-expire = c .before .before .before in
-    let at-clock = at-expire .before .before .before .before .before in
-    let at-if2 = at-clock .before .before in
-    let at-if1 = at-if2 .before in
-    let a = at-if1 .before .before .args in
+returns-4 c = let a = c .before .before .before .before .before .before .before .before .before .before .before .before .before .args in
     let s = a .strings .now in
     let m = memory (a .words .now) s in
     let d = view m in
     let out = a .out .now in
     let room = length out in
-    let e : at-clock .clock .result ≡ d .locks .clock =
-    at-clock .clock .ensures .1 s in
-    clock-call (a .milliseconds) room _ m _ out _ (at-expire .expire .result)
-    (clock-taken d (a .milliseconds) room (at-if1 .if1 .left)
-    (at-if2 .if2 .left) (omega arith))
-    (at-expire .expire .ensures) (c .told4 .ensures)
+    let e : c .before .before .before .before .before .before .before .before .clock .result ≡ d .locks .clock =
+    c .before .before .before .before .before .before .before .before .clock .ensures .1 s in
+    clock-call (a .milliseconds) room _ m _ out _ (c .before .before .before .expire .result)
+    (clock-taken d (a .milliseconds) room (c .before .before .before .before .before .before .before .before .before .before .before .if1 .left)
+    (c .before .before .before .before .before .before .before .before .before .before .if2 .left) (omega arith))
+    (c .before .before .before .expire .ensures) (c .told4 .ensures)
 
 pub hislip-clock-spec : {M : Type 1} → statement M
 hislip-clock-spec =

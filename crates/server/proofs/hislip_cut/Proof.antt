@@ -44,25 +44,19 @@ returns-3 c = let a = c .before .before .before .before .before .before .before 
     (c .before .before .is-open .ensures ∙ not-true _ (c .before .if3 .taken))) (c .told3 .ensures)
 
 returns-4 : tie.Need-returns-4
-returns-4 c =
-    let at-close-place = c .before .before .before in
-    let at-place-of = at-close-place .before .before .before .before in
-    let at-if3 = at-place-of .before .before in
-    let at-is-open = at-if3 .before in
-    let at-if1 = at-is-open .before .before .before in
-    let a = at-if1 .before .before .args in
+returns-4 c = let a = c .before .before .before .before .before .before .before .before .before .before .before .before .before .before .before .args in
     let s = a .strings .now in
     let m = memory (a .words .now) s in
     let d = view m in
     let out = a .out .now in
     let room = length out in
-    cut-call (a .connection) (at-place-of .place-of .result .slot) room _ m _ out _
-    (at-close-place .close-place .result) (is-open d (cut (a .connection) room) room (a .connection) (cut-causes d room (a .connection))
-    (at-if1 .if1 .left) (omega arith)
-    (at-is-open .is-open .ensures
-    ∙ not-false _ (at-if3 .if3 .left)))
-    (at-place-of .place-of .ensures .1 s) (at-close-place .close-place .ensures .0)
-    (c .told4 .ensures) (at-close-place .close-place .ensures .1)
+    cut-call (a .connection) (c .before .before .before .before .before .before .before .place-of .result .slot) room _ m _ out _
+    (c .before .before .before .close-place .result) (is-open d (cut (a .connection) room) room (a .connection) (cut-causes d room (a .connection))
+    (c .before .before .before .before .before .before .before .before .before .before .before .before .before .if1 .left) (omega arith)
+    (c .before .before .before .before .before .before .before .before .before .before .is-open .ensures
+    ∙ not-false _ (c .before .before .before .before .before .before .before .before .before .if3 .left)))
+    (c .before .before .before .before .before .before .before .place-of .ensures .1 s) (c .before .before .before .close-place .ensures .0)
+    (c .told4 .ensures) (c .before .before .before .close-place .ensures .1)
 
 pub hislip-cut-spec : {M : Type 1} → statement M
 hislip-cut-spec =

@@ -47,10 +47,7 @@ same-length-3 : tie.Need-same-length-3 Inv-loop μ-loop
 same-length-3 c = search needs
 
 returns : tie.Need-returns Inv-loop μ-loop
-returns c =
-    let on = c .before .before .before .before .before .before in
-    let at-loop = on .before .before in
-    let l = at-loop .loop in not-read _ _ _ _ _ (l .inv .3) _ (c .unread .ensures)
+returns c = let l = c .before .before .before .before .before .before .before .before .loop in not-read _ _ _ _ _ (l .inv .3) _ (c .unread .ensures)
 
 count-requires : tie.Need-count-requires Inv-loop μ-loop
 count-requires c κs = search needs
@@ -65,10 +62,7 @@ same-length-6 : tie.Need-same-length-6 Inv-loop μ-loop
 same-length-6 c = search needs
 
 returns-2 : tie.Need-returns-2 Inv-loop μ-loop
-returns-2 c =
-    let on = c .before .before .before .before .before .before in
-    let at-loop = on .before .before .before in
-    let l = at-loop .loop in stopped _ _ _ _ _ (l .inv .3)
+returns-2 c = let l = c .before .before .before .before .before .before .before .before .before .loop in stopped _ _ _ _ _ (l .inv .3)
 
 slice-reshare-prefix-feed : tie.Need-slice-reshare-prefix-feed Inv-loop μ-loop
 slice-reshare-prefix-feed c = search needs
@@ -77,25 +71,22 @@ slice-aggregate-feed : tie.Need-slice-aggregate-feed Inv-loop μ-loop
 slice-aggregate-feed c = search needs
 
 feed-requires : tie.Need-feed-requires Inv-loop μ-loop
-feed-requires c κs =
-    let at-count = c .before .before .before .before .before .before in
-    let at-read = at-count .before .before .before .before .before in
-    let at-loop-test = at-read .before .before in
-    let at-loop = at-loop-test .before in
-    let l = at-loop .loop in
+feed-requires c κs = let l = c .before .before .before .before .before .before .before .before .before .before .before .before .before .before .loop in
     may-feed _ _ _ _ _ (l .inv .3)
-    (at-loop-test .loop-test .taken)
-    (take (at-count .count .result)
-    (at-read .read .last .1 .0))
-    (short-piece (at-count .count .result)
-    (at-read .read .last .1 .0)
+    (c .before .before .before .before .before .before .before .before .before .before .before .before .before .loop-test .taken)
+    (take (c .before .before .before .before .before .before .count .result)
+    (c .before .before .before .before .before .before .before .before .before .before .before .read .last .1 .0))
+    (short-piece (c .before .before .before .before .before .before .count .result)
+    (c .before .before .before .before .before .before .before .before .before .before .before .read .last .1 .0)
     (omega (
       arith,
-      at-read .read .kept .1 .0,
+      c .before .before .before .before .before .before .before .before .before .before .before .read .kept .1 .0,
       l .inv .2,
-      at-loop .before .before .before .before .before .before .pre .2,
+      c .before .before .before .before .before .before .before .before .before .before .before .before .before .before .before .before .before .before .before
+          .before .pre .2,
     ))) (l .out)
-    (l .inv .1 ∙ at-loop .before .before .before .before .before .before .pre .1)
+    (l .inv .1 ∙ c .before .before .before .before .before .before .before .before .before .before .before .before .before .before .before .before .before
+    .before .before .before .pre .1)
 
 same-length-7 : tie.Need-same-length-7 Inv-loop μ-loop
 same-length-7 c = search needs
@@ -107,25 +98,23 @@ same-length-9 : tie.Need-same-length-9 Inv-loop μ-loop
 same-length-9 c = search needs
 
 returns-3 : tie.Need-returns-3 Inv-loop μ-loop
-returns-3 c =
-    let at-feed = c .before .before .before .before .before .before in
-    let at-count = at-feed .before .before .before .before .before .before .before in
-    let at-read = at-count .before .before .before .before .before in
-    let at-loop-test = at-read .before .before in
-    let at-loop = at-loop-test .before in
-    let l = at-loop .loop in faulty _ _ _ _ _ (l .inv .3)
-    (at-loop-test .loop-test .taken)
-    (take (at-count .count .result)
-    (at-read .read
-    .last .1 .0)) (short-piece (at-count .count .result)
-    (at-read .read
+returns-3 c = let l = c .before .before .before .before .before .before .before .before .before .before .before .before .before .before .before .before .before
+    .before .before .before .before .loop in faulty _ _ _ _ _ (l .inv .3)
+    (c .before .before .before .before .before .before .before .before .before .before .before .before .before .before .before .before .before .before .before
+    .before .loop-test .taken)
+    (take (c .before .before .before .before .before .before .before .before .before .before .before .before .before .count .result)
+    (c .before .before .before .before .before .before .before .before .before .before .before .before .before .before .before .before .before .before .read
+    .last .1 .0)) (short-piece (c .before .before .before .before .before .before .before .before .before .before .before .before .before .count .result)
+    (c .before .before .before .before .before .before .before .before .before .before .before .before .before .before .before .before .before .before .read
     .last .1 .0) (omega (
       arith,
-      at-read .read .kept .1 .0,
+      c .before .before .before .before .before .before .before .before .before .before .before .before .before .before .before
+          .before .before .before .read .kept .1 .0,
       l .inv .2,
-      at-loop .before .before .before .before .before .before .pre .2,
+      c .before .before .before .before .before .before .before .before .before .before .before .before
+          .before .before .before .before .before .before .before .before .before .before .before .before .before .before .before .pre .2,
     ))) _ _ _
-    (at-feed .feed .ensures)
+    (c .before .before .before .before .before .before .feed .ensures)
 
 sub-turns : tie.Need-sub-turns Inv-loop μ-loop
 sub-turns c = omega arith
@@ -134,31 +123,30 @@ loop-less : tie.Need-loop-less Inv-loop μ-loop
 loop-less c = omega arith
 
 loop-again : tie.Need-loop-again Inv-loop μ-loop
-loop-again c =
-    let at-feed = c .before .before .before .before .before .before in
-    let at-count = at-feed .before .before .before .before .before .before .before in
-    let at-read = at-count .before .before .before .before .before in
-    let at-loop-test = at-read .before .before in
-    let at-loop = at-loop-test .before in
-    let l = at-loop .loop in (
-      at-feed .feed .kept .1 .0
+loop-again c = let l = c .before .before .before .before .before .before .before .before .before .before .before .before .before .before .before .before .before
+    .before .before .before .before .loop in (
+      c .before .before .before .before .before .before .feed .kept .1 .0
           ∙ l .inv .0,
-      at-feed .feed .kept .1 .1 .1 .1 .0
+      c .before .before .before .before .before .before .feed .kept .1 .1 .1 .1 .0
           ∙ l .inv .1,
-      at-read .read .kept .1 .0 ∙ l .inv .2,
+      c .before .before .before .before .before .before .before .before .before .before .before .before .before .before .before .before .before
+          .before .read .kept .1 .0 ∙ l .inv .2,
       on _ _ _ _ _ (l .inv .3)
-          (at-loop-test .loop-test .taken)
-          (take (at-count .count .result)
-          (at-read .read
-          .last .1 .0)) (short-piece (at-count .count .result)
-          (at-read .read
+          (c .before .before .before .before .before .before .before .before .before .before .before .before .before .before .before .before .before .before .before
+          .before .loop-test .taken)
+          (take (c .before .before .before .before .before .before .before .before .before .before .before .before .before .count .result)
+          (c .before .before .before .before .before .before .before .before .before .before .before .before .before .before .before .before .before .before .read
+          .last .1 .0)) (short-piece (c .before .before .before .before .before .before .before .before .before .before .before .before .before .count .result)
+          (c .before .before .before .before .before .before .before .before .before .before .before .before .before .before .before .before .before .before .read
           .last .1 .0) (omega (
             arith,
-            at-read .read .kept .1 .0,
+            c .before .before .before .before .before .before .before .before .before .before .before .before .before .before .before
+                .before .before .before .read .kept .1 .0,
             l .inv .2,
-            at-loop .before .before .before .before .before .before .pre .2,
+            c .before .before .before .before .before .before .before .before .before .before .before .before
+                .before .before .before .before .before .before .before .before .before .before .before .before .before .before .before .pre .2,
           ))) _ _ _
-          (at-feed .feed .ensures) _ refl,
+          (c .before .before .before .before .before .before .feed .ensures) _ refl,
     )
 
 endless-requires : tie.Need-endless-requires Inv-loop μ-loop

@@ -23,52 +23,43 @@ deliver-fully-requires c κs =
 
 returns : tie.Need-returns
 returns c =
-    let at-deliver-fully = c .before .before in
-    let at-if1 = at-deliver-fully .before .before .before .before in
-    let a = at-if1 .before .before .before .args in
+    let a = c .before .before .before .before .before .before .before .before .before .args in
     let h = message (a .kind) (a .code) (a .param) (a .len) in
     λ ro e. of-role (view (memory (a .w .now) (a .strings .now))) (a .c) (a .i) h (a .payload .now) ro r-synchronous _ _ _ _ _
-    (role-sync ro (e ∙ at-if1 .if1 .taken)) (at-deliver-fully .deliver-fully .ensures)
+    (role-sync ro (e ∙ c .before .before .before .before .before .before .if1 .taken)) (c .before .before .deliver-fully .ensures)
 
 whole-verdict-requires : tie.Need-whole-verdict-requires
 whole-verdict-requires c κs = λ e. c .before .before .before .before .before .pre .5 (λ z. omega arith)
 
 act-requires : tie.Need-act-requires
 act-requires c κs =
-    let at-if2 = c .before .before .before in
-    let at-whole-verdict = at-if2 .before in
-    let at-if1 = at-whole-verdict .before .before .before in
-    let q = at-if1 .before .before .before .pre in
-    let v = at-whole-verdict .whole-verdict in (
+    let q = c .before .before .before .before .before .before .before .before .before .before .pre in
+    let v = c .before .before .before .before .whole-verdict in (
       search needs,
       search needs,
       q .2,
       search needs,
       q .5,
-      λ z. at-if1 .if1 .left z,
+      λ z. c .before .before .before .before .before .before .before .if1 .left z,
       λ t ro e. v .ensures t
-          ro e (λ z. absurd (at-if1 .if1 .left z)) .case
-          ∙ ap verdictOf (at-if2 .if2 .taken),
+          ro e (λ z. absurd (c .before .before .before .before .before .before .before .if1 .left z)) .case
+          ∙ ap verdictOf (c .before .before .before .if2 .taken),
       q .6,
     )
 
 returns-2 : tie.Need-returns-2
 returns-2 c =
-    let at-act = c .before .before in
-    let at-if2 = at-act .before .before .before .before in
-    let at-whole-verdict = at-if2 .before in
-    let a = at-whole-verdict .before .before .before .before .before .before .args in
-    let v = at-whole-verdict .whole-verdict in
+    let a = c .before .before .before .before .before .before .before .before .before .before .before .before .before .args in
+    let v = c .before .before .before .before .before .before .before .whole-verdict in
     let d = view (memory (a .w .now) (a .strings .now)) in
     let h = message (a .kind) (a .code) (a .param) (a .len) in
     λ ro e. acts-done d (a .c) (a .i) h (a .payload .now) ro _ _ _ _ _ (judged ro d (a .i) h (a .payload .now))
-    (v .ensures (a .strings .now) ro e (λ z. refl) .case ∙ ap verdictOf (at-if2 .if2 .taken)) (at-act .act .ensures ro e)
+    (v .ensures (a .strings .now) ro e (λ z. refl) .case ∙ ap verdictOf (c .before .before .before .before .before .before .if2 .taken)) (c .before .before .act .ensures ro e)
 
 returns-3 : tie.Need-returns-3
 returns-3 c =
-    let at-whole-verdict = c .before .before .before in
-    let a = at-whole-verdict .before .before .before .before .before .before .args in
-    let v = at-whole-verdict .whole-verdict in
+    let a = c .before .before .before .before .before .before .before .before .before .args in
+    let v = c .before .before .before .whole-verdict in
     let d = view (memory (a .w .now) (a .strings .now)) in
     let h = message (a .kind) (a .code) (a .param) (a .len) in
     let x = whole h (a .payload .now) in
@@ -76,23 +67,18 @@ returns-3 c =
     (held-done d (a .c) (a .i) x ro _ _ _ _ _ (v .result) (c .before .if3 .taken) (did-nothing 0 (took held 0 0) _ _ _ (ap numbersOf (c .quiet .ensures))))
 
 carries-requires : tie.Need-carries-requires
-carries-requires c κs =
-    let on = c .before .before .before .before .before .before in
-    λ e. on .before .before .before .pre .5 (λ z. omega arith)
+carries-requires c κs = λ e. c .before .before .before .before .before .before .before .before .before .pre .5 (λ z. omega arith)
 
 returns-4 : tie.Need-returns-4
 returns-4 c =
-    let at-apply = c .before .before in
-    let at-carries = at-apply .before .before .before .before in
-    let at-whole-verdict = at-carries .before .before .before .before in
-    let a = at-whole-verdict .before .before .before .before .before .before .args in
-    let v = at-whole-verdict .whole-verdict in
+    let a = c .before .before .before .before .before .before .before .before .before .before .before .before .before .before .before .before .args in
+    let v = c .before .before .before .before .before .before .before .before .before .before .whole-verdict in
     let d = view (memory (a .w .now) (a .strings .now)) in
     let h = message (a .kind) (a .code) (a .param) (a .len) in
     λ ro e. by-verdict d (a .c) (a .i) (whole h (a .payload .now)) ro _ _ _ _ _ (judged ro d (a .i) h (a .payload .now)) (verdictOf (v .result))
-    (v .ensures (a .strings .now) ro e (λ z. refl) .case) (at-apply .apply .ensures ro (whole h (a .payload .now)) refl refl
+    (v .ensures (a .strings .now) ro e (λ z. refl) .case) (c .before .before .apply .ensures ro (whole h (a .payload .now)) refl refl
     (moved-whole h (exchangeAt (restOf (a .w .now)) (a .i)) ro (a .payload .now) _
-    (at-carries .carries .ensures .1 ro (a .code) (a .len) e)))
+    (c .before .before .before .before .before .before .carries .ensures .1 ro (a .code) (a .len) e)))
 
 pub deliver-kind-spec : {M : Type 1} → statement M
 deliver-kind-spec =

@@ -19,18 +19,15 @@ act-lock-requires c κs = (search needs, search needs, search needs, search need
 
 returns : tie.Need-returns
 returns c =
-    let at-act-lock = c .before .before in
-    let at-if1 = at-act-lock .before .before .before .before in
-    let at-asynchronous-verdict = at-if1 .before in
-    let a = at-asynchronous-verdict .before .before .before .args in
-    let v = at-asynchronous-verdict .asynchronous-verdict in
+    let a = c .before .before .before .before .before .before .before .before .before .before .args in
+    let v = c .before .before .before .before .before .before .before .asynchronous-verdict in
     let d = view (memory (a .w .now) (a .strings .now)) in
     let h = message 4 (a .code) (a .param) (a .len) in
     let e : judged r-asynchronous d (a .i) h (a .payload .now) ≡ verdictOf (v .result) =
     judged-asynchronous d (a .i) h (a .payload .now) r-asynchronous (λ q. let z : ⊥ = omega arith in z) (λ q. let z : ⊥ = omega arith in z)
     (λ q. let z : ⊥ = omega arith in z) ∙ v .ensures (a .payload .now) (a .param) .case in
     acts-done d (a .c) (a .i) h (a .payload .now) r-asynchronous _ _ _ _ _ (judged r-asynchronous d (a .i) h (a .payload .now))
-    (e ∙ ap verdictOf (at-if1 .if1 .taken)) (at-act-lock .act-lock .ensures)
+    (e ∙ ap verdictOf (c .before .before .before .before .before .before .if1 .taken)) (c .before .before .act-lock .ensures)
 
 returns-2 : tie.Need-returns-2
 returns-2 c =
@@ -47,17 +44,15 @@ returns-2 c =
 
 returns-3 : tie.Need-returns-3
 returns-3 c =
-    let at-apply = c .before .before in
-    let at-asynchronous-verdict = at-apply .before .before .before .before .before .before in
-    let a = at-asynchronous-verdict .before .before .before .args in
-    let v = at-asynchronous-verdict .asynchronous-verdict in
+    let a = c .before .before .before .before .before .before .before .before .before .before .before .args in
+    let v = c .before .before .before .before .before .before .before .before .asynchronous-verdict in
     let d = view (memory (a .w .now) (a .strings .now)) in
     let h = message 4 (a .code) (a .param) (a .len) in
     let e : judged r-asynchronous d (a .i) h (a .payload .now) ≡ verdictOf (v .result) =
     judged-asynchronous d (a .i) h (a .payload .now) r-asynchronous (λ q. let z : ⊥ = omega arith in z) (λ q. let z : ⊥ = omega arith in z)
     (λ q. let z : ⊥ = omega arith in z) ∙ v .ensures (a .payload .now) (a .param) .case in
     by-verdict d (a .c) (a .i) (whole h (a .payload .now)) r-asynchronous _ _ _ _ _ (judged r-asynchronous d (a .i) h (a .payload .now)) (verdictOf (v .result)) e
-    (at-apply .apply .ensures r-asynchronous (whole h (a .payload .now)) refl refl refl)
+    (c .before .before .apply .ensures r-asynchronous (whole h (a .payload .now)) refl refl refl)
 
 pub deliver-lock-spec : {M : Type 1} → statement M
 deliver-lock-spec =

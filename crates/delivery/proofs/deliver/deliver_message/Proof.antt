@@ -26,31 +26,24 @@ send-fatal-requires c κs = (search needs, search needs, λ u. c .before .before
 
 returns : tie.Need-returns
 returns c =
-    let at-send-fatal = c .before .before in
-    let at-place-of = at-send-fatal .before .before .before .before in
-    let at-if1 = at-place-of .before .before in
-    let at-has-prologue = at-if1 .before in
-    let a = at-has-prologue .before .before .before .args in
+    let a = c .before .before .before .before .before .before .before .before .before .before .before .before .args in
     let s = a .strings .now in
     let bs = a .bytes .now in
     let d = view (memory (a .w .now) s) in
     let ro = roleOf (locksOf (a .w .now) s .entries) (a .c) in
-    let x = at-has-prologue .has-prologue in
-    let p = at-place-of .place-of in
+    let x = c .before .before .before .before .before .before .before .before .before .has-prologue in
+    let p = c .before .before .before .before .before .before .place-of in
     at-slot d (a .c) (p .result .slot) _ _ _ _ _ _ 0 (length bs) ro (freshScan bs) (p .ensures .1 s)
     (on-scan d (a .c) (p .result .slot) _ _ _ _ _ 0 (length bs) ro (freshScan bs) wrong
-    (scan-wrong bs (at-has-prologue .before .before .before .pre .1)
-    (sym (x .ensures) ∙ not-true (x .result) (at-if1 .if1 .taken)))
-    (wrong-done d (a .c) (p .result .slot) _ _ _ _ _ 0 (length bs) ro (at-send-fatal .send-fatal .ensures)))
+    (scan-wrong bs (c .before .before .before .before .before .before .before .before .before .before .before .before .pre .1)
+    (sym (x .ensures) ∙ not-true (x .result) (c .before .before .before .before .before .before .before .before .if1 .taken)))
+    (wrong-done d (a .c) (p .result .slot) _ _ _ _ _ 0 (length bs) ro (c .before .before .send-fatal .ensures)))
 
 carries-requires : tie.Need-carries-requires
-carries-requires c κs =
-    let at-place-of2 = c .before .before in
-    let on = at-place-of2 .before .before .before .before .before .before in
-    λ e.
-    let a = on .before .before .before .args in
+carries-requires c κs = λ e.
+    let a = c .before .before .before .before .before .before .before .before .before .before .before .args in
     let s = a .strings .now in
-    let p = at-place-of2 .place-of2 in
+    let p = c .before .before .place-of2 in
     role-slot (a .w .now) s (a .c) (p .result .slot) (p .result .role) (p .ensures .1 s) (p .ensures .2 s) (λ z. omega arith)
 
 apply-requires : tie.Need-apply-requires
@@ -65,64 +58,50 @@ apply-requires c κs = let v = c .before .before .before .before .before .long-v
 
 returns-2 : tie.Need-returns-2
 returns-2 c =
-    let at-apply = c .before .before in
-    let at-carries = at-apply .before .before .before .before in
-    let at-long-verdict = at-carries .before .before in
-    let at-place-of2 = at-long-verdict .before in
-    let at-header-at = at-place-of2 .before .before in
-    let at-if2 = at-header-at .before in
-    let at-number8 = at-if2 .before in
-    let at-if1 = at-number8 .before in
-    let at-has-prologue = at-if1 .before in
-    let a = at-has-prologue .before .before .before .args in
+    let a = c .before .before .before .before .before .before .before .before .before .before .before .before .before .before .before .before .before .before .args in
     let s = a .strings .now in
     let bs = a .bytes .now in
     let d = view (memory (a .w .now) s) in
     let ro = roleOf (locksOf (a .w .now) s .entries) (a .c) in
-    let n = at-number8 .number8 in
+    let n = c .before .before .before .before .before .before .before .before .before .before .before .before .before .number8 in
     let el : header bs .len ≡ n .result = length-field bs ∙ sym (n .ensures) in
-    let h = at-header-at .header-at .result in
-    let eh : h ≡ header bs = at-header-at .header-at .ensures in
+    let h = c .before .before .before .before .before .before .before .before .before .before .before .header-at .result in
+    let eh : h ≡ header bs = c .before .before .before .before .before .before .before .before .before .before .before .header-at .ensures in
     let en : h .len ≡ n .result = ap (λ (y : Header). y .len) eh ∙ el in
-    let x = at-has-prologue .has-prologue in
+    let x = c .before .before .before .before .before .before .before .before .before .before .before .before .before .before .before .has-prologue in
     let t : prologue bs ≡ true = sym (x .ensures) ∙ not-false (x .result)
-    (at-if1 .if1 .left) in
-    let p = at-place-of2 .place-of2 in
-    let v = at-long-verdict .long-verdict in
+    (c .before .before .before .before .before .before .before .before .before .before .before .before .before .before .if1 .left) in
+    let p = c .before .before .before .before .before .before .before .before .before .place-of2 in
+    let v = c .before .before .before .before .before .before .before .before .long-verdict in
     at-slot d (a .c) (p .result .slot) _ _ _ _ _ _ 0 (length bs) ro (freshScan bs) (p .ensures .1 s)
     (on-scan d (a .c) (p .result .slot) _ _ _ _ _ 0 (length bs) ro (freshScan bs) (long h)
-    (scan-long bs (at-has-prologue .before .before .before .pre .1) t
-    (omega (arith, el, at-if2 .if2 .taken)) ∙ ap long (sym eh))
+    (scan-long bs (c .before .before .before .before .before .before .before .before .before .before .before .before .before .before .before .before
+    .before .before .pre .1) t
+    (omega (arith, el, c .before .before .before .before .before .before .before .before .before .before .before .before .if2 .taken)) ∙ ap long (sym eh))
     (long-done d (a .c) (p .result .slot) _ _ _ _ _ 0 (length bs) ro h (v .result) (v .ensures .2 ro (p .ensures .2 s) .case)
-    (at-apply .apply .ensures ro (long h) refl en
+    (c .before .before .apply .ensures ro (long h) refl en
     (moved-long h (exchangeAt (restOf (a .w .now)) (p .result .slot)) ro _
-    (at-carries .carries .ensures .1 ro (h .code) (h .len) (p .ensures .2 s))))))
+    (c .before .before .before .before .before .before .carries .ensures .1 ro (h .code) (h .len) (p .ensures .2 s))))))
 
 returns-3 : tie.Need-returns-3
 returns-3 c =
-    let at-partial-verdict = c .before .before in
-    let at-header-at2 = at-partial-verdict .before in
-    let at-place-of3 = at-header-at2 .before in
-    let at-number8 = at-place-of3 .before .before .before .before in
-    let at-if1 = at-number8 .before in
-    let at-has-prologue = at-if1 .before in
-    let a = at-has-prologue .before .before .before .args in
+    let a = c .before .before .before .before .before .before .before .before .before .before .before .before .before .args in
     let s = a .strings .now in
     let bs = a .bytes .now in
     let d = view (memory (a .w .now) s) in
     let ro = roleOf (locksOf (a .w .now) s .entries) (a .c) in
-    let n = at-number8 .number8 in
+    let n = c .before .before .before .before .before .before .before .before .number8 in
     let el : header bs .len ≡ n .result = length-field bs ∙ sym (n .ensures) in
-    let h = at-header-at2 .header-at2 .result in
-    let eh : h ≡ header bs = at-header-at2 .header-at2 .ensures in
+    let h = c .before .before .before .header-at2 .result in
+    let eh : h ≡ header bs = c .before .before .before .header-at2 .ensures in
     let en : h .len ≡ n .result = ap (λ (y : Header). y .len) eh ∙ el in
-    let x = at-has-prologue .has-prologue in
-    let t : prologue bs ≡ true = sym (x .ensures) ∙ not-false (x .result) (at-if1 .if1 .left) in
-    let p = at-place-of3 .place-of3 in
-    let v = at-partial-verdict .partial-verdict in
+    let x = c .before .before .before .before .before .before .before .before .before .before .has-prologue in
+    let t : prologue bs ≡ true = sym (x .ensures) ∙ not-false (x .result) (c .before .before .before .before .before .before .before .before .before .if1 .left) in
+    let p = c .before .before .before .before .place-of3 in
+    let v = c .before .before .partial-verdict in
     at-slot d (a .c) (p .result .slot) _ _ _ _ _ _ 0 (length bs) ro (freshScan bs) (p .ensures .1 s)
     (on-scan d (a .c) (p .result .slot) _ _ _ _ _ 0 (length bs) ro (freshScan bs) (part h)
-    (scan-part bs (at-has-prologue .before .before .before .pre .1) t (omega arith)
+    (scan-part bs (c .before .before .before .before .before .before .before .before .before .before .before .before .before .pre .1) t (omega arith)
     (omega arith) ∙ ap part (sym eh))
     (part-more d (a .c) (p .result .slot) _ _ _ _ _ 0 (length bs) ro h (v .ensures .2 ro (h .code) (h .param) (h .len) (p .ensures .2 s) .case ∙ ap verdictOf (c .before .if4 .taken))
     (did-nothing (16 + h .len - length bs) (took more-needed 0 0) _ _ _
@@ -141,54 +120,43 @@ apply-requires-2 c κs = let v = c .before .before .before .before .partial-verd
 
 returns-4 : tie.Need-returns-4
 returns-4 c =
-    let at-apply2 = c .before .before in
-    let at-if4 = at-apply2 .before .before .before .before in
-    let at-partial-verdict = at-if4 .before in
-    let at-header-at2 = at-partial-verdict .before in
-    let at-place-of3 = at-header-at2 .before in
-    let at-if3 = at-place-of3 .before .before in
-    let at-if2 = at-if3 .before in
-    let at-number8 = at-if2 .before in
-    let at-if1 = at-number8 .before in
-    let at-has-prologue = at-if1 .before in
-    let a = at-has-prologue .before .before .before .args in
+    let a = c .before .before .before .before .before .before .before .before .before .before .before .before .before .before .before .before .before .before .args in
     let s = a .strings .now in
     let bs = a .bytes .now in
     let d = view (memory (a .w .now) s) in
     let ro = roleOf (locksOf (a .w .now) s .entries) (a .c) in
-    let n = at-number8 .number8 in
+    let n = c .before .before .before .before .before .before .before .before .before .before .before .before .before .number8 in
     let el : header bs .len ≡ n .result = length-field bs ∙ sym (n .ensures) in
-    let h = at-header-at2 .header-at2 .result in
-    let eh : h ≡ header bs = at-header-at2 .header-at2 .ensures in
+    let h = c .before .before .before .before .before .before .before .before .header-at2 .result in
+    let eh : h ≡ header bs = c .before .before .before .before .before .before .before .before .header-at2 .ensures in
     let en : h .len ≡ n .result = ap (λ (y : Header). y .len) eh ∙ el in
-    let x = at-has-prologue .has-prologue in
+    let x = c .before .before .before .before .before .before .before .before .before .before .before .before .before .before .before .has-prologue in
     let t : prologue bs ≡ true = sym (x .ensures) ∙ not-false (x .result)
-    (at-if1 .if1 .left) in
-    let p = at-place-of3 .place-of3 in
-    let v = at-partial-verdict .partial-verdict in
+    (c .before .before .before .before .before .before .before .before .before .before .before .before .before .before .if1 .left) in
+    let p = c .before .before .before .before .before .before .before .before .before .place-of3 in
+    let v = c .before .before .before .before .before .before .before .partial-verdict in
     at-slot d (a .c) (p .result .slot) _ _ _ _ _ _ 0 (length bs) ro (freshScan bs) (p .ensures .1 s)
     (on-scan d (a .c) (p .result .slot) _ _ _ _ _ 0 (length bs) ro (freshScan bs) (part h)
-    (scan-part bs (at-has-prologue .before .before .before .pre .1) t
-    (omega (arith, el, at-if2 .if2 .left))
-    (omega (arith, el, at-if3 .if3 .taken)) ∙ ap part (sym eh))
+    (scan-part bs (c .before .before .before .before .before .before .before .before .before .before .before .before .before .before .before .before
+    .before .before .pre .1) t
+    (omega (arith, el, c .before .before .before .before .before .before .before .before .before .before .before .before .if2 .left))
+    (omega (arith, el, c .before .before .before .before .before .before .before .before .before .before .before .if3 .taken)) ∙ ap part (sym eh))
     (part-done d (a .c) (p .result .slot) _ _ _ _ _ 0 (length bs) ro h (v .result) (v .ensures .2 ro (h .code) (h .param) (h .len) (p .ensures .2 s))
-    (at-if4 .if4 .left)
-    (at-apply2 .apply2 .ensures ro (part h) refl refl (left-part h (exchangeAt (restOf (a .w .now)) (p .result .slot)) ro))))
+    (c .before .before .before .before .before .before .if4 .left)
+    (c .before .before .apply2 .ensures ro (part h) refl refl (left-part h (exchangeAt (restOf (a .w .now)) (p .result .slot)) ro))))
 
 deliver-whole-requires : tie.Need-deliver-whole-requires
 deliver-whole-requires c κs =
-    let at-place-of4 = c .before .before .before in
-    let at-number8 = at-place-of4 .before .before .before .before in
-    let a = at-number8 .before .before .before .before .before .args in
+    let a = c .before .before .before .before .before .before .before .before .before .before .before .before .args in
     let s = a .strings .now in
     let bs = a .bytes .now in
     let d = view (memory (a .w .now) s) in
     let ro = roleOf (locksOf (a .w .now) s .entries) (a .c) in
-    let n = at-number8 .number8 in
+    let n = c .before .before .before .before .before .before .before .number8 in
     let el : header bs .len ≡ n .result = length-field bs ∙ sym (n .ensures) in
-    let p = at-place-of4 .place-of4 in (
+    let p = c .before .before .before .place-of4 in (
       search needs,
-      at-number8 .before .before .before .before .before .pre .1,
+      c .before .before .before .before .before .before .before .before .before .before .before .before .pre .1,
       omega arith,
       omega arith,
       search
@@ -201,26 +169,21 @@ deliver-whole-requires c κs =
 
 returns-5 : tie.Need-returns-5
 returns-5 c =
-    let at-deliver-whole = c .before .before in
-    let at-place-of4 = at-deliver-whole .before .before .before .before in
-    let at-number8 = at-place-of4 .before .before .before .before in
-    let at-if1 = at-number8 .before in
-    let at-has-prologue = at-if1 .before in
-    let a = at-has-prologue .before .before .before .args in
+    let a = c .before .before .before .before .before .before .before .before .before .before .before .before .before .before .before .args in
     let s = a .strings .now in
     let bs = a .bytes .now in
     let d = view (memory (a .w .now) s) in
     let ro = roleOf (locksOf (a .w .now) s .entries) (a .c) in
-    let n = at-number8 .number8 in
+    let n = c .before .before .before .before .before .before .before .before .before .before .number8 in
     let el : header bs .len ≡ n .result = length-field bs ∙ sym (n .ensures) in
-    let x = at-has-prologue .has-prologue in
-    let t : prologue bs ≡ true = sym (x .ensures) ∙ not-false (x .result) (at-if1 .if1 .left) in
-    let p = at-place-of4 .place-of4 in
+    let x = c .before .before .before .before .before .before .before .before .before .before .before .before .has-prologue in
+    let t : prologue bs ≡ true = sym (x .ensures) ∙ not-false (x .result) (c .before .before .before .before .before .before .before .before .before .before .before .if1 .left) in
+    let p = c .before .before .before .before .before .before .place-of4 in
     at-slot d (a .c) (p .result .slot) _ _ _ _ _ _ 0 (length bs) ro (freshScan bs) (p .ensures .1 s)
     (on-scan d (a .c) (p .result .slot) _ _ _ _ _ 0 (length bs) ro (freshScan bs) (whole (header bs) (payloadOf (header bs) bs))
-    (scan-whole bs (at-has-prologue .before .before .before .pre .1) t
+    (scan-whole bs (c .before .before .before .before .before .before .before .before .before .before .before .before .before .before .before .pre .1) t
     (omega arith) (omega arith))
-    (whole-done d (a .c) (p .result .slot) _ _ _ _ _ 0 (length bs) ro (header bs) (payloadOf (header bs) bs) (at-deliver-whole .deliver-whole .ensures ro (p .ensures .2 s))))
+    (whole-done d (a .c) (p .result .slot) _ _ _ _ _ 0 (length bs) ro (header bs) (payloadOf (header bs) bs) (c .before .before .deliver-whole .ensures ro (p .ensures .2 s))))
 
 pub deliver-message-spec : {M : Type 1} → statement M
 deliver-message-spec =

@@ -18,20 +18,17 @@ use Rattle.delivery.proofs.deliver.deliver_status.Tie as tie
 
 returns : tie.Need-returns
 returns c =
-    let at-query-status = c .before .before in
-    let at-if1 = at-query-status .before .before .before in
-    let at-asynchronous-verdict = at-if1 .before in
-    let a = at-asynchronous-verdict .before .before .before .args in
-    let v = at-asynchronous-verdict .asynchronous-verdict in
+    let a = c .before .before .before .before .before .before .before .before .before .args in
+    let v = c .before .before .before .before .before .before .asynchronous-verdict in
     let d = view (memory (a .w .now) (a .strings .now)) in
     let h = message 21 (a .code) (a .param) (a .len) in
     let e : judged r-asynchronous d (a .i) h (a .payload .now) ≡ verdictOf (v .result) =
     judged-asynchronous d (a .i) h (a .payload .now) r-asynchronous (λ q. let z : ⊥ = omega arith in z) (λ q. let z : ⊥ = omega arith in z)
     (λ q. let z : ⊥ = omega arith in z) ∙ v .ensures (a .payload .now) (a .param) .case in
     acts-done d (a .c) (a .i) h (a .payload .now) r-asynchronous _ _ _ _ _ (judged r-asynchronous d (a .i) h (a .payload .now))
-    (e ∙ ap verdictOf (at-if1 .if1 .taken))
-    (did-message k-statusQuery (a .i) (a .c) 21 (a .code) (a .param) (a .len) (a .payload .now) (at-query-status .query-status .result)
-    (memory (a .w .now) (a .strings .now)) _ (a .out .now) _ refl (at-query-status .query-status .ensures (a .strings .now) (a .payload .now)))
+    (e ∙ ap verdictOf (c .before .before .before .before .before .if1 .taken))
+    (did-message k-statusQuery (a .i) (a .c) 21 (a .code) (a .param) (a .len) (a .payload .now) (c .before .before .query-status .result)
+    (memory (a .w .now) (a .strings .now)) _ (a .out .now) _ refl (c .before .before .query-status .ensures (a .strings .now) (a .payload .now)))
 
 returns-2 : tie.Need-returns-2
 returns-2 c =
@@ -48,17 +45,15 @@ returns-2 c =
 
 returns-3 : tie.Need-returns-3
 returns-3 c =
-    let at-apply = c .before .before in
-    let at-asynchronous-verdict = at-apply .before .before .before .before .before .before in
-    let a = at-asynchronous-verdict .before .before .before .args in
-    let v = at-asynchronous-verdict .asynchronous-verdict in
+    let a = c .before .before .before .before .before .before .before .before .before .before .before .args in
+    let v = c .before .before .before .before .before .before .before .before .asynchronous-verdict in
     let d = view (memory (a .w .now) (a .strings .now)) in
     let h = message 21 (a .code) (a .param) (a .len) in
     let e : judged r-asynchronous d (a .i) h (a .payload .now) ≡ verdictOf (v .result) =
     judged-asynchronous d (a .i) h (a .payload .now) r-asynchronous (λ q. let z : ⊥ = omega arith in z) (λ q. let z : ⊥ = omega arith in z)
     (λ q. let z : ⊥ = omega arith in z) ∙ v .ensures (a .payload .now) (a .param) .case in
     by-verdict d (a .c) (a .i) (whole h (a .payload .now)) r-asynchronous _ _ _ _ _ (judged r-asynchronous d (a .i) h (a .payload .now)) (verdictOf (v .result)) e
-    (at-apply .apply .ensures r-asynchronous (whole h (a .payload .now)) refl refl refl)
+    (c .before .before .apply .ensures r-asynchronous (whole h (a .payload .now)) refl refl refl)
 
 pub deliver-status-spec : {M : Type 1} → statement M
 deliver-status-spec =

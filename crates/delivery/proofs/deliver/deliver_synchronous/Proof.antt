@@ -8,8 +8,7 @@ use Rattle.delivery.proofs.deliver.deliver_synchronous.Tie as tie
 
 deliver-kind-requires : tie.Need-deliver-kind-requires
 deliver-kind-requires c κs =
-    let on = c .before .before .before .before .before .before in
-    let q = on .before .before .pre in
+    let q = c .before .before .before .before .before .before .before .before .pre in
     (search needs, search needs, q .2, search needs, q .4, λ o. q .5, λ z. absurd (let y : ⊥ = omega arith in y))
 
 returns : tie.Need-returns
@@ -17,22 +16,18 @@ returns c = c .before .before .deliver-kind .ensures r-synchronous refl
 
 deliver-plain-requires : tie.Need-deliver-plain-requires
 deliver-plain-requires c κs =
-    let at-if2 = c .before .before .before in
-    let at-is-plain = at-if2 .before in
-    let at-if1 = at-is-plain .before .before in
-    let at-stands = at-if1 .before in
-    let q = at-stands .before .before .before .before .pre in (
+    let q = c .before .before .before .before .before .before .before .before .before .before .before .pre in (
       search needs,
       search needs,
       q .2,
       search needs,
       q .4,
       q .5,
-      at-is-plain .is-plain .ensures
-          (at-if2 .if2 .taken) .0,
-      λ z. at-is-plain .is-plain .ensures (at-if2 .if2 .taken) .1 _ _
+      c .before .before .before .before .is-plain .ensures
+          (c .before .before .before .if2 .taken) .0,
+      λ z. c .before .before .before .before .is-plain .ensures (c .before .before .before .if2 .taken) .1 _ _
           z,
-      λ s. at-stands .stands .ensures s ∙ at-if1 .if1 .left,
+      λ s. c .before .before .before .before .before .before .before .stands .ensures s ∙ c .before .before .before .before .before .before .if1 .left,
     )
 
 returns-2 : tie.Need-returns-2
@@ -40,8 +35,7 @@ returns-2 c = c .before .before .deliver-plain .ensures
 
 deliver-fully-requires : tie.Need-deliver-fully-requires
 deliver-fully-requires c κs =
-    let on = c .before .before .before .before .before .before in
-    let q = on .before .before .before .before .before .pre in
+    let q = c .before .before .before .before .before .before .before .before .before .before .before .pre in
     (search needs, search needs, q .2, search needs, q .4, q .5)
 
 returns-3 : tie.Need-returns-3

@@ -42,69 +42,56 @@ part-payload-end-3 c =
 
 deliver-synchronous-requires : tie.Need-deliver-synchronous-requires
 deliver-synchronous-requires c κs =
-    let at-if1 = c .before .before .before .before in
-    let at-header-at = at-if1 .before in
-    let q = at-header-at .before .before .before .pre in
-    let x = at-header-at .header-at in
-    let el : header (at-header-at .before .before .before .args .bytes .now) .len ≡ x .result .len = ap (λ (y : Header). y .len) (sym (x .ensures)) in
-    (search needs, omega (arith, el, q .2), simp (length-take, length-drop) (omega (arith, el, q .3)), search needs, q .5, q .6 (λ z. omega (arith, at-if1 .if1 .taken)))
+    let q = c .before .before .before .before .before .before .before .before .pre in
+    let x = c .before .before .before .before .before .header-at in
+    let el : header (c .before .before .before .before .before .before .before .before .args .bytes .now) .len ≡ x .result .len = ap (λ (y : Header). y .len) (sym (x .ensures)) in
+    (search needs, omega (arith, el, q .2), simp (length-take, length-drop) (omega (arith, el, q .3)), search needs, q .5, q .6 (λ z. omega (arith, c .before .before .before .before .if1 .taken)))
 
 returns : tie.Need-returns
 returns c =
-    let at-deliver-synchronous = c .before .before in
-    let at-if1 = at-deliver-synchronous .before .before .before .before .before in
-    let at-header-at = at-if1 .before in
-    let a = at-header-at .before .before .before .args in
+    let a = c .before .before .before .before .before .before .before .before .before .before .before .args in
     let bs = a .bytes .now in
     let d = view (memory (a .w .now) (a .strings .now)) in
-    let x = at-header-at .header-at in
-    λ ro e. of-role d (a .c) (a .i) (header bs) (payloadOf (header bs) bs) ro r-synchronous _ _ _ _ _ (role-sync ro (e ∙ at-if1 .if1 .taken))
-    (of-bytes d (a .c) (a .i) (x .result) bs r-synchronous _ _ _ _ _ (x .ensures) (at-deliver-synchronous .deliver-synchronous .ensures))
+    let x = c .before .before .before .before .before .before .before .before .header-at in
+    λ ro e. of-role d (a .c) (a .i) (header bs) (payloadOf (header bs) bs) ro r-synchronous _ _ _ _ _ (role-sync ro (e ∙ c .before .before .before .before .before .before .before .if1 .taken))
+    (of-bytes d (a .c) (a .i) (x .result) bs r-synchronous _ _ _ _ _ (x .ensures) (c .before .before .deliver-synchronous .ensures))
 
 deliver-asynchronous-requires : tie.Need-deliver-asynchronous-requires
 deliver-asynchronous-requires c κs =
-    let at-if2 = c .before .before .before .before in
-    let at-header-at = at-if2 .before .before in
-    let q = at-header-at .before .before .before .pre in
-    let x = at-header-at .header-at in
-    let el : header (at-header-at .before .before .before .args .bytes .now) .len ≡ x .result .len = ap (λ (y : Header). y .len) (sym (x .ensures)) in (
+    let q = c .before .before .before .before .before .before .before .before .before .pre in
+    let x = c .before .before .before .before .before .before .header-at in
+    let el : header (c .before .before .before .before .before .before .before .before .before .args .bytes .now) .len ≡ x .result .len = ap (λ (y : Header). y .len) (sym (x .ensures)) in (
       search needs,
       omega (arith, el, q .2),
       simp (length-take, length-drop) (omega (arith, el, q .3)),
       search needs,
       q .5,
       q .6
-          (λ z. omega (arith, at-if2 .if2 .taken)),
-      q .8 (at-if2 .if2 .taken),
+          (λ z. omega (arith, c .before .before .before .before .if2 .taken)),
+      q .8 (c .before .before .before .before .if2 .taken),
     )
 
 returns-2 : tie.Need-returns-2
 returns-2 c =
-    let at-deliver-asynchronous = c .before .before in
-    let at-if2 = at-deliver-asynchronous .before .before .before .before .before in
-    let at-header-at = at-if2 .before .before in
-    let a = at-header-at .before .before .before .args in
+    let a = c .before .before .before .before .before .before .before .before .before .before .before .before .args in
     let bs = a .bytes .now in
     let d = view (memory (a .w .now) (a .strings .now)) in
-    let x = at-header-at .header-at in
-    λ ro e. of-role d (a .c) (a .i) (header bs) (payloadOf (header bs) bs) ro r-asynchronous _ _ _ _ _ (role-async ro (e ∙ at-if2 .if2 .taken))
-    (of-bytes d (a .c) (a .i) (x .result) bs r-asynchronous _ _ _ _ _ (x .ensures) (at-deliver-asynchronous .deliver-asynchronous .ensures))
+    let x = c .before .before .before .before .before .before .before .before .before .header-at in
+    λ ro e. of-role d (a .c) (a .i) (header bs) (payloadOf (header bs) bs) ro r-asynchronous _ _ _ _ _ (role-async ro (e ∙ c .before .before .before .before .before .before .before .if2 .taken))
+    (of-bytes d (a .c) (a .i) (x .result) bs r-asynchronous _ _ _ _ _ (x .ensures) (c .before .before .deliver-asynchronous .ensures))
 
 deliver-kind-requires : tie.Need-deliver-kind-requires
 deliver-kind-requires c κs =
-    let at-header-at = c .before .before .before .before .before .before in
-    let q = at-header-at .before .before .before .pre in
-    let x = at-header-at .header-at in
-    let el : header (at-header-at .before .before .before .args .bytes .now) .len ≡ x .result .len = ap (λ (y : Header). y .len) (sym (x .ensures)) in
+    let q = c .before .before .before .before .before .before .before .before .before .pre in
+    let x = c .before .before .before .before .before .before .header-at in
+    let el : header (c .before .before .before .before .before .before .before .before .before .args .bytes .now) .len ≡ x .result .len = ap (λ (y : Header). y .len) (sym (x .ensures)) in
     (search needs, omega (arith, el, q .2), simp (length-take, length-drop) (omega (arith, el, q .3)), search needs, q .5, q .6, q .7)
 
 returns-3 : tie.Need-returns-3
 returns-3 c =
-    let at-deliver-kind = c .before .before in
-    let at-header-at = at-deliver-kind .before .before .before .before .before .before .before in
-    let a = at-header-at .before .before .before .args in
-    let x = at-header-at .header-at in
-    λ ro e. of-bytes (view (memory (a .w .now) (a .strings .now))) (a .c) (a .i) (x .result) (a .bytes .now) ro _ _ _ _ _ (x .ensures) (at-deliver-kind .deliver-kind .ensures ro e)
+    let a = c .before .before .before .before .before .before .before .before .before .before .before .before .args in
+    let x = c .before .before .before .before .before .before .before .before .before .header-at in
+    λ ro e. of-bytes (view (memory (a .w .now) (a .strings .now))) (a .c) (a .i) (x .result) (a .bytes .now) ro _ _ _ _ _ (x .ensures) (c .before .before .deliver-kind .ensures ro e)
 
 pub deliver-whole-spec : {M : Type 1} → statement M
 deliver-whole-spec =

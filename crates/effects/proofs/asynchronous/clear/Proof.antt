@@ -10,73 +10,62 @@ put-frame-requires : tie.Need-put-frame-requires
 put-frame-requires c κs = omega (arith, c .before .before .before .before .before .at-clear .ensures .0)
 
 add-end : tie.Need-add-end
-add-end c =
-    let on = c .before .before .before .before .before .before in
-    let at-at-clear = on .before .before in
-    omega (arith, at-at-clear .at-clear .ensures .0)
+add-end c = omega (arith, c .before .before .before .before .before .before .before .before .at-clear .ensures .0)
 
 grant-waiting-requires : tie.Need-grant-waiting-requires
-grant-waiting-requires c κs =
-    let on = c .before .before .before .before .before .before in
-    let at-at-clear = on .before .before .before .before .before .before in
-    omega (arith, at-at-clear .at-clear .ensures .0)
+grant-waiting-requires c κs = omega (arith, c .before .before .before .before .before .before .before .before .before .before .before .before .at-clear .ensures .0)
 
 returns : tie.Need-returns
-returns c =
-    let at-grant-waiting = c .before .before .before in
-    let at-if1 = at-grant-waiting .before .before .before .before in
-    let at-put-frame = at-if1 .before .before .before in
-    let at-enter-clear = at-put-frame .before .before in
-    let at-at-clear = at-enter-clear .before .before .before .before in
-    let at-stands = at-at-clear .before .before .before .before in
-    let at-preference = at-stands .before .before in
-    let at-entry = at-preference .before .before in
-    let a = at-entry .before .before .before .args in
+returns c = let a = c .before .before .before .before .before .before .before .before .before .before .before .before .before .before .before .before .before
+    .before .before .before .before .before .before .before .before .before .before .args in
     let s = a .strings .now in
     λ p code param. clear-granted (a .w .now) s _ _ _ (a .out .now) _ _ (a .i) (a .c)
-    (at-entry .entry .result)
-    (at-at-clear .at-clear .result)
-    (at-preference .preference .result) (a .len)
-    (at-entry .entry .ensures .0 s)
+    (c .before .before .before .before .before .before .before .before .before .before .before .before .before .before .before .before .before .before
+    .before .before .before .before .before .before .entry .result)
+    (c .before .before .before .before .before .before .before .before .before .before .before .before .before .before .before .before .at-clear .result)
+    (c .before .before .before .before .before .before .before .before .before .before .before .before .before .before .before .before .before .before
+    .before .before .before .before .preference .result) (a .len)
+    (c .before .before .before .before .before .before .before .before .before .before .before .before .before .before .before .before .before .before
+    .before .before .before .before .before .before .entry .ensures .0 s)
     (omega (
       arith,
-      at-at-clear .at-clear .ensures .0,
-      at-entry .before .before .before .pre .3,
+      c .before .before .before .before .before .before .before .before .before .before .before .before .before .before .before .before
+          .at-clear .ensures .0,
+      c .before .before .before .before .before .before .before .before .before .before .before .before .before .before .before
+          .before .before .before .before .before .before .before .before .before .before .before .before .pre .3,
     )) _
-    (at-at-clear .at-clear .ensures .1)
-    (at-enter-clear .enter-clear .ensures .0 _)
-    (at-preference .preference .ensures)
-    (at-put-frame .put-frame .ensures)
-    (at-enter-clear .enter-clear .ensures .1 _) _ _ _
-    (at-grant-waiting .grant-waiting .result) code param p (c .acted .ensures)
-    (at-stands .stands .ensures s ∙ at-if1 .if1 .taken)
-    (at-grant-waiting .grant-waiting .ensures)
+    (c .before .before .before .before .before .before .before .before .before .before .before .before .before .before .before .before .at-clear .ensures .1)
+    (c .before .before .before .before .before .before .before .before .before .before .before .before .enter-clear .ensures .0 _)
+    (c .before .before .before .before .before .before .before .before .before .before .before .before .before .before .before .before .before .before
+    .before .before .before .before .preference .ensures)
+    (c .before .before .before .before .before .before .before .before .before .before .put-frame .ensures)
+    (c .before .before .before .before .before .before .before .before .before .before .before .before .enter-clear .ensures .1 _) _ _ _
+    (c .before .before .before .grant-waiting .result) code param p (c .acted .ensures)
+    (c .before .before .before .before .before .before .before .before .before .before .before .before .before .before .before .before .before .before
+    .before .before .stands .ensures s ∙ c .before .before .before .before .before .before .before .if1 .taken)
+    (c .before .before .before .grant-waiting .ensures)
 
 returns-2 : tie.Need-returns-2
-returns-2 c =
-    let at-put-frame = c .before .before .before .before in
-    let at-enter-clear = at-put-frame .before .before in
-    let at-at-clear = at-enter-clear .before .before .before .before in
-    let at-stands = at-at-clear .before .before .before .before in
-    let at-preference = at-stands .before .before in
-    let at-entry = at-preference .before .before in
-    let a = at-entry .before .before .before .args in
+returns-2 c = let a = c .before .before .before .before .before .before .before .before .before .before .before .before .before .before .before .before .before .before .before .before .before .args in
     let s = a .strings .now in
     λ p code param. clear-told (a .w .now) s _ _ _ (a .out .now) _ _ (a .i) (a .c)
-    (at-entry .entry .result) (at-at-clear .at-clear .result)
-    (at-preference .preference
-    .result) (a .len) (at-entry .entry .ensures .0 s)
+    (c .before .before .before .before .before .before .before .before .before .before .before .before .before .before .before .before .before .before
+    .entry .result) (c .before .before .before .before .before .before .before .before .before .before .at-clear .result)
+    (c .before .before .before .before .before .before .before .before .before .before .before .before .before .before .before .before .preference
+    .result) (a .len) (c .before .before .before .before .before .before .before .before .before .before .before .before .before .before .before .before
+    .before .before .entry .ensures .0 s)
     (omega (
       arith,
-      at-at-clear .at-clear .ensures .0,
-      at-entry .before .before .before .pre .3,
+      c .before .before .before .before .before .before .before .before .before .before .at-clear .ensures .0,
+      c .before .before .before .before .before .before .before .before .before .before .before .before .before .before .before .before .before .before
+          .before .before .before .pre .3,
     )) _
-    (at-at-clear .at-clear .ensures .1)
-    (at-enter-clear .enter-clear .ensures .0 _)
-    (at-preference .preference
-    .ensures) (at-put-frame .put-frame .ensures) (at-enter-clear .enter-clear .ensures .1 _) code
+    (c .before .before .before .before .before .before .before .before .before .before .at-clear .ensures .1)
+    (c .before .before .before .before .before .before .enter-clear .ensures .0 _)
+    (c .before .before .before .before .before .before .before .before .before .before .before .before .before .before .before .before .preference
+    .ensures) (c .before .before .before .before .put-frame .ensures) (c .before .before .before .before .before .before .enter-clear .ensures .1 _) code
     param p (c .acted2 .ensures)
-    (at-stands .stands .ensures s
+    (c .before .before .before .before .before .before .before .before .before .before .before .before .before .before .stands .ensures s
     ∙ c .before .if1 .left)
 
 pub clear-spec : {M : Type 1} → statement M

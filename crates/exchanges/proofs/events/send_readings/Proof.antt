@@ -13,9 +13,8 @@ use Rattle.exchanges.proofs.events.send_readings.Tie as tie
 
 returns : tie.Need-returns
 returns c =
-    let at-send-answer = c .before .before .before .before .before in
-    let a = at-send-answer .before .before .before .before .before .args in
-    let n = at-send-answer .send-answer in
+    let a = c .before .before .before .before .before .before .before .before .before .before .args in
+    let n = c .before .before .before .before .before .send-answer in
     let x = c .before .sense in (
       λ s. sends-answer (view (memory (a .w .now) s)) _ _ (a .i) (a .«end») (a .payload .now) (a .out .now) _ (n .result) (n .ensures .0 s) (x .ensures .1 s)
           (sym (x .ensures .0) ∙ not-true (x .result) (c .if1 .taken)),
@@ -25,33 +24,26 @@ returns c =
 -- behind the answer there is room
 put-request-requires : tie.Need-put-request-requires
 put-request-requires c κs =
-    let at-send-answer = c .before .before .before .before .before .before .before in
-    let a = at-send-answer .before .before .before .before .before .args in
-    let n = at-send-answer .send-answer in
+    let a = c .before .before .before .before .before .before .before .before .before .before .before .before .args in
+    let n = c .before .before .before .before .before .before .before .send-answer in
     let l : n .result ≡ 17 + length (a .payload .now) = answer-long (view (memory (a .w .now) [])) _ (a .i) (a .«end») (a .payload .now) (a .out .now) _ (n .result) (n .ensures .0 []) in
     search (needs, l)
 
 add-result : tie.Need-add-result
 add-result c =
-    let on = c .before .before .before .before .before .before in
-    let at-send-answer = on .before .before .before .before in
-    let a = at-send-answer .before .before .before .before .before .args in
-    let n = at-send-answer .send-answer in
+    let a = c .before .before .before .before .before .before .before .before .before .before .before .before .before .before .before .args in
+    let n = c .before .before .before .before .before .before .before .before .before .before .send-answer in
     let l : n .result ≡ 17 + length (a .payload .now) = answer-long (view (memory (a .w .now) [])) _ (a .i) (a .«end») (a .payload .now) (a .out .now) _ (n .result) (n .ensures .0 []) in
     search (needs, l)
 
 returns-2 : tie.Need-returns-2
 returns-2 c =
-    let at-put-request = c .before .before in
-    let at-if1 = at-put-request .before .before .before in
-    let at-sense = at-if1 .before in
-    let at-send-answer = at-sense .before .before .before .before in
-    let a = at-send-answer .before .before .before .before .before .args in
-    let n = at-send-answer .send-answer in
-    let x = at-sense .sense in
+    let a = c .before .before .before .before .before .before .before .before .before .before .before .before .before .before .before .args in
+    let n = c .before .before .before .before .before .before .before .before .before .before .send-answer in
+    let x = c .before .before .before .before .before .before .sense in
     let h : 17 + length (a .payload .now) ≤ length (a .out .now) = search needs in (
       λ s. sends-request (view (memory (a .w .now) s)) _ _ (a .i) (a .«end») (a .payload .now) (a .out .now) _ (n .result) (n .ensures .0 s) (x .ensures .1 s)
-          (sym (x .ensures .0) ∙ not-false (x .result) (at-if1 .if1 .left)) _ h (at-put-request .put-request .ensures s),
+          (sym (x .ensures .0) ∙ not-false (x .result) (c .before .before .before .before .before .if1 .left)) _ h (c .before .before .put-request .ensures s),
       λ s t. x .ensures .2 s (n .ensures .1 s t),
     )
 

@@ -17,71 +17,53 @@ use Rattle.locks.proofs.release.release_lock.Statement.{statement}
 use Rattle.locks.proofs.release.release_lock.Tie as tie
 
 returns : tie.Need-returns
-returns c =
-    let at-put-answer = c .before .before in
-    let at-if1 = at-put-answer .before .before .before in
-    let at-freed-kind = at-if1 .before in
-    let a = at-freed-kind .before .before .before .args in
+returns c = let a = c .before .before .before .before .before .before .before .before .before .args in
     let s = a .strings .now in
-    let p = at-put-answer .put-answer .ensures in
+    let p = c .before .before .put-answer .ensures in
     met-one _ _ _ _ _ _ _ _ _ (release-invalid (locksOf (a .w .now) s) (a .i) (a .n)
-    (at-freed-kind .freed-kind .ensures .1 s (a .n)
-    ∙ ruled-invalid (at-freed-kind .freed-kind .result)
-    (eqb ((at (locksOf (a .w .now) s .entries) (a .i)) .last) (a .n)) (at-if1 .if1 .taken))) refl (p .1 s) (p .0)
+    (c .before .before .before .before .before .before .freed-kind .ensures .1 s (a .n)
+    ∙ ruled-invalid (c .before .before .before .before .before .before .freed-kind .result)
+    (eqb ((at (locksOf (a .w .now) s .entries) (a .i)) .last) (a .n)) (c .before .before .before .before .before .if1 .taken))) refl (p .1 s) (p .0)
     (search needs) (λ t. t)
 
 grant-waiting-requires : tie.Need-grant-waiting-requires
-grant-waiting-requires c κs =
-    let on = c .before .before .before .before .before .before in
-    let at-put-answer2 = on .before .before in
-    omega (arith, at-put-answer2 .put-answer2 .ensures .0)
+grant-waiting-requires c κs = omega (arith, c .before .before .before .before .before .before .before .before .put-answer2 .ensures .0)
 
 returns-2 : tie.Need-returns-2
-returns-2 c =
-    let at-grant-waiting = c .before .before in
-    let at-free-lock = at-grant-waiting .before .before .before .before in
-    let at-put-answer2 = at-free-lock .before .before .before .before .before in
-    let at-if2 = at-put-answer2 .before .before .before in
-    let at-is-last = at-if2 .before in
-    let at-if1 = at-is-last .before .before in
-    let at-freed-kind = at-if1 .before in
-    let a = at-freed-kind .before .before .before .args in
+returns-2 c = let a = c .before .before .before .before .before .before .before .before .before .before .before .before .before .before .before .before .before .before .before .before .before .args in
     let s = a .strings .now in
-    let k = kindOf (at-freed-kind .freed-kind .result) in
-    let p = at-put-answer2 .put-answer2 .ensures in
+    let k = kindOf (c .before .before .before .before .before .before .before .before .before .before .before .before .before .before .before .before .before .before .freed-kind .result) in
+    let p = c .before .before .before .before .before .before .before .before .before .before .before .put-answer2 .ensures in
     met-is _ _ _ _ _ _ _ _
     (sym (release-now (locksOf (a .w .now) s) (a .i) (a .n) k
-    (at-freed-kind .freed-kind .ensures .1 s (a .n)
-    ∙ ruled-now (at-freed-kind .freed-kind .result) _
-    (at-if1 .if1 .left)
-    (at-is-last .is-last .ensures s
-    ∙ at-if2 .if2 .taken))))
+    (c .before .before .before .before .before .before .before .before .before .before .before .before .before .before .before .before .before .before
+    .freed-kind .ensures .1 s (a .n)
+    ∙ ruled-now (c .before .before .before .before .before .before .before .before .before .before .before .before .before .before .before .before .before
+    .before .freed-kind .result) _
+    (c .before .before .before .before .before .before .before .before .before .before .before .before .before .before .before .before .before .if1 .left)
+    (c .before .before .before .before .before .before .before .before .before .before .before .before .before .before .before .is-last .ensures s
+    ∙ c .before .before .before .before .before .before .before .before .before .before .before .before .before .before .if2 .taken))))
     (met-pass _ _ _ _ _ _ _ _ _ _ (omega (arith, p .0))
-    (met-one _ _ _ _ _ _ _ _ _ refl (at-free-lock .free-lock .ensures .0)
+    (met-one _ _ _ _ _ _ _ _ _ refl (c .before .before .before .before .before .before .free-lock .ensures .0)
     (p .1 s ∙ ap (λ (x : ℕ). splice (a .out .now) (a .at) (frameBytes (lockAnswerFrame (locksOf (a .w .now) s .entries) (a .i) x)))
-    (sym (at-freed-kind .freed-kind .ensures .0
-    (at-if1 .if1
-    .left)))) (p .0) (search needs) (at-free-lock .free-lock .ensures .1))
-    (at-grant-waiting .grant-waiting .ensures))
+    (sym (c .before .before .before .before .before .before .before .before .before .before .before .before .before .before .before .before .before
+    .before .freed-kind .ensures .0
+    (c .before .before .before .before .before .before .before .before .before .before .before .before .before .before .before .before .before .if1
+    .left)))) (p .0) (search needs) (c .before .before .before .before .before .before .free-lock .ensures .1))
+    (c .before .before .grant-waiting .ensures))
 
 returns-3 : tie.Need-returns-3
-returns-3 c =
-    let at-standing-word = c .before .before in
-    let at-if2 = at-standing-word .before in
-    let at-is-last = at-if2 .before in
-    let at-if1 = at-is-last .before .before in
-    let at-freed-kind = at-if1 .before in
-    let a = at-freed-kind .before .before .before .args in
+returns-3 c = let a = c .before .before .before .before .before .before .before .before .before .before .args in
     let s = a .strings .now in
-    let k = kindOf (at-freed-kind .freed-kind .result) in
+    let k = kindOf (c .before .before .before .before .before .before .before .freed-kind .result) in
     met-none _ _ _ _ _ _
     (release-stands (locksOf (a .w .now) s) (a .i) (a .n) k
-    (at-freed-kind .freed-kind .ensures .1 s (a .n)
-    ∙ ruled-stands (at-freed-kind .freed-kind .result) _
-    (at-if1 .if1 .left)
-    (at-is-last .is-last .ensures s ∙ at-if2 .if2 .left)))
-    (standing-stored (view (memory (a .w .now) s)) _ (a .i) (at-standing-word .standing-word .result) k (a .n) (at-standing-word .standing-word .ensures .0) (c .set-order .ensures .0 s))
-    (c .set-order .ensures .1 s (at-standing-word .standing-word .ensures .1))
+    (c .before .before .before .before .before .before .before .freed-kind .ensures .1 s (a .n)
+    ∙ ruled-stands (c .before .before .before .before .before .before .before .freed-kind .result) _
+    (c .before .before .before .before .before .before .if1 .left)
+    (c .before .before .before .before .is-last .ensures s ∙ c .before .before .before .if2 .left)))
+    (standing-stored (view (memory (a .w .now) s)) _ (a .i) (c .before .before .standing-word .result) k (a .n) (c .before .before .standing-word .ensures .0) (c .set-order .ensures .0 s))
+    (c .set-order .ensures .1 s (c .before .before .standing-word .ensures .1))
 
 pub release-lock-spec : {M : Type 1} → statement M
 release-lock-spec =

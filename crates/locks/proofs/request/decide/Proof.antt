@@ -9,70 +9,48 @@ use Rattle.locks.proofs.request.decide.Statement.{statement}
 use Rattle.locks.proofs.request.decide.Tie as tie
 
 give-asked-requires : tie.Need-give-asked-requires
-give-asked-requires c κs =
-    let at-if1 = c .before .before .before .before .before .before .before in
-    let at-may-give = at-if1 .before in (
-      search needs,
-      search needs,
-      at-may-give .may-give .ensures
-          ∙ at-if1 .if1 .taken,
-    )
+give-asked-requires c κs = (
+  search needs,
+  search needs,
+  c .before .before .before .before .before .before .before .before .may-give .ensures
+      ∙ c .before .before .before .before .before .before .before .if1 .taken,
+)
 
 returns : tie.Need-returns
-returns c =
-    let at-give-asked = c .before .before in
-    let at-put-answer = at-give-asked .before .before .before .before .before in
-    let at-if1 = at-put-answer .before .before .before in
-    let at-may-give = at-if1 .before in
-    let a = at-may-give .before .before .before .before .before .args in
-    let p = at-put-answer .put-answer .ensures in
-    let g = at-give-asked .give-asked .ensures in
+returns c = let a = c .before .before .before .before .before .before .before .before .before .before .before .before .before .before .before .before .args in
+    let p = c .before .before .before .before .before .before .before .put-answer .ensures in
+    let g = c .before .before .give-asked .ensures in
     let n = c .note-grant .ensures in
     met-one _ _ _ _ _ _ _ _ _ (decided-granted (locksOf (a .w .now) (a .strings .now)) (a .i) (a .string .now) (a .timeout)
-    (at-may-give .may-give .ensures
-    ∙ at-if1 .if1 .taken))
+    (c .before .before .before .before .before .before .before .before .before .before .before .may-give .ensures
+    ∙ c .before .before .before .before .before .before .before .before .before .before .if1 .taken))
     (given-noted (view (memory (a .w .now) (a .strings .now))) _ _ (a .i) (a .string .now) (g .0) (n .0 _)) (p .1 (a .strings .now)) (p .0) (search needs) (λ t. n .1 _ (g .1 t))
 
 returns-2 : tie.Need-returns-2
-returns-2 c =
-    let at-put-answer2 = c .before .before in
-    let at-if2 = at-put-answer2 .before .before .before in
-    let at-cannot-wait = at-if2 .before in
-    let at-if1 = at-cannot-wait .before .before in
-    let at-may-give = at-if1 .before in
-    let a = at-may-give .before .before .before .before .before .args in
-    let p = at-put-answer2 .put-answer2 .ensures in
+returns-2 c = let a = c .before .before .before .before .before .before .before .before .before .before .before .before .before .before .args in
+    let p = c .before .before .put-answer2 .ensures in
     let s = a .strings .now in
     met-one _ _ _ _ _ _ _ _ _ (decided-denied (locksOf (a .w .now) (a .strings .now)) (a .i) (a .string .now) (a .timeout)
-    (at-may-give .may-give .ensures
-    ∙ at-if1 .if1 .left)
-    (at-cannot-wait .cannot-wait .ensures s ∙ at-if2 .if2 .taken)) refl (p .1 s)
+    (c .before .before .before .before .before .before .before .before .before .may-give .ensures
+    ∙ c .before .before .before .before .before .before .before .before .if1 .left)
+    (c .before .before .before .before .before .before .cannot-wait .ensures s ∙ c .before .before .before .before .before .if2 .taken)) refl (p .1 s)
     (p .0) (search needs) (λ t. t)
 
 wait-requires : tie.Need-wait-requires
-wait-requires c κs =
-    let at-if2 = c .before .before in
-    let at-cannot-wait = at-if2 .before in
-    let on = at-cannot-wait .before .before .before .before .before .before in
-    let a = on .before .before .args in
+wait-requires c κs = let a = c .before .before .before .before .before .before .before .before .before .before .before .args in
     let s = a .strings .now in (
       search needs,
       search needs,
       has-place (a .timeout) (locksOf (a .w .now) s .waiting)
-          (at-cannot-wait .cannot-wait .ensures s ∙ at-if2 .if2 .left),
-      on .before .before .pre .3,
+          (c .before .before .before .cannot-wait .ensures s ∙ c .before .before .if2 .left),
+      c .before .before .before .before .before .before .before .before .before .before .before .pre .3,
     )
 
 returns-3 : tie.Need-returns-3
-returns-3 c =
-    let at-if2 = c .before .before .before in
-    let at-cannot-wait = at-if2 .before in
-    let at-if1 = at-cannot-wait .before .before in
-    let at-may-give = at-if1 .before in
-    let a = at-may-give .before .before .before .before .before .args in
+returns-3 c = let a = c .before .before .before .before .before .before .before .before .before .before .before .before .args in
     met-none _ _ _ _ _ _ (decided-queued (locksOf (a .w .now) (a .strings .now)) (a .i) (a .string .now) (a .timeout)
-    (at-may-give .may-give .ensures ∙ at-if1 .if1 .left)
-    (at-cannot-wait .cannot-wait .ensures (a .strings .now) ∙ at-if2 .if2 .left)) (c .wait .ensures .0)
+    (c .before .before .before .before .before .before .before .may-give .ensures ∙ c .before .before .before .before .before .before .if1 .left)
+    (c .before .before .before .before .cannot-wait .ensures (a .strings .now) ∙ c .before .before .before .if2 .left)) (c .wait .ensures .0)
     (c .wait .ensures .1)
 
 pub decide-spec : {M : Type 1} → statement M

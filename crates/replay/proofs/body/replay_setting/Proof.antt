@@ -19,14 +19,10 @@ part-sets-above-start : tie.Need-part-sets-above-start
 part-sets-above-start c = omega (arith, c .before .before .before .before .before .before .before .pre .0 .end)
 
 sub-sets-outside : tie.Need-sub-sets-outside
-sub-sets-outside c =
-    let on = c .before .before .before .before .before .before in
-    omega (arith, on .before .before .before .pre .0 .end)
+sub-sets-outside c = omega (arith, c .before .before .before .before .before .before .before .before .before .pre .0 .end)
 
 part-sets-outside-start : tie.Need-part-sets-outside-start
-part-sets-outside-start c =
-    let on = c .before .before .before .before .before .before in
-    omega (arith, on .before .before .before .pre .0 .end)
+part-sets-outside-start c = omega (arith, c .before .before .before .before .before .before .before .before .before .pre .0 .end)
 
 sets-off-requires : tie.Need-sets-off-requires
 sets-off-requires c κs = fits-6 _ _ (c .before .before .before .before .before .before .pre .0)
@@ -38,45 +34,31 @@ returns c = let a = c .before .before .before .before .before .before .before .a
     (c .before .before .before .before .if1 .taken) (c .sets-off .ensures)
 
 sets-above-requires : tie.Need-sets-above-requires
-sets-above-requires c κs =
-    let at-if2 = c .before .before .before in
-    let at-shared-slice-known = at-if2 .before .before .before .before in
-    fits-7 _ _ (at-shared-slice-known .before .pre .0)
-    (λ i. at-shared-slice-known .shared-slice-known .given i .fits) (at-if2 .if2 .taken)
+sets-above-requires c κs = fits-7 _ _ (c .before .before .before .before .before .before .before .before .pre .0)
+    (λ i. c .before .before .before .before .before .before .before .shared-slice-known .given i .fits) (c .before .before .before .if2 .taken)
 
 returns-2 : tie.Need-returns-2
-returns-2 c =
-    let at-if2 = c .before .before .before .before in
-    let a = at-if2 .before .before .before .before .before .args in
-    judged-7 (a .p) (a .body .now) (at-if2 .before .before .before .before .before .pre .0)
-    (memory (a .words .now) (a .strings .now)) _ _ (at-if2 .if2 .taken) (c .sets-above .ensures)
+returns-2 c = let a = c .before .before .before .before .before .before .before .before .before .args in
+    judged-7 (a .p) (a .body .now) (c .before .before .before .before .before .before .before .before .before .pre .0)
+    (memory (a .words .now) (a .strings .now)) _ _ (c .before .before .before .before .if2 .taken) (c .sets-above .ensures)
 
 sets-outside-requires : tie.Need-sets-outside-requires
-sets-outside-requires c κs =
-    let at-if3 = c .before .before .before in
-    let at-shared-slice-known = at-if3 .before .before .before .before .before .before in
-    fits-8 _ _ (at-shared-slice-known .before .pre .0)
-    (λ i. at-shared-slice-known .shared-slice-known .given i .fits)
-    (at-if3 .if3 .taken)
+sets-outside-requires c κs = fits-8 _ _ (c .before .before .before .before .before .before .before .before .before .before .pre .0)
+    (λ i. c .before .before .before .before .before .before .before .before .before .shared-slice-known .given i .fits)
+    (c .before .before .before .if3 .taken)
 
 returns-3 : tie.Need-returns-3
-returns-3 c =
-    let at-if3 = c .before .before .before .before in
-    let a = at-if3 .before .before .before .before .before .before .before .args in
-    judged-8 (a .p) (a .body .now) (at-if3 .before .before .before .before .before .before .before .pre .0)
-    (memory (a .words .now) (a .strings .now)) _ _ (at-if3 .if3 .taken) (c .sets-outside .ensures)
+returns-3 c = let a = c .before .before .before .before .before .before .before .before .before .before .before .args in
+    judged-8 (a .p) (a .body .now) (c .before .before .before .before .before .before .before .before .before .before .before .pre .0)
+    (memory (a .words .now) (a .strings .now)) _ _ (c .before .before .before .before .if3 .taken) (c .sets-outside .ensures)
 
 returns-4 : tie.Need-returns-4
-returns-4 c =
-    let at-if3 = c .before .before .before .before .before .before in
-    let at-if2 = at-if3 .before .before in
-    let at-if1 = at-if2 .before .before in
-    let a = at-if1 .before .before .before .args in
-    judged-9 (a .p) (a .body .now) (at-if1 .before .before .before .pre .0)
+returns-4 c = let a = c .before .before .before .before .before .before .before .before .before .before .before .before .before .args in
+    judged-9 (a .p) (a .body .now) (c .before .before .before .before .before .before .before .before .before .before .before .before .before .pre .0)
     (memory (a .words .now) (a .strings .now)) _ _
-    (at-if1 .before .before .before .pre .1)
-    (at-if1 .if1 .left)
-    (at-if2 .if2 .left) (at-if3 .if3 .left)
+    (c .before .before .before .before .before .before .before .before .before .before .before .before .before .pre .1)
+    (c .before .before .before .before .before .before .before .before .before .before .if1 .left)
+    (c .before .before .before .before .before .before .before .before .if2 .left) (c .before .before .before .before .before .before .if3 .left)
     (c .sets-list .ensures)
 
 pub replay-setting-spec : {M : Type 1} → statement M

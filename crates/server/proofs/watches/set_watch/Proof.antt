@@ -41,46 +41,36 @@ returns-2 c =
 
 returns-3 : tie.Need-returns-3
 returns-3 c =
-    let at-is-refused = c .before .before in
-    let at-if2 = at-is-refused .before in
-    let at-entry = at-if2 .before in
-    let at-slot-of-number = at-entry .before .before .before in
-    let a = at-slot-of-number .before .before .args in
+    let a = c .before .before .before .before .before .before .before .before .before .args in
     let w = a .words .now in
     let s = a .strings .now in
     let m = memory w s in
     let l = limits (a .new) in
-    let f = at-slot-of-number .slot-of-number in
+    let f = c .before .before .before .before .before .before .before .slot-of-number in
     let e = at (locksOf w s .entries) (f .result) in
-    let r = at-entry .entry in
-    let v : live e ≡ true = is-live e (r .result) (number-read e (r .result) (r .ensures .0 s)) (at-if2 .if2 .left) in
+    let r = c .before .before .before .before .entry in
+    let v : live e ≡ true = is-live e (r .result) (number-read e (r .result) (r .ensures .0 s)) (c .before .before .before .if2 .left) in
     refused-call (setting (watch (a .session) l)) 9 _ m [] (watch-bad (view m) (a .session) (f .result) l (f .ensures .1 s) v
-    (sym (at-is-refused .is-refused .ensures) ∙ c .before .if3 .taken)) (c .done3 .ensures)
+    (sym (c .before .before .is-refused .ensures) ∙ c .before .if3 .taken)) (c .done3 .ensures)
 
 arm-requires : tie.Need-arm-requires
 arm-requires c κs =
-    let at-is-refused = c .before .before in
-    let a = at-is-refused .before .before .before .before .before .before .before .args in
-    let e : refused (limits (a .new)) ≡ false = sym (at-is-refused .is-refused .ensures) ∙ c .before .if3 .left in
+    let a = c .before .before .before .before .before .before .before .before .before .args in
+    let e : refused (limits (a .new)) ≡ false = sym (c .before .before .is-refused .ensures) ∙ c .before .if3 .left in
     search (needs, e)
 
 returns-4 : tie.Need-returns-4
 returns-4 c =
-    let at-if3 = c .before .before .before in
-    let at-is-refused = at-if3 .before in
-    let at-if2 = at-is-refused .before in
-    let at-entry = at-if2 .before in
-    let at-slot-of-number = at-entry .before .before .before in
-    let a = at-slot-of-number .before .before .args in
+    let a = c .before .before .before .before .before .before .before .before .before .before .before .args in
     let w = a .words .now in
     let s = a .strings .now in
     let m = memory w s in
     let l = limits (a .new) in
-    let f = at-slot-of-number .slot-of-number in
+    let f = c .before .before .before .before .before .before .before .before .before .slot-of-number in
     let e = at (locksOf w s .entries) (f .result) in
-    let r = at-entry .entry in
-    let v : live e ≡ true = is-live e (r .result) (number-read e (r .result) (r .ensures .0 s)) (at-if2 .if2 .left) in
-    let q : refused l ≡ false = sym (at-is-refused .is-refused .ensures) ∙ at-if3 .if3 .left in
+    let r = c .before .before .before .before .before .before .entry in
+    let v : live e ≡ true = is-live e (r .result) (number-read e (r .result) (r .ensures .0 s)) (c .before .before .before .before .before .if2 .left) in
+    let q : refused l ≡ false = sym (c .before .before .before .before .is-refused .ensures) ∙ c .before .before .before .if3 .left in
     taken-call (setting (watch (a .session) l)) _ [] _ m _ [] [] (watch-taken (view m) (a .session) (f .result) l (f .ensures .1 s) v q)
     (watch-finishes (view m) (a .session) (f .result) l (f .ensures .1 s))
     (c .before .arm .ensures .0 s) (empty-buffer []) (empty-output _ (c .done4 .ensures)) (c .before .arm .ensures .1 s)
