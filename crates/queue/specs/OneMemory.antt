@@ -16,7 +16,8 @@ use Rattle.model.specs.State.{Asked.none, Asked.some, Exchange, Connection, All
 use Rattle.model.specs.State.{freshExchange, closedConnection, Sensing, sensingAt}
 use Rattle.state.specs.Table.{below}
 use Rattle.state.specs.Grid.{part, word-of, length-part, grid, getD-grid}
-use Rattle.state.specs.Bits.{bit, low-bits, Member, member}
+use Rattle.bits.specs.Bits.{bit}
+use Rattle.state.specs.Bits.{low-bits, Member, member}
 use Rattle.state.specs.Layout.{LOCKS, VENDOR, PREFERENCE, STATUS, LAST, ENABLE, LOCKOUT, REMOTE, EXCHANGES, EXCHANGE, CONNECTIONS, CONNECTION, HOME, LISTED}
 use Rattle.state.specs.Layout.{CLOCK, HOLDER, SHARERS, KEY, COUNT, ENTRIES, ENTRY, ORDERS, ORDER, REQUESTS, REQUEST, QUEUE, WORDS, LIST, STRINGS, SENSINGS}
 use Rattle.state.specs.Layout.{SENSING}

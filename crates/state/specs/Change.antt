@@ -19,7 +19,7 @@ use Rattle.model.specs.Exchange.{withAnswering, withClear, withClientSize, with
 use Rattle.model.specs.Locks.{withRow, withOrder, withGranted}
 use Rattle.state.specs.Table.{tab, tab-same, tab-set, getD-tab, apart}
 use Rattle.state.specs.Grid.{upd, upd-set, part, grid, grid-set, grid-off, getD-grid, word-of}
-use Rattle.state.specs.Bits.{bit}
+use Rattle.bits.specs.Bits.{bit}
 use Rattle.state.specs.Layout.{LOCKS, CLOCK, VENDOR, PREFERENCE, STATUS, LAST, ENABLE, LOCKOUT, REMOTE, HOLDER, SHARERS, KEY, COUNT, ENTRIES, ENTRY}
 use Rattle.state.specs.Layout.{ORDERS, ORDER, EXCHANGES, EXCHANGE, CONNECTIONS, CONNECTION, HOME, LISTED, REQUESTS, REQUEST, QUEUE, WORDS, LIST}
 use Rattle.state.specs.Layout.{SENSINGS, SENSING}
