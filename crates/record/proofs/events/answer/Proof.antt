@@ -16,20 +16,20 @@ returns-2 : tie.Need-returns-2
 returns-2 c =
     let s = c .before .before .before .before .before .before .before .args .s .now in
     let h : 6 ≤ length s = c .before .before .before .before .before .if1 .left in
-    answer-no-end _ _ _ h (c .before .before .wide .ensures ∙ byte-at s 5 (omega arith)) (c .before .if2 .taken) (c .nothing2 .ensures)
+    answer-no-end _ _ _ h (c .before .before .wide .ensures .0 ∙ byte-at s 5 (omega arith)) (c .before .if2 .taken) (c .nothing2 .ensures)
 
 returns-3 : tie.Need-returns-3
 returns-3 c =
     let s = c .before .before .before .before .before .before .before .before .before .before .args .s .now in
     let h : 6 ≤ length s = c .before .before .before .before .before .before .before .before .if1 .left in
-    answer-no-payload _ _ _ h (c .before .before .before .before .before .wide .ensures ∙ byte-at s 5 (omega arith))
+    answer-no-payload _ _ _ h (c .before .before .before .before .before .wide .ensures .0 ∙ byte-at s 5 (omega arith))
     (c .before .before .before .before .if2 .left) _ (c .before .before .before .row-at .ensures) (c .before .if3 .taken) (c .nothing3 .ensures)
 
 returns-4 : tie.Need-returns-4
 returns-4 c =
     let s = c .before .before .before .before .before .before .before .before .before .before .before .before .before .args .s .now in
     let h : 6 ≤ length s = c .before .before .before .before .before .before .before .before .before .before .before .if1 .left in
-    answer-no-shown _ _ _ h (c .before .before .before .before .before .before .before .before .wide .ensures ∙ byte-at s 5 (omega arith))
+    answer-no-shown _ _ _ h (c .before .before .before .before .before .before .before .before .wide .ensures .0 ∙ byte-at s 5 (omega arith))
     (c .before .before .before .before .before .before .before .if2 .left) _ (c .before .before .before .before .before .before .row-at .ensures)
     (c .before .before .before .before .if3 .left) _ (c .before .before .before .row-at2 .ensures) (c .before .if4 .taken) (c .nothing4 .ensures)
 
@@ -37,7 +37,7 @@ returns-5 : tie.Need-returns-5
 returns-5 c =
     let s = c .before .before .before .before .before .before .before .before .before .before .before .before .args .s .now in
     let h : 6 ≤ length s = c .before .before .before .before .before .before .before .before .before .before .if1 .left in
-    answer-there _ _ _ h (c .before .before .before .before .before .before .before .wide .ensures ∙ byte-at s 5 (omega arith))
+    answer-there _ _ _ h (c .before .before .before .before .before .before .before .wide .ensures .0 ∙ byte-at s 5 (omega arith))
     (c .before .before .before .before .before .before .if2 .left) _ (c .before .before .before .before .before .row-at .ensures)
     (c .before .before .before .if3 .left) _ (c .before .before .row-at2 .ensures) _
     (c .before .before .before .before .before .before .before .before .before .number4 .ensures .0) (c .if4 .left) refl
