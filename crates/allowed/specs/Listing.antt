@@ -20,6 +20,7 @@ use Rattle.state.specs.Layout.{LOCKS, CLOCK, HOLDER, SHARERS, KEY, COUNT, ENTRI
 use Rattle.state.specs.Layout.{SENSINGS, SENSING, LISTED, REQUESTS, REQUEST, QUEUE, WORDS, LIST, STRINGS}
 use Rattle.state.specs.View.{memory, word, homeAt, keyOf, entriesOf, waitingOf, locksOf, restOf, allowedFrom, allowedOf, view}
 use Rattle.state.specs.Change.{onRest, off, here, locks-off, rest-words}
+use Rattle.queue.specs.OneMemory.{isSet}
 use Rattle.queue.specs.Requests.{take-here, waiting-strings}
 use Rattle.queue.specs.Strings.{take-least}
 use Rattle.queue.specs.Wiping.{Wiped, part-same}
@@ -30,11 +31,6 @@ use Rattle.state.specs.Keeping.{kept-values, kept-range, kept-singles, kept-row
 -- the answer that the code gives is what the definition says
 pub part-admits : (text p : List ℕ) (r : Bool) → (r ≡ true) ↔ Allows (linesOf text) (commandOf p) → admits (only text) p ≡ r
 part-admits text p r h = same-answer (allows (linesOf text) (commandOf p)) r (allows-is (linesOf text) (commandOf p)) h
-
--- is a list set? While none is, any payload is allowed
-abbrev pub isSet : Allowed → Bool
-isSet any-command = false
-isSet (only text) = true
 
 pub unset-admits : (a : Allowed) (p : List ℕ) → isSet a ≡ false → admits a p ≡ true
 unset-admits any-command p e = refl

@@ -1,6 +1,6 @@
 // The allowed commands. A list is a text, kept as the host gave it behind the lock strings; its length, plus 1, is a word, and 0 is no list.
 ghost use Prim.Native.Nat.{ℕ, _+_, _≤_};
-ghost use Rattle.allowed.specs.Listing.{isSet};
+ghost use Rattle.queue.specs.OneMemory.{isSet};
 ghost use Rattle.model.specs.Allowing.{admits};
 ghost use Rattle.model.specs.Sizes.{listLimit};
 ghost use Rattle.model.specs.State.{Allowed.only, withAllowed};

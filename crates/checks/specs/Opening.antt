@@ -14,10 +14,9 @@ use Rattle.model.specs.Lists.{isNil, same, all}
 use Rattle.model.specs.MessageTypes.{Initialize, AsyncInitialize}
 use Rattle.model.specs.State.{Server, Entry, at, blank, live, halfOpen, slotOfNumber}
 use Rattle.model.specs.Checks.{Verdict, Verdict.v-acts, Verdict.v-fatal, first, hislip0, openingRules}
-use Rattle.state.specs.Table.{length-tab}
-use Rattle.state.specs.Change.{entryWith}
+use Rattle.state.specs.Change.{sessions-held, entryWith}
 use Rattle.state.specs.Search.{asynchronous-read}
-use Rattle.state.specs.View.{keyOf, entryAt, entriesOf, locksOf}
+use Rattle.state.specs.View.{locksOf}
 use Rattle.checks.specs.Numbers.{message}
 
 and-false : (b : Bool) → b && false ≡ false
@@ -113,22 +112,18 @@ module _ (es : List Entry) (n : ℕ) where
   half-live : (n ≡ 0 → ⊥) → slotOfNumber es n < length es → halfOpen (at es (slotOfNumber es n)) ≡ eqb ((at es (slotOfNumber es n)) .asynchronous) noConnection
   half-live z l = rw (ne-eqb ((at es (slotOfNumber es n)) .number) 0 (λ q. z (sym (found es n l) ∙ q)))
 
--- the table in memory, which has 32 slots
-slots : (w s : List ℕ) → length (locksOf w s .entries) ≡ sessionLimit
-unfolding locksOf entriesOf
-slots w s = length-tab (entryAt w (keyOf w s)) 0 sessionLimit
-
+-- the table in memory
 pub all-taken : (w s : List ℕ) (slot : ℕ) → slotOfNumber (locksOf w s .entries) 0 ≡ slot → all live (locksOf w s .entries) ≡ eqb slot sessionLimit
-all-taken w s slot e = all-live (locksOf w s .entries) ∙ rw (e, slots w s)
+all-taken w s slot e = all-live (locksOf w s .entries) ∙ rw (e, sessions-held w s)
 
 module _ (w s : List ℕ) (n slot : ℕ) (e : slotOfNumber (locksOf w s .entries) n ≡ slot) where
   pub number-none : sessionLimit ≤ slot → halfOpen (at (locksOf w s .entries) (slotOfNumber (locksOf w s .entries) n)) ≡ false
-  number-none l = half-none (locksOf w s .entries) n (rw (e, slots w s) l)
+  number-none l = half-none (locksOf w s .entries) n (rw (e, sessions-held w s) l)
 
   pub number-found : (n ≡ 0 → ⊥) → slot < sessionLimit → (r : ℕ) → entryWith 2 r (at (locksOf w s .entries) slot) ≡ at (locksOf w s .entries) slot
       → halfOpen (at (locksOf w s .entries) (slotOfNumber (locksOf w s .entries) n)) ≡ eqb (r % 256) noConnection
   number-found z l r q =
-      half-live (locksOf w s .entries) n z (rw (e, slots w s) l)
+      half-live (locksOf w s .entries) n z (rw (e, sessions-held w s) l)
       ∙ rw e (ap (λ (x : ℕ). eqb x noConnection) (asynchronous-read (at (locksOf w s .entries) slot) r q))
 
 module _ (d : Server) (kind code param len : ℕ) (p : List ℕ) where

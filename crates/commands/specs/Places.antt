@@ -8,7 +8,8 @@ use native.Mathlib.Omega.{arith}
 use lib.Bits.{bitOr}
 use lib.Count.{trailingZeros}
 use lib.ListN.{getD}
-use Rattle.commands.specs.Bits.{bit, either, power-bit, has-power, lessened, less, no-bits, trailing}
+use Rattle.bits.specs.Bits.{bit}
+use Rattle.commands.specs.Bits.{either, power-bit, has-power, lessened, less, no-bits, trailing}
 use Rattle.commands.specs.Sets.{In, On}
 
 pub on-below : (s : List ℕ) (j : ℕ) → On s j → j < 192

@@ -11,7 +11,7 @@ use borrow.Author.Tests.{leb-true}
 use Rattle.scpi.specs.Bytes.{colonSign, upper, caseless}
 use Rattle.scpi.specs.Grammar.{Word, short, long, Row, Row.r-none, Row.r-word, Row.r-bracket}
 use Rattle.commands.specs.Spelling.{SpellsWord, SpellsWord.in-short, SpellsWord.in-long, SpellsRow, SpellsRow.s-none, SpellsRow.s-word, SpellsRow.s-kept, SpellsRow.s-dropped}
-use Rattle.commands.specs.Bits.{bit}
+use Rattle.bits.specs.Bits.{bit}
 use Rattle.commands.specs.Cuts.{Cut, cut-nil, cut-append, cut-first, cut-last}
 
 -- place j is in the word of the places from b on

@@ -1,4 +1,5 @@
 // Matching a command: the set of places of the command that the pattern read so far can have come to.
+use bits::power_of;
 use scpi::Checked;
 use scpi::bytes::goes_on;
 use scpi::bytes::run_end;
@@ -7,12 +8,12 @@ ghost use mathlib.Core.Path.{_≡_};
 ghost use mathlib.Core.Logic.{_⊎_, _↔_};
 ghost use mathlib.Core.Bool.{false, true};
 ghost use lib.Dec.{eqb};
-ghost use Prim.Native.Nat.{ℕ, _+_, _-_, _^_, _≤_, _<_};
+ghost use Prim.Native.Nat.{ℕ, _+_, _-_, _≤_, _<_};
 ghost use lib.ListN.{drop, getD, length};
 ghost use Rattle.scpi.specs.Bytes.{upper};
 ghost use Rattle.commands.specs.Spelling.{Matches};
 ghost use Rattle.scpi.specs.Words.{part, starts};
-ghost use Rattle.commands.specs.Bits.{bit};
+ghost use Rattle.bits.specs.Bits.{bit};
 ghost use Rattle.commands.specs.Landing.{Spread};
 ghost use Rattle.commands.specs.Places.{Member, weight};
 ghost use Rattle.commands.specs.Sets.{On, Lands};
@@ -35,13 +36,6 @@ fn has(m: u64, i: usize) -> bool
         return true;
     }
     false
-}
-
-fn power_of(i: usize) -> u64
-    requires { ⌜ i < 64 ⌝ }
-    ensures { λ r. ⌜ r ≡ 2 ^ i ⌝ }
-{
-    1 << i
 }
 
 fn holds(s: &[u64; 3], j: usize) -> bool

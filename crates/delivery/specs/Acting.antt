@@ -8,6 +8,7 @@ use native.Mathlib.Omega.{arith}
 use lib.Dec.{eqb, ltb}
 use lib.ListN.{length, List·getD-eq-default}
 use borrow.Author.Tests.{eq-eqb, ne-eqb, eqb-true, eqb-false, ltb-true, ltb-false}
+use Rattle.wire.specs.Both.{and-left}
 use Rattle.wire.specs.declared.Header.{Header}
 use Rattle.model.specs.Sizes.{noConnection, sessionLimit}
 use Rattle.model.specs.Lists.{all, position}
@@ -27,7 +28,7 @@ use Rattle.model.specs.Interface.{Reply.took, Outcome.acted}
 use Rattle.sessions.specs.declared.Delivery.{Delivery}
 use Rattle.sessions.specs.Did.{Did, did-plainly, numbersOf}
 use Rattle.sessions.specs.Replies.{nothing-said}
-use Rattle.sessions.specs.Closing.{sessions-held}
+use Rattle.state.specs.Change.{sessions-held}
 
 -- a role from its number
 pub role-none : (ro : Role) → roleNumber ro ≡ 0 → ro ≡ r-none
@@ -89,10 +90,6 @@ not-off : (x : Bool) → not x ≡ false → x ≡ true
 not-off true e = refl
 not-off false e = absurd (true≢false e)
 
-and-on : (x y : Bool) → (x && y) ≡ true → x ≡ true
-and-on true y e = refl
-and-on false y e = e
-
 position-small : {A : Type 0} (p : A → Bool) (es : List A) → position p es ≤ length es
 position-small p [] = omega arith
 position-small p (e ∷ es) = by (p e) (position-small p es)
@@ -136,7 +133,7 @@ module _ (w s : List ℕ) (h : Header) (p : List ℕ) (passed : first (openingRu
   slot-lives : (h .kind ≡ Initialize → ⊥) → live (at (locksOf w s .entries) (slotOfNumber (locksOf w s .entries) (h .param))) ≡ true
   slot-lives o =
       let e : Entry = at (locksOf w s .entries) (slotOfNumber (locksOf w s .entries) (h .param)) in
-      and-on (live e) (eqb (e .asynchronous) 255) (slot-half o)
+      and-left (live e) (eqb (e .asynchronous) 255) (slot-half o)
 
   pub slot-named : (h .kind ≡ Initialize → ⊥) → slotOfNumber (locksOf w s .entries) (h .param) < sessionLimit
   slot-named o = inside (locksOf w s .entries) (slotOfNumber (locksOf w s .entries) (h .param)) (sessions-held w s) (slot-lives o)

@@ -24,8 +24,8 @@ use Rattle.sessions.specs.Did.{Did}
 use Rattle.sessions.specs.declared.Delivery.{Delivery}
 use Rattle.sessions.specs.Asynchronous.{DidKind, delivered, planWith, did-with, one-length}
 use Rattle.sessions.specs.Synchronous.{slot-changed}
-use Rattle.holding.specs.Outcome.{Met}
-use Rattle.locks.specs.Settled.{bytesOf-append, settled}
+use Rattle.holding.specs.Outcome.{Met, bytesOf-append}
+use Rattle.locks.specs.Settled.{settled}
 
 -- frames behind frames
 module _ (xs ys : List Frame) (a : ℕ) (e : a ≡ 0 + length (bytesOf xs)) where

@@ -10,7 +10,7 @@ ghost use Rattle.state.specs.View.{memory, view};
 ghost use mathlib.Core.Bool.{true};
 ghost use mathlib.Core.List.{List};
 ghost use mathlib.Core.Path.{_≡_};
-use sessions::mode::NUMBERS;
+use holding::standing::NUMBERS;
 use state::sizes::Words;
 use state::tables;
 use wire::message_id::MessageId;

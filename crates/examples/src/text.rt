@@ -1,6 +1,7 @@
 // What a person reads: words, numbers, bytes in hex, the frames of an output.
 ghost use Prim.Native.Nat.{_<_, _≤_};
 ghost use lib.ListN.{length};
+use wire::number::wide;
 
 pub fn say(s: &[u8]) {
     io::write_all(1, s);
@@ -52,10 +53,6 @@ fn frame_end(out: &[u8], at: usize, end: usize) -> usize
         return end;
     }
     at + 17 + payload as usize
-}
-
-fn wide(b: u8) -> u64 {
-    b as u64
 }
 
 fn frame(out: &[u8], at: usize, end: usize)

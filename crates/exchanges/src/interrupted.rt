@@ -23,12 +23,12 @@ use crate::rmt::is_command;
 use crate::rmt::left_by;
 use crate::rmt::note_rmt;
 use crate::rmt::same_number;
-use crate::rmt::wide;
 use sessions::mode::is_overlap;
 use state::sizes::CONNECTIONS;
 use state::sizes::Words;
 use state::tables;
 use wire::frame;
+use wire::number::wide;
 use wire::reading;
 use wire::types;
 

@@ -12,6 +12,7 @@ ghost use mathlib.Core.List.{List};
 ghost use mathlib.Core.Path.{_≡_};
 use state::sizes::Words;
 use state::tables;
+use wire::number::wide;
 use wire::types;
 
 // 1 where the two are one number, else 0: a number, so that no branch is made of it.
@@ -22,12 +23,6 @@ pub fn same_number(a: u64, b: u64) -> u64
         return 1;
     }
     0
-}
-
-pub fn wide(b: u8) -> u64
-    ensures { λ r. ⌜ r ≡ b ⌝ }
-{
-    b as u64
 }
 
 // The word of message available, or of the expectation, behind a message with this control code: a product, for no processor foresees the code.

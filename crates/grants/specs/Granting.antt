@@ -1,6 +1,6 @@
 -- The granting rule by the tests of the code, and a grant as one change of the table. Assumes nothing.
 use mathlib.Core.Path.{_≡_, refl, sym, ap, ap₂, subst, _∙_}
-use mathlib.Core.Bool.{Bool, true, false, not, _&&_, _||_, cond, true≢false}
+use mathlib.Core.Bool.{Bool, true, false, not, _&&_, _||_, cond}
 use mathlib.Core.List.{List, [], _∷_}
 use Prim.Native.Nat.{ℕ, zero, suc, _^_, _%_, _≤_, _<_}
 use native.Mathlib.Omega.{arith}
@@ -8,6 +8,7 @@ use lib.Dec.{ltb}
 use lib.ListN.{length, set}
 use borrow.Author.Tests.{eqb-true, eqb-false, ltb-true}
 use Rattle.model.specs.Sizes.{sessionLimit, grantsLimit}
+use Rattle.wire.specs.Both.{and-left, and-right}
 use Rattle.model.specs.Lists.{same, all, allBut}
 use Rattle.model.specs.State.{Entry, Server, at, blank}
 use Rattle.model.specs.Locks.{noExclusive, noShared, fits, mayGrant, give, giveAt, withGranted, oneMore, noteGrant, grant, withEntries}
@@ -63,23 +64,15 @@ module _ (es : List Entry) (i : ℕ) where
   may-share (x ∷ k) b n e o = rw (e, o)
 
   -- what a grant that may be wants of the table
-  left : (p q : Bool) → (p && q) ≡ true → p ≡ true
-  left true q e = refl
-  left false q e = e
-
-  right : (p q : Bool) → (p && q) ≡ true → q ≡ true
-  right true q e = e
-  right false q e = absurd (true≢false (sym e))
-
   pub may-exclusive : (k : List ℕ) → mayGrant es i k ≡ true → allBut noExclusive i es ≡ true
   unfolding mayGrant
-  may-exclusive [] e = left (allBut noExclusive i es) (allBut noShared i es || not (noShared (at es i))) e
-  may-exclusive (x ∷ k) e = left (allBut noExclusive i es) (all (fits (x ∷ k)) es) e
+  may-exclusive [] e = and-left (allBut noExclusive i es) (allBut noShared i es || not (noShared (at es i))) e
+  may-exclusive (x ∷ k) e = and-left (allBut noExclusive i es) (all (fits (x ∷ k)) es) e
 
   pub may-fits : (k : List ℕ) → (length k ≡ 0 → ⊥) → mayGrant es i k ≡ true → all (fits k) es ≡ true
   unfolding mayGrant
   may-fits [] n e = absurd (n refl)
-  may-fits (x ∷ k) n e = right (allBut noExclusive i es) (all (fits (x ∷ k)) es) e
+  may-fits (x ∷ k) n e = and-right (allBut noExclusive i es) (all (fits (x ∷ k)) es) e
 
 -- no string at all asks for the exclusive lock
 pub no-string : (k : List ℕ) → length k ≡ 0 → k ≡ []

@@ -4,32 +4,24 @@ use mathlib.Core.Bool.{Bool, true, false, not, _&&_, _||_}
 use mathlib.Core.List.{List, [], _∷_}
 use Prim.Native.Nat.{ℕ, zero, suc}
 use borrow.Author.Tests.{not-true}
+use Rattle.wire.specs.Both.{and-left, and-right}
 use Rattle.model.specs.Lists.{all, allBut}
 use Rattle.model.specs.State.{Entry, at}
 use Rattle.model.specs.Locks.{noExclusive, noShared, access}
 
 -- what holds of all entries holds of each, and of all but one
-first : (a b : Bool) → (a && b) ≡ true → a ≡ true
-first true b h = refl
-first false b h = h
-
-second : (a b : Bool) → (a && b) ≡ true → b ≡ true
-second true b h = h
-second false true h = refl
-second false false h = h
-
 pub one-of : (p : Entry → Bool) (es : List Entry) (i : ℕ) → p (at [] 0) ≡ true → all p es ≡ true → p (at es i) ≡ true
 one-of p [] i z h = z
-one-of p (x ∷ es) zero z h = first (p x) (all p es) h
-one-of p (x ∷ es) (suc i) z h = one-of p es i z (second (p x) (all p es) h)
+one-of p (x ∷ es) zero z h = and-left (p x) (all p es) h
+one-of p (x ∷ es) (suc i) z h = one-of p es i z (and-right (p x) (all p es) h)
 
 pair : (a b : Bool) → a ≡ true → b ≡ true → (a && b) ≡ true
 pair a b e f = rw (e, f)
 
 pub but-one : (p : Entry → Bool) (es : List Entry) (i : ℕ) → all p es ≡ true → allBut p i es ≡ true
 but-one p [] i h = refl
-but-one p (x ∷ es) zero h = second (p x) (all p es) h
-but-one p (x ∷ es) (suc i) h = pair (p x) (allBut p i es) (first (p x) (all p es) h) (but-one p es i (second (p x) (all p es) h))
+but-one p (x ∷ es) zero h = and-right (p x) (all p es) h
+but-one p (x ∷ es) (suc i) h = pair (p x) (allBut p i es) (and-left (p x) (all p es) h) (but-one p es i (and-right (p x) (all p es) h))
 
 module _ (es : List Entry) (i : ℕ) where
   -- somebody holds the exclusive lock: he alone

@@ -11,8 +11,8 @@ use Rattle.model.specs.Lists.{tally}
 use Rattle.model.specs.State.{Entry, at, blank}
 use Rattle.model.specs.Locks.{noShared}
 use Rattle.model.specs.Acts.{holder}
-use Rattle.state.specs.Table.{length-tab}
-use Rattle.state.specs.View.{keyOf, entryAt, entriesOf, locksOf}
+use Rattle.state.specs.Change.{sessions-held}
+use Rattle.state.specs.View.{locksOf}
 
 pub holder-exclusive : (e : Entry) → e .exclusive ≡ true → holder e ≡ true
 holder-exclusive e p = rw p
@@ -21,15 +21,10 @@ pub holder-sharing : (e : Entry) (b : Bool) → e .exclusive ≡ false → noSha
 holder-sharing e true p q = rw (p, q)
 holder-sharing e false p q = rw (p, q)
 
--- there are 32 slots
-pub slots : (w s : List ℕ) → length (locksOf w s .entries) ≡ sessionLimit
-unfolding locksOf entriesOf
-slots w s = length-tab (entryAt w (keyOf w s)) 0 sessionLimit
-
 -- those from slot k on are slot k and those from k + 1 on
 module _ (w s : List ℕ) (k : ℕ) where
   from : k < sessionLimit → drop k (locksOf w s .entries) ≡ at (locksOf w s .entries) k ∷ drop (k + 1) (locksOf w s .entries)
-  from h = rw add-one (drop-cons (locksOf w s .entries) k blank (rw (slots w s) h))
+  from h = rw add-one (drop-cons (locksOf w s .entries) k blank (rw (sessions-held w s) h))
 
   pub count-holder : k < sessionLimit → holder (at (locksOf w s .entries) k) ≡ true
       → tally holder (drop k (locksOf w s .entries)) ≡ suc (tally holder (drop (k + 1) (locksOf w s .entries)))
@@ -40,4 +35,4 @@ module _ (w s : List ℕ) (k : ℕ) where
   count-other h e = ap (tally holder) (from h) ∙ ap (λ (b : Bool). cond b (suc (tally holder (drop (k + 1) (locksOf w s .entries)))) (tally holder (drop (k + 1) (locksOf w s .entries)))) e
 
   pub count-end : sessionLimit ≤ k → tally holder (drop k (locksOf w s .entries)) ≡ 0
-  count-end h = let l : length (locksOf w s .entries) ≤ k = rw (slots w s) h in ap (tally holder) (drop-of-length-le (locksOf w s .entries) l)
+  count-end h = let l : length (locksOf w s .entries) ≤ k = rw (sessions-held w s) h in ap (tally holder) (drop-of-length-le (locksOf w s .entries) l)

@@ -2,7 +2,7 @@
 -- the frames in the lent buffer, and the place behind them; and that memory in order stays so. Assumes nothing.
 use mathlib.Core.Path.{_≡_, refl, sym, ap, subst, _∙_}
 use mathlib.Core.Bool.{true}
-use mathlib.Core.List.{List, [], _∷_, _++_, map}
+use mathlib.Core.List.{List, [], _∷_, _++_, map, append-assoc}
 use Prim.Native.Nat.{ℕ, _+_, _≤_}
 use native.Mathlib.Nat.{add-zero}
 use native.Mathlib.Omega.{arith}
@@ -33,6 +33,12 @@ pub record Quiet (x : LockResult) (m m′ : Memory) : Type 0 where
 -- an answer to slot i, as a frame; whether it answers a request or a release is not seen
 abbrev pub lockAnswerFrame : List Entry → ℕ → ℕ → Frame
 lockAnswerFrame es i n = lockFrame (tell es i n true)
+
+-- frames in a row
+pub bytesOf-append : (xs ys : List Frame) → bytesOf (xs ++ ys) ≡ bytesOf xs ++ bytesOf ys
+unfolding bytesOf
+bytesOf-append [] ys = refl
+bytesOf-append (x ∷ xs) ys = ap (λ (l : List ℕ). frameBytes x ++ l) (bytesOf-append xs ys) ∙ sym (append-assoc (frameBytes x) (bytesOf xs) (bytesOf ys))
 
 -- where writing ends: the buffer and the place behind the last frame
 pub record Spot : Type 0 where

@@ -9,6 +9,7 @@ use lib.Dec.{lit<, ltb}
 use lib.ListN.{length, take, drop, length-take, length-drop}
 use lib.Seq.{getD-drop}
 use borrow.Author.Tests.{ltb-true, ltb-false}
+pub use Rattle.wire.specs.Both.{and-left, and-right}
 use Rattle.wire.specs.Field.{field, number, numberAt, Bytes, field-number}
 use Rattle.journal.specs.Journal.{choose}
 
@@ -19,14 +20,6 @@ yes-is a b e = rw e
 pub no-is : {A : Type 0} {t : Bool} (a b : A) → t ≡ false → choose t a b ≡ b
 unfolding choose
 no-is a b e = rw e
-
-pub and-left : (a b : Bool) → (a && b) ≡ true → a ≡ true
-and-left true b e = refl
-and-left false b e = e
-
-pub and-right : (a b : Bool) → (a && b) ≡ true → b ≡ true
-and-right true b e = e
-and-right false b e = let z : _≡_ {A = ℕ} 0 1 = cc in absurd (omega arith)
 
 pub and-is : {a b : Bool} → a ≡ true → b ≡ true → (a && b) ≡ true
 and-is p q = rw (p, q)

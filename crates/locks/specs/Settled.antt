@@ -1,16 +1,16 @@
 -- A lock event and, where it freed a lock, the grant pass behind it: their answers one behind the other. Assumes nothing.
-use mathlib.Core.Path.{_≡_, refl, sym, ap, ap₂, subst, _∙_}
-use mathlib.Core.List.{List, [], _∷_, _++_, map, map-append, append-assoc}
+use mathlib.Core.Path.{_≡_, sym, ap, ap₂, subst, _∙_}
+use mathlib.Core.List.{List, _++_, map, map-append}
 use Prim.Native.Nat.{ℕ, _+_, _≤_}
 use native.Mathlib.Omega.{arith}
 use lib.ListN.{length, length-append}
-use Rattle.wire.specs.Frame.{Frame, frameBytes, bytesOf}
+use Rattle.wire.specs.Frame.{bytesOf}
 use Rattle.wire.specs.Splice.{splice, splice-splice}
 use Rattle.model.specs.State.{Locks, Server}
 use Rattle.model.specs.Locks.{Answer, LockEvent, LockResult, change, grantPass, frees, settle}
 use Rattle.model.specs.Step.{lockFrame}
 use Rattle.state.specs.View.{Memory, view}
-use Rattle.holding.specs.Outcome.{Met}
+use Rattle.holding.specs.Outcome.{Met, bytesOf-append}
 
 -- one event behind another
 abbrev pub both : LockResult → LockResult → LockResult
@@ -18,11 +18,6 @@ both x y = record { locks = y .locks; answers = x .answers ++ y .answers }
 
 abbrev pub settled : Locks → LockEvent → LockResult
 settled l e = both (change l e) (settle (frees l e) ((change l e) .locks))
-
-pub bytesOf-append : (xs ys : List Frame) → bytesOf (xs ++ ys) ≡ bytesOf xs ++ bytesOf ys
-unfolding bytesOf
-bytesOf-append [] ys = refl
-bytesOf-append (x ∷ xs) ys = ap (λ (l : List ℕ). frameBytes x ++ l) (bytesOf-append xs ys) ∙ sym (append-assoc (frameBytes x) (bytesOf xs) (bytesOf ys))
 
 abbrev answersBytes : List Answer → List ℕ
 answersBytes xs = bytesOf (map lockFrame xs)

@@ -7,9 +7,8 @@ use lib.ListN.{length, List·getD-eq-default}
 use borrow.Author.Tests.{eq-eqb, ne-eqb}
 use Rattle.model.specs.Sizes.{sessionLimit}
 use Rattle.model.specs.State.{Entry, Exchange, at, blank, live}
-use Rattle.state.specs.Change.{exchangeWith}
+use Rattle.state.specs.Change.{sessions-held, exchangeWith}
 use Rattle.state.specs.View.{locksOf}
-use Rattle.sessions.specs.Closing.{sessions-held}
 
 pub not-there : (w s : List ℕ) (i : ℕ) → sessionLimit ≤ i → live (at (locksOf w s .entries) i) ≡ false
 not-there w s i h =

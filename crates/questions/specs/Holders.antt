@@ -13,8 +13,8 @@ use Rattle.model.specs.State.{Entry, Server, at, blank}
 use Rattle.model.specs.Locks.{noShared}
 use Rattle.model.specs.Acts.{holder}
 use Rattle.model.specs.Holders.{HolderRow, HoldersAnswer, rowOf, lower, higher, putBy, sessionOf, holdersOf, holdersAnswer, listTooShort, listFilled}
-use Rattle.state.specs.Table.{length-tab}
-use Rattle.state.specs.View.{memory, view, keyOf, entryAt, entriesOf, locksOf}
+use Rattle.state.specs.Change.{sessions-held}
+use Rattle.state.specs.View.{memory, view, locksOf}
 use Rattle.questions.specs.declared.holders.Row.{Row}
 use Rattle.questions.specs.declared.holders.Panel.{Panel}
 use Rattle.questions.specs.declared.holders.Filling.{Filling}
@@ -75,21 +75,17 @@ rows-cons e es = go (holder e)
     go true = map-put (rowOf e) (holdersOf es)
     go false = refl
 
-slots-are : (w s : List ℕ) → length (locksOf w s .entries) ≡ sessionLimit
-unfolding locksOf entriesOf
-slots-are w s = length-tab (entryAt w (keyOf w s)) 0 sessionLimit
-
 module _ (w s : List ℕ) where
   pub rows-next : (i : ℕ) → i < sessionLimit → oneRow (at (locksOf w s .entries) i) (rowsFrom (locksOf w s .entries) (i + 1)) ≡ rowsFrom (locksOf w s .entries) i
   rows-next i h =
       let es : List Entry = locksOf w s .entries in
       let f : i + 1 ≡ suc i = omega arith in
-      sym (ap (λ (l : List Entry). map asRow (holdersOf l)) (drop-cons es i blank (omega (arith, slots-are w s))) ∙ rows-cons (at es i) (drop (suc i) es)
+      sym (ap (λ (l : List Entry). map asRow (holdersOf l)) (drop-cons es i blank (omega (arith, sessions-held w s))) ∙ rows-cons (at es i) (drop (suc i) es)
       ∙ ap (λ (j : ℕ). oneRow (at es i) (rowsFrom es j)) (sym f))
 
   pub rows-none : (l : List Row) → take 0 l ≡ rowsFrom (locksOf w s .entries) sessionLimit
   rows-none l =
-      let h : length (locksOf w s .entries) ≤ sessionLimit = omega (arith, slots-are w s) in
+      let h : length (locksOf w s .entries) ≤ sessionLimit = omega (arith, sessions-held w s) in
       sym (ap (λ (l : List Entry). map asRow (holdersOf l)) (drop-of-length-le (locksOf w s .entries) h))
 
   pub rows-all : rowsFrom (locksOf w s .entries) 0 ≡ rowsIn (view (memory w s))

@@ -3,6 +3,7 @@ ghost use Rattle.model.specs.Asking.{deadlineAnswer, sizeAnswer};
 ghost use Rattle.questions.specs.Asking.{deadlineNumbers, sizeNumbers};
 ghost use Rattle.state.specs.View.{memory, view};
 ghost use mathlib.Core.Path.{_≡_};
+use crate::NO_SUCH_SESSION;
 use holding::deadline;
 use queue::requests;
 use state::search;
@@ -10,8 +11,6 @@ use state::sizes::SESSION_LIMIT;
 use state::sizes::Strings;
 use state::sizes::Words;
 use state::tables;
-
-const NO_SUCH_SESSION: u64 = 8;
 
 // How many requests wait, and the earliest deadline (0 if none waits).
 #[repr(C)]

@@ -2,3 +2,6 @@
 mod asking;
 mod holders;
 mod watched;
+
+// The refusal of a session that there is not.
+pub const NO_SUCH_SESSION: u64 = 8;

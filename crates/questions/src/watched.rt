@@ -3,14 +3,13 @@ ghost use Rattle.model.specs.Asking.{noReadings, readingsAnswer};
 ghost use Rattle.questions.specs.Asking.{readingsNumbers};
 ghost use Rattle.state.specs.View.{memory, view};
 ghost use mathlib.Core.Path.{_≡_};
+use crate::NO_SUCH_SESSION;
 use sensing::sense;
 use state::search;
 use state::sizes::SESSION_LIMIT;
 use state::sizes::Strings;
 use state::sizes::Words;
 use state::tables;
-
-const NO_SUCH_SESSION: u64 = 8;
 
 // The refusal (0: none), 1 if a numeric reading was sent to the session, and then the last, the lowest and the highest.
 #[repr(C)]

@@ -15,7 +15,8 @@ use Rattle.model.specs.Sizes.{sessionLimit, connectionLimit, stringLimit}
 use Rattle.model.specs.State.{Waiting, Server}
 use Rattle.state.specs.Table.{apart, below}
 use Rattle.state.specs.Grid.{part, word-of}
-use Rattle.state.specs.Bits.{bit, with-bit, with-same, with-other, empty-bits}
+use Rattle.bits.specs.Bits.{bit}
+use Rattle.state.specs.Bits.{with-bit, with-same, with-other, empty-bits}
 use Rattle.state.specs.Layout.{EXCHANGES, EXCHANGE, CONNECTIONS, CONNECTION, HOME, LISTED, CLOCK, HOLDER, SHARERS, KEY, COUNT, ENTRIES, ENTRY, ORDERS, ORDER}
 use Rattle.state.specs.Layout.{REQUESTS, REQUEST, QUEUE, WORDS, LIST, STRINGS, SENSINGS, SENSING}
 use Rattle.state.specs.View.{memory, word, homeAt, slotAt, view}

@@ -14,9 +14,12 @@ use Rattle.model.specs.Sizes.{sessionLimit, connectionLimit, stringLimit, listL
 use Rattle.model.specs.State.{Entry, Waiting, Locks, Kind, Kind.exclusive-lock, Kind.shared-lock, Standing, Standing.no-release, Standing.release-of, Asked}
 use Rattle.model.specs.State.{Asked.none, Asked.some, Exchange, Connection, Allowed, Allowed.any-command, Allowed.only, Rest, Server, withAllowed, at}
 use Rattle.model.specs.State.{freshExchange, closedConnection, Sensing, sensingAt}
+use Rattle.model.specs.Exchange.{isAsked, numberAsked}
+use Rattle.model.specs.Locks.{stands}
 use Rattle.state.specs.Table.{below}
 use Rattle.state.specs.Grid.{part, word-of, length-part, grid, getD-grid}
-use Rattle.state.specs.Bits.{bit, low-bits, Member, member}
+use Rattle.bits.specs.Bits.{bit}
+use Rattle.state.specs.Bits.{low-bits, Member, member}
 use Rattle.state.specs.Layout.{LOCKS, VENDOR, PREFERENCE, STATUS, LAST, ENABLE, LOCKOUT, REMOTE, EXCHANGES, EXCHANGE, CONNECTIONS, CONNECTION, HOME, LISTED}
 use Rattle.state.specs.Layout.{CLOCK, HOLDER, SHARERS, KEY, COUNT, ENTRIES, ENTRY, ORDERS, ORDER, REQUESTS, REQUEST, QUEUE, WORDS, LIST, STRINGS, SENSINGS}
 use Rattle.state.specs.Layout.{SENSING}
@@ -48,31 +51,18 @@ odd-one x y h l e =
 mod-one : (x y n : ℕ) → x < n → y < n → x % n ≡ y % n → x ≡ y
 mod-one x y n h l e = sym (mod-eq-of-lt h) ∙ e ∙ mod-eq-of-lt l
 
-asks : Asked → Bool
-asks none = false
-asks (some n) = true
-
-messageAsked : Asked → ℕ
-messageAsked none = 0
-messageAsked (some n) = n
-
 -- a word that is not 0 asks for a message
 asked-some : (y : ℕ) → askedOf (suc y) ≡ some ((suc y - 1) % 2 ^ 32)
 asked-some y = ap (λ (b : Bool). cond b none (some ((suc y - 1) % 2 ^ 32))) (ne-eqb (suc y) 0 (omega arith))
 
 asked-one : (x y : ℕ) → x ≤ 2 ^ 32 → y ≤ 2 ^ 32 → askedOf x ≡ askedOf y → x ≡ y
-unfolding asks messageAsked
 asked-one zero zero h l e = refl
-asked-one zero (suc y) h l e = absurd (true≢false (sym (ap asks (e ∙ asked-some y))))
-asked-one (suc x) zero h l e = absurd (true≢false (ap asks (sym (asked-some x) ∙ e)))
+asked-one zero (suc y) h l e = absurd (true≢false (sym (ap isAsked (e ∙ asked-some y))))
+asked-one (suc x) zero h l e = absurd (true≢false (ap isAsked (sym (asked-some x) ∙ e)))
 asked-one (suc x) (suc y) h l e =
-    let r : (suc x - 1) % 2 ^ 32 ≡ (suc y - 1) % 2 ^ 32 = ap messageAsked (sym (asked-some x) ∙ e ∙ asked-some y) in
+    let r : (suc x - 1) % 2 ^ 32 ≡ (suc y - 1) % 2 ^ 32 = ap numberAsked (sym (asked-some x) ∙ e ∙ asked-some y) in
     let q : suc x - 1 ≡ suc y - 1 = mod-one (suc x - 1) (suc y - 1) (2 ^ 32) (omega arith) (omega arith) r in
     omega arith
-
-stands : Standing → Bool
-stands no-release = false
-stands (release-of k n) = true
 
 numberStanding : Standing → ℕ
 numberStanding no-release = 0
@@ -109,7 +99,7 @@ halves-one x y h l e r = by (ltb x (2 ^ 32)) refl
         omega arith
 
 standing-one : (x y : ℕ) → x ≤ 2 ^ 33 → y ≤ 2 ^ 33 → standingOf x ≡ standingOf y → x ≡ y
-unfolding stands numberStanding
+unfolding numberStanding
 standing-one zero zero h l e = refl
 standing-one zero (suc y) h l e = absurd (true≢false (sym (ap stands (e ∙ standing-some y))))
 standing-one (suc x) zero h l e = absurd (true≢false (ap stands (sym (standing-some x) ∙ e)))
@@ -117,9 +107,10 @@ standing-one (suc x) (suc y) h l e =
     let s = sym (standing-some x) ∙ e ∙ standing-some y in
     ap suc (halves-one x y (omega arith) (omega arith) (sym (kind-of (ltb x (2 ^ 32)) (x % 2 ^ 32)) ∙ ap isExclusive s ∙ kind-of (ltb y (2 ^ 32)) (y % 2 ^ 32)) (ap numberStanding s))
 
-isList : Allowed → Bool
-isList any-command = false
-isList (only text) = true
+-- is a list set? While none is, any payload is allowed
+abbrev pub isSet : Allowed → Bool
+isSet any-command = false
+isSet (only text) = true
 
 textOf : Allowed → List ℕ
 textOf any-command = []
@@ -132,10 +123,10 @@ listed-some x l =
 
 -- a list that is read alike has one length, and its text is one
 listed-one : (x y : ℕ) (l k : List ℕ) → x ≤ length l + 1 → y ≤ length k + 1 → allowedFrom x l ≡ allowedFrom y k → (x ≡ y) × ((j : ℕ) → j + 1 < x → getD l j 0 ≡ getD k j 0)
-unfolding isList textOf
+unfolding textOf
 listed-one zero zero l k h m e = (refl, λ j q. absurd (omega arith))
-listed-one zero (suc y) l k h m e = absurd (true≢false (sym (ap isList (e ∙ listed-some y k))))
-listed-one (suc x) zero l k h m e = absurd (true≢false (ap isList (sym (listed-some x l) ∙ e)))
+listed-one zero (suc y) l k h m e = absurd (true≢false (sym (ap isSet (e ∙ listed-some y k))))
+listed-one (suc x) zero l k h m e = absurd (true≢false (ap isSet (sym (listed-some x l) ∙ e)))
 listed-one (suc x) (suc y) l k h m e =
     let f : take x l ≡ take y k = ap textOf (sym (listed-some x l) ∙ e ∙ listed-some y k) in
     let a : length (take x l) ≡ x = simp length-take (omega arith) in

@@ -15,7 +15,8 @@ use Rattle.model.specs.Lists.{all}
 use Rattle.model.specs.Locks.{noShared, fits, give}
 use Rattle.model.specs.State.{Server}
 use Rattle.state.specs.Table.{tab-same}
-use Rattle.state.specs.Bits.{bit, empty-bits}
+use Rattle.bits.specs.Bits.{bit}
+use Rattle.state.specs.Bits.{empty-bits}
 use Rattle.state.specs.Layout.{CLOCK, HOLDER, SHARERS, KEY, ENTRIES, ENTRY, WORDS, LIST, STRINGS}
 use Rattle.state.specs.View.{Memory, memory, word, keyOf, fieldOf, orderWord, entryFrom, entryAt, entriesOf, waitingOf, locksOf, view}
 use Rattle.state.specs.Change.{onEntry, off, here, past-homes, entries-off, waiting-off, rest-off}

@@ -11,6 +11,7 @@ use lib.ListN.{length, getD, take, drop, length-take, length-drop, drop-of-lengt
 use lib.Seq.{drop-cons}
 use borrow.Author.Tests.{eq-eqb, ne-eqb, eqb-true}
 use Rattle.model.specs.Sizes.{sessionLimit, stringLimit}
+use Rattle.wire.specs.Both.{and-left, and-right}
 use Rattle.model.specs.Lists.{same}
 use Rattle.state.specs.Grid.{part}
 use Rattle.state.specs.Layout.{KEY, REQUESTS, REQUEST, STRINGS}
@@ -67,15 +68,7 @@ pub same-true : (a b : List ℕ) → same a b ≡ true → a ≡ b
 same-true [] [] e = refl
 same-true [] (y ∷ b) e = absurd (true≢false (sym e))
 same-true (x ∷ a) [] e = absurd (true≢false (sym e))
-same-true (x ∷ a) (y ∷ b) e = λ k. eqb-true x y (left (eqb x y) (same a b) e) k ∷ same-true a b (right (eqb x y) (same a b) e) k
-  where
-    left : (p q : Bool) → (p && q) ≡ true → p ≡ true
-    left true q e = refl
-    left false q e = e
-
-    right : (p q : Bool) → (p && q) ≡ true → q ≡ true
-    right true q e = e
-    right false q e = absurd (true≢false (sym e))
+same-true (x ∷ a) (y ∷ b) e = λ k. eqb-true x y (and-left (eqb x y) (same a b) e) k ∷ same-true a b (and-right (eqb x y) (same a b) e) k
 
 -- the bytes of slot i's string
 pub string-bytes : (w s : List ℕ) (i n : ℕ) → i < sessionLimit → length s ≡ STRINGS → n ≡ length (stringAt w s i)

@@ -8,6 +8,7 @@ use lib.Dec.{eqb, leb, lit<}
 use lib.ListN.{length, take, drop, length-append}
 use borrow.Author.Tests.{le-leb, leb-true, eqb-true}
 use Rattle.wire.specs.Field.{field, number, Bytes, length-field}
+use Rattle.wire.specs.Sizes.{payloadLimit, listLimit}
 use Rattle.journal.specs.Journal.{choose, bodyLimit}
 use Rattle.journal.specs.Bytes.{yes-is, no-is}
 use Rattle.record.specs.Layout.{Event, opening, delivery, cut, clock, answer, status, watchOff, watchAbove, watchOutside, patterns, row, encode}
@@ -286,12 +287,6 @@ mostFrames (patterns text) = 0
 
 -- of an event that was not refused: an answer has at most 1,024 bytes (refusal 6), a list's text at most 32 patterns of at most 128 bytes
 -- (refusals 12 and 11) with a newline behind each
-abbrev pub payloadLimit : ℕ
-payloadLimit = 1024
-
-abbrev pub listLimit : ℕ
-listLimit = 32 * 129
-
 abbrev pub Taken : Event → Type 0
 Taken (opening c) = Unit {0}
 Taken (delivery c b) = Unit {0}

@@ -74,7 +74,7 @@ pub fn answer(s: &[u8]) -> Parts
         return parts::nothing(s);
     }
     let a = number::number4(s, 1);
-    let b = parts::wide(s[5]);
+    let b = number::wide(s[5]);
     if b > 1 {
         return parts::nothing(s);
     }
@@ -105,7 +105,7 @@ pub fn status(s: &[u8]) -> Parts
     if s.len() < 2 {
         return parts::nothing(s);
     }
-    let a = parts::wide(s[1]);
+    let a = number::wide(s[1]);
     parts::numbers(5, a, 0, 0, 2)
 }
 

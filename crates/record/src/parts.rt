@@ -52,9 +52,3 @@ pub fn numbers(kind: u64, a: u64, b: u64, c: u64, frames: usize) -> Parts
         frames,
     }
 }
-
-pub fn wide(b: u8) -> u64
-    ensures { λ r. ⌜ r ≡ b ⌝ }
-{
-    b as u64
-}

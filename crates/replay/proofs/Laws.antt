@@ -451,11 +451,9 @@ module _ (p : Parts) (s : List ℕ) (o : Reads p s (decode s)) where
   no-layout m e = four (view m) ∙ ap (byEvent deed (view m)) (sym (at-10 e) ∙ o .says)
 
 same-nil : same [] [] ≡ true
-unfolding same
 same-nil = refl
 
 same-cons : (y : ℕ) (x : List ℕ) → same [] (y ∷ x) ≡ false
-unfolding same
 same-cons y x = refl
 
 -- the comparison in code: one law for each way out

@@ -7,6 +7,7 @@ ghost use Rattle.state.specs.View.{memory, view};
 ghost use mathlib.Core.List.{[]};
 ghost use mathlib.Core.Path.{_≡_};
 use crate::Done;
+use questions::NO_SUCH_SESSION;
 use readings::Watch;
 use readings::watching::is_refused;
 use sensing::sense;
@@ -15,8 +16,6 @@ use state::sizes::SESSION_LIMIT;
 use state::sizes::Strings;
 use state::sizes::Words;
 use state::tables;
-
-const NO_SUCH_SESSION: u64 = 8;
 
 const BAD_LIMITS: u64 = 10;
 

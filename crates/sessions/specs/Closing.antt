@@ -1,6 +1,6 @@
 -- Closing a connection and, if it has one, its session: what the code's stores do, and that this is the model's closing. Assumes nothing.
 use mathlib.Core.Path.{_≡_, refl, sym, ap, ap₂, _∙_}
-use mathlib.Core.Bool.{Bool, true, false, not, _&&_, _||_, cond, true≢false}
+use mathlib.Core.Bool.{Bool, true, false, not, _||_, cond}
 use mathlib.Core.List.{List, [], _∷_, map}
 use Prim.Native.Nat.{ℕ, zero, suc, _+_, _≤_, _<_}
 use native.Mathlib.Nat.{not-suc-le-zero, le-of-suc-le-suc}
@@ -13,6 +13,7 @@ use Rattle.model.specs.Sizes.{sessionLimit, connectionLimit, noConnection}
 use Rattle.model.specs.Lists.{all, position, keep}
 use Rattle.model.specs.State.{Entry, Waiting, Locks, Exchange, Connection, Rest, Server, at, blank, live, freshExchange, openExchange, closedConnection}
 use Rattle.model.specs.State.{exchangeAt, withConnections, withExchange, freshSensing, withSensing}
+use Rattle.wire.specs.Both.{and-left, and-right}
 use Rattle.wire.specs.MessageId.{start}
 use Rattle.model.specs.Exchange.{withCount}
 use Rattle.model.specs.Place.{isOnConnection, placeOf, slotIn, slotOf}
@@ -21,17 +22,13 @@ use Rattle.model.specs.Step.{channels, shutAll, closing, lockFrame}
 use Rattle.wire.specs.Frame.{bytesOf}
 use Rattle.wire.specs.Splice.{splice}
 use Rattle.holding.specs.Outcome.{Met}
-use Rattle.state.specs.Table.{tab, length-tab, all-tab}
+use Rattle.state.specs.Table.{tab, all-tab}
 use Rattle.state.specs.Grid.{upd, upd-upd, upd-set, grid}
-use Rattle.state.specs.Change.{onRest, onConnection as onRow, connectionWith, onExchange, exchangeWith}
-use Rattle.state.specs.View.{Memory, memory, view, entriesOf, entryAt, keyOf, requestAt, slotAt, waitingOf, locksOf, restOf, connectionOf}
+use Rattle.state.specs.Change.{sessions-held, onRest, onConnection as onRow, connectionWith, onExchange, exchangeWith}
+use Rattle.state.specs.View.{Memory, memory, view, requestAt, slotAt, waitingOf, locksOf, restOf, connectionOf}
 use Rattle.queue.specs.Requests.{countOf, slot-small}
 
--- how many sessions and connections the memory has
-pub sessions-held : (w s : List ℕ) → length (locksOf w s .entries) ≡ sessionLimit
-unfolding locksOf entriesOf
-sessions-held w s = length-tab (entryAt w (keyOf w s)) 0 sessionLimit
-
+-- how many connections the memory has
 pub connections-held : (w : List ℕ) → length (restOf w .connections) ≡ connectionLimit
 unfolding restOf grid tab
 connections-held w = refl
@@ -89,10 +86,6 @@ pub found-passes : {A : Type 0} (p : A → Bool) (es : List A) (d : A) → posit
 found-passes p [] d h = absurd (not-suc-le-zero h)
 found-passes p (e ∷ es) d h = found-step p e es d (p e) refl h (found-passes p es d)
 
-and-first : (x y : Bool) → (x && y) ≡ true → x ≡ true
-and-first true y e = refl
-and-first false y e = e
-
 -- the connections to close: of a session found, its own; else the connection alone
 module _ (w s : List ℕ) (c i : ℕ) (found : slotIn (locksOf w s .entries) c ≡ i) where
   session-lives : i < sessionLimit → live (at (locksOf w s .entries) i) ≡ true
@@ -100,7 +93,7 @@ module _ (w s : List ℕ) (c i : ℕ) (found : slotIn (locksOf w s .entries) c �
   session-lives h =
       let es : List Entry = locksOf w s .entries in
       let l : position (isOnConnection c) es < length es = rw (found, sessions-held w s) h in
-      and-first (live (at es i)) (eqb ((at es i) .synchronous) c || eqb ((at es i) .asynchronous) c)
+      and-left (live (at es i)) (eqb ((at es i) .synchronous) c || eqb ((at es i) .asynchronous) c)
       (ap (λ (j : ℕ). isOnConnection c (at es j)) (sym found) ∙ found-passes (isOnConnection c) es blank l)
 
   pub channels-of : i < sessionLimit → channels (view (memory w s)) c
@@ -117,13 +110,9 @@ module _ (w s : List ℕ) (c i : ℕ) (found : slotIn (locksOf w s .entries) c �
       ap (λ (j : ℕ). cond (live (at es j)) ((at es j) .synchronous ∷ cond (eqb ((at es j) .asynchronous) noConnection) [] ((at es j) .asynchronous ∷ [])) (c ∷ [])) found
       ∙ ap (λ (e : Entry). cond (live e) (e .synchronous ∷ cond (eqb (e .asynchronous) noConnection) [] (e .asynchronous ∷ [])) (c ∷ [])) (List·getD-eq-default es blank l)
 
-and-second : (x y : Bool) → (x && y) ≡ true → y ≡ true
-and-second true y e = e
-and-second false y e = absurd (true≢false (sym e))
-
 keep-all : {A : Type 0} (p : A → Bool) (xs : List A) → all p xs ≡ true → keep p xs ≡ xs
 keep-all p [] e = refl
-keep-all {A} p (x ∷ xs) e = rw (and-first (p x) (all p xs) e) (ap (λ (l : List A). x ∷ l) (keep-all p xs (and-second (p x) (all p xs) e)))
+keep-all {A} p (x ∷ xs) e = rw (and-left (p x) (all p xs) e) (ap (λ (l : List A). x ∷ l) (keep-all p xs (and-right (p x) (all p xs) e)))
 
 -- past the table there is no session to close
 elsewhere-all : (w s : List ℕ) (i : ℕ) → sessionLimit ≤ i → all (elsewhere i) (locksOf w s .waiting) ≡ true

@@ -1,7 +1,7 @@
 -- Error and FatalError as the model plans them, and their frames in the buffer. Assumes nothing.
 use mathlib.Core.Path.{_≡_, refl, sym, ap, ap₂, _∙_}
 use mathlib.Core.Bool.{Bool, true, false, cond, true≢false}
-use mathlib.Core.List.{List, [], _∷_, _++_, map, append-nil, append-assoc}
+use mathlib.Core.List.{List, [], _∷_, _++_, map, append-nil}
 use Prim.Native.Nat.{ℕ, _+_, _-_, _%_, _≤_, min}
 use native.Mathlib.Nat.{add-zero, zero-add}
 use native.Mathlib.Omega.{arith}
@@ -23,7 +23,9 @@ use Rattle.state.specs.Tidy.{Tidy}
 use Rattle.state.specs.View.{Memory, memory, view, flag, locksOf}
 use Rattle.sessions.specs.declared.Delivery.{Delivery}
 use Rattle.sessions.specs.Did.{Did, numbersOf, plainly}
-use Rattle.sessions.specs.Closing.{ClosesPlace, closedServer, sessions-held}
+use Rattle.state.specs.Change.{sessions-held}
+use Rattle.holding.specs.Outcome.{bytesOf-append}
+use Rattle.sessions.specs.Closing.{ClosesPlace, closedServer}
 
 -- the plans
 abbrev pub errorPlan : Server → ℕ → ℕ → ℕ → ℕ → Plan
@@ -60,12 +62,6 @@ connection-written x v l d d₁ d₂ e₁ e₂ =
     (upd-upd (d .rest .connections) x (connectionWith 0 v) (connectionWith 1 l)
     ∙ sym (upd-set (d .rest .connections) x (record { isOpen = flag (v % 2); remainder = l }) (λ (y : Connection). record { isOpen = flag (v % 2); remainder = l })))
 
--- frames in a row
-pub bytes-append : (xs ys : List Frame) → bytesOf (xs ++ ys) ≡ bytesOf xs ++ bytesOf ys
-unfolding bytesOf
-bytes-append [] ys = refl
-bytes-append (x ∷ xs) ys = ap (λ (l : List ℕ). frameBytes x ++ l) (bytes-append xs ys) ∙ sym (append-assoc (frameBytes x) (bytesOf xs) (bytesOf ys))
-
 -- a frame without payload is 17 bytes
 pub length-one : (c t n p : ℕ) → length (bytesOf (say c t n p)) ≡ 17
 length-one c t n p = ap length (bytes-one (frameOf c t n p [])) ∙ length-frame (frameOf c t n p [])
@@ -81,7 +77,7 @@ pub did-closing : (d : Server) (c i : ℕ) (fs : List Frame) (r : Delivery) (m m
 unfolding finish change
 did-closing d c i fs r m m′ out out₁ out′ at′ end b a room p n t =
     let gs : List Frame = map lockFrame ((grantPass ((closedServer d c i) .locks)) .answers) in
-    let e : bytesOf (fs ++ gs) ≡ bytesOf fs ++ bytesOf gs = bytes-append fs gs in
+    let e : bytesOf (fs ++ gs) ≡ bytesOf fs ++ bytesOf gs = bytesOf-append fs gs in
     let z : 0 + length (bytesOf fs) ≡ length (bytesOf fs) = zero-add (length (bytesOf fs)) in
     let l : end ≡ length (bytesOf (fs ++ gs)) = p .place ∙ ap (λ (x : ℕ). x + length (bytesOf gs)) a ∙ sym (ap length e ∙ length-append (bytesOf fs) (bytesOf gs)) in
     let q : 0 + length (bytesOf fs) ≤ length out = omega arith in

@@ -13,7 +13,8 @@ use Rattle.model.specs.State.{Entry, Rest, at, blank, live, slotOfNumber}
 use Rattle.model.specs.Locks.{candidate, isLive, issued}
 use Rattle.state.specs.Change.{singleWith}
 use Rattle.state.specs.View.{locksOf}
-use Rattle.sessions.specs.Closing.{sessions-held, found-passes}
+use Rattle.state.specs.Change.{sessions-held}
+use Rattle.sessions.specs.Closing.{found-passes}
 
 -- the single values that are read
 pub last-read : (q : Rest) (r : ℕ) → singleWith 3 r q ≡ q → q .lastIssued ≡ r % 65536

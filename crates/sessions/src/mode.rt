@@ -12,14 +12,12 @@ ghost use Rattle.wire.specs.MessageId.{start};
 ghost use mathlib.Core.Bool.{_&&_, cond, false, not};
 ghost use mathlib.Core.List.{List};
 ghost use mathlib.Core.Path.{_≡_};
+use holding::standing::NUMBERS;
 use state::fresh::START;
 use state::sizes::NO_CONNECTION;
 use state::sizes::Words;
 use state::tables;
 use wire::message_id::MessageId;
-
-// A message's number is below this.
-pub const NUMBERS: u64 = 4294967296;
 
 // The mode that the host prefers, as a control code: 1 is overlap.
 pub fn preference(w: &Words) -> u8

@@ -2,17 +2,14 @@
 use mathlib.Core.Path.{_≡_, refl, sym, ap, ap₂, _∙_, subst}
 use mathlib.Core.Logic.{_⊎_, inl, inr, ⊎-elim}
 use Prim.Native.Nat.{ℕ, zero, suc, _+_, _*_, _-_, _/_, _%_, _^_, _≤_, _<_, max}
-use native.Mathlib.Nat.{mod-eq-of-lt, mod-lt, pow-suc, pow-succ', one-le-pow, add-mul-div-left, div-div-eq-div-mul, div-add-mod, mul-div-cancel-left}
-use native.Mathlib.Nat.{mul-le-mul-left, mul-one, max-zero, add-mul-mod-self-left}
+use native.Mathlib.Nat.{mod-eq-of-lt, mod-lt, pow-succ', add-mul-div-left, div-div-eq-div-mul, div-add-mod, mul-div-cancel-left}
+use native.Mathlib.Nat.{mul-le-mul-left, max-zero, add-mul-mod-self-left}
 use native.Mathlib.Omega.{arith}
 use lib.Arith.{mod-mul}
 use lib.Bits.{bitOr, or-step, or-zero-r}
 use lib.Dec.{lit<}
-use lib.Pow.{pow-add}
+use Rattle.bits.specs.Bits.{bit, positive, power, added-below, up-one, added-same, added-above}
 use Rattle.state.specs.Table.{apart, below}
-
-abbrev pub bit : ℕ → ℕ → ℕ
-bit m i = m / 2 ^ i % 2
 
 -- m without i; the members below n, and i
 unfoldable pub without : ℕ → ℕ → ℕ
@@ -20,44 +17,6 @@ without m i = m - bit m i * 2 ^ i
 
 unfoldable pub with-bit : ℕ → ℕ → ℕ → ℕ
 with-bit n m i = without m i % 2 ^ n + 2 ^ i
-
-positive : (i : ℕ) → 0 < 2 ^ i
-positive i = one-le-pow i 2 (lit< tt)
-
--- a larger power is the smaller one, doubled, and some more
-power : (j i : ℕ) → j < i → 2 ^ i ≡ 2 ^ j * (2 * 2 ^ (i - suc j))
-power j i h =
-    let e : i ≡ j + suc (i - suc j) = omega arith in
-    ap (λ (n : ℕ). 2 ^ n) e ∙ rw (pow-add, pow-suc) (ap (λ (x : ℕ). 2 ^ j * x) (omega arith))
-
--- adding 2^i where bit i is 0: bits below and above stay
-added-below : (m j i : ℕ) → j < i → bit (m + 2 ^ i) j ≡ bit m j
-added-below m j i h =
-    let t : ℕ = 2 ^ (i - suc j) in
-    let d : (m + 2 ^ j * (2 * t)) / 2 ^ j ≡ m / 2 ^ j + 2 * t = add-mul-div-left m (2 * t) (positive j) in
-    ap (λ (x : ℕ). (m + x) / 2 ^ j % 2) (power j i h) ∙ ap (λ (x : ℕ). x % 2) d ∙ omega arith
-
-up-one : (m i : ℕ) → (m + 2 ^ i) / 2 ^ i ≡ m / 2 ^ i + 1
-up-one m i = ap (λ (x : ℕ). (m + x) / 2 ^ i) (sym (mul-one (2 ^ i))) ∙ add-mul-div-left m 1 (positive i)
-
-added-same : (m i : ℕ) → bit m i ≡ 0 → bit (m + 2 ^ i) i ≡ 1
-added-same m i e = ap (λ (x : ℕ). x % 2) (up-one m i) ∙ omega arith
-
-halves : (x i j : ℕ) → i < j → x / 2 ^ j ≡ x / 2 ^ i / 2 / 2 ^ (j - suc i)
-halves x i j h =
-    ap (λ (y : ℕ). x / y) (power i j h)
-    ∙ sym (div-div-eq-div-mul x (2 ^ i) (2 * 2 ^ (j - suc i)))
-    ∙ sym (div-div-eq-div-mul (x / 2 ^ i) 2 (2 ^ (j - suc i)))
-
-added-above : (m i j : ℕ) → bit m i ≡ 0 → i < j → bit (m + 2 ^ i) j ≡ bit m j
-added-above m i j e h =
-    let q : ℕ = m / 2 ^ i in
-    let s : (q + 1) / 2 ≡ q / 2 = omega arith in
-    ap (λ (x : ℕ). x % 2)
-    (halves (m + 2 ^ i) i j h
-    ∙ ap (λ (x : ℕ). x / 2 / 2 ^ (j - suc i)) (up-one m i)
-    ∙ ap (λ (x : ℕ). x / 2 ^ (j - suc i)) s
-    ∙ sym (halves m i j h))
 
 added-other : (m i j : ℕ) → bit m i ≡ 0 → (j ≡ i → ⊥) → bit (m + 2 ^ i) j ≡ bit m j
 added-other m i j e o = ⊎-elim (λ (l : j < i). added-below m j i l) (λ (l : i < j). added-above m i j e l) (apart j i o)

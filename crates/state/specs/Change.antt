@@ -17,9 +17,9 @@ use Rattle.model.specs.State.{freshExchange, closedConnection, exchangeAt, conn
 use Rattle.readings.specs.Record.{Recorded}
 use Rattle.model.specs.Exchange.{withAnswering, withClear, withClientSize, withMode, withCount, withExpectation, withNumber}
 use Rattle.model.specs.Locks.{withRow, withOrder, withGranted}
-use Rattle.state.specs.Table.{tab, tab-same, tab-set, getD-tab, apart}
+use Rattle.state.specs.Table.{tab, tab-same, tab-set, getD-tab, length-tab, apart}
 use Rattle.state.specs.Grid.{upd, upd-set, part, grid, grid-set, grid-off, getD-grid, word-of}
-use Rattle.state.specs.Bits.{bit}
+use Rattle.bits.specs.Bits.{bit}
 use Rattle.state.specs.Layout.{LOCKS, CLOCK, VENDOR, PREFERENCE, STATUS, LAST, ENABLE, LOCKOUT, REMOTE, HOLDER, SHARERS, KEY, COUNT, ENTRIES, ENTRY}
 use Rattle.state.specs.Layout.{ORDERS, ORDER, EXCHANGES, EXCHANGE, CONNECTIONS, CONNECTION, HOME, LISTED, REQUESTS, REQUEST, QUEUE, WORDS, LIST}
 use Rattle.state.specs.Layout.{SENSINGS, SENSING}
@@ -508,6 +508,11 @@ again t f g = by (eqb g f) refl
     by : (b : Bool) → eqb g f ≡ b → cond b (t f) (t g) ≡ t g
     by true e = ap t (sym (eqb-true g f e))
     by false e = refl
+
+-- there are as many slots as sessions
+pub sessions-held : (w s : List ℕ) → length (locksOf w s .entries) ≡ sessionLimit
+unfolding locksOf entriesOf
+sessions-held w s = length-tab (entryAt w (keyOf w s)) 0 sessionLimit
 
 module _ (w : List ℕ) (i : ℕ) where
   exchange-at : i < sessionLimit → exchangeAt (restOf w) i ≡ exchangeOf (part w (EXCHANGES + i * EXCHANGE) EXCHANGE)

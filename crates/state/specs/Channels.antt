@@ -13,7 +13,7 @@ use Rattle.model.specs.State.{Entry, Locks, Connection, Allowed.any-command, Se
 use Rattle.model.specs.Locks.{withRow, joined}
 use Rattle.state.specs.Table.{tab-same}
 use Rattle.state.specs.Grid.{upd, upd-same, grid, grid-set, grid-off}
-use Rattle.state.specs.Bits.{bit}
+use Rattle.bits.specs.Bits.{bit}
 use Rattle.state.specs.Layout.{CLOCK, VENDOR, PREFERENCE, STATUS, LAST, ENABLE, LOCKOUT, REMOTE, HOLDER, SHARERS, ENTRIES, ENTRY, ORDERS, ORDER}
 use Rattle.state.specs.Layout.{EXCHANGES, EXCHANGE, CONNECTIONS, CONNECTION, HOME, WORDS, SENSINGS, SENSING}
 use Rattle.state.specs.View.{memory, word, flag, keyOf, orderWord, rowWord, homeIn, homeAt, homeOf, fieldOf, entryAt, entriesOf, locksOf, exchangeOf, connectionOf, restOf, view, sensingOf}

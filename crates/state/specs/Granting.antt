@@ -13,7 +13,8 @@ use Rattle.model.specs.Sizes.{sessionLimit}
 use Rattle.model.specs.State.{Entry, at}
 use Rattle.model.specs.Locks.{give, withoutExclusive, withoutShared}
 use Rattle.state.specs.Grid.{upd}
-use Rattle.state.specs.Bits.{bit, without, with-bit, without-same, without-other, with-same, with-other, with-first}
+use Rattle.bits.specs.Bits.{bit}
+use Rattle.state.specs.Bits.{without, with-bit, without-same, without-other, with-same, with-other, with-first}
 use Rattle.state.specs.Layout.{LOCKS, CLOCK, HOLDER, SHARERS, KEY, ENTRIES, ENTRY, ORDERS, ORDER, WORDS}
 use Rattle.state.specs.View.{Memory, memory, word, keyOf, homeAt, fieldOf, orderWord, entryFrom, entryAt, entriesOf, waitingOf, locksOf, view}
 use Rattle.state.specs.Confirmed.{field-same}

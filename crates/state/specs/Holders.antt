@@ -15,7 +15,8 @@ use Rattle.model.specs.State.{Entry, at, blank}
 use Rattle.model.specs.Locks.{noExclusive, noShared, fits, give, withoutExclusive, withoutShared}
 use Rattle.state.specs.Table.{tab, tab-set, getD-tab, all-tab, not-all-tab, all-but-tab, not-all-but-tab}
 use Rattle.state.specs.Grid.{upd, upd-set}
-use Rattle.state.specs.Bits.{bit, without, without-same, without-other, empty-bits, Member, member}
+use Rattle.bits.specs.Bits.{bit}
+use Rattle.state.specs.Bits.{without, without-same, without-other, empty-bits, Member, member}
 use Rattle.state.specs.Layout.{HOLDER, SHARERS, ENTRIES, ENTRY, WORDS}
 use Rattle.state.specs.View.{word, keyOf, entryAt, entriesOf, locksOf}
 use Rattle.state.specs.Change.{entry-at, off, here}

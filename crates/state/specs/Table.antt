@@ -7,6 +7,7 @@ use Prim.Native.Nat.{ℕ, zero, suc, _+_, _≤_, _<_}
 use native.Mathlib.Nat.{add-zero, zero-add, not-suc-le-zero, le-of-suc-le-suc}
 use native.Mathlib.Omega.{arith}
 use lib.ListN.{length, getD, set}
+use Rattle.wire.specs.Both.{and-left, and-right}
 use Rattle.model.specs.Lists.{all, allBut}
 
 unfoldable pub tab : {A : Type 0} → (ℕ → A) → ℕ → ℕ → List A
@@ -24,14 +25,6 @@ pub below : (a b : ℕ) → (a < b) ⊎ (b ≤ a)
 below a zero = inr (omega arith)
 below zero (suc b) = inl (omega arith)
 below (suc a) (suc b) = ⊎-elim (λ (l : a < b). inl (omega arith)) (λ (l : b ≤ a). inr (omega arith)) (below a b)
-
-and-left : (x y : Bool) → (x && y) ≡ true → x ≡ true
-and-left true y e = refl
-and-left false y e = e
-
-and-right : (x y : Bool) → (x && y) ≡ true → y ≡ true
-and-right true y e = e
-and-right false y e = let z : _≡_ {A = ℕ} 0 1 = cc in absurd (omega arith)
 
 and-no : (x : Bool) {y : Bool} → y ≡ false → (x && y) ≡ false
 and-no true q = q

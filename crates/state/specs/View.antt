@@ -11,7 +11,7 @@ use Rattle.model.specs.State.{Asked.none, Asked.some, Exchange, Connection, Rem
 use Rattle.model.specs.State.{Sensing}
 use Rattle.state.specs.Table.{tab}
 use Rattle.state.specs.Grid.{part, grid}
-use Rattle.state.specs.Bits.{bit}
+use Rattle.bits.specs.Bits.{bit}
 use Rattle.state.specs.Layout.{CLOCK, VENDOR, PREFERENCE, STATUS, LAST, ENABLE, LOCKOUT, REMOTE, HOLDER, SHARERS, KEY, COUNT, ENTRIES, ENTRY, ORDERS}
 use Rattle.state.specs.Layout.{ORDER, EXCHANGES, EXCHANGE, CONNECTIONS, CONNECTION, HOME, LISTED, REQUESTS, REQUEST, QUEUE, LIST, SENSINGS, SENSING}
 use Rattle.readings.specs.Bits.{notNumber}

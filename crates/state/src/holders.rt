@@ -3,7 +3,8 @@ ghost use Prim.Native.Nat.{ℕ, _*_, _+_, _/_, _<_, _≤_, _%_, _^_};
 ghost use Rattle.model.specs.Lists.{all, allBut};
 ghost use Rattle.model.specs.Locks.{give, noExclusive, noShared, withoutExclusive};
 ghost use Rattle.model.specs.State.{at};
-ghost use Rattle.state.specs.Bits.{bit, with-bit, without};
+ghost use Rattle.bits.specs.Bits.{bit};
+ghost use Rattle.state.specs.Bits.{with-bit, without};
 ghost use Rattle.state.specs.Change.{onEntry};
 ghost use Rattle.state.specs.Holders.{NoOther};
 ghost use Rattle.state.specs.Tidy.{Tidy};
@@ -21,6 +22,7 @@ use crate::sizes::SESSIONS;
 use crate::sizes::Words;
 use crate::words::sized;
 use crate::words::store;
+use bits::power_of;
 
 // Does slot i hold the exclusive lock?
 pub fn is_exclusive(w: &Words, i: usize) -> bool
@@ -65,13 +67,6 @@ pub fn bit_of(m: u64, i: usize) -> u64
     ensures { λ r. ⌜ r ≡ bit m i ⌝ }
 {
     (m >> i) % 2
-}
-
-fn power_of(i: usize) -> u64
-    requires { ⌜ i < sessionLimit ⌝ }
-    ensures { λ r. ⌜ (r ≡ 2 ^ i) × (r < 2 ^ sessionLimit) ⌝ }
-{
-    1 << i
 }
 
 // Without slot i: it is put in and taken off, which the machine does as one.

@@ -9,7 +9,7 @@ use Rattle.crc.specs.Crc.{steps, bitStep, byteStep, feedOf, crcOf}
 use Rattle.journal.specs.Journal.{choose, entry, entries, closing, lengthOf, closedJournal, lastFrom}
 use Rattle.record.specs.Layout.{Event, opening, delivery, cut, clock, answer, status, watchOff, watchAbove, watchOutside, patterns, encode, decode, byTag}
 use Rattle.record.specs.Layout.{andThen, getNumber, getOpening, getStatus, getClock}
-use Rattle.verifier.specs.Judge.{Verdict, accepted, wrong, inLength, inDistance, inSum, inLayout, inParcels, inTrailer, Deed, refused, gave, same}
+use Rattle.verifier.specs.Judge.{Verdict, accepted, wrong, inLength, inDistance, inSum, inLayout, inParcels, inTrailer, Deed, refused, gave}
 use Rattle.verifier.specs.Judge.{isBack, enough, byStep, trailerOf, andOn, byDeed, byEvent, entryOf, placeOf, judgeOn, judge}
 
 abbrev keep : ℕ → Event → Deed ℕ
@@ -52,27 +52,27 @@ wrong-count = refl
 -- two status changes; the second with a frame that was not given; a refused event; no layout; no trailer
 two-entries : judge keep 0 (closedJournal (encode (status 65) ∷ encode (status 7) ∷ [])) ≡ accepted 2
 unfolding judge judgeOn andOn placeOf isBack enough lengthOf choose trailerOf closedJournal entries lastFrom closing field entry entryOf byStep byEvent byDeed
-    same decode byTag getStatus andThen getNumber encode crcOf feedOf byteStep steps bitStep
+    decode byTag getStatus andThen getNumber encode crcOf feedOf byteStep steps bitStep
 two-entries = refl
 
 other-frames : judge keep 0 (closedJournal (encode (status 65) ∷ (encode (status 7) ++ (1 ∷ [])) ∷ [])) ≡ wrong 1 inParcels
 unfolding judge judgeOn andOn placeOf isBack enough lengthOf choose trailerOf closedJournal entries lastFrom closing field entry entryOf byStep byEvent byDeed
-    same decode byTag getStatus andThen getNumber encode crcOf feedOf byteStep steps bitStep
+    decode byTag getStatus andThen getNumber encode crcOf feedOf byteStep steps bitStep
 other-frames = refl
 
 refused-event : judge keep 0 (closedJournal (encode (clock 3) ∷ [])) ≡ wrong 0 inParcels
 unfolding judge judgeOn andOn placeOf isBack enough lengthOf choose trailerOf closedJournal entries lastFrom closing field entry entryOf byStep byEvent byDeed
-    same decode byTag getClock andThen getNumber encode crcOf feedOf byteStep steps bitStep
+    decode byTag getClock andThen getNumber encode crcOf feedOf byteStep steps bitStep
 refused-event = refl
 
 no-layout : judge keep 0 (closedJournal ((10 ∷ []) ∷ [])) ≡ wrong 0 inLayout
 unfolding judge judgeOn andOn placeOf isBack enough lengthOf choose trailerOf closedJournal entries lastFrom closing field entry entryOf byStep byEvent byDeed
-    same decode byTag getStatus andThen getNumber encode crcOf feedOf byteStep steps bitStep
+    decode byTag getStatus andThen getNumber encode crcOf feedOf byteStep steps bitStep
 no-layout = refl
 
 not-closed : judge keep 0 (entry (encode (status 65))) ≡ wrong 1 inLength
 unfolding judge judgeOn andOn placeOf isBack enough lengthOf choose trailerOf closedJournal entries lastFrom closing field entry entryOf byStep byEvent byDeed
-    same decode byTag getStatus andThen getNumber encode crcOf feedOf byteStep steps bitStep
+    decode byTag getStatus andThen getNumber encode crcOf feedOf byteStep steps bitStep
 not-closed = refl
 
 -- an entry that says one byte more than its body has, and one whose last byte is not the sum's

@@ -263,14 +263,12 @@ pub same-start : (x y : List ℕ) → length x ≡ length y → same (drop 0 x) 
 same-start x y h = refl
 
 pub same-not-long : (x y : List ℕ) → (length x ≡ length y → ⊥) → false ≡ same x y
-unfolding same
 same-not-long [] [] h = absurd (h refl)
 same-not-long [] (y ∷ ys) h = refl
 same-not-long (x ∷ xs) [] h = refl
 same-not-long (x ∷ xs) (y ∷ ys) h = sym (not-and (eqb x y) (sym (same-not-long xs ys (λ z. h (ap suc z)))))
 
 same-on : (a b : ℕ) (x y : List ℕ) → same (a ∷ x) (b ∷ y) ≡ (eqb a b && same x y)
-unfolding same
 same-on a b x y = refl
 
 same-turn : (x y : List ℕ) (i : ℕ) → i < length x → length x ≡ length y → same (drop i x) (drop i y) ≡ (eqb (getD x i 0) (getD y i 0) && same (drop (i + 1) x) (drop (i + 1) y))
@@ -286,7 +284,6 @@ pub same-differs : (x y : List ℕ) (i : ℕ) → i < length x → length x ≡ 
 same-differs x y i h l e p = sym (sym p ∙ same-turn x y i h l ∙ and-not (same (drop (i + 1) x) (drop (i + 1) y)) (ne-eqb (getD x i 0) (getD y i 0) e))
 
 pub same-end : (x y : List ℕ) (i : ℕ) → length x ≤ i → length x ≡ length y → same (drop i x) (drop i y) ≡ same x y → true ≡ same x y
-unfolding same
 same-end x y i h l p =
     let g : length y ≤ i = omega arith in
     sym (ap₂ (λ (a b : List ℕ). same a b) (drop-of-length-le x h) (drop-of-length-le y g)) ∙ p

@@ -6,6 +6,7 @@ use Prim.Native.Nat.{ℕ, zero, suc, _+_, _≤_, _<_}
 use lib.Dec.{eqb, leb}
 use lib.ListN.{length, take, drop}
 use Rattle.wire.specs.Field.{number, numberAt}
+pub use Rattle.wire.specs.Same.{same}
 use Rattle.crc.specs.Crc.{crcOf}
 use Rattle.journal.specs.Journal.{choose, bodyLimit, mark, lengthOf, bodyOf}
 use Rattle.record.specs.Layout.{Event, Read, found, none, decode}
@@ -40,12 +41,6 @@ pub record Place (S : Type 0) : Type 0 where
 pub data Next (S : Type 0) : Type 0 where
   goes : Place S → Next S
   stops : Verdict → Next S
-
-unfoldable pub same : List ℕ → List ℕ → Bool
-same [] [] = true
-same [] (y ∷ ys) = false
-same (x ∷ xs) [] = false
-same (x ∷ xs) (y ∷ ys) = eqb x y && same xs ys
 
 -- does a place begin with "BACK"?
 unfoldable pub isBack : List ℕ → Bool

@@ -28,7 +28,6 @@ chosen true a b x e f = (refl, e)
 chosen false a b x e f = absurd (f e)
 
 pub same-is : (x y : List ℕ) → same x y ≡ true → x ≡ y
-unfolding same
 same-is [] [] e = refl
 same-is [] (y ∷ ys) e = let z : _≡_ {A = ℕ} 0 1 = cc in absurd (omega arith)
 same-is (x ∷ xs) [] e = let z : _≡_ {A = ℕ} 0 1 = cc in absurd (omega arith)
@@ -38,7 +37,6 @@ same-is (x ∷ xs) (y ∷ ys) e =
     λ i. p i ∷ q i
 
 pub is-same : (x : List ℕ) → same x x ≡ true
-unfolding same
 is-same [] = refl
 is-same (x ∷ xs) = and-is (eq-eqb x x refl) (is-same xs)
 

@@ -16,7 +16,7 @@ abbrev μ-loop : tie.MeasureT-loop
 μ-loop x y i₀ i = length x - i
 
 returns : tie.Need-returns Inv-loop μ-loop
-returns c = same-not-long _ _ (c .if1 .taken)
+returns c = same-not-long (c .before .args .x .now) (c .before .args .y .now) (c .if1 .taken)
 
 loop-holds : tie.Need-loop-holds Inv-loop μ-loop
 loop-holds c = (omega arith, same-start (c .before .args .x .now) (c .before .args .y .now) (c .if1 .left))

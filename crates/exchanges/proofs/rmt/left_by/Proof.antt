@@ -15,7 +15,7 @@ mul-result c =
 
 returns : tie.Need-returns
 returns c = (
-  rw (c .before .before .same-number .ensures .0, c .same-number2 .ensures .0, c .before .wide .ensures)
+  rw (c .before .before .same-number .ensures .0, c .same-number2 .ensures .0, c .before .wide .ensures .0)
       (both-on (eqb (c .before .before .before .args .word) 1) (eqb (c .before .before .before .args .code) 1)),
   rw (c .before .before .same-number .ensures .0, c .same-number2 .ensures .0) (both-small (eqb (c .before .before .before .args .word) 1) (eqb (c .before .wide .result) 1)),
 )

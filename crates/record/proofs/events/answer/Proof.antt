@@ -16,7 +16,7 @@ returns-2 : tie.Need-returns-2
 returns-2 c =
     let s = c .before .before .before .before .before .before .before .args .s .now in
     let h : 6 ≤ length s = c .before .before .before .before .before .if1 .left in
-    answer-no-end _ _ _ h (c .before .before .wide .ensures ∙ byte-at s 5 (omega arith)) (c .before .if2 .taken) (c .nothing2 .ensures)
+    answer-no-end _ _ _ h (c .before .before .wide .ensures .0 ∙ byte-at s 5 (omega arith)) (c .before .if2 .taken) (c .nothing2 .ensures)
 
 returns-3 : tie.Need-returns-3
 returns-3 c =
@@ -26,7 +26,7 @@ returns-3 c =
     let at-if1 = at-wide .before .before .before in
     let s = at-if1 .before .before .args .s .now in
     let h : 6 ≤ length s = at-if1 .if1 .left in
-    answer-no-payload _ _ _ h (at-wide .wide .ensures ∙ byte-at s 5 (omega arith))
+    answer-no-payload _ _ _ h (at-wide .wide .ensures .0 ∙ byte-at s 5 (omega arith))
     (at-if2 .if2 .left) _ (at-row-at .row-at .ensures) (c .before .if3 .taken) (c .nothing3 .ensures)
 
 returns-4 : tie.Need-returns-4
@@ -39,7 +39,7 @@ returns-4 c =
     let at-if1 = at-wide .before .before .before in
     let s = at-if1 .before .before .args .s .now in
     let h : 6 ≤ length s = at-if1 .if1 .left in
-    answer-no-shown _ _ _ h (at-wide .wide .ensures ∙ byte-at s 5 (omega arith))
+    answer-no-shown _ _ _ h (at-wide .wide .ensures .0 ∙ byte-at s 5 (omega arith))
     (at-if2 .if2 .left) _ (at-row-at .row-at .ensures)
     (at-if3 .if3 .left) _ (at-row-at2 .row-at2 .ensures) (c .before .if4 .taken) (c .nothing4 .ensures)
 
@@ -54,7 +54,7 @@ returns-5 c =
     let at-if1 = at-number4 .before in
     let s = at-if1 .before .before .args .s .now in
     let h : 6 ≤ length s = at-if1 .if1 .left in
-    answer-there _ _ _ h (at-wide .wide .ensures ∙ byte-at s 5 (omega arith))
+    answer-there _ _ _ h (at-wide .wide .ensures .0 ∙ byte-at s 5 (omega arith))
     (at-if2 .if2 .left) _ (at-row-at .row-at .ensures)
     (at-if3 .if3 .left) _ (at-row-at2 .row-at2 .ensures) _
     (at-number4 .number4 .ensures .0) (c .if4 .left) refl

@@ -15,7 +15,7 @@ returns-2 : tie.Need-returns-2
 returns-2 c =
     let s = c .before .before .before .before .before .args .s .now in
     let h : 2 ≤ length s = c .before .before .before .if1 .left in
-    status-there _ _ _ h (c .before .wide .ensures ∙ byte-at s 1 (omega arith)) (c .numbers .ensures)
+    status-there _ _ _ h (c .before .wide .ensures .0 ∙ byte-at s 1 (omega arith)) (c .numbers .ensures)
 
 pub status-spec : {M : Type 1} → statement M
 status-spec =

@@ -1,7 +1,7 @@
 -- `leaving::leave_place` meets its contract: a slot that waits still keeps its request; of another it is wiped.
 use mathlib.Core.Path.{_≡_, sym, _∙_}
 use native.Mathlib.Omega.{arith}
-use Rattle.state.specs.Bits.{bit}
+use Rattle.bits.specs.Bits.{bit}
 use Rattle.queue.specs.Leaving.{kept-left, wiped-left}
 use Rattle.queue.specs.Requests.{slot-small}
 use Rattle.state.specs.View.{slotAt}

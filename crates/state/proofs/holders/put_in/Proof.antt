@@ -11,7 +11,7 @@ use Rattle.state.proofs.holders.put_in.Tie as tie
 returns : tie.Need-returns
 returns c =
     let a = c .before .args in
-    ap (λ (x : ℕ). bitOr (a .m) x % 2 ^ sessionLimit) (c .power-of .ensures .0) ∙ or-with sessionLimit (a .m) (a .i) (search needs)
+    ap (λ (x : ℕ). bitOr (a .m) x % 2 ^ sessionLimit) (c .power-of .ensures) ∙ or-with sessionLimit (a .m) (a .i) (search needs)
 
 pub put-in-spec : {M : Type 1} → statement M
 put-in-spec = tie.close (tie.spec (λ c κs. search needs) returns)

@@ -10,12 +10,12 @@ use Rattle.state.proofs.holders.taken_out.Tie as tie
 
 sub-result : tie.Need-sub-result
 sub-result c = let a = c .before .args in
-    let p = c .power-of .ensures .0 in
+    let p = c .power-of .ensures in
     omega (arith, p, ap (bitOr (a .m)) p ∙ or-joins (a .m) (a .i))
 
 returns : tie.Need-returns
 returns c = let a = c .before .args in
-    let p = c .power-of .ensures .0 in
+    let p = c .power-of .ensures in
     omega (arith, p, ap (bitOr (a .m)) p ∙ or-joins (a .m) (a .i))
 
 pub taken-out-spec : {M : Type 1} → statement M

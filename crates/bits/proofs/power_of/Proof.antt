@@ -1,11 +1,11 @@
--- `matching::power_of` meets its contract: a power that fits.
+-- `power_of` meets its contract: a power that fits.
 use Prim.Native.Nat.{_≤_, _-_, _^_}
 use native.Mathlib.Nat.{pow-le-pow-right}
 use native.Mathlib.Omega.{arith}
 use lib.Dec.{lit<}
 use borrow.Author.Needs.{needs}
-use Rattle.commands.proofs.matching.power_of.Statement.{statement}
-use Rattle.commands.proofs.matching.power_of.Tie as tie
+use Rattle.bits.proofs.power_of.Statement.{statement}
+use Rattle.bits.proofs.power_of.Tie as tie
 
 returns : tie.Need-returns
 returns c = let h : c .args .i ≤ 63 = search needs in let p : 2 ^ c .args .i ≤ 2 ^ 63 = pow-le-pow-right {n = 2} (lit< tt) h in omega arith
