@@ -18,6 +18,8 @@ import sys
 TOKEN = re.compile(r"[^\s(){}\[\],;.:\"`⌜⌝λ@\\]+")
 HEAD = re.compile(r"^((?:abbrev|unfoldable|pub)\s+)*(data|record|syntax|module|ruleset)\s+(\S+)")
 DECLARED = re.compile(r"^((?:abbrev|unfoldable|pub|opaque)\s+)*([^\s(){}:=,]+)\s*:(?!=)(.*)")
+# A declaration in a module within a file.
+INNER = re.compile(r"^\s+((?:abbrev|unfoldable|pub|module) )*([a-z][^\s(){}:=,]*) :(?!=)(.*)")
 MEMBER = re.compile(r"^\s+([^\s(){}:=,]+(?:\s+[^\s(){}:=,]+)*)\s*:")
 MADE = re.compile(r"\b(tie|\w*lts)\.|Need-|\bInv-|-lts\.|goal\.")
 # Where a definition and what is said of it fall together, the plain name is the definition's, and the lemma ends in _lem; these are settled by hand.
@@ -79,8 +81,8 @@ def declared(text):
             if it:
                 yield from it[1].split()
         elif block == "inside":
-            it = DECLARED.match(line.strip())
-            if it and line.startswith("  ") and not line.startswith("   "):
+            it = INNER.match(line)
+            if it and not MADE.search(it[3]):
                 yield it[2]
 
 

@@ -131,46 +131,79 @@ class Walk:
                 return b, at
         return None, None
 
-    def fields(self, at, rest):
-        """The path below a step, with the fields of an arm as today's."""
-        rows = self.arms.get(at)
-        for row in rows[2] if rows else []:
-            old = row[2]
-            if old and [plain(x) for x in rest[: len(old)]] == [plain(x) for x in old]:
-                return [row[0]] + rest[len(old) :]
-        return rest
+    def arm(self, place, old, rest):
+        """Today's path of a field of an arm, as `c.before.w.given.0.0`, or None."""
+        at = place
+        while at is not None and at in self.places:
+            rows = self.arms.get(at)
+            for row in rows[2] if rows else []:
+                n = len(row[2])
+                if n and plain(row[1]) == plain(old) and [plain(x) for x in rest[:n]] == [plain(x) for x in row[2]]:
+                    return ["c", rows[0], row[0]] + rest[n:]
+            for row in rows[2] if rows else []:
+                if not row[2] and plain(row[1]) == plain(old) and rest:
+                    return ["c", rows[0], row[0]] + rest
+            at = self.places[at][0]
+        return None
+
+    def is_arm(self, place, old):
+        at = place
+        while at is not None and at in self.places:
+            rows = self.arms.get(at)
+            if rows and any(plain(row[1]) == plain(old) and row[2] for row in rows[2]):
+                return True
+            at = self.places[at][0]
+        return False
 
     def body(self, text, c, place, note):
         """The body with each walk back turned."""
-        alias = {c: place}
-        chain = re.compile(r"\blet (" + NAME + r") = (" + NAME + r")((?:\.before)*) in(\n *| )?")
+        alias, parts = {c: place}, {}
+        chain = re.compile(r"\blet (" + NAME + r") = (" + NAME + r")((?:\.before)*)((?:\.(?!before\b)" + NAME + r")*) in(\n *| )?")
         at = 0
         while True:
             it = chain.search(text, at)
             if not it:
                 break
-            if it[2] in alias:
+            rest = [x for x in it[4].split(".") if x]
+            if it[2] in alias and not rest:
                 alias[it[1]] = self.up(alias[it[2]], it[3].count(".before"))
-                text = text[: it.start()] + text[it.end() :]
-                at = it.start()
+            elif it[2] in alias and self.is_arm(self.up(alias[it[2]], it[3].count(".before")), rest[0]):
+                here = self.up(alias[it[2]], it[3].count(".before"))
+                if self.arm(here, rest[0], rest[1:]):
+                    at = it.end()
+                    continue
+                parts[it[1]] = (here, rest)
             else:
                 at = it.end()
+                continue
+            text = text[: it.start()] + text[it.end() :]
+            at = it.start()
 
         def turn(m):
-            who, back, step = m[1], m[2], m[3]
-            rest = [x for x in m[4].split(".") if x]
-            if who not in alias:
+            who, back = m[1], m[2]
+            rest = [x for x in m[3].split(".") if x]
+            if who in parts:
+                at, head = parts[who]
+                rest = head + rest
+            elif who in alias:
+                at = self.up(alias[who], back.count(".before"))
+            else:
                 return m[0]
-            at = self.up(alias[who], back.count(".before"))
+            step, rest = rest[0], rest[1:]
             if step in OUTER:
                 return ".".join(["c", step] + rest)
+            arm = self.arm(at, step, rest)
+            if arm:
+                return ".".join(arm)
             new, found = self.step(at, step, note)
             if new is None:
                 note(f"no step {step} at {at}")
                 return ".".join(["c", step] + rest)
-            return ".".join(["c", new] + self.fields(found, rest))
+            return ".".join(["c", new] + rest)
 
-        text = re.sub(r"(?<![^\s(){}\[\],;])(" + NAME + r")((?:\.before)*)\.(?!before\b)(" + NAME + r")((?:\." + NAME + r")*)", turn, text)
+        text = re.sub(r"(?<![^\s(){}\[\],;])(" + NAME + r")((?:\.before)*)((?:\.(?!before\b)" + NAME + r")+)", turn, text)
+        text = re.sub(r"\bnot-(?:true|false) _ (c\.[^\s().]*\bnot-[^\s()]*)", r"\1", text)
+        alias.update(parts)
         for who in alias:
             if who != "c" and re.search(r"(?<![^\s(){}\[\],;])" + re.escape(who) + r"(?![^\s(){}\[\],;])", text):
                 note(f"{who} is used as it is")
@@ -304,7 +337,7 @@ def turn(names, crate, folder, path):
             continue
         new = walk.needs[i][1]
         body = walk.body(it[2], it[1], walk.asked[i][0], note)
-        d = Decl([f"x : y", "x c = z"])
+        d = Decl(["x : y", spec.unfolding, "x c = z"] if spec.unfolding else ["x : y", "x c = z"])
         answers.append((d, new, " " + body))
     base = os.path.join(folder, "proofs", path)
     out = []
@@ -348,6 +381,51 @@ def turn(names, crate, folder, path):
     print(f"turned: {crate} {path}: {', '.join(n for n, _ in out) or 'no file'}")
 
 
+def turn_cycle(names, crate, folder, path):
+    """The proof of functions that call one another: each goal is named with its function's name before it, and takes the measure's value."""
+    p = os.path.join(folder, "proofs", path, "Proof.antt")
+    with open(p, encoding="utf-8") as f:
+        head, uses, rows = chunks(f.read())
+    notes = []
+    module = f"Rattle.{crate}.proofs.{path.replace('/', '.')}"
+    invariants, answers = [], []
+    for d in [Decl(list(it)) for it in rows]:
+        need = re.search(r"\b(" + NAME + r")-lts\.Need-(" + NAME + r")", d.type)
+        measure = re.match(r"^μ-(" + NAME + r")$", d.name)
+        if need:
+            of = need[1].replace("-", "_")
+            key = f"Rattle-{crate}-proofs.{path.replace('/', '.')}.Lts-{of}"
+            it = dict(names[key])
+            walk = Walk.__new__(Walk)
+            walk.needs, walk.asked, walk.loops, walk.changed = it["needs"], it["asked_at"], it["loops"], it["changed"]
+            walk.places = {row[0]: (row[1], row[2]) for row in it["places"]}
+            walk.arms = {row[0]: arm for row, arm in zip(it["places"], it["arms"]) if arm}
+            i, new = walk.goal(need[2])
+            body = walk.body(d.body, d.params[1], walk.asked[i][0], lambda s: notes.append(f"{d.name}: {s}"))
+            body = body.replace("    let", " let", 1) if body.startswith("    let") else body
+            name = f"{of}-{new}"
+            answers.append("\n".join(d.comment + [f"pub {name} : goal.{name}"] + ([d.unfolding] if d.unfolding else []) + [f"{name} t c ={body if body.startswith((' ', chr(10))) else ' ' + body}"]))
+        elif measure:
+            of = measure[1].replace("-", "_")
+            key = f"Rattle-{crate}-proofs.{path.replace('/', '.')}.Lts-{of}"
+            notes.append(f"write the measure of {of} by its parameters: {d.body}")
+            invariants.append(f"abbrev pub decreases-{of} : goal.decreases-{of}\ndecreases-{of} l = {d.body.strip()}")
+        elif re.search(r"kinds\.ps|\bstatement\b", d.type):
+            continue
+        else:
+            answers.append("\n".join(d.comment + [d.text]))
+    os.remove(p)
+    whole = "\n\n".join(invariants)
+    more = ["use Rattle.std.proofs.Common.{ℕ, ◌+◌, ◌-◌, ◌*◌, length}"]
+    with open(os.path.join(os.path.dirname(p), "Invariants.antt"), "w", encoding="utf-8") as f:
+        f.write("\n".join(head + used(more, whole) + [f"use {module}.Given as goal", "", whole, ""]))
+    whole = "\n\n".join(answers)
+    with open(os.path.join(os.path.dirname(p), "Answers.antt"), "w", encoding="utf-8") as f:
+        f.write("\n".join(head + used(uses, whole) + [f"use {module}.Goals as goal", "", whole, ""]))
+    for it in notes:
+        print(f"look: {crate} {path}: {it}")
+
+
 def main(argv):
     if len(argv) < 2:
         print(__doc__)
@@ -364,6 +442,9 @@ def main(argv):
                 paths.append(os.path.relpath(at, os.path.join(folder, "proofs")))
     for path in sorted(paths):
         try:
+            if os.path.basename(path).startswith("+") and "PlainCycle" in open(os.path.join(folder, "proofs", path, "Proof.antt"), encoding="utf-8").read():
+                turn_cycle(names, crate, folder, path)
+                continue
             turn(names, crate, folder, path)
         except Left as e:
             print(f"left: {crate} {path}: {e}")

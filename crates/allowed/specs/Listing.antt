@@ -24,7 +24,7 @@ use Rattle.queue.specs.Strings.{take_least}
 use Rattle.queue.specs.Wiping.{Wiped, part_same}
 use Rattle.queue.specs.Leaving.{splice_off}
 use Rattle.state.specs.Tidy.{Tidy, Counted, ExchangeRange, SensingRange, ConnectionRange, OrderRange}
-use Rattle.state.specs.Keeping.{kept_values, kept_range, kept_singles, kept-rows, kept-homes, kept_request, kept_queue, kept_key, kept_away, count_from, count_to}
+use Rattle.state.specs.Keeping.{kept_values, kept_range, kept_singles, kept_rows, kept_homes, kept_request, kept_queue, kept_key, kept_away, count_from, count_to}
 
 -- the answer that the code gives is what the definition says
 pub part_admits : (text p : List ℕ) (r : Bool) → (r ≡ true) ↔ Allows (lines_of text) (command_of p) → admits (only text) p ≡ r
@@ -128,8 +128,8 @@ module _ (w s s₁ text : List ℕ) (small : length text ≤ list_limit) (long :
         singles = kept_singles (Counted w) w listed s laid t (same CLOCK (omega arith)) (same HOLDER (omega arith))
             (subst (λ (y : ℕ). y < 2 ^ session_limit) (sym sharers) t.singles.sharers)
             (subst (λ (y : ℕ). y ≤ session_limit) (sym count) t.singles.count);
-        rows = kept-rows (Counted w) w listed s laid t (λ i f h l. same (ENTRIES + i * ENTRY + f) (omega arith)) (λ c h. same (home_at c) (omega arith));
-        homes = kept-homes (Counted w) w listed s laid t (λ i f h l. same (ENTRIES + i * ENTRY + f) (omega arith)) (λ c h. same (home_at c) (omega arith));
+        rows = kept_rows (Counted w) w listed s laid t (λ i f h l. same (ENTRIES + i * ENTRY + f) (omega arith)) (λ c h. same (home_at c) (omega arith));
+        homes = kept_homes (Counted w) w listed s laid t (λ i f h l. same (ENTRIES + i * ENTRY + f) (omega arith)) (λ c h. same (home_at c) (omega arith));
         requests = λ i h.
             kept_request (Counted w) w listed s laid t (Counted listed) i h (λ f l. same (REQUESTS + i * REQUEST + f) (omega arith))
             (λ j l. before_list (string_limit + i * string_limit + j) (omega arith))

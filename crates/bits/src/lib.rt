@@ -1,4 +1,6 @@
 // A power of two: the word with one bit set.
+#![tactic(auto)]
+
 ghost use Rattle.std.specs.Prelude.{◌≡◌, ◌<◌, ◌^◌};
 
 pub fn power_of(i: usize) -> u64

@@ -94,32 +94,32 @@ module _ (kind code param len : ℕ) (p : List ℕ) where
   async_error e = rw e
 
   module _ (n2 : kind ≡ FatalError → ⊥) (n3 : kind ≡ Error → ⊥) where
-    pub async-vendor : is_vendor (class_of asynchronous kind) ≡ true → row ≡ v_error 3
-    async-vendor v = rw (ne_eqb kind 2 n2, ne_eqb kind 3 n3, v)
+    pub async_vendor : is_vendor (class_of asynchronous kind) ≡ true → row ≡ v_error 3
+    async_vendor v = rw (ne_eqb kind 2 n2, ne_eqb kind 3 n3, v)
 
     module _ (v : is_vendor (class_of asynchronous kind) ≡ false) where
-      pub async-unrecognised : is_unrecognised (class_of asynchronous kind) ≡ true → row ≡ v_error 1
-      async-unrecognised u = rw (ne_eqb kind 2 n2, ne_eqb kind 3 n3, v, u)
+      pub async_unrecognised : is_unrecognised (class_of asynchronous kind) ≡ true → row ≡ v_error 1
+      async_unrecognised u = rw (ne_eqb kind 2 n2, ne_eqb kind 3 n3, v, u)
 
       module _ (u : is_unrecognised (class_of asynchronous kind) ≡ false) where
-        pub async-again : kind ≡ AsyncInitialize → row ≡ v_fatal 3
+        pub async_again : kind ≡ AsyncInitialize → row ≡ v_fatal 3
         unfolding class_of
-        async-again e = rw e
+        async_again e = rw e
 
         module _ (n17 : kind ≡ AsyncInitialize → ⊥) where
-          left-10 : row ≡ cond (code_wrong kind code) (v_error 2) (cond (payload_wrong kind code len) (v_error 0) v_acts)
+          left_10 : row ≡ cond (code_wrong kind code) (v_error 2) (cond (payload_wrong kind code len) (v_error 0) v_acts)
           unfolding code_wrong payload_wrong
-          left-10 =
+          left_10 =
               rw (ne_eqb kind 2 n2, ne_eqb kind 3 n3, v, u, ne_eqb kind 17 n17)
               (joined (either AsyncLock AsyncStatusQuery kind && ltb 1 code) (eqb kind AsyncRemoteLocalControl && ltb 6 code)
               (one_of (AsyncRemoteLocalControl ∷ AsyncDeviceClear ∷ AsyncStatusQuery ∷ AsyncLockInfo ∷ []) kind && ltb 0 len)
               (eqb kind AsyncLock && (eqb code 0 && ltb 0 len)) (eqb kind AsyncMaximumMessageSize && not (eqb len 8)) (v_error 2) (v_error 0) v_acts)
 
-          pub async-code : code_wrong kind code ≡ true → row ≡ v_error 2
-          async-code a = left-10 ∙ rw a
+          pub async_code : code_wrong kind code ≡ true → row ≡ v_error 2
+          async_code a = left_10 ∙ rw a
 
-          pub async-payload : code_wrong kind code ≡ false → payload_wrong kind code len ≡ true → row ≡ v_error 0
-          async-payload a b = left-10 ∙ rw (a, b)
+          pub async_payload : code_wrong kind code ≡ false → payload_wrong kind code len ≡ true → row ≡ v_error 0
+          async_payload a b = left_10 ∙ rw (a, b)
 
           pub async_acts : code_wrong kind code ≡ false → payload_wrong kind code len ≡ false → row ≡ v_acts
-          async_acts a b = left-10 ∙ rw (a, b)
+          async_acts a b = left_10 ∙ rw (a, b)

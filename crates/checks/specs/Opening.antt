@@ -128,21 +128,21 @@ module _ (d : Server) (kind code param len : ℕ) (p : List ℕ) where
   open_other a b = rw (ne_eqb kind 0 a, ne_eqb kind 17 b)
 
   module _ (e : kind ≡ Initialize) where
-    pub open-address : (is_nil p || same p hislip0) ≡ false → row ≡ v_fatal 3
-    open-address a = rw (e, a)
+    pub open_address : (is_nil p || same p hislip0) ≡ false → row ≡ v_fatal 3
+    open_address a = rw (e, a)
 
     pub open_full : (is_nil p || same p hislip0) ≡ true → all live d.locks.entries ≡ true → row ≡ v_fatal 4
     open_full a b = rw (e, a, b)
 
-    pub open-session : (is_nil p || same p hislip0) ≡ true → all live d.locks.entries ≡ false → row ≡ v_acts
-    open-session a b = rw (e, a, b)
+    pub open_session : (is_nil p || same p hislip0) ≡ true → all live d.locks.entries ≡ false → row ≡ v_acts
+    open_session a b = rw (e, a, b)
 
   module _ (e : kind ≡ AsyncInitialize) where
-    pub join-payload : 0 < len → row ≡ v_fatal 3
-    join-payload l = rw (e, lt-ltb 0 len l)
+    pub join_payload : 0 < len → row ≡ v_fatal 3
+    join_payload l = rw (e, lt-ltb 0 len l)
 
-    pub join-unknown : len ≤ 0 → half_open (at d.locks.entries (slot_of_number d.locks.entries param)) ≡ false → row ≡ v_fatal 3
-    join-unknown l a = rw (e, le-ltb 0 len l, a)
+    pub join_unknown : len ≤ 0 → half_open (at d.locks.entries (slot_of_number d.locks.entries param)) ≡ false → row ≡ v_fatal 3
+    join_unknown l a = rw (e, le-ltb 0 len l, a)
 
-    pub join-session : len ≤ 0 → half_open (at d.locks.entries (slot_of_number d.locks.entries param)) ≡ true → row ≡ v_acts
-    join-session l a = rw (e, le-ltb 0 len l, a)
+    pub join_session : len ≤ 0 → half_open (at d.locks.entries (slot_of_number d.locks.entries param)) ≡ true → row ≡ v_acts
+    join_session l a = rw (e, le-ltb 0 len l, a)

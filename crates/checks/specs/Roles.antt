@@ -50,14 +50,14 @@ module _ (h : Header) where
   partly_half_open r e = ap (λ (x : Role). partly x h) (is_half_open r e)
 
   module _ (r : Role) (e : role_number r ≡ 0) where
-    pub partly-opens : h.kind ≡ Initialize → partly r h ≡ v_more
-    partly-opens q = ap (λ (x : Role). partly x h) (is_none r e) ∙ rw q
+    pub partly_opens : h.kind ≡ Initialize → partly r h ≡ v_more
+    partly_opens q = ap (λ (x : Role). partly x h) (is_none r e) ∙ rw q
 
-    pub partly-joins : h.kind ≡ AsyncInitialize → partly r h ≡ v_more
-    partly-joins q = ap (λ (x : Role). partly x h) (is_none r e) ∙ rw q
+    pub partly_joins : h.kind ≡ AsyncInitialize → partly r h ≡ v_more
+    partly_joins q = ap (λ (x : Role). partly x h) (is_none r e) ∙ rw q
 
-    pub partly-other : (h.kind ≡ Initialize → ⊥) → (h.kind ≡ AsyncInitialize → ⊥) → partly r h ≡ v_fatal 3
-    partly-other a b = ap (λ (x : Role). partly x h) (is_none r e) ∙ rw (ne_eqb h.kind 0 a, ne_eqb h.kind 17 b)
+    pub partly_other : (h.kind ≡ Initialize → ⊥) → (h.kind ≡ AsyncInitialize → ⊥) → partly r h ≡ v_fatal 3
+    partly_other a b = ap (λ (x : Role). partly x h) (is_none r e) ∙ rw (ne_eqb h.kind 0 a, ne_eqb h.kind 17 b)
 
 -- a whole message, by the role
 module _ (d : Server) (i : ℕ) (h : Header) (p : List ℕ) (r : Role) where

@@ -52,28 +52,28 @@ module _ (may expected : Bool) (kind code len : ℕ) where
   command_held a = rw a
 
   module _ (a : may ≡ true) where
-    pub command-number : expected ≡ false → commanded may expected kind code len ≡ v_error 0
+    pub command_number : expected ≡ false → commanded may expected kind code len ≡ v_error 0
     unfolding commanded
-    command-number o = rw (a, o)
+    command_number o = rw (a, o)
 
     module _ (o : expected ≡ true) where
-      pub command-code : 1 < code → commanded may expected kind code len ≡ v_error 2
+      pub command_code : 1 < code → commanded may expected kind code len ≡ v_error 2
       unfolding commanded
-      command-code l = rw (a, o, lt-ltb 1 code l)
+      command_code l = rw (a, o, lt-ltb 1 code l)
 
       module _ (l : code ≤ 1) where
-        pub command-acts : (kind ≡ Trigger → ⊥) → commanded may expected kind code len ≡ v_acts
+        pub command_acts : (kind ≡ Trigger → ⊥) → commanded may expected kind code len ≡ v_acts
         unfolding commanded
-        command-acts n = rw (a, o, le-ltb 1 code l, ne_eqb kind 12 n)
+        command_acts n = rw (a, o, le-ltb 1 code l, ne_eqb kind 12 n)
 
         module _ (e : kind ≡ Trigger) where
-          pub trigger-payload : 0 < len → commanded may expected kind code len ≡ v_error 0
+          pub trigger_payload : 0 < len → commanded may expected kind code len ≡ v_error 0
           unfolding commanded
-          trigger-payload m = rw (a, o, le-ltb 1 code l, e, lt-ltb 0 len m)
+          trigger_payload m = rw (a, o, le-ltb 1 code l, e, lt-ltb 0 len m)
 
-          pub trigger-acts : len ≤ 0 → commanded may expected kind code len ≡ v_acts
+          pub trigger_acts : len ≤ 0 → commanded may expected kind code len ≡ v_acts
           unfolding commanded
-          trigger-acts m = rw (a, o, le-ltb 1 code l, e, le-ltb 0 len m)
+          trigger_acts m = rw (a, o, le-ltb 1 code l, e, le-ltb 0 len m)
 
 and_false : (b : Bool) → (b && false) ≡ false
 and_false true = refl
@@ -90,27 +90,27 @@ module _ (d : Server) (i kind code param len : ℕ) (p : List ℕ) where
   sync_error e = rw e
 
   module _ (n2 : kind ≡ FatalError → ⊥) (n3 : kind ≡ Error → ⊥) where
-    pub sync-complete : (b : Bool) → (exchange_at d.rest i).in_clear ≡ b → kind ≡ DeviceClearComplete → row ≡ completed b len
+    pub sync_complete : (b : Bool) → (exchange_at d.rest i).in_clear ≡ b → kind ≡ DeviceClearComplete → row ≡ completed b len
     unfolding completed class_of
-    sync-complete true q e = rw (e, q)
-    sync-complete false q e = rw (e, q)
+    sync_complete true q e = rw (e, q)
+    sync_complete false q e = rw (e, q)
 
     module _ (n8 : kind ≡ DeviceClearComplete → ⊥) where
-      pub sync-ignored : (exchange_at d.rest i).in_clear ≡ true → row ≡ v_ignored
-      sync-ignored q = rw (ne_eqb kind 2 n2, ne_eqb kind 3 n3, q, ne_eqb kind 8 n8)
+      pub sync_ignored : (exchange_at d.rest i).in_clear ≡ true → row ≡ v_ignored
+      sync_ignored q = rw (ne_eqb kind 2 n2, ne_eqb kind 3 n3, q, ne_eqb kind 8 n8)
 
       module _ (q : (exchange_at d.rest i).in_clear ≡ false) where
-        pub sync-vendor : is_vendor (class_of synchronous kind) ≡ true → row ≡ v_error 3
-        sync-vendor v = rw (ne_eqb kind 2 n2, ne_eqb kind 3 n3, q, v)
+        pub sync_vendor : is_vendor (class_of synchronous kind) ≡ true → row ≡ v_error 3
+        sync_vendor v = rw (ne_eqb kind 2 n2, ne_eqb kind 3 n3, q, v)
 
         module _ (v : is_vendor (class_of synchronous kind) ≡ false) where
-          pub sync-unrecognised : is_unrecognised (class_of synchronous kind) ≡ true → row ≡ v_error 1
-          sync-unrecognised u = rw (ne_eqb kind 2 n2, ne_eqb kind 3 n3, q, v, u)
+          pub sync_unrecognised : is_unrecognised (class_of synchronous kind) ≡ true → row ≡ v_error 1
+          sync_unrecognised u = rw (ne_eqb kind 2 n2, ne_eqb kind 3 n3, q, v, u)
 
           module _ (u : is_unrecognised (class_of synchronous kind) ≡ false) where
-            pub sync-again : kind ≡ Initialize → row ≡ v_fatal 3
+            pub sync_again : kind ≡ Initialize → row ≡ v_fatal 3
             unfolding class_of
-            sync-again e = rw (e, q)
+            sync_again e = rw (e, q)
 
             module _ (n0 : kind ≡ Initialize → ⊥) where
               -- Data, DataEND and Trigger are left
@@ -121,12 +121,12 @@ module _ (d : Server) (i kind code param len : ℕ) (p : List ℕ) where
                   (acts_on (leb 128 kind) (one_of (acted_on_types synchronous) kind) v u)
 
               -- where any command is allowed
-              pub sync-command : (b m : Bool) → access d.locks.entries i ≡ b → eqb param (exchange_at d.rest i).number_expected ≡ m → admits d.rest.allowed p ≡ true
+              pub sync_command : (b m : Bool) → access d.locks.entries i ≡ b → eqb param (exchange_at d.rest i).number_expected ≡ m → admits d.rest.allowed p ≡ true
                   → row ≡ commanded b m kind code len
               unfolding commanded
-              sync-command true true a o l = rw (is_command_lem, ne_eqb kind 2 n2, ne_eqb kind 3 n3, q, v, u, ne_eqb kind 0 n0, ne_eqb kind 8 n8, a, o, l, and_false (eqb kind 7))
-              sync-command true false a o l = rw (is_command_lem, ne_eqb kind 2 n2, ne_eqb kind 3 n3, q, v, u, ne_eqb kind 0 n0, a, o)
-              sync-command false m a o l = rw (is_command_lem, ne_eqb kind 2 n2, ne_eqb kind 3 n3, q, v, u, ne_eqb kind 0 n0, a)
+              sync_command true true a o l = rw (is_command_lem, ne_eqb kind 2 n2, ne_eqb kind 3 n3, q, v, u, ne_eqb kind 0 n0, ne_eqb kind 8 n8, a, o, l, and_false (eqb kind 7))
+              sync_command true false a o l = rw (is_command_lem, ne_eqb kind 2 n2, ne_eqb kind 3 n3, q, v, u, ne_eqb kind 0 n0, a, o)
+              sync_command false m a o l = rw (is_command_lem, ne_eqb kind 2 n2, ne_eqb kind 3 n3, q, v, u, ne_eqb kind 0 n0, a)
 
 -- 02, Q-12: the list's rule is the last of the row, so the rest of it may be asked first, as if any command were allowed
 abbrev pub with_any_command : Server → Server

@@ -155,12 +155,12 @@ module _ (d : Server) (c : ℕ) where
       long_not r_asynchronous e = let z : ◌≡◌ {A = ℕ} 0 1 = cc in omega arith
   verdict_held bs (part h) es e = absurd (part_not (role_of d.locks.entries c) e)
     where
-      opening-not : (b : Bool) → cond b v_more (v_fatal 3) ≡ v_held → ⊥
-      opening-not true e = let z : ◌≡◌ {A = ℕ} 0 1 = cc in omega arith
-      opening-not false e = let z : ◌≡◌ {A = ℕ} 0 1 = cc in omega arith
+      opening_not : (b : Bool) → cond b v_more (v_fatal 3) ≡ v_held → ⊥
+      opening_not true e = let z : ◌≡◌ {A = ℕ} 0 1 = cc in omega arith
+      opening_not false e = let z : ◌≡◌ {A = ℕ} 0 1 = cc in omega arith
 
       part_not : (r : Role) → Checks.partly r h ≡ v_held → ⊥
-      part_not r_none e = opening-not (either 0 17 h.kind) e
+      part_not r_none e = opening_not (either 0 17 h.kind) e
       part_not r_half_open e = let z : ◌≡◌ {A = ℕ} 0 1 = cc in omega arith
       part_not r_synchronous e = let z : ◌≡◌ {A = ℕ} 0 1 = cc in omega arith
       part_not r_asynchronous e = let z : ◌≡◌ {A = ℕ} 0 1 = cc in omega arith

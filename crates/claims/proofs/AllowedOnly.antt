@@ -66,7 +66,7 @@ module _ (d : Server) (c : ℕ) (h : Header) (p : List ℕ) where
   -- what it takes to come to it
   pub record Comes : Type 0 where
     pub data_end : h.kind ≡ DataEND
-    pub outside-clear : (exchange_at d.rest (slot_of d c)).in_clear ≡ false
+    pub outside_clear : (exchange_at d.rest (slot_of d c)).in_clear ≡ false
     pub has_access : access_of d c ≡ true
     pub in_step : h.param ≡ (exchange_at d.rest (slot_of d c)).number_expected
     pub good_code : ltb 1 h.code ≡ false
@@ -84,7 +84,7 @@ module _ (d : Server) (c : ℕ) (h : Header) (p : List ℕ) where
       let g : (one_of commands h.kind && ltb 1 h.code) ≡ false = b.1.1.1.1.1.1.1.1.0 in
       record {
         data_end = k;
-        outside-clear = outside _ h.kind o b.1.1.0;
+        outside_clear = outside _ h.kind o b.1.1.0;
         has_access = not_off _ (rw o at a);
         in_step = eqb-true _ _ (not_off _ (rw o at m));
         good_code = rw o at g;
@@ -345,7 +345,7 @@ module _ (d : Server) (c : ℕ) where
       record {
         passes_before =
             record {
-              command = made d c bs h p es j.0 k.outside-clear (rw k.data_end);
+              command = made d c bs h p es j.0 k.outside_clear (rw k.data_end);
               data_end = rw g k.data_end;
               has_access = k.has_access;
               in_step = rw g k.in_step;

@@ -106,19 +106,19 @@ module _ (d : Server) where
     abbrev pub ended : Heard
     ended = ended_with a e₀.standing
 
-    locks-are : lock_only fs ≡ lock_only (answered_first d (message_acted a)) ++ G
-    locks-are =
+    locks_are : lock_only fs ≡ lock_only (answered_first d (message_acted a)) ++ G
+    locks_are =
         ap lock_only frames
         ∙ lock_append (said_first d (message_acted a)) _
         ∙ ap₂ ◌++◌ (lock_first a) (lock_append (answered_first d (message_acted a)) _
         ∙ ap (λ zs. lock_only (answered_first d (message_acted a)) ++ zs) (lock_append (direct d (message_acted a)) G ∙ ap₂ ◌++◌ (lock_direct a) (lock_to 1 due gs)))
 
     -- what comes before the grants, by the two tests
-    abbrev pub firstBy : Bool → Bool → List Frame
-    firstBy x y = cond x (said_to a.told 5 (a.connection ∷ [])) (cond y zeros [] ++ said_to ended 5 (e₀.asynchronous ∷ []))
+    abbrev pub first_by : Bool → Bool → List Frame
+    first_by x y = cond x (said_to a.told 5 (a.connection ∷ [])) (cond y zeros [] ++ said_to ended 5 (e₀.asynchronous ∷ []))
 
-    pub first_is : (x y : Bool) → eqb t₀ 4 ≡ x → eqb t₀ 19 ≡ y → lock_only fs ≡ lock_only (firstBy x y) ++ G
-    first_is x y ex ey = locks-are ∙ ap (λ zs. lock_only zs ++ G) (ap₂ firstBy ex ey)
+    pub first_is : (x y : Bool) → eqb t₀ 4 ≡ x → eqb t₀ 19 ≡ y → lock_only fs ≡ lock_only (first_by x y) ++ G
+    first_is x y ex ey = locks_are ∙ ap (λ zs. lock_only zs ++ G) (ap₂ first_by ex ey)
 
     -- the goal, by the three tests
     abbrev Says : Bool → Bool → Type 0
@@ -129,9 +129,9 @@ module _ (d : Server) where
     ungranted q e = ap (map (waiting_answer 1 due)) (none (rw q (ap (λ (r : Heard). is_code 1 r || is_code 2 r) e)))
 
     -- AsyncLock: its own answer first
-    own-answer : (x : Heard) → a.told ≡ x → fs ≡ said_to x 5 (a.connection ∷ []) ++ G → drop 1 (said_to x 5 (a.connection ∷ []) ++ G) ≡ G
-    own-answer (with_code k) e f = refl
-    own-answer silence e f = go gs (sym e ∙ told ∙ ap (heard 5) f)
+    own_answer : (x : Heard) → a.told ≡ x → fs ≡ said_to x 5 (a.connection ∷ []) ++ G → drop 1 (said_to x 5 (a.connection ∷ []) ++ G) ≡ G
+    own_answer (with_code k) e f = refl
+    own_answer silence e f = go gs (sym e ∙ told ∙ ap (heard 5) f)
       where
         go : (gs : List Waiting) → silence ≡ heard 5 (map (waiting_answer 1 due) gs) → drop 1 (map (waiting_answer 1 due) gs) ≡ map (waiting_answer 1 due) gs
         go [] h = refl
@@ -148,41 +148,41 @@ module _ (d : Server) where
         go [] h f = f
         go (w ∷ gs) h f = absurd (let z : ◌≡◌ {A = ℕ} 0 1 = cc in omega arith)
 
-    by-lock : t₀ ≡ 4 → Says true false
-    by-lock q =
+    by_lock : t₀ ≡ 4 → Says true false
+    by_lock q =
         ap (drop 1) (first_is true false (eq-eqb _ _ q) (rw q) ∙ ap (λ zs. zs ++ G) (lock_own a.told a.connection))
-        ∙ own-answer a.told refl (rw q at frames)
+        ∙ own_answer a.told refl (rw q at frames)
 
     -- Data, DataEND, Trigger: the release's answer first
-    ends-first : (x : Heard) → (x ≡ silence → G ≡ []) → drop 1 (said_to x 5 (e₀.asynchronous ∷ []) ++ G) ≡ G
-    ends-first (with_code k) n = refl
-    ends-first silence n = ap (drop 1) (n refl) ∙ sym (n refl)
+    ends_first : (x : Heard) → (x ≡ silence → G ≡ []) → drop 1 (said_to x 5 (e₀.asynchronous ∷ []) ++ G) ≡ G
+    ends_first (with_code k) n = refl
+    ends_first silence n = ap (drop 1) (n refl) ∙ sym (n refl)
 
-    by-command : eqb t₀ 4 ≡ false → eqb t₀ 19 ≡ false → Says true false
-    by-command q r =
+    by_command : eqb t₀ 4 ≡ false → eqb t₀ 19 ≡ false → Says true false
+    by_command q r =
         ap (drop 1) (first_is false false q r ∙ ap (λ zs. zs ++ G) (lock_own ended e₀.asynchronous))
-        ∙ ends-first ended (ungranted q)
+        ∙ ends_first ended (ungranted q)
 
     -- AsyncDeviceClear
     append : (xs ys zs : List Frame) → (xs ++ ys) ++ zs ≡ xs ++ (ys ++ zs)
     append [] ys zs = refl
     append (x ∷ xs) ys zs = ap (λ us. x ∷ us) (append xs ys zs)
 
-    clear-zeros : (vs : List Waiting) (ys : List Frame) → of_clear (map (waiting_answer 0 es) vs ++ ys) ≡ map (waiting_answer 0 es) vs ++ of_clear ys
-    clear-zeros [] ys = refl
-    clear-zeros (v ∷ vs) ys = ap (λ us. waiting_answer 0 es v ∷ us) (clear-zeros vs ys)
+    clear_zeros : (vs : List Waiting) (ys : List Frame) → of_clear (map (waiting_answer 0 es) vs ++ ys) ≡ map (waiting_answer 0 es) vs ++ of_clear ys
+    clear_zeros [] ys = refl
+    clear_zeros (v ∷ vs) ys = ap (λ us. waiting_answer 0 es v ∷ us) (clear_zeros vs ys)
 
-    clear-ended : (s : Standing) (x : ℕ) (ys : List Frame) → of_clear (said_to (code_where (λ n. true) s) 5 (x ∷ []) ++ ys) ≡ of_clear ys
-    clear-ended no_release x ys = refl
-    clear-ended (release_of exclusive_lock n) x ys = refl
-    clear-ended (release_of shared_lock n) x ys = refl
+    clear_ended : (s : Standing) (x : ℕ) (ys : List Frame) → of_clear (said_to (code_where (λ n. true) s) 5 (x ∷ []) ++ ys) ≡ of_clear ys
+    clear_ended no_release x ys = refl
+    clear_ended (release_of exclusive_lock n) x ys = refl
+    clear_ended (release_of shared_lock n) x ys = refl
 
     by_clear : t₀ ≡ 19 → Says false true
     by_clear q =
         let whole : fs ≡ (zeros ++ said_to (code_where (λ n. true) e₀.standing) 5 (e₀.asynchronous ∷ [])) ++ (plain_to a.connection 23 (preferred d) 0 ∷ G) = frames ∙ parts in
         ap of_clear (whole ∙ append zeros _ _)
-        ∙ clear-zeros (keep (requests_of (slot_acted es a)) ws) _
-        ∙ ap (λ us. zeros ++ us) (clear-ended e₀.standing e₀.asynchronous _ ∙ lock_to 1 due gs)
+        ∙ clear_zeros (keep (requests_of (slot_acted es a)) ws) _
+        ∙ ap (λ us. zeros ++ us) (clear_ended e₀.standing e₀.asynchronous _ ∙ lock_to 1 due gs)
       where
         quiet : said_first d (message_acted a) ≡ []
         quiet = ap (λ (b : Bool). cond
@@ -194,7 +194,7 @@ module _ (d : Server) where
         over = ap (λ (t : ℕ). cond (one_of (6 ∷ 7 ∷ 12 ∷ []) t) (code_where (λ n. eqb n a.message.param) e₀.standing) (cond (eqb t 19) (code_where (λ n. true) e₀.standing) silence)) q
 
         before : answered_first d (message_acted a) ≡ zeros ++ said_to (code_where (λ n. true) e₀.standing) 5 (e₀.asynchronous ∷ [])
-        before = ap₂ firstBy (ap (λ (t : ℕ). eqb t 4) q) (ap (λ (t : ℕ). eqb t 19) q) ∙ ap (λ (x : Heard). zeros ++ said_to x 5 (e₀.asynchronous ∷ [])) over
+        before = ap₂ first_by (ap (λ (t : ℕ). eqb t 4) q) (ap (λ (t : ℕ). eqb t 19) q) ∙ ap (λ (x : Heard). zeros ++ said_to x 5 (e₀.asynchronous ∷ [])) over
 
         ack : direct d (message_acted a) ≡ plain_to a.connection 23 (preferred d) 0 ∷ []
         ack = ap (reply_in (replies d a)) q
@@ -204,23 +204,23 @@ module _ (d : Server) where
         parts = ap₂ ◌++◌ quiet (ap₂ ◌++◌ before (ap (λ zs. zs ++ G) ack))
 
     -- any other
-    by-other : eqb t₀ 4 ≡ false → one_of (6 ∷ 7 ∷ 12 ∷ []) t₀ ≡ false → eqb t₀ 19 ≡ false → Says false false
-    by-other q o r =
+    by_other : eqb t₀ 4 ≡ false → one_of (6 ∷ 7 ∷ 12 ∷ []) t₀ ≡ false → eqb t₀ 19 ≡ false → Says false false
+    by_other q o r =
         let e : ended ≡ silence = rw (o, r) in
         first_is false false q r ∙ ap (λ (x : Heard). lock_only (said_to x 5 (e₀.asynchronous ∷ [])) ++ G) e
 
-    pub acted-frames : to_waiting (message_acted a) fs ≡ map (waiting_answer 0 es) (taken (message_acted a)) ++ G
-    acted-frames = go (eqb t₀ 4) (eqb t₀ 19) (one_of (6 ∷ 7 ∷ 12 ∷ []) t₀) refl refl refl
+    pub acted_frames : to_waiting (message_acted a) fs ≡ map (waiting_answer 0 es) (taken (message_acted a)) ++ G
+    acted_frames = go (eqb t₀ 4) (eqb t₀ 19) (one_of (6 ∷ 7 ∷ 12 ∷ []) t₀) refl refl refl
       where
         go : (x y z : Bool) → eqb t₀ 4 ≡ x → eqb t₀ 19 ≡ y → one_of (6 ∷ 7 ∷ 12 ∷ []) t₀ ≡ z → Says (eqb t₀ 4 || one_of (6 ∷ 7 ∷ 12 ∷ []) t₀) (eqb t₀ 19)
         go true y z ex ey ez =
             let q : t₀ ≡ 4 = eqb-true _ _ ex in
             let r : eqb t₀ 19 ≡ false = ap (λ (t : ℕ). eqb t 19) q in
-            rw (ex, r) (by-lock q)
+            rw (ex, r) (by_lock q)
         go false true true ex ey ez = absurd (let q : t₀ ≡ 19 = eqb-true _ _ ey in true≢false (sym ez ∙ ap (one_of (6 ∷ 7 ∷ 12 ∷ [])) q))
-        go false false true ex ey ez = rw (ex, ey, ez) (by-command ex ey)
+        go false false true ex ey ez = rw (ex, ey, ez) (by_command ex ey)
         go false true false ex ey ez = rw (ex, ey, ez) (by_clear (eqb-true _ _ ey))
-        go false false false ex ey ez = rw (ex, ey, ez) (by-other ex ez ey)
+        go false false false ex ey ez = rw (ex, ey, ez) (by_other ex ez ey)
 
 -- any call
 pub record Told (d : Server) (h : Happening) (fs : List Frame) : Type 0 where
@@ -234,7 +234,7 @@ frames_told d (disconnected c k) r l t = ap lock_only l.frames ∙ lock_append (
     ∙ ap₂ ◌++◌ (lock_said k 2 (fatal_to d.locks.entries c) refl) (lock_to 1 l.due l.granted)
 frames_told d (skipped_over c k) r l t = ap lock_only l.frames ∙ lock_to 1 l.due l.granted
 frames_told d (errored c h k) r l t = ap lock_only l.frames ∙ lock_append (said_to k 3 (c ∷ [])) _ ∙ ap₂ ◌++◌ (lock_said k 3 (c ∷ []) refl) (lock_to 1 l.due l.granted)
-frames_told d (message_acted a) r l t = acted-frames d a r.frames l.due l.granted (t.own a refl) l.frames nobody
+frames_told d (message_acted a) r l t = acted_frames d a r.frames l.due l.granted (t.own a refl) l.frames nobody
   where
     nobody : looks_after d.locks.entries (message_acted a) ≡ false → l.granted ≡ []
     nobody e = (rw e at l.waiting).2

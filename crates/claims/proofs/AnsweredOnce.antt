@@ -126,11 +126,11 @@ module _ (c : ℕ) (real : c ≡ no_connection → ⊥) (s t j : ℕ) (p : Relea
         q : (all apart_from r.server.locks.waiting ≡ true) × (all apart_from l.granted ≡ true)
         q = look_all d.locks.clock apart_from (looks_after E h) l.due left₀ r.server.locks.entries r.server.locks.waiting l.granted l.waiting b
 
-        none-taken : codes_to c (map (waiting_answer 0 E) (taken d h)) ≡ []
-        none-taken = codes_none c 0 E (taken d h) a
+        none_taken : codes_to c (map (waiting_answer 0 E) (taken d h)) ≡ []
+        none_taken = codes_none c 0 E (taken d h) a
 
-        due-apart : (w : Waiting) → apart_from w ≡ true → (eqb w.slot j || away c 1 l.due w) ≡ true
-        due-apart w e = by (eqb w.slot j) e
+        due_apart : (w : Waiting) → apart_from w ≡ true → (eqb w.slot j || away c 1 l.due w) ≡ true
+        due_apart w e = by (eqb w.slot j) e
           where
             by : (x : Bool) → (x || away c 0 E w) ≡ true → (x || away c 1 l.due w) ≡ true
             by true e = refl
@@ -139,15 +139,15 @@ module _ (c : ℕ) (real : c ≡ no_connection → ⊥) (s t j : ℕ) (p : Relea
         go : (One j t r.server.locks.waiting × None j l.granted) ⊎ (None j r.server.locks.waiting × One j t l.granted) → On
         go (inl x) =
             inl (
-              A-is ∙ ap₂ ◌++◌ none-taken (codes_none c 1 l.due l.granted
+              A-is ∙ ap₂ ◌++◌ none_taken (codes_none c 1 l.due l.granted
                   (all_imp (away c 0 E) (away c 1 l.due) (λ w e. ap not (away_due c real d h r l f k.inv v' n w.slot (not_of _ e))) l.granted
                   (away_of l.granted q.1 x.1))),
               x.0,
             )
         go (inr x) =
             inr (
-              A-is ∙ ap₂ ◌++◌ none-taken (codes_one c 1 l.due j t (m.3 ∙ k.second) l.granted
-                  (all_imp apart_from (λ w. eqb w.slot j || away c 1 l.due w) due-apart l.granted q.1) x.1),
+              A-is ∙ ap₂ ◌++◌ none_taken (codes_one c 1 l.due j t (m.3 ∙ k.second) l.granted
+                  (all_imp apart_from (λ w. eqb w.slot j || away c 1 l.due w) due_apart l.granted q.1) x.1),
               all_imp (away c 0 E) (away c 0 r.server.locks.entries) (λ w e. ap not (away_after c real d h r l f k.inv v' n w.slot (not_of _ e)))
                   r.server.locks.waiting (away_of r.server.locks.waiting q.0 x.0),
             )
@@ -259,30 +259,30 @@ module _ (c : ℕ) (real : c ≡ no_connection → ⊥) (s t j : ℕ) (p : Relea
 
     msame : Same (message_acted a) r l f v'
     msame = rows (message_acted a) r l f v' (by (eqb j s₀) refl (at E j).number a.session a.session)
-        (by (eqb j s₀) refl (at E j).synchronous a.connection a.connection) (second-row (eqb j s₀) refl)
+        (by (eqb j s₀) refl (at E j).synchronous a.connection a.connection) (second_row (eqb j s₀) refl)
       where
-        not-0 : eqb j s₀ ≡ true → eqb (kind_of a) 0 ≡ false
-        not-0 e = ne_eqb _ _ (λ q. true≢false (sym k.alive ∙ ap (λ (i : ℕ). live (at E i)) (eqb-true _ _ e) ∙ f.vacant q))
+        not_0 : eqb j s₀ ≡ true → eqb (kind_of a) 0 ≡ false
+        not_0 e = ne_eqb _ _ (λ q. true≢false (sym k.alive ∙ ap (λ (i : ℕ). live (at E i)) (eqb-true _ _ e) ∙ f.vacant q))
 
-        not-17 : eqb j s₀ ≡ true → eqb (kind_of a) 17 ≡ false
-        not-17 e = ne_eqb _ _ (λ q. real (sym k.second ∙ ap (λ (i : ℕ). (at E i).asynchronous) (eqb-true _ _ e) ∙ (f.pairs q).half))
+        not_17 : eqb j s₀ ≡ true → eqb (kind_of a) 17 ≡ false
+        not_17 e = ne_eqb _ _ (λ q. real (sym k.second ∙ ap (λ (i : ℕ). (at E i).asynchronous) (eqb-true _ _ e) ∙ (f.pairs q).half))
 
         by : (b : Bool) → eqb j s₀ ≡ b → (x y z : ℕ) → cond b (cond (eqb (kind_of a) 0) y x) x ≡ x
-        by true e x y z = ap (λ (u : Bool). cond u y x) (not-0 e)
+        by true e x y z = ap (λ (u : Bool). cond u y x) (not_0 e)
         by false e x y z = refl
 
-        second-row : (b : Bool) → eqb j s₀ ≡ b → cond b (cond (eqb (kind_of a) 17) a.connection
+        second_row : (b : Bool) → eqb j s₀ ≡ b → cond b (cond (eqb (kind_of a) 17) a.connection
             (cond (eqb (kind_of a) 0) no_connection (at E j).asynchronous)) (at E j).asynchronous ≡ (at E j).asynchronous
-        second-row true e = ap₂ (λ (u v : Bool). cond u a.connection (cond v no_connection (at E j).asynchronous)) (not-17 e) (not-0 e)
-        second-row false e = refl
+        second_row true e = ap₂ (λ (u v : Bool). cond u a.connection (cond v no_connection (at E j).asynchronous)) (not_17 e) (not_0 e)
+        second_row false e = refl
 
     -- another session's request comes to wait
-    new-comes : waits a ≡ true → Met (message_acted a) r other
-    new-comes w = (
+    new_comes : waits a ≡ true → Met (message_acted a) r other
+    new_comes w = (
       inl (
-        A-is (message_acted a) r l f v' ∙ rw (lefts d a r l f w).1 (ap (λ xs. xs ++ []) (none-taken)),
+        A-is (message_acted a) r l f v' ∙ rw (lefts d a r l f w).1 (ap (λ xs. xs ++ []) (none_taken)),
         subst (One j t) (sym (comes d a r l f w))
-            (snoc_one j t (newest d a r l f w) elsewhere-new W k.one),
+            (snoc_one j t (newest d a r l f w) elsewhere_new W k.one),
       ),
       msame.0,
       msame.1,
@@ -293,41 +293,41 @@ module _ (c : ℕ) (real : c ≡ no_connection → ⊥) (s t j : ℕ) (p : Relea
         not_own : s₀ ≡ j → ⊥
         not_own e = one_none j t W k.one (good_none r.server.locks.entries j (newest d a r l f w) e W (subst (Good r.server.locks.entries) (comes d a r l f w) v'.sound.good))
 
-        elsewhere-new : elsewhere j (newest d a r l f w) ≡ true
-        elsewhere-new = ap not (ne_eqb s₀ j not_own)
+        elsewhere_new : elsewhere j (newest d a r l f w) ≡ true
+        elsewhere_new = ap not (ne_eqb s₀ j not_own)
 
-        none-taken : codes_to c (map (waiting_answer 0 E) (taken d (message_acted a))) ≡ []
-        none-taken = ap (λ (i : ℕ). codes_to c (map (waiting_answer 0 E) (cond (eqb i 19) (keep (requests_of s₀) W) []))) (is_lock_lem d a r l f w)
+        none_taken : codes_to c (map (waiting_answer 0 E) (taken d (message_acted a))) ≡ []
+        none_taken = ap (λ (i : ℕ). codes_to c (map (waiting_answer 0 E) (cond (eqb i 19) (keep (requests_of s₀) W) []))) (is_lock_lem d a r l f w)
 
     -- its own device clear, and another's
     module _ (q : kind_of a ≡ 19) where
-      clear-slot : s₀ ≡ slot_in E a.connection
-      clear-slot = ap (λ (i : ℕ). cond (eqb i 0) (slot_of_number E 0) (cond (eqb i 17) (slot_of_number E a.message.param) (slot_in E a.connection))) q
+      clear_slot : s₀ ≡ slot_in E a.connection
+      clear_slot = ap (λ (i : ℕ). cond (eqb i 0) (slot_of_number E 0) (cond (eqb i 17) (slot_of_number E a.message.param) (slot_in E a.connection))) q
 
       clear_left : requests_left E d.locks.clock (message_acted a) W ≡ keep (λ w. not (requests_of s₀ w)) W
       clear_left = ap (λ (i : ℕ). cond (eqb i 4 && (not (eqb a.message.code 0) && is_silence a.told))
           (W ++ record { slot = s₀; deadline = d.locks.clock + a.message.param; string = a.message.payload } ∷ [])
           (cond (eqb i 19) (keep (λ w. not (requests_of s₀ w)) W) W)) q
 
-      clear-taken : taken d (message_acted a) ≡ keep (requests_of s₀) W
-      clear-taken = ap (λ (i : ℕ). cond (eqb i 19) (keep (requests_of s₀) W) []) q
+      clear_taken : taken d (message_acted a) ≡ keep (requests_of s₀) W
+      clear_taken = ap (λ (i : ℕ). cond (eqb i 19) (keep (requests_of s₀) W) []) q
 
-      own-clear : a.connection ≡ c → Met (message_acted a) r clears
-      own-clear e =
-          let mine : s₀ ≡ j = clear-slot ∙ ap (slot_in E) e ∙ sym (place_unique E c j (k.inv.sound.firm.connections c real) own_connection) in
+      own_clear : a.connection ≡ c → Met (message_acted a) r clears
+      own_clear e =
+          let mine : s₀ ≡ j = clear_slot ∙ ap (slot_in E) e ∙ sym (place_unique E c j (k.inv.sound.firm.connections c real) own_connection) in
           dropped (message_acted a) r l f v' (0 ∷ []) no_join
-          (ap (λ (ws : List Waiting). codes_to c (map (waiting_answer 0 E) ws)) clear-taken
+          (ap (λ (ws : List Waiting). codes_to c (map (waiting_answer 0 E) ws)) clear_taken
           ∙ codes_one c 0 E j t k.second (keep (requests_of s₀) W) (all_keep apart_from (requests_of s₀) W all_others)
           (keep_one j t (requests_of s₀) (λ w z y. eq-eqb _ _ (z ∙ sym mine)) W k.one))
           (rw clear_left (all_keep apart_from (λ w. not (requests_of s₀ w)) W all_others))
           (rw clear_left (keep_gone j t (λ w. not (requests_of s₀ w)) (λ w z y. ap not (eq-eqb _ _ (z ∙ sym mine))) W k.one))
 
-      others-clear : (a.connection ≡ c → ⊥) → Met (message_acted a) r other
-      others-clear n =
+      others_clear : (a.connection ≡ c → ⊥) → Met (message_acted a) r other
+      others_clear n =
           let second-own : (at E s₀).asynchronous ≡ a.connection = f.second (ap (one_of (4 ∷ 19 ∷ [])) q) in
           let far : (w : Waiting) → w.slot ≡ j → requests_of s₀ w ≡ false = λ w z. ne_eqb w.slot s₀ (λ e. n (sym second-own ∙ ap (λ (i : ℕ). (at E i).asynchronous) (sym e ∙ z) ∙ k.second)) in
           plainly (message_acted a) r l f v' (
-            looked (message_acted a) r l f v' no_join (rw clear-taken
+            looked (message_acted a) r l f v' no_join (rw clear_taken
                 (away_of (keep (requests_of s₀) W) (all_keep apart_from (requests_of s₀) W all_others)
                 (keep_gone j t (requests_of s₀) (λ w z y. far w z) W k.one)))
                 (rw clear_left (all_keep apart_from (λ w. not (requests_of s₀ w)) W all_others))
@@ -336,13 +336,13 @@ module _ (c : ℕ) (real : c ≡ no_connection → ⊥) (s t j : ℕ) (p : Relea
             msame,
           )
 
-    message-met : Met (message_acted a) r (call_of c s t (message_acted a))
-    message-met = go (eqb (kind_of a) 19) (eqb a.connection c) (waits a) refl refl refl
+    message_met : Met (message_acted a) r (call_of c s t (message_acted a))
+    message_met = go (eqb (kind_of a) 19) (eqb a.connection c) (waits a) refl refl refl
       where
         go : (x y z : Bool) → eqb (kind_of a) 19 ≡ x → eqb a.connection c ≡ y → waits a ≡ z → Met (message_acted a) r (cond (x && y) clears other)
-        go true true z ex ey ez = own-clear (eqb-true _ _ ex) (eqb-true _ _ ey)
-        go true false z ex ey ez = others-clear (eqb-true _ _ ex) (eqb-false _ _ ey)
-        go false y true ex ey ez = new-comes ez
+        go true true z ex ey ez = own_clear (eqb-true _ _ ex) (eqb-true _ _ ey)
+        go true false z ex ey ez = others_clear (eqb-true _ _ ex) (eqb-false _ _ ey)
+        go false y true ex ey ez = new_comes ez
         go false y false ex ey ez = plainly (message_acted a) r l f v' (calm (message_acted a) r l f v' no_join (rw ex) (rw (ez, ex)) msame)
 
   met : (h : Happening) → Meeting h
@@ -353,7 +353,7 @@ module _ (c : ℕ) (real : c ≡ no_connection → ⊥) (s t j : ℕ) (p : Relea
   met (errored x g q) r l f v' = let b = eqb j (slot_in E x) && eqb (at E j).synchronous x in
       plainly (errored x g q) r l f v' (calm (errored x g q) r l f v' refl refl refl
       (rows (errored x g q) r l f v' (same_both₀ b (at E j).number) (same_both₀ b (at E j).synchronous) (same_both₀ b (at E j).asynchronous)))
-  met (message_acted a) r l f v' = message-met a r l f v'
+  met (message_acted a) r l f v' = message_met a r l f v'
   met (clock_read u) r l f v' = reading_met u r l f v'
   met (status_set b) r l f v' = plainly (status_set b) r l f v' (calm (status_set b) r l f v' refl refl refl (rows (status_set b) r l f v' refl refl refl))
   met (setting_made s) r l f v' = plainly (setting_made s) r l f v' (calm (setting_made s) r l f v' refl refl refl (rows (setting_made s) r l f v' refl refl refl))
@@ -544,13 +544,13 @@ module _ (v : Making) (es : List Event) (c : ℕ) (bs : List ℕ) (room k n : �
       record {
         inv = v₀;
         sized = sized_call D (delivery c bs room) sized₀;
-        alive = alive-now;
+        alive = alive_now;
         second = second_now;
-        first = first-now;
+        first = first_now;
         one = subst (One (slot_of D c) (clock_in (log (fresh v) es) + (header bs).param)) (sym (comes D act R local₀ facts₀ waits₀))
             (new_one (slot_of D c) (clock_in (log (fresh v) es) + (header bs).param) (newest D act R local₀ facts₀ waits₀) slot₀
             (ap (λ (i : ℕ). i + (header bs).param) (local_run (fresh v) es).clock) D.locks.waiting none_before);
-        known = known-now;
+        known = known_now;
         seconds = second_call D (delivery c bs room) inv₀ sized₀ (second_run v es);
       }
     where
@@ -569,24 +569,24 @@ module _ (v : Making) (es : List Event) (c : ℕ) (bs : List ℕ) (room k n : �
       second_now : now.asynchronous ≡ c
       second_now = local₀.asynchronous (slot_of D c) within₀ ∙ kept_second (eqb (slot_of D c) (slot_acted D.locks.entries act)) ∙ async_own D.locks.entries c role₀
 
-      first-now : now.synchronous ≡ synchronous_of v es n
-      first-now = local₀.synchronous (slot_of D c) within₀ ∙ kept (eqb (slot_of D c) (slot_acted D.locks.entries act)) (eqb (header bs).kind 0) c (entry_of D c).synchronous kind₀ ∙ first₀
+      first_now : now.synchronous ≡ synchronous_of v es n
+      first_now = local₀.synchronous (slot_of D c) within₀ ∙ kept (eqb (slot_of D c) (slot_acted D.locks.entries act)) (eqb (header bs).kind 0) c (entry_of D c).synchronous kind₀ ∙ first₀
 
-      alive-now : live now ≡ true
-      alive-now = ap (λ (i : ℕ). not (eqb i 0)) (local₀.number (slot_of D c) within₀
+      alive_now : live now ≡ true
+      alive_now = ap (λ (i : ℕ). not (eqb i 0)) (local₀.number (slot_of D c) within₀
           ∙ kept (eqb (slot_of D c) (slot_acted D.locks.entries act)) (eqb (header bs).kind 0) n (entry_of D c).number kind₀) ∙ alive₀
 
       -- no release stands: the request would have been answered 3
-      standing-now : now.standing ≡ no_release
-      standing-now =
+      standing_now : now.standing ≡ no_release
+      standing_now =
           let x = entry_of D c in
           local₀.standing (slot_of D c) within₀
           ∙ row_is (eqb (slot_of D c) (slot_acted D.locks.entries act)) ((eqb (header bs).kind 4 && eqb (header bs).code 0) && is_silence act.told)
           (eqb (header bs).kind 0 || not (is_silence (ended_with act x.standing)))
-          (release_of (cond x.exclusive exclusive_lock shared_lock) (header bs).param) x.standing no-release-asked unstood₀
+          (release_of (cond x.exclusive exclusive_lock shared_lock) (header bs).param) x.standing no_release_asked unstood₀
         where
-          no-release-asked : ((eqb (header bs).kind 4 && eqb (header bs).code 0) && is_silence act.told) ≡ false
-          no-release-asked = rw (q, o)
+          no_release_asked : ((eqb (header bs).kind 4 && eqb (header bs).code 0) && is_silence act.told) ≡ false
+          no_release_asked = rw (q, o)
 
           row_is : (b u w : Bool) (y x : Standing) → u ≡ false → x ≡ no_release → cond b (cond u y (cond w no_release x)) x ≡ no_release
           row_is true true w y x e f = absurd (true≢false e)
@@ -594,13 +594,13 @@ module _ (v : Making) (es : List Event) (c : ℕ) (bs : List ℕ) (room k n : �
           row_is true false false y x e f = f
           row_is false u w y x e f = f
 
-      known-now : Known c (synchronous_of v es n) none_stands R.server.locks.entries
-      known-now i a e =
+      known_now : Known c (synchronous_of v es n) none_stands R.server.locks.entries
+      known_now i a e =
           let here : i ≡ slot_of D c = v₀.sound.firm.connections c real₀ i (slot_of D c)
           (both _ _ a (or_r (eqb (at R.server.locks.entries i).synchronous c) _ (eq-eqb _ _ e)))
-          (both _ _ alive-now (or_r (eqb now.synchronous c) _ (eq-eqb _ _ second_now))) in
+          (both _ _ alive_now (or_r (eqb now.synchronous c) _ (eq-eqb _ _ second_now))) in
           subst (λ (j : ℕ). ((at R.server.locks.entries j).synchronous ≡ synchronous_of v es n)
-          × (release_from (at R.server.locks.entries j).standing ≡ none_stands)) (sym here) (first-now, ap release_from standing-now)
+          × (release_from (at R.server.locks.entries j).standing ≡ none_stands)) (sym here) (first_now, ap release_from standing_now)
 
       none_before : None (slot_of D c) D.locks.waiting
       none_before = good_none R.server.locks.entries (slot_of D c) (newest D act R local₀ facts₀ waits₀) slot₀ D.locks.waiting

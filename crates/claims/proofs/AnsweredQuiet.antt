@@ -343,14 +343,14 @@ module _ (c : ℕ) (real : c ≡ no_connection → ⊥) (d : Server) (q : Quiet 
 
   acted_quiet : (a : Action) (r : Result) (l : Local d (message_acted a) r) (f : ActedFacts d a r.frames) → Inv r.server.locks →
       begins_to_wait c (message_acted a) r.frames ≡ false → takes_connection c (message_acted a) ≡ false → Stays (message_acted a) r
-  acted_quiet a r l f v' n not-join = stays (message_acted a) r l f v' not-join (taken-away (eqb (kind_of a) 19)) (left-away (waits a) refl (eqb (kind_of a) 19))
+  acted_quiet a r l f v' n not-join = stays (message_acted a) r l f v' not-join (taken_away (eqb (kind_of a) 19)) (left_away (waits a) refl (eqb (kind_of a) 19))
     where
-      taken-away : (b : Bool) → all (away c 0 d.locks.entries) (cond b (keep (requests_of (slot_acted d.locks.entries a)) d.locks.waiting) []) ≡ true
-      taken-away true = kept (requests_of (slot_acted d.locks.entries a))
-      taken-away false = refl
+      taken_away : (b : Bool) → all (away c 0 d.locks.entries) (cond b (keep (requests_of (slot_acted d.locks.entries a)) d.locks.waiting) []) ≡ true
+      taken_away true = kept (requests_of (slot_acted d.locks.entries a))
+      taken_away false = refl
 
-      elsewhere-asked : waits a ≡ true → eqb (at d.locks.entries (slot_acted d.locks.entries a)).asynchronous c ≡ false
-      elsewhere-asked w =
+      elsewhere_asked : waits a ≡ true → eqb (at d.locks.entries (slot_acted d.locks.entries a)).asynchronous c ≡ false
+      elsewhere_asked w =
           ap (λ (x : ℕ). eqb x c) (f.second (ap (one_of (4 ∷ 19 ∷ [])) (is_lock_lem d a r l f w)))
           ∙ go (eqb a.connection c)
           (ap₂ (λ (x : ℕ) (fs : List Frame). (eqb a.connection c && eqb x 4) && (not (eqb a.message.code 0) && nothing_sent fs))
@@ -360,16 +360,16 @@ module _ (c : ℕ) (real : c ≡ no_connection → ⊥) (d : Server) (q : Quiet 
           go true e = absurd (true≢false (ap (λ (x : Bool). not x && true) (sym (asks d a r l f w)) ∙ e))
           go false e = refl
 
-      left-away : (b : Bool) → waits a ≡ b → (y : Bool) → all (away c 0 d.locks.entries)
+      left_away : (b : Bool) → waits a ≡ b → (y : Bool) → all (away c 0 d.locks.entries)
           (cond b (d.locks.waiting ++ record {
             slot = slot_acted d.locks.entries a;
             deadline = d.locks.clock + a.message.param;
             string = a.message.payload;
           } ∷ []) (cond y (keep (λ w. not (requests_of (slot_acted d.locks.entries a) w)) d.locks.waiting)
           d.locks.waiting)) ≡ true
-      left-away true w y = all_snoc (away c 0 d.locks.entries) d.locks.waiting _ q.none (ap not (elsewhere-asked w))
-      left-away false w true = kept (λ w. not (requests_of (slot_acted d.locks.entries a) w))
-      left-away false w false = q.none
+      left_away true w y = all_snoc (away c 0 d.locks.entries) d.locks.waiting _ q.none (ap not (elsewhere_asked w))
+      left_away false w true = kept (λ w. not (requests_of (slot_acted d.locks.entries a) w))
+      left_away false w false = q.none
 
   pub quiet_at : (h : Happening) (r : Result) → Local d h r → Facts d h r.frames → Inv r.server.locks → begins_to_wait c h r.frames ≡ false → takes_connection c h ≡ false → Stays h r
   quiet_at unmoved r l f v' n m = stays unmoved r l f v' refl refl q.none

@@ -33,7 +33,7 @@ use Rattle.claims.proofs.Fits.{inv_call}
 use Rattle.claims.proofs.Locality.{local_call}
 use Rattle.claims.proofs.WaitingOne.{codes_append, away}
 use Rattle.model.specs.GrantsSeen.{to_waiting}
-use Rattle.claims.proofs.AnsweredFrames.{taken, lock_append, lock_to, lock_own, first_is, unanswered, acted-frames}
+use Rattle.claims.proofs.AnsweredFrames.{taken, lock_append, lock_to, lock_own, first_is, unanswered, acted_frames}
 use Rattle.claims.proofs.AnsweredQuiet.{ActedFacts, Facts, facts, past, Quiet, quiet_at, sized_call, second_call}
 
 -- the release that stands of a session, by its number
@@ -126,7 +126,7 @@ module _ (c s : ℕ) (p : Release) (d : Server) (a : Action) (r : Result) (l : L
   Reads x y z = less x y z (is_standing p) xs ≡ codes_to c (to_waiting (message_acted a) r.frames)
 
   waiting_are : codes_to c (to_waiting (message_acted a) r.frames) ≡ codes_to c (map (waiting_answer 0 es) (taken d (message_acted a))) ++ g
-  waiting_are = ap (codes_to c) (acted-frames d a r.frames l.due l.granted f.told l.frames nobody) ∙ codes_append c (map (waiting_answer 0 es) (taken d (message_acted a))) gs
+  waiting_are = ap (codes_to c) (acted_frames d a r.frames l.due l.granted f.told l.frames nobody) ∙ codes_append c (map (waiting_answer 0 es) (taken d (message_acted a))) gs
 
   waiting_grants : eqb t₀ 19 ≡ false → codes_to c (to_waiting (message_acted a) r.frames) ≡ g
   waiting_grants e = waiting_are ∙ ap (λ (b : Bool). codes_to c (map (waiting_answer 0 es) (cond b ws₀ [])) ++ g) e
@@ -136,29 +136,29 @@ module _ (c s : ℕ) (p : Release) (d : Server) (a : Action) (r : Result) (l : L
 
   -- AsyncLock
   module _ (q : t₀ ≡ 4) where
-    lock-not-clear : eqb t₀ 19 ≡ false
-    lock-not-clear = ap (λ (t : ℕ). eqb t 19) q
+    lock_not_clear : eqb t₀ 19 ≡ false
+    lock_not_clear = ap (λ (t : ℕ). eqb t 19) q
 
-    lock-codes : xs ≡ codes_to c (said_to a.told 5 (a.connection ∷ [])) ++ g
-    lock-codes =
-        ap (codes_to c) (first_is d a r.frames l.due l.granted f.told l.frames nobody true false (eq-eqb _ _ q) lock-not-clear
+    lock_codes : xs ≡ codes_to c (said_to a.told 5 (a.connection ∷ [])) ++ g
+    lock_codes =
+        ap (codes_to c) (first_is d a r.frames l.due l.granted f.told l.frames nobody true false (eq-eqb _ _ q) lock_not_clear
         ∙ ap (λ (fs : List Frame). fs ++ gs) (lock_own a.told a.connection))
         ∙ codes_append c (said_to a.told 5 (a.connection ∷ [])) gs
 
-    lock-own-read : eqb a.connection c ≡ true → (y z : Bool) → Reads true y z
-    lock-own-read e y z = go a.told refl
+    lock_own_read : eqb a.connection c ≡ true → (y z : Bool) → Reads true y z
+    lock_own_read e y z = go a.told refl
       where
         go : (h : Heard) → a.told ≡ h → drop 1 xs ≡ codes_to c (to_waiting (message_acted a) r.frames)
         go silence t =
             let none : xs ≡ [] = ap (λ (fs : List Frame). codes_to c (lock_only fs)) (unanswered d a r.frames l.due l.granted f.told l.frames nobody q t) in
-            let same : xs ≡ g = lock-codes ∙ ap (λ (h : Heard). codes_to c (said_to h 5 (a.connection ∷ [])) ++ g) t in
-            ap (drop 1) none ∙ sym none ∙ same ∙ sym (waiting_grants lock-not-clear)
+            let same : xs ≡ g = lock_codes ∙ ap (λ (h : Heard). codes_to c (said_to h 5 (a.connection ∷ [])) ++ g) t in
+            ap (drop 1) none ∙ sym none ∙ same ∙ sym (waiting_grants lock_not_clear)
         go (with_code m) t =
-            ap (drop 1) (lock-codes ∙ ap (λ (h : Heard). codes_to c (said_to h 5 (a.connection ∷ [])) ++ g) t
-            ∙ ap (λ ys. ys ++ g) (said_here c (with_code m) a.connection e)) ∙ sym (waiting_grants lock-not-clear)
+            ap (drop 1) (lock_codes ∙ ap (λ (h : Heard). codes_to c (said_to h 5 (a.connection ∷ [])) ++ g) t
+            ∙ ap (λ ys. ys ++ g) (said_here c (with_code m) a.connection e)) ∙ sym (waiting_grants lock_not_clear)
 
-    lock-other-read : eqb a.connection c ≡ false → Reads false false false
-    lock-other-read e = lock-codes ∙ ap (λ ys. ys ++ g) (said_away c a.told a.connection e) ∙ sym (waiting_grants lock-not-clear)
+    lock_other_read : eqb a.connection c ≡ false → Reads false false false
+    lock_other_read e = lock_codes ∙ ap (λ ys. ys ++ g) (said_away c a.told a.connection e) ∙ sym (waiting_grants lock_not_clear)
 
   -- what a release that ends is answered
   ended_codes_lem : eqb t₀ 4 ≡ false → (y : Bool) → eqb t₀ 19 ≡ y →
@@ -177,15 +177,15 @@ module _ (c s : ℕ) (p : Release) (d : Server) (a : Action) (r : Result) (l : L
 
   -- AsyncDeviceClear
   module _ (q : t₀ ≡ 19) where
-    clear-codes : xs ≡ (zs ++ codes_to c (said_to (code_where (λ n. true) e₀.standing) 5 (a.connection ∷ []))) ++ g
-    clear-codes =
+    clear_codes : xs ≡ (zs ++ codes_to c (said_to (code_where (λ n. true) e₀.standing) 5 (a.connection ∷ []))) ++ g
+    clear_codes =
         ended_codes_lem (ap (λ (t : ℕ). eqb t 4) q) true (eq-eqb _ _ q)
         ∙ ap₂ (λ (h : Heard) (x : ℕ). (zs ++ codes_to c (said_to h 5 (x ∷ []))) ++ g)
         (ap (λ (t : ℕ). cond (one_of (6 ∷ 7 ∷ 12 ∷ []) t) (code_where (λ n. eqb n a.message.param) e₀.standing) (cond (eqb t 19) (code_where (λ n. true) e₀.standing) silence)) q)
         (f.second (ap (one_of (4 ∷ 19 ∷ [])) q))
 
-    clear-own-read : Knows → eqb a.connection c ≡ true → Reads false false true
-    clear-own-read k e = rw clear-codes (ap (λ ys. cond (is_standing p) (less_release ((zs ++ ys) ++ g)) ((zs ++ ys) ++ g))
+    clear_own_read : Knows → eqb a.connection c ≡ true → Reads false false true
+    clear_own_read k e = rw clear_codes (ap (λ ys. cond (is_standing p) (less_release ((zs ++ ys) ++ g)) ((zs ++ ys) ++ g))
         (said_here c (code_where (λ n. true) e₀.standing) a.connection e) ∙ by e₀.standing known) ∙ sym (waiting_clear (eq-eqb _ _ q))
       where
         known : release_from e₀.standing ≡ p
@@ -198,8 +198,8 @@ module _ (c s : ℕ) (p : Release) (d : Server) (a : Action) (r : Result) (l : L
         by (release_of shared_lock n) z =
             ap (λ (v : Release). cond (is_standing v) (less_release ((zs ++ 2 ∷ []) ++ g)) ((zs ++ 2 ∷ []) ++ g)) (sym z) ∙ ap less_release (append₃ zs (2 ∷ []) g) ∙ less_zeros c 2 es ws₀ g refl
 
-    clear-any : codes_to c (to_waiting (message_acted a) r.frames) ≡ [] → less_release xs ≡ []
-    clear-any none = ap less_release clear-codes ∙ go (eqb a.connection c) refl
+    clear_any : codes_to c (to_waiting (message_acted a) r.frames) ≡ [] → less_release xs ≡ []
+    clear_any none = ap less_release clear_codes ∙ go (eqb a.connection c) refl
       where
         z : zs ++ g ≡ []
         z = sym (waiting_clear (eq-eqb _ _ q)) ∙ none
@@ -213,9 +213,9 @@ module _ (c s : ℕ) (p : Release) (d : Server) (a : Action) (r : Result) (l : L
         go true e = ap (λ ys. less_release ((zs ++ ys) ++ g)) (said_here c (code_where (λ n. true) e₀.standing) a.connection e) ∙ by e₀.standing
         go false e = ap (λ ys. less_release ((zs ++ ys) ++ g)) (said_away c (code_where (λ n. true) e₀.standing) a.connection e) ∙ ap less_release (append₃ zs [] g ∙ z)
 
-    clear-other-read : eqb a.connection c ≡ false → Reads false false false
-    clear-other-read e =
-        clear-codes
+    clear_other_read : eqb a.connection c ≡ false → Reads false false false
+    clear_other_read e =
+        clear_codes
         ∙ ap (λ ys. (zs ++ ys) ++ g) (said_away c (code_where (λ n. true) e₀.standing) a.connection e)
         ∙ append₃ zs [] g
         ∙ sym (waiting_clear (eq-eqb _ _ q))
@@ -225,21 +225,21 @@ module _ (c s : ℕ) (p : Release) (d : Server) (a : Action) (r : Result) (l : L
     abbrev hit : Standing → Heard
     hit x = code_where (λ n. eqb n a.message.param) x
 
-    command-codes : xs ≡ codes_to c (said_to (hit e₀.standing) 5 (e₀.asynchronous ∷ [])) ++ g
-    command-codes = ended_codes_lem q4 false q19 ∙ ap (λ (b : Bool). codes_to c
+    command_codes : xs ≡ codes_to c (said_to (hit e₀.standing) 5 (e₀.asynchronous ∷ [])) ++ g
+    command_codes = ended_codes_lem q4 false q19 ∙ ap (λ (b : Bool). codes_to c
         (said_to (cond b (hit e₀.standing) (cond (eqb t₀ 19) (code_where (λ n. true) e₀.standing) silence)) 5 (e₀.asynchronous ∷ [])) ++ g) o
 
     abbrev ends : Bool
     ends = eqb a.connection s && (true && waits_for p a.message.param)
 
-    command-own : Knows → eqb e₀.asynchronous c ≡ true → Reads false ends false
-    command-own k e = rw (command-codes, said_here c (hit e₀.standing) e₀.asynchronous e, on-s) (by e₀.standing known.1) ∙ sym (waiting_grants q19)
+    command_own : Knows → eqb e₀.asynchronous c ≡ true → Reads false ends false
+    command_own k e = rw (command_codes, said_here c (hit e₀.standing) e₀.asynchronous e, on_s) (by e₀.standing known.1) ∙ sym (waiting_grants q19)
       where
         known : (e₀.synchronous ≡ s) × (release_from e₀.standing ≡ p)
         known = k s₀ (f.first_live o) (eqb-true _ _ e)
 
-        on-s : eqb a.connection s ≡ true
-        on-s = eq-eqb _ _ (sym (f.first o) ∙ known.0)
+        on_s : eqb a.connection s ≡ true
+        on_s = eq-eqb _ _ (sym (f.first o) ∙ known.0)
 
         tested : (m n : ℕ) (b : Bool) → eqb n a.message.param ≡ b → cond b (drop 1 (code_in (cond b (with_code m) silence) ++ g)) (code_in (cond b (with_code m) silence) ++ g) ≡ g
         tested m n true e = refl
@@ -254,20 +254,20 @@ module _ (c s : ℕ) (p : Release) (d : Server) (a : Action) (r : Result) (l : L
             ap (λ (v : Release). cond (waits_for v a.message.param) (drop 1 (code_in (hit (release_of shared_lock n)) ++ g)) (code_in (hit (release_of shared_lock n)) ++ g)) (sym z)
             ∙ tested 2 n (eqb n a.message.param) refl
 
-    command-other : Alone → eqb e₀.asynchronous c ≡ false → (y : Bool) → ends ≡ y → Reads false y false
-    command-other alone e false z = command-codes ∙ ap (λ ys. ys ++ g) (said_away c (hit e₀.standing) e₀.asynchronous e) ∙ sym (waiting_grants q19)
-    command-other alone e true z =
+    command_other : Alone → eqb e₀.asynchronous c ≡ false → (y : Bool) → ends ≡ y → Reads false y false
+    command_other alone e false z = command_codes ∙ ap (λ ys. ys ++ g) (said_away c (hit e₀.standing) e₀.asynchronous e) ∙ sym (waiting_grants q19)
+    command_other alone e true z =
         let here : a.connection ≡ s = eqb-true _ _ (and_l (eqb a.connection s) _ z) in
         let none : codes_to c (to_waiting (message_acted a) r.frames) ≡ [] = alone s₀ (λ n. f.real (here ∙ n)) (f.first_live o) (f.first o ∙ here) e in
-        ap (drop 1) (command-codes ∙ ap (λ ys. ys ++ g) (said_away c (hit e₀.standing) e₀.asynchronous e) ∙ sym (waiting_grants q19) ∙ none) ∙ sym none
+        ap (drop 1) (command_codes ∙ ap (λ ys. ys ++ g) (said_away c (hit e₀.standing) e₀.asynchronous e) ∙ sym (waiting_grants q19) ∙ none) ∙ sym none
 
-    command-read : Knows → Alone → (b : Bool) → eqb e₀.asynchronous c ≡ b → Reads false ends false
-    command-read k alone true e = command-own k e
-    command-read k alone false e = command-other alone e ends refl
+    command_read : Knows → Alone → (b : Bool) → eqb e₀.asynchronous c ≡ b → Reads false ends false
+    command_read k alone true e = command_own k e
+    command_read k alone false e = command_other alone e ends refl
 
     -- at most one of the codes is a release's
-    command-any : codes_to c (to_waiting (message_acted a) r.frames) ≡ [] → drop 1 xs ≡ []
-    command-any none = ap (drop 1) (command-codes ∙ ap (λ ys. codes_to c (said_to (hit e₀.standing) 5 (e₀.asynchronous ∷ [])) ++ ys) (sym (waiting_grants q19) ∙ none)) ∙ by (hit e₀.standing)
+    command_any : codes_to c (to_waiting (message_acted a) r.frames) ≡ [] → drop 1 xs ≡ []
+    command_any none = ap (drop 1) (command_codes ∙ ap (λ ys. codes_to c (said_to (hit e₀.standing) 5 (e₀.asynchronous ∷ [])) ++ ys) (sym (waiting_grants q19) ∙ none)) ∙ by (hit e₀.standing)
       where
         cell : (b : Bool) (m : ℕ) → drop 1 (cond b (m ∷ []) [] ++ []) ≡ []
         cell true m = refl
@@ -291,18 +291,18 @@ module _ (c s : ℕ) (p : Release) (d : Server) (a : Action) (r : Result) (l : L
           → rest (eqb a.connection c && eqb t₀ 4) (one_of (6 ∷ 7 ∷ 12 ∷ []) t₀) (eqb a.connection c && eqb t₀ 19) ≡ []
       go true y z true ex ey ez eb =
           ap₂ (λ (u v : Bool). rest (u && v) (one_of (6 ∷ 7 ∷ 12 ∷ []) t₀) (eqb a.connection c && eqb t₀ 19)) eb ex
-          ∙ lock-own-read (eqb-true _ _ ex) eb false false ∙ none
+          ∙ lock_own_read (eqb-true _ _ ex) eb false false ∙ none
       go true y z false ex ey ez eb =
           let no : one_of (6 ∷ 7 ∷ 12 ∷ []) t₀ ≡ false = ap (one_of (6 ∷ 7 ∷ 12 ∷ [])) (eqb-true t₀ 4 ex) in
-          ap₂ (λ (u v : Bool). rest (u && eqb t₀ 4) v (u && eqb t₀ 19)) eb no ∙ lock-other-read (eqb-true _ _ ex) eb ∙ none
+          ap₂ (λ (u v : Bool). rest (u && eqb t₀ 4) v (u && eqb t₀ 19)) eb no ∙ lock_other_read (eqb-true _ _ ex) eb ∙ none
       go false true z true ex ey ez eb =
           let no : one_of (6 ∷ 7 ∷ 12 ∷ []) t₀ ≡ false = ap (one_of (6 ∷ 7 ∷ 12 ∷ [])) (eqb-true t₀ 19 ey) in
-          ap₂ (λ (u v : Bool). rest (u && eqb t₀ 4) v (u && eqb t₀ 19)) eb no ∙ ap₂ (λ (u v : Bool). rest u false v) ex ey ∙ clear-any (eqb-true _ _ ey) none
+          ap₂ (λ (u v : Bool). rest (u && eqb t₀ 4) v (u && eqb t₀ 19)) eb no ∙ ap₂ (λ (u v : Bool). rest u false v) ex ey ∙ clear_any (eqb-true _ _ ey) none
       go false true z false ex ey ez eb =
           let no : one_of (6 ∷ 7 ∷ 12 ∷ []) t₀ ≡ false = ap (one_of (6 ∷ 7 ∷ 12 ∷ [])) (eqb-true t₀ 19 ey) in
-          ap₂ (λ (u v : Bool). rest (u && eqb t₀ 4) v (u && eqb t₀ 19)) eb no ∙ clear-other-read (eqb-true _ _ ey) eb ∙ none
+          ap₂ (λ (u v : Bool). rest (u && eqb t₀ 4) v (u && eqb t₀ 19)) eb no ∙ clear_other_read (eqb-true _ _ ey) eb ∙ none
       go false false true b ex ey ez eb =
-          ap₂ (λ (u v : Bool). rest u v (eqb a.connection c && eqb t₀ 19)) (and_false (eqb a.connection c) _ ex) ez ∙ command-any ex ey ez none
+          ap₂ (λ (u v : Bool). rest u v (eqb a.connection c && eqb t₀ 19)) (and_false (eqb a.connection c) _ ex) ez ∙ command_any ex ey ez none
       go false false false b ex ey ez eb =
           ap₂ (λ (u v : Bool). rest u v (eqb a.connection c && eqb t₀ 19)) (and_false (eqb a.connection c) _ ex) ez
           ∙ ap (λ (u : Bool). rest false false u) (and_false (eqb a.connection c) _ ey) ∙ other_read ex ey ez ∙ none
@@ -316,27 +316,27 @@ module _ (c s : ℕ) (p : Release) (d : Server) (a : Action) (r : Result) (l : L
       go true y z true ex ey ez eb =
           let q : t₀ ≡ 4 = eqb-true _ _ ex in
           ap₂ (λ (u v : Bool). less (u && v) (eqb a.connection s && (one_of (6 ∷ 7 ∷ 12 ∷ []) t₀ && waits_for p a.message.param)) (eqb a.connection c && eqb t₀ 19) (is_standing p) xs) eb ex
-          ∙ lock-own-read q eb (eqb a.connection s && (one_of (6 ∷ 7 ∷ 12 ∷ []) t₀ && waits_for p a.message.param)) (eqb a.connection c && eqb t₀ 19)
+          ∙ lock_own_read q eb (eqb a.connection s && (one_of (6 ∷ 7 ∷ 12 ∷ []) t₀ && waits_for p a.message.param)) (eqb a.connection c && eqb t₀ 19)
       go true y z false ex ey ez eb =
           let q : t₀ ≡ 4 = eqb-true _ _ ex in
           let no : (eqb a.connection s && (one_of (6 ∷ 7 ∷ 12 ∷ []) t₀ && waits_for p a.message.param)) ≡ false =
           and_false (eqb a.connection s) _ (ap (λ (t : ℕ). one_of (6 ∷ 7 ∷ 12 ∷ []) t && waits_for p a.message.param) q) in
-          ap₂ (λ (u v : Bool). less (u && eqb t₀ 4) v (u && eqb t₀ 19) (is_standing p) xs) eb no ∙ lock-other-read q eb
+          ap₂ (λ (u v : Bool). less (u && eqb t₀ 4) v (u && eqb t₀ 19) (is_standing p) xs) eb no ∙ lock_other_read q eb
       go false true z true ex ey ez eb =
           let q : t₀ ≡ 19 = eqb-true _ _ ey in
           let no : (eqb a.connection s && (one_of (6 ∷ 7 ∷ 12 ∷ []) t₀ && waits_for p a.message.param)) ≡ false =
           and_false (eqb a.connection s) _ (ap (λ (t : ℕ). one_of (6 ∷ 7 ∷ 12 ∷ []) t && waits_for p a.message.param) q) in
-          ap₂ (λ (u v : Bool). less (u && eqb t₀ 4) v (u && eqb t₀ 19) (is_standing p) xs) eb no ∙ ap₂ (λ (u v : Bool). less u false v (is_standing p) xs) ex ey ∙ clear-own-read q k eb
+          ap₂ (λ (u v : Bool). less (u && eqb t₀ 4) v (u && eqb t₀ 19) (is_standing p) xs) eb no ∙ ap₂ (λ (u v : Bool). less u false v (is_standing p) xs) ex ey ∙ clear_own_read q k eb
       go false true z false ex ey ez eb =
           let q : t₀ ≡ 19 = eqb-true _ _ ey in
           let no : (eqb a.connection s && (one_of (6 ∷ 7 ∷ 12 ∷ []) t₀ && waits_for p a.message.param)) ≡ false =
           and_false (eqb a.connection s) _ (ap (λ (t : ℕ). one_of (6 ∷ 7 ∷ 12 ∷ []) t && waits_for p a.message.param) q) in
-          ap₂ (λ (u v : Bool). less (u && eqb t₀ 4) v (u && eqb t₀ 19) (is_standing p) xs) eb no ∙ clear-other-read q eb
+          ap₂ (λ (u v : Bool). less (u && eqb t₀ 4) v (u && eqb t₀ 19) (is_standing p) xs) eb no ∙ clear_other_read q eb
       go false false true b ex ey ez eb =
           ap₂ (λ (u v : Bool). less u (eqb a.connection s && (one_of (6 ∷ 7 ∷ 12 ∷ []) t₀ && waits_for p a.message.param)) v (is_standing p) xs)
           (and_false (eqb a.connection c) _ ex) (and_false (eqb a.connection c) _ ey)
           ∙ ap (λ (u : Bool). less false (eqb a.connection s && (u && waits_for p a.message.param)) false (is_standing p) xs) ez
-          ∙ command-read ex ey ez k alone (eqb e₀.asynchronous c) refl
+          ∙ command_read ex ey ez k alone (eqb e₀.asynchronous c) refl
       go false false false b ex ey ez eb =
           ap₂ (λ (u v : Bool). less u (eqb a.connection s && (one_of (6 ∷ 7 ∷ 12 ∷ []) t₀ && waits_for p a.message.param)) v (is_standing p) xs)
           (and_false (eqb a.connection c) _ ex) (and_false (eqb a.connection c) _ ey)
@@ -435,11 +435,11 @@ module _ (c : ℕ) (real : c ≡ no_connection → ⊥) (s : ℕ) (p : Release) 
         known : (x.synchronous ≡ s) × (release_from x.standing ≡ p)
         known = subst (λ (y : Entry). live y ≡ true → y.asynchronous ≡ c → (y.synchronous ≡ s) × (release_from y.standing ≡ p)) i (k j₀) alive e
 
-        on-c : one_of (4 ∷ 19 ∷ []) u₀ ≡ true → eqb a.connection c ≡ true
-        on-c o = eq-eqb _ _ (sym (f.second o) ∙ ap (λ (y : Entry). y.asynchronous) i ∙ e)
+        on_c : one_of (4 ∷ 19 ∷ []) u₀ ≡ true → eqb a.connection c ≡ true
+        on_c o = eq-eqb _ _ (sym (f.second o) ∙ ap (λ (y : Entry). y.asynchronous) i ∙ e)
 
-        on-s : one_of (6 ∷ 7 ∷ 12 ∷ []) u₀ ≡ true → eqb a.connection s ≡ true
-        on-s o = eq-eqb _ _ (sym (f.first o) ∙ ap (λ (y : Entry). y.synchronous) i ∙ known.0)
+        on_s : one_of (6 ∷ 7 ∷ 12 ∷ []) u₀ ≡ true → eqb a.connection s ≡ true
+        on_s o = eq-eqb _ _ (sym (f.first o) ∙ ap (λ (y : Entry). y.synchronous) i ∙ known.0)
 
         cleared : (y : Standing) → release_from (cond (false || not (is_silence (code_where (λ n. true) y))) no_release y) ≡ none_stands
         cleared no_release = refl
@@ -457,20 +457,20 @@ module _ (c : ℕ) (real : c ≡ no_connection → ⊥) (s : ℕ) (p : Release) 
         ended (release_of exclusive_lock n) = tested (eqb n a.message.param) 1 n (release_of exclusive_lock n) refl
         ended (release_of shared_lock n) = tested (eqb n a.message.param) 2 n (release_of shared_lock n) refl
 
-        heard-by : (o w : Bool) → one_of (6 ∷ 7 ∷ 12 ∷ []) u₀ ≡ o → eqb u₀ 19 ≡ w →
+        heard_by : (o w : Bool) → one_of (6 ∷ 7 ∷ 12 ∷ []) u₀ ≡ o → eqb u₀ 19 ≡ w →
             ended_with a x.standing ≡ cond o (code_where (λ n. eqb n a.message.param) x.standing)
             (cond w (code_where (λ n. true) x.standing) silence)
-        heard-by o w eo ew = ap₂ (λ (u v : Bool). cond u (code_where (λ n. eqb n a.message.param) x.standing) (cond v (code_where (λ n. true) x.standing) silence)) eo ew
+        heard_by o w eo ew = ap₂ (λ (u v : Bool). cond u (code_where (λ n. eqb n a.message.param) x.standing) (cond v (code_where (λ n. true) x.standing) silence)) eo ew
 
-        stood-by : (q : Bool) (h : Heard) → eqb u₀ 4 ≡ q → ended_with a x.standing ≡ h
+        stood_by : (q : Bool) (h : Heard) → eqb u₀ 4 ≡ q → ended_with a x.standing ≡ h
             → release_from (stood ((eqb u₀ 4 && eqb a.message.code 0) && is_silence a.told) (eqb u₀ 0) (ended_with a x.standing) x) ≡ release_from
             (stood ((q && eqb a.message.code 0) && is_silence a.told) false h x)
-        stood-by q h eq eh = ap₂ (λ (u : Bool) (y : Heard). release_from (stood ((u && eqb a.message.code 0) && is_silence a.told) (eqb u₀ 0) y x)) eq eh
+        stood_by q h eq eh = ap₂ (λ (u : Bool) (y : Heard). release_from (stood ((u && eqb a.message.code 0) && is_silence a.told) (eqb u₀ 0) y x)) eq eh
             ∙ ap (λ (u : Bool). release_from (stood ((q && eqb a.message.code 0) && is_silence a.told) u h x)) z
 
-        next-by : (asks clears ends : Bool) → (eqb a.connection c && eqb u₀ 4) ≡ asks → (eqb a.connection c && eqb u₀ 19) ≡ clears
+        next_by : (asks clears ends : Bool) → (eqb a.connection c && eqb u₀ 4) ≡ asks → (eqb a.connection c && eqb u₀ 19) ≡ clears
             → (eqb a.connection s && (one_of (6 ∷ 7 ∷ 12 ∷ []) u₀ && waits_for p a.message.param)) ≡ ends → p' ≡ next asks (eqb a.message.code 0 && is_silence a.told) clears ends
-        next-by asks clears ends ea ec ee = ap₂ (λ (u v : Bool). next u (eqb a.message.code 0 && is_silence a.told) v
+        next_by asks clears ends ea ec ee = ap₂ (λ (u v : Bool). next u (eqb a.message.code 0 && is_silence a.told) v
             (eqb a.connection s && (one_of (6 ∷ 7 ∷ 12 ∷ []) u₀ && waits_for p a.message.param))) ea ec
             ∙ ap (λ (u : Bool). next asks (eqb a.message.code 0 && is_silence a.told) clears u) ee
 
@@ -478,56 +478,56 @@ module _ (c : ℕ) (real : c ≡ no_connection → ⊥) (s : ℕ) (p : Release) 
             → release_from (stood ((eqb u₀ 4 && eqb a.message.code 0) && is_silence a.told) (eqb u₀ 0) (ended_with a x.standing) x) ≡ p'
         go true w o eq ew eo =
             let t : u₀ ≡ 4 = eqb-true _ _ eq in
-            let quiet : ended_with a x.standing ≡ silence = heard-by false false (ap (one_of (6 ∷ 7 ∷ 12 ∷ [])) t) (ap (λ (u : ℕ). eqb u 19) t) in
-            let asks : (eqb a.connection c && eqb u₀ 4) ≡ true = both _ _ (on-c (ap (one_of (4 ∷ 19 ∷ [])) t)) eq in
-            stood-by true silence eq quiet
+            let quiet : ended_with a x.standing ≡ silence = heard_by false false (ap (one_of (6 ∷ 7 ∷ 12 ∷ [])) t) (ap (λ (u : ℕ). eqb u 19) t) in
+            let asks : (eqb a.connection c && eqb u₀ 4) ≡ true = both _ _ (on_c (ap (one_of (4 ∷ 19 ∷ [])) t)) eq in
+            stood_by true silence eq quiet
             ∙ named (eqb a.message.code 0 && is_silence a.told) x x.standing
             ∙ ap (λ (y : Release). cond (eqb a.message.code 0 && is_silence a.told) (stands_for a.message.param) y) known.1
-            ∙ sym (next-by true (eqb a.connection c && eqb u₀ 19) (eqb a.connection s && (one_of (6 ∷ 7 ∷ 12 ∷ []) u₀ && waits_for p a.message.param)) asks refl refl)
+            ∙ sym (next_by true (eqb a.connection c && eqb u₀ 19) (eqb a.connection s && (one_of (6 ∷ 7 ∷ 12 ∷ []) u₀ && waits_for p a.message.param)) asks refl refl)
         go false true o eq ew eo =
             let t : u₀ ≡ 19 = eqb-true _ _ ew in
-            let heard : ended_with a x.standing ≡ code_where (λ n. true) x.standing = heard-by false true (ap (one_of (6 ∷ 7 ∷ 12 ∷ [])) t) ew in
-            let clears : (eqb a.connection c && eqb u₀ 19) ≡ true = both _ _ (on-c (ap (one_of (4 ∷ 19 ∷ [])) t)) ew in
-            stood-by false (code_where (λ n. true) x.standing) eq heard
+            let heard : ended_with a x.standing ≡ code_where (λ n. true) x.standing = heard_by false true (ap (one_of (6 ∷ 7 ∷ 12 ∷ [])) t) ew in
+            let clears : (eqb a.connection c && eqb u₀ 19) ≡ true = both _ _ (on_c (ap (one_of (4 ∷ 19 ∷ [])) t)) ew in
+            stood_by false (code_where (λ n. true) x.standing) eq heard
             ∙ cleared x.standing
-            ∙ sym (next-by false true (eqb a.connection s && (one_of (6 ∷ 7 ∷ 12 ∷ []) u₀ && waits_for p a.message.param)) (and_false (eqb a.connection c) _ eq) clears refl)
+            ∙ sym (next_by false true (eqb a.connection s && (one_of (6 ∷ 7 ∷ 12 ∷ []) u₀ && waits_for p a.message.param)) (and_false (eqb a.connection c) _ eq) clears refl)
         go false false true eq ew eo =
-            let heard : ended_with a x.standing ≡ code_where (λ n. eqb n a.message.param) x.standing = heard-by true false eo ew in
+            let heard : ended_with a x.standing ≡ code_where (λ n. eqb n a.message.param) x.standing = heard_by true false eo ew in
             let ends : (eqb a.connection s && (one_of (6 ∷ 7 ∷ 12 ∷ []) u₀ && waits_for p a.message.param)) ≡ waits_for p a.message.param =
-            ap₂ (λ (u v : Bool). u && (v && waits_for p a.message.param)) (on-s eo) eo in
-            stood-by false (code_where (λ n. eqb n a.message.param) x.standing) eq heard
+            ap₂ (λ (u v : Bool). u && (v && waits_for p a.message.param)) (on_s eo) eo in
+            stood_by false (code_where (λ n. eqb n a.message.param) x.standing) eq heard
             ∙ ended x.standing
             ∙ ap (λ (y : Release). cond (waits_for y a.message.param) none_stands y) known.1
-            ∙ sym (next-by false false (waits_for p a.message.param) (and_false (eqb a.connection c) _ eq) (and_false (eqb a.connection c) _ ew) ends)
+            ∙ sym (next_by false false (waits_for p a.message.param) (and_false (eqb a.connection c) _ eq) (and_false (eqb a.connection c) _ ew) ends)
         go false false false eq ew eo =
-            stood-by false silence eq (heard-by false false eo ew)
+            stood_by false silence eq (heard_by false false eo ew)
             ∙ known.1
-            ∙ sym (next-by false false false (and_false (eqb a.connection c) _ eq) (and_false (eqb a.connection c) _ ew)
+            ∙ sym (next_by false false false (and_false (eqb a.connection c) _ eq) (and_false (eqb a.connection c) _ ew)
             (and_false (eqb a.connection s) _ (ap (λ (u : Bool). u && waits_for p a.message.param) eo)))
 
     -- another's message
-    others-row : (i : ℕ) → eqb i j₀ ≡ false → live (at E i) ≡ true → (at E i).asynchronous ≡ c → p ≡ p'
-    others-row i n alive e = go (asks_lock c a) (clears_all c a) (ends_release s p a) refl refl refl
+    others_row : (i : ℕ) → eqb i j₀ ≡ false → live (at E i) ≡ true → (at E i).asynchronous ≡ c → p ≡ p'
+    others_row i n alive e = go (asks_lock c a) (clears_all c a) (ends_release s p a) refl refl refl
       where
-        not-c : one_of (4 ∷ 19 ∷ []) u₀ ≡ true → eqb a.connection c ≡ true → ⊥
-        not-c o x = eqb-false _ _ n (v.sound.firm.connections c real i j₀ (on_second i alive e) (on_second j₀ (f.second_live o) (f.second o ∙ eqb-true _ _ x)))
+        not_c : one_of (4 ∷ 19 ∷ []) u₀ ≡ true → eqb a.connection c ≡ true → ⊥
+        not_c o x = eqb-false _ _ n (v.sound.firm.connections c real i j₀ (on_second i alive e) (on_second j₀ (f.second_live o) (f.second o ∙ eqb-true _ _ x)))
 
-        not-s : one_of (6 ∷ 7 ∷ 12 ∷ []) u₀ ≡ true → eqb a.connection s ≡ true → ⊥
-        not-s o x =
+        not_s : one_of (6 ∷ 7 ∷ 12 ∷ []) u₀ ≡ true → eqb a.connection s ≡ true → ⊥
+        not_s o x =
             let w = k i alive e in
             eqb-false _ _ n (v.sound.firm.connections a.connection f.real i j₀ (on_first a.connection i alive (w.0 ∙ sym (eqb-true _ _ x)))
             (on_first a.connection j₀ (f.first_live o) (f.first o)))
 
         go : (x y z : Bool) → asks_lock c a ≡ x → clears_all c a ≡ y → ends_release s p a ≡ z → p ≡ p'
-        go true y z ex ey ez = absurd (not-c (ap (one_of (4 ∷ 19 ∷ [])) (eqb-true u₀ 4 (and_r (eqb a.connection c) _ ex))) (and_l (eqb a.connection c) _ ex))
-        go false true z ex ey ez = absurd (not-c (ap (one_of (4 ∷ 19 ∷ [])) (eqb-true u₀ 19 (and_r (eqb a.connection c) _ ey))) (and_l (eqb a.connection c) _ ey))
-        go false false true ex ey ez = absurd (not-s (and_l (one_of (6 ∷ 7 ∷ 12 ∷ []) u₀) _ (and_r (eqb a.connection s) _ ez)) (and_l (eqb a.connection s) _ ez))
+        go true y z ex ey ez = absurd (not_c (ap (one_of (4 ∷ 19 ∷ [])) (eqb-true u₀ 4 (and_r (eqb a.connection c) _ ex))) (and_l (eqb a.connection c) _ ex))
+        go false true z ex ey ez = absurd (not_c (ap (one_of (4 ∷ 19 ∷ [])) (eqb-true u₀ 19 (and_r (eqb a.connection c) _ ey))) (and_l (eqb a.connection c) _ ey))
+        go false false true ex ey ez = absurd (not_s (and_l (one_of (6 ∷ 7 ∷ 12 ∷ []) u₀) _ (and_r (eqb a.connection s) _ ez)) (and_l (eqb a.connection s) _ ez))
         go false false false ex ey ez =
             sym (ap₂ (λ (x y : Bool). next x (eqb a.message.code 0 && is_silence a.told) y (ends_release s p a)) ex ey
             ∙ ap (λ (z : Bool). next false (eqb a.message.code 0 && is_silence a.told) false z) ez)
 
-    acted-row : (i : ℕ) → Holds p' (rowed (message_acted a) i)
-    acted-row i = go (eqb i j₀) refl
+    acted_row : (i : ℕ) → Holds p' (rowed (message_acted a) i)
+    acted_row i = go (eqb i j₀) refl
       where
         x : Entry
         x = at E i
@@ -543,10 +543,10 @@ module _ (c : ℕ) (real : c ≡ no_connection → ⊥) (s : ℕ) (p : Release) 
             → (cond b (cond (eqb u₀ 0) a.connection x.synchronous) x.synchronous ≡ s)
             × (release_from (cond b (stood ((eqb u₀ 4 && eqb a.message.code 0) && is_silence a.told) (eqb u₀ 0) (ended_with a x.standing) x) x.standing) ≡ p')
         go true n alive e = own (eqb u₀ 17) (eqb u₀ 0) refl refl (eqb-true _ _ n) alive e
-        go false n alive e = let w = k i alive e in (w.0, w.1 ∙ others-row i n alive e)
+        go false n alive e = let w = k i alive e in (w.0, w.1 ∙ others_row i n alive e)
 
   row_known : (h : Happening) (fs : List Frame) → Facts d h fs → takes_connection c h ≡ false → (i : ℕ) → Holds (release_after c s h p) (rowed h i)
-  row_known (message_acted a) fs f n i = acted-row a fs f n i
+  row_known (message_acted a) fs f n i = acted_row a fs f n i
   row_known (disconnected x q) fs f n i = closed_row x q f i
   row_known unmoved fs f n i = k i
   row_known (connected x) fs f n i = k i
@@ -596,8 +596,8 @@ module _ (c : ℕ) (d : Server) (q : Quiet c d) where
 
   acted_joins : (a : Action) (r : Result) → Local d (message_acted a) r → ActedFacts d a r.frames → takes_connection c (message_acted a) ≡ true → Taken (message_acted a) r
   acted_joins a r l f n = (
-    no-codes,
-    any_read c d (message_acted a) r l f (waiting_grants c 0 none_stands d a r l f (rw t) ∙ no-grants),
+    no_codes,
+    any_read c d (message_acted a) r l f (waiting_grants c 0 none_stands d a r l f (rw t) ∙ no_grants_lem),
     rw waiting_same
         (free d.locks.waiting q.none q.second),
   )
@@ -617,11 +617,11 @@ module _ (c : ℕ) (d : Server) (q : Quiet c d) where
       waiting_same : r.server.locks.waiting ≡ d.locks.waiting
       waiting_same = looked.0
 
-      no-grants : codes_to c (map (waiting_answer 1 l.due) l.granted) ≡ []
-      no-grants = ap (λ (ws : List Waiting). codes_to c (map (waiting_answer 1 l.due) ws)) looked.1
+      no_grants_lem : codes_to c (map (waiting_answer 1 l.due) l.granted) ≡ []
+      no_grants_lem = ap (λ (ws : List Waiting). codes_to c (map (waiting_answer 1 l.due) ws)) looked.1
 
-      no-codes : codes_to c (lock_only r.frames) ≡ []
-      no-codes = other_read c 0 none_stands d a r l f (rw t) (rw t) (rw t) ∙ waiting_grants c 0 none_stands d a r l f (rw t) ∙ no-grants
+      no_codes : codes_to c (lock_only r.frames) ≡ []
+      no_codes = other_read c 0 none_stands d a r l f (rw t) (rw t) (rw t) ∙ waiting_grants c 0 none_stands d a r l f (rw t) ∙ no_grants_lem
 
       -- the session that joins was half-open, so no request waits of it
       half : (at E₀ (slot_acted E₀ a)).asynchronous ≡ no_connection

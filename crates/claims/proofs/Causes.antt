@@ -123,68 +123,68 @@ module _
     Acted d c bs room (LockEvent.clear (slot_of d c)) → Q (delivery c bs room) (LockEvent.clear (slot_of d c)))
     (on-closing : (e : Event) (c : ℕ) → Closes d e c → Q e (LockEvent.close (slot_of d c)))
   where
-    opens-cause : (b : Bool) (c : ℕ) (h : Header) (e : Event) → Q e (Acts.opens b d c h).event
-    opens-cause true c h e = mild e _ tt
-    opens-cause false c h e = mild e _ tt
+    opens_cause : (b : Bool) (c : ℕ) (h : Header) (e : Event) → Q e (Acts.opens b d c h).event
+    opens_cause true c h e = mild e _ tt
+    opens_cause false c h e = mild e _ tt
 
     module _ (c : ℕ) (bs : List ℕ) (room : ℕ) where
       abbrev e₀ : Event
       e₀ = delivery c bs room
 
-      lock-cause : (b : Bool) (h : Header) (p : List ℕ) → eqb h.code 0 ≡ b → header bs ≡ h → h.kind ≡ AsyncLock →
+      lock_cause : (b : Bool) (h : Header) (p : List ℕ) → eqb h.code 0 ≡ b → header bs ≡ h → h.kind ≡ AsyncLock →
           Acted d c bs room (Acts.lock_event b (slot_of d c) h p) → Q e₀ (Acts.lock_event b (slot_of d c) h p)
-      lock-cause false h p eb eh t a = mild e₀ _ tt
-      lock-cause true h p eb eh t a = on-release c bs room h eh t eb a
+      lock_cause false h p eb eh t a = mild e₀ _ tt
+      lock_cause true h p eb eh t a = on-release c bs room h eh t eb a
 
-      async-cause : (k : Acts.AsynchronousKind) (h : Header) (p : List ℕ) → Acts.asynchronous_kind h.kind ≡ k → header bs ≡ h →
+      async_cause : (k : Acts.AsynchronousKind) (h : Header) (p : List ℕ) → Acts.asynchronous_kind h.kind ≡ k → header bs ≡ h →
           Acted d c bs room (Acts.asynchronous_event k (slot_of d c) h p) → Q e₀ (Acts.asynchronous_event k (slot_of d c) h p)
       unfolding Acts.asynchronous_event
-      async-cause Acts.k_lock h p ek eh a = lock-cause (eqb h.code 0) h p refl eh (is_lock_lem h.kind ek) a
-      async-cause Acts.k_remote_local h p ek eh a = mild e₀ _ tt
-      async-cause Acts.k_maximum_size h p ek eh a = mild e₀ _ tt
-      async-cause Acts.k_device_clear h p ek eh a = on-clear c bs room h eh (is_clear h.kind ek) a
-      async-cause Acts.k_status_query h p ek eh a = mild e₀ _ tt
-      async-cause Acts.k_lock_info h p ek eh a = mild e₀ _ tt
+      async_cause Acts.k_lock h p ek eh a = lock_cause (eqb h.code 0) h p refl eh (is_lock_lem h.kind ek) a
+      async_cause Acts.k_remote_local h p ek eh a = mild e₀ _ tt
+      async_cause Acts.k_maximum_size h p ek eh a = mild e₀ _ tt
+      async_cause Acts.k_device_clear h p ek eh a = on-clear c bs room h eh (is_clear h.kind ek) a
+      async_cause Acts.k_status_query h p ek eh a = mild e₀ _ tt
+      async_cause Acts.k_lock_info h p ek eh a = mild e₀ _ tt
 
-      sync-cause : (k : Acts.SynchronousKind) (h : Header) → Acts.synchronous_kind h.kind ≡ k → header bs ≡ h →
+      sync_cause : (k : Acts.SynchronousKind) (h : Header) → Acts.synchronous_kind h.kind ≡ k → header bs ≡ h →
           Acted d c bs room (Acts.synchronous_event k (slot_of d c) h) → Q e₀ (Acts.synchronous_event k (slot_of d c) h)
-      sync-cause Acts.k_data h ek eh a = on-command c bs room h eh (is_command_lem h.kind (λ q. let z : ◌≡◌ {A = ℕ} 0 1 = cc in omega arith)) a
-      sync-cause Acts.k_data_end h ek eh a = on-command c bs room h eh (is_command_lem h.kind (λ q. let z : ◌≡◌ {A = ℕ} 0 1 = cc in omega arith)) a
-      sync-cause Acts.k_trigger h ek eh a = on-command c bs room h eh (is_command_lem h.kind (λ q. let z : ◌≡◌ {A = ℕ} 0 1 = cc in omega arith)) a
-      sync-cause Acts.k_clear_complete h ek eh a = mild e₀ _ tt
+      sync_cause Acts.k_data h ek eh a = on-command c bs room h eh (is_command_lem h.kind (λ q. let z : ◌≡◌ {A = ℕ} 0 1 = cc in omega arith)) a
+      sync_cause Acts.k_data_end h ek eh a = on-command c bs room h eh (is_command_lem h.kind (λ q. let z : ◌≡◌ {A = ℕ} 0 1 = cc in omega arith)) a
+      sync_cause Acts.k_trigger h ek eh a = on-command c bs room h eh (is_command_lem h.kind (λ q. let z : ◌≡◌ {A = ℕ} 0 1 = cc in omega arith)) a
+      sync_cause Acts.k_clear_complete h ek eh a = mild e₀ _ tt
 
-      acts-cause : (r : Role) (h : Header) (p : List ℕ) → header bs ≡ h → step d e₀ ≡ finish d (Acts.acts r d (slot_of d c) c h p) → Q e₀ (Acts.acts r d (slot_of d c) c h p).event
+      acts_cause : (r : Role) (h : Header) (p : List ℕ) → header bs ≡ h → step d e₀ ≡ finish d (Acts.acts r d (slot_of d c) c h p) → Q e₀ (Acts.acts r d (slot_of d c) c h p).event
       unfolding Acts.acts
-      acts-cause r_none h p eh q = opens-cause (eqb h.kind 0) c h e₀
-      acts-cause r_half_open h p eh q = mild e₀ _ tt
-      acts-cause r_synchronous h p eh q = sync-cause (Acts.synchronous_kind h.kind) h refl eh (record { rest = _; first = _; said = _; taken = _; number = _; does = q })
-      acts-cause r_asynchronous h p eh q = async-cause (Acts.asynchronous_kind h.kind) h p refl eh (record { rest = _; first = _; said = _; taken = _; number = _; does = q })
+      acts_cause r_none h p eh q = opens_cause (eqb h.kind 0) c h e₀
+      acts_cause r_half_open h p eh q = mild e₀ _ tt
+      acts_cause r_synchronous h p eh q = sync_cause (Acts.synchronous_kind h.kind) h refl eh (record { rest = _; first = _; said = _; taken = _; number = _; does = q })
+      acts_cause r_asynchronous h p eh q = async_cause (Acts.asynchronous_kind h.kind) h p refl eh (record { rest = _; first = _; said = _; taken = _; number = _; does = q })
 
-      effect-cause : (v : Verdict) (s : Scan) (r : Role) → scan (connection_at d.rest c).remainder bs ≡ s →
+      effect_cause : (v : Verdict) (s : Scan) (r : Role) → scan (connection_at d.rest c).remainder bs ≡ s →
           step d e₀ ≡ finish d (effect v s r d (slot_of d c) c) → Q e₀ (effect v s r d (slot_of d c) c).event
       unfolding effect finish
-      effect-cause v_more s r es q = mild e₀ _ tt
-      effect-cause v_held s r es q = mild e₀ _ tt
-      effect-cause v_skipped s r es q = mild e₀ _ tt
-      effect-cause v_ignored s r es q = mild e₀ _ tt
-      effect-cause (v_error x) s r es q = mild e₀ _ tt
-      effect-cause (v_fatal x) s r es q = on-closing e₀ c (by_delivery c bs room _ _ (ap (λ (x : Result). x.reply) q))
-      effect-cause v_closed s r es q = on-closing e₀ c (by_delivery c bs room _ _ (ap (λ (x : Result). x.reply) q))
-      effect-cause v_acts empty r es q = mild e₀ _ tt
-      effect-cause v_acts few r es q = mild e₀ _ tt
-      effect-cause v_acts wrong r es q = mild e₀ _ tt
-      effect-cause v_acts (skipping x) r es q = mild e₀ _ tt
-      effect-cause v_acts (long x) r es q = mild e₀ _ tt
-      effect-cause v_acts (part x) r es q = mild e₀ _ tt
-      effect-cause v_acts (whole h p) r es q = acts-cause r h p (whole_scan _ bs h p es).0 q
+      effect_cause v_more s r es q = mild e₀ _ tt
+      effect_cause v_held s r es q = mild e₀ _ tt
+      effect_cause v_skipped s r es q = mild e₀ _ tt
+      effect_cause v_ignored s r es q = mild e₀ _ tt
+      effect_cause (v_error x) s r es q = mild e₀ _ tt
+      effect_cause (v_fatal x) s r es q = on-closing e₀ c (by_delivery c bs room _ _ (ap (λ (x : Result). x.reply) q))
+      effect_cause v_closed s r es q = on-closing e₀ c (by_delivery c bs room _ _ (ap (λ (x : Result). x.reply) q))
+      effect_cause v_acts empty r es q = mild e₀ _ tt
+      effect_cause v_acts few r es q = mild e₀ _ tt
+      effect_cause v_acts wrong r es q = mild e₀ _ tt
+      effect_cause v_acts (skipping x) r es q = mild e₀ _ tt
+      effect_cause v_acts (long x) r es q = mild e₀ _ tt
+      effect_cause v_acts (part x) r es q = mild e₀ _ tt
+      effect_cause v_acts (whole h p) r es q = acts_cause r h p (whole_scan _ bs h p es).0 q
 
-    pub plan-cause : (e : Event) → refusal d e ≡ 0 → Q e (plan d e).event
+    pub plan_cause : (e : Event) → refusal d e ≡ 0 → Q e (plan d e).event
     unfolding plan received step answered
-    plan-cause (opening c) z = mild _ _ tt
-    plan-cause (delivery c bs room) z =
-        effect-cause c bs room _ (scan (connection_at d.rest c).remainder bs) (role_of d.locks.entries c) refl (ap (λ n. answered n d (delivery c bs room)) z)
-    plan-cause (cut c room) z = on-closing (cut c room) c (by_cut c room z)
-    plan-cause (clock t room) z = mild _ _ tt
-    plan-cause (answer n p end sh room) z = mild _ _ tt
-    plan-cause (status b) z = mild _ _ tt
-    plan-cause (setting s) z = mild _ _ tt
+    plan_cause (opening c) z = mild _ _ tt
+    plan_cause (delivery c bs room) z =
+        effect_cause c bs room _ (scan (connection_at d.rest c).remainder bs) (role_of d.locks.entries c) refl (ap (λ n. answered n d (delivery c bs room)) z)
+    plan_cause (cut c room) z = on-closing (cut c room) c (by_cut c room z)
+    plan_cause (clock t room) z = mild _ _ tt
+    plan_cause (answer n p end sh room) z = mild _ _ tt
+    plan_cause (status b) z = mild _ _ tt
+    plan_cause (setting s) z = mild _ _ tt

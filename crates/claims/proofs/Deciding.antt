@@ -38,7 +38,7 @@ use Rattle.claims.proofs.Invariant.{Inv, Firm}
 use Rattle.claims.proofs.Events.{inv_fresh}
 use Rattle.claims.proofs.Fits.{opening_passed, sync_passed, real_delivery, inv_call, inv_run}
 use Rattle.claims.proofs.Seen.{Same, all_lift, lift, own_seen, channel_seen, on_seen}
-use Rattle.claims.proofs.Simulation.{told_of, sim-ask}
+use Rattle.claims.proofs.Simulation.{told_of, sim_ask}
 use Rattle.claims.proofs.Scanning.{header_cut, payload_cut}
 use Rattle.claims.proofs.Agreement.{keep_append, keep_locks, call_locks, call_answers, fresh_agrees, agreement}
 use Rattle.claims.proofs.Granting.{by_holders}
@@ -176,7 +176,7 @@ module _ (d : Server) (m : Model) (a : Agrees d.locks m) (v : Inv d.locks) (c : 
       let p = r.string in
       let i = slot_of d c in
       let one = request_step d c bs room r t o in
-      let told_is = sim-ask d.locks m a v.sound.good v.sound.firm i (async_live d.locks.entries c r.role) h.param p in
+      let told_is = sim_ask d.locks m a v.sound.good v.sound.firm i (async_live d.locks.entries c r.role) h.param p in
       let replied : took acted (16 + h.len) (entry_of d c).number ≡ took acted k n = ap (λ (x : Result). x.reply) (sym one) ∙ e in
       let k-is : 16 + h.len ≡ k = cc in
       let n-is : (entry_of d c).number ≡ n = cc in

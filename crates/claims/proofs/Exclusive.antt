@@ -27,7 +27,7 @@ use Rattle.model.proofs.Basics.{and_l, same?, all_at, at_set}
 use Rattle.claims.proofs.Invariant.{Inv, clean}
 use Rattle.claims.proofs.Events.{Fit, change_sound}
 use Rattle.claims.proofs.Fits.{plan_fit}
-use Rattle.claims.proofs.Causes.{Mild, Acted, acted_reply, acted_sends, plan-cause}
+use Rattle.claims.proofs.Causes.{Mild, Acted, acted_reply, acted_sends, plan_cause}
 use Rattle.claims.proofs.Simulation.{give_num}
 use Rattle.claims.proofs.Closing.{pass_keeps}
 
@@ -180,8 +180,8 @@ module _ (d : Server) (j : ℕ) where
     i₀ = slot_of d c
 
     -- an answer 1 of the event goes to slot j's session
-    told-1 : {x : LockEvent} (xs : List Answer) → Acted d c bs room x → (change d.locks x).answers ≡ xs ++ Locks.tell d.locks.entries i₀ 1 false ∷ [] → j ≡ i₀ → Answers d j 1 e₀
-    told-1 xs a q e = acted_sends a 1 (at d.locks.entries j).asynchronous xs (Locks.tell d.locks.entries i₀ 1 false) q (ap (λ z. (at d.locks.entries z).asynchronous) (sym e)) refl
+    told_1 : {x : LockEvent} (xs : List Answer) → Acted d c bs room x → (change d.locks x).answers ≡ xs ++ Locks.tell d.locks.entries i₀ 1 false ∷ [] → j ≡ i₀ → Answers d j 1 e₀
+    told_1 xs a q e = acted_sends a 1 (at d.locks.entries j).asynchronous xs (Locks.tell d.locks.entries i₀ 1 false) q (ap (λ z. (at d.locks.entries z).asynchronous) (sym e)) refl
 
     its : j ≡ i₀ → at d.locks.entries j ≡ at d.locks.entries i₀
     its e = ap (at d.locks.entries) e
@@ -195,16 +195,16 @@ module _ (d : Server) (j : ℕ) where
         go (inl q) = inr (f refl q)
         go (inr n) = inl (inl n)
 
-    now-one : (n : ℕ) (u : Locks.Releasing) → takes_now u ≡ true → (Locks.released u d.locks i₀ n).answers ≡ Locks.tell d.locks.entries i₀ 1 false ∷ []
-    now-one n (Locks.r_now exclusive_lock) t = refl
-    now-one n (Locks.r_now shared_lock) t = absurd (false≢true t)
-    now-one n (Locks.r_stands k) t = absurd (false≢true t)
-    now-one n Locks.r_invalid t = absurd (false≢true t)
+    now_one : (n : ℕ) (u : Locks.Releasing) → takes_now u ≡ true → (Locks.released u d.locks i₀ n).answers ≡ Locks.tell d.locks.entries i₀ 1 false ∷ []
+    now_one n (Locks.r_now exclusive_lock) t = refl
+    now_one n (Locks.r_now shared_lock) t = absurd (false≢true t)
+    now_one n (Locks.r_stands k) t = absurd (false≢true t)
+    now_one n Locks.r_invalid t = absurd (false≢true t)
 
-    due-one : (n : ℕ) (ws : List Waiting) (u : Locks.Due) → takes_due u ≡ true → (Locks.completed u (Locks.with_waiting d.locks ws) i₀ n).answers ≡ Locks.tell d.locks.entries i₀ 1 false ∷ []
-    due-one n ws (Locks.due_now exclusive_lock) t = refl
-    due-one n ws (Locks.due_now shared_lock) t = absurd (false≢true t)
-    due-one n ws Locks.not_due t = absurd (false≢true t)
+    due_one : (n : ℕ) (ws : List Waiting) (u : Locks.Due) → takes_due u ≡ true → (Locks.completed u (Locks.with_waiting d.locks ws) i₀ n).answers ≡ Locks.tell d.locks.entries i₀ 1 false ∷ []
+    due_one n ws (Locks.due_now exclusive_lock) t = refl
+    due_one n ws (Locks.due_now shared_lock) t = absurd (false≢true t)
+    due_one n ws Locks.not_due t = absurd (false≢true t)
 
     release_or : (h : Header) → header bs ≡ h → h.kind ≡ AsyncLock → eqb h.code 0 ≡ true → Acted d c bs room (LockEvent.release i₀ h.param) → Or e₀ (LockEvent.release i₀ h.param)
     unfolding change
@@ -217,7 +217,7 @@ module _ (d : Server) (j : ℕ) where
         released_now c bs room a.taken a.number (sym q) (acted_reply a) (ap (λ (y : Header). y.kind) eh ∙ t) (ap (λ (y : Header). y.code) eh ∙ eqb-true h.code 0 eb)
         (ap (λ (y : Entry). y.standing) (its q) ∙ none_stands x.standing w.0)
         (ap (λ (y : Entry). y.last) (its q) ∙ eqb-true x.last h.param w.1 ∙ sym (ap (λ (y : Header). y.param) eh))
-        (told-1 [] a (now-one h.param u f) q))
+        (told_1 [] a (now_one h.param u f) q))
 
     command_or : (h : Header) → header bs ≡ h → one_of commands h.kind ≡ true → Acted d c bs room (LockEvent.command i₀ h.param) → Or e₀ (LockEvent.command i₀ h.param)
     unfolding change
@@ -228,7 +228,7 @@ module _ (d : Server) (j : ℕ) where
         (λ f q.
         released_later h.param (ap (λ (y : Entry). y.standing) (its q) ∙ due_of h.param s f)
         (by_message c bs room a.taken a.number (sym q) (acted_reply a) (ap (λ (y : Header). one_of commands y.kind) eh ∙ t)
-        (ap (λ (y : Header). y.param) eh) (told-1 [] a (due-one h.param d.locks.waiting u f) q)))
+        (ap (λ (y : Header). y.param) eh) (told_1 [] a (due_one h.param d.locks.waiting u f) q)))
 
     clear_or : (h : Header) → header bs ≡ h → eqb h.kind AsyncDeviceClear ≡ true → Acted d c bs room (LockEvent.clear i₀) → Or e₀ (LockEvent.clear i₀)
     unfolding change
@@ -240,7 +240,7 @@ module _ (d : Server) (j : ℕ) where
         (λ f q.
         released_later (number_of s) (ap (λ (y : Entry). y.standing) (its q) ∙ any_of s f)
         (by_clear c bs room a.taken a.number (sym q) (acted_reply a) (ap (λ (y : Header). y.kind) eh ∙ eqb-true h.kind AsyncDeviceClear t)
-        (told-1 zs a (ap (λ ys. zs ++ ys) (due-one before_first (keep (elsewhere i₀) d.locks.waiting) u f)) q)))
+        (told_1 zs a (ap (λ ys. zs ++ ys) (due_one before_first (keep (elsewhere i₀) d.locks.waiting) u f)) q)))
 
   closing_or : (e : Event) (c : ℕ) → Closes d e c → Or e (LockEvent.close (slot_of d c))
   closing_or e c x = go (same? j (slot_of d c))
@@ -250,7 +250,7 @@ module _ (d : Server) (j : ℕ) where
       go (inr n) = inl n
 
   plan_or : (e : Event) → refusal d e ≡ 0 → Or e (plan d e).event
-  plan_or = plan-cause d Or mild_or release_or command_or clear_or closing_or
+  plan_or = plan_cause d Or mild_or release_or command_or clear_or closing_or
 
 -- so a holder that no call disturbs holds on
 pub still_holds : (d : Server) → Inv d.locks → (n j : ℕ) (e : Event) → (Ends d j e → ⊥) → Holder n j d → Holder n j (step d e).server

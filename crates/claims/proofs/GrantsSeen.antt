@@ -207,12 +207,12 @@ module _ (d : Server) (f : ℕ → Grants) (g : Counts d f) (r : Result) where
         × (cond b (cond (eqb t₀ 0) no_grants (cond (obtains a) (more_granted now (at es i).locks_granted) (at es i).locks_granted)) (at es i).locks_granted
         ≡ noted (cond s (own_grants now a (p₀ i)) (p₀ i)).readings)
 
-    acted-by : (i : ℕ) → Alive i → (b : Bool) → n' i ≡ number_of b i → Acted i b b
-    acted-by i v true e = by_kind i v (eqb t₀ 17) (eqb t₀ 0) (obtains a) refl refl refl e
-    acted-by i v false e = known i v e
+    acted_by : (i : ℕ) → Alive i → (b : Bool) → n' i ≡ number_of b i → Acted i b b
+    acted_by i v true e = by_kind i v (eqb t₀ 17) (eqb t₀ 0) (obtains a) refl refl refl e
+    acted_by i v false e = known i v e
 
-    acted-at : (i : ℕ) → Alive i → n' i ≡ number_of (eqb i s₀) i → Own (message_acted a) i
-    acted-at i v e = subst (Acted i (eqb i s₀)) (sym (mine i v e)) (acted-by i v (eqb i s₀) e)
+    acted_at : (i : ℕ) → Alive i → n' i ≡ number_of (eqb i s₀) i → Own (message_acted a) i
+    acted_at i v e = subst (Acted i (eqb i s₀)) (sym (mine i v e)) (acted_by i v (eqb i s₀) e)
 
   own_at : (h : Happening) → Local d h r → Numbering.Facts d h → (i : ℕ) → Alive i → Own h i
   own_at unmoved l k i v = known i v (l.number i (within unmoved l i v))
@@ -220,7 +220,7 @@ module _ (d : Server) (f : ℕ → Grants) (g : Counts d f) (r : Result) where
   own_at (disconnected c j) l k i v = closed (eqb i (slot_in es c)) i v (l.number i (within (disconnected c j) l i v))
   own_at (skipped_over c j) l k i v = known i v (l.number i (within (skipped_over c j) l i v))
   own_at (errored c h j) l k i v = flat (eqb i (slot_in es c) && eqb (at es i).synchronous c) i v (l.number i (within (errored c h j) l i v))
-  own_at (message_acted a) l k i v = acted-at a k i v (l.number i (within (message_acted a) l i v))
+  own_at (message_acted a) l k i v = acted_at a k i v (l.number i (within (message_acted a) l i v))
   own_at (clock_read t) l k i v = known i v (l.number i (within (clock_read t) l i v))
   own_at (status_set b) l k i v = known i v (l.number i (within (status_set b) l i v))
   own_at (setting_made s) l k i v = known i v (l.number i (within (setting_made s) l i v))
@@ -244,31 +244,31 @@ module _ (d : Server) (f : ℕ → Grants) (g : Counts d f) (r : Result) where
 
   module _ (a : Action) (q : looks_after es (message_acted a) ≡ true) where
     -- by its type
-    abbrev lookBy : ℕ → Bool
-    lookBy t =
+    abbrev look_by : ℕ → Bool
+    look_by t =
         let s = (at es (slot_acted es a)).standing in
         let x = cond (eqb t 4 && eqb a.message.code 0) a.told
         (cond (one_of (6 ∷ 7 ∷ 12 ∷ []) t) (code_where (λ n. eqb n a.message.param) s) (cond (eqb t 19) (code_where (λ n. true) s) silence)) in
         is_code 1 x || is_code 2 x
 
-    no-opening : eqb (kind_of a) 0 ≡ false
-    no-opening = ne_eqb (kind_of a) 0 (λ e. true≢false (sym q ∙ ap lookBy e))
+    no_opening : eqb (kind_of a) 0 ≡ false
+    no_opening = ne_eqb (kind_of a) 0 (λ e. true≢false (sym q ∙ ap look_by e))
 
-    no-joining : eqb (kind_of a) 17 ≡ false
-    no-joining = ne_eqb (kind_of a) 17 (λ e. true≢false (sym q ∙ ap lookBy e))
+    no_joining : eqb (kind_of a) 17 ≡ false
+    no_joining = ne_eqb (kind_of a) 17 (λ e. true≢false (sym q ∙ ap look_by e))
 
-    no-asking : waits a ≡ false
-    no-asking = go (waits a) refl
+    no_asking : waits a ≡ false
+    no_asking = go (waits a) refl
       where
         go : (b : Bool) → waits a ≡ b → b ≡ false
         go false e = refl
         go true e =
             let is_lock_lem : kind_of a ≡ 4 = eqb-true _ _ (and_l (eqb (kind_of a) 4) _ e) in
             let asks : eqb a.message.code 0 ≡ false = not_of _ (and_l (not (eqb a.message.code 0)) _ (and_r (eqb (kind_of a) 4) _ e)) in
-            absurd (true≢false (sym q ∙ ap lookBy is_lock_lem ∙ ap (λ (b : Bool). is_code 1 (cond b a.told silence) || is_code 2 (cond b a.told silence)) asks))
+            absurd (true≢false (sym q ∙ ap look_by is_lock_lem ∙ ap (λ (b : Bool). is_code 1 (cond b a.told silence) || is_code 2 (cond b a.told silence)) asks))
 
-    acted-fixed : (i : ℕ) → Fixed (message_acted a) i
-    acted-fixed i = go (eqb i (slot_acted es a)) (eqb (kind_of a) 17) (eqb (kind_of a) 0) no-joining no-opening
+    acted_fixed : (i : ℕ) → Fixed (message_acted a) i
+    acted_fixed i = go (eqb i (slot_acted es a)) (eqb (kind_of a) 17) (eqb (kind_of a) 0) no_joining no_opening
       where
         go : (b y z : Bool) → y ≡ false → z ≡ false → cond b (cond y a.connection (cond z no_connection (at es i).asynchronous)) (at es i).asynchronous ≡ (at es i).asynchronous
         go false y z ey ez = refl
@@ -276,8 +276,8 @@ module _ (d : Server) (f : ℕ → Grants) (g : Counts d f) (r : Result) where
         go true true z ey ez = absurd (true≢false ey)
         go true false true ey ez = absurd (true≢false ez)
 
-    number-fixed : (i : ℕ) → in_slot number_row es i (message_acted a) (at es i).number ≡ (at es i).number
-    number-fixed i = go (eqb i (slot_acted es a)) (eqb (kind_of a) 0) no-opening
+    number_fixed : (i : ℕ) → in_slot number_row es i (message_acted a) (at es i).number ≡ (at es i).number
+    number_fixed i = go (eqb i (slot_acted es a)) (eqb (kind_of a) 0) no_opening
       where
         go : (b z : Bool) → z ≡ false → cond b (cond z a.session (at es i).number) (at es i).number ≡ (at es i).number
         go false z ez = refl
@@ -299,20 +299,20 @@ module _ (d : Server) (f : ℕ → Grants) (g : Counts d f) (r : Result) where
       (keep p ws) (all_and held p (keep p ws) (all_keep held p ws held_all) (all_kept p ws))
   lefts (skipped_over c j) q = absurd (false≢true q)
   lefts (errored c h j) q = absurd (false≢true q)
-  lefts (message_acted a) q = go (waits a) (eqb (kind_of a) 19) (no-asking a q)
+  lefts (message_acted a) q = go (waits a) (eqb (kind_of a) 19) (no_asking a q)
     where
       fixed : (w : Waiting) → held w ≡ true → Left (message_acted a) w ≡ true
-      fixed w b = both _ _ b (eq-eqb _ _ (acted-fixed a q w.slot))
+      fixed w b = both _ _ b (eq-eqb _ _ (acted_fixed a q w.slot))
 
-      all-fixed : all (Left (message_acted a)) ws ≡ true
-      all-fixed = all_imp held (Left (message_acted a)) fixed ws held_all
+      all_fixed : all (Left (message_acted a)) ws ≡ true
+      all_fixed = all_imp held (Left (message_acted a)) fixed ws held_all
 
       go : (b y : Bool) → b ≡ false
           → all (Left (message_acted a)) (cond b (ws ++ record { slot = slot_acted es a; deadline = now + a.message.param; string = a.message.payload } ∷ [])
           (cond y (keep (λ w. not (requests_of (slot_acted es a) w)) ws) ws)) ≡ true
       go true y e = absurd (true≢false e)
-      go false true e = all_keep (Left (message_acted a)) (λ w. not (requests_of (slot_acted es a) w)) ws all-fixed
-      go false false e = all-fixed
+      go false true e = all_keep (Left (message_acted a)) (λ w. not (requests_of (slot_acted es a) w)) ws all_fixed
+      go false false e = all_fixed
   lefts (clock_read t) q = absurd (false≢true q)
   lefts (status_set b) q = absurd (false≢true q)
   lefts (setting_made s) q = absurd (false≢true q)
@@ -329,7 +329,7 @@ module _ (d : Server) (f : ℕ → Grants) (g : Counts d f) (r : Result) where
       (e ∙ ap (λ (b : Bool). cond b 0 (at es i).number) o, ap (λ (b : Bool). cond b no_connection (at es i).asynchronous) o)
   goes_on (skipped_over c j) l q i v = absurd (false≢true q)
   goes_on (errored c h j) l q i v = absurd (false≢true q)
-  goes_on (message_acted a) l q i v = (l.number i (within (message_acted a) l i v) ∙ number-fixed a q i, acted-fixed a q i)
+  goes_on (message_acted a) l q i v = (l.number i (within (message_acted a) l i v) ∙ number_fixed a q i, acted_fixed a q i)
   goes_on (clock_read t) l q i v = absurd (false≢true q)
   goes_on (status_set b) l q i v = absurd (false≢true q)
   goes_on (setting_made s) l q i v = absurd (false≢true q)
@@ -344,8 +344,8 @@ module _ (d : Server) (f : ℕ → Grants) (g : Counts d f) (r : Result) where
     o₀ = own_at h l k₂ i v
 
     -- an answer to a request that is left goes to slot i's second connection just where the request is slot i's
-    to-slot : looks_after es h ≡ true → (w : Waiting) → Left h w ≡ true → eqb (at l.due w.slot).asynchronous q₀.second ≡ eqb w.slot i
-    to-slot q w b = ap (λ (x : ℕ). eqb x q₀.second) due-second ∙ ap (eqb (at es w.slot).asynchronous) (sym o₀.0 ∙ goes.1) ∙ go (same? w.slot i)
+    to_slot : looks_after es h ≡ true → (w : Waiting) → Left h w ≡ true → eqb (at l.due w.slot).asynchronous q₀.second ≡ eqb w.slot i
+    to_slot q w b = ap (λ (x : ℕ). eqb x q₀.second) due_second ∙ ap (eqb (at es w.slot).asynchronous) (sym o₀.0 ∙ goes.1) ∙ go (same? w.slot i)
       where
         goes : (n' i ≡ (at es i).number) × Fixed h i
         goes = goes_on h l q i v
@@ -359,8 +359,8 @@ module _ (d : Server) (f : ℕ → Grants) (g : Counts d f) (r : Result) where
         real : (at es w.slot).asynchronous ≡ no_connection → ⊥
         real = eqb-false _ _ (not_of _ (and_r (live (at es w.slot)) _ is_held))
 
-        due-second : (at l.due w.slot).asynchronous ≡ (at es w.slot).asynchronous
-        due-second = ap (λ (e : Entry). e.asynchronous) (l.due_is w.slot (inside live es w.slot refl alive)) ∙ eqb-true _ _ (and_r (held w) _ b)
+        due_second : (at l.due w.slot).asynchronous ≡ (at es w.slot).asynchronous
+        due_second = ap (λ (e : Entry). e.asynchronous) (l.due_is w.slot (inside live es w.slot refl alive)) ∙ eqb-true _ _ (and_r (held w) _ b)
 
         or_right : (x y : Bool) → y ≡ true → (x || y) ≡ true
         or_right true y e = refl
@@ -382,7 +382,7 @@ module _ (d : Server) (f : ℕ → Grants) (g : Counts d f) (r : Result) where
       where
         go : (b : Bool) → looks_after es h ≡ b → noted (answers_to now q₀.second (map (waiting_answer 1 l.due) l.granted) q₀.readings) ≡ given_grants now l.granted i (noted q₀.readings)
         go true q =
-            ones now q₀.second i l.due (Left h) (to-slot q) l.granted q₀.readings
+            ones now q₀.second i l.due (Left h) (to_slot q) l.granted q₀.readings
             (look_all now (Left h) (looks_after es h) l.due (requests_left es now h ws) es' r.server.locks.waiting l.granted l.waiting (lefts h q)).1
         go false q =
             let x = rw q at l.waiting in

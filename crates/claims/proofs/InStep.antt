@@ -262,8 +262,8 @@ module _ (d : Server) (f : ℕ → Numbering) (g : Reads d f) where
       up : (header bs).param ∷ p.taken ≡ count_up (suc (length p.taken))
       up = subst (λ (q : Numbering). q.taken ≡ count_up (length q.taken)) took_it counts
 
-      is-next : (header bs).param ≡ expected p.taken
-      is-next =
+      is_next : (header bs).param ≡ expected p.taken
+      is_next =
           let j = length p.taken in
           let u = apart (header bs).param (nth j) p.taken (count_up j) up in
           u.0 ∙ sym (counts_on j) ∙ ap expected (sym u.1)
@@ -273,7 +273,7 @@ module _ (d : Server) (f : ℕ → Numbering) (g : Reads d f) where
           let s = sync_role d c r in
           let w : n ≡ (entry_of d c).number = g.sole n (slot_of d c) s.alive real (sym s.synchronous_one) in
           let k = g.knows (slot_of d c) s.alive in
-          (sym k.in_clear_lem ∙ ap (λ (m : ℕ). (f m).in_clear) (sym w) ∙ nc, is-next ∙ ap (λ (m : ℕ). expected (f m).taken) w ∙ k.number)
+          (sym k.in_clear_lem ∙ ap (λ (m : ℕ). (f m).in_clear) (sym w) ∙ nc, is_next ∙ ap (λ (m : ℕ). expected (f m).taken) w ∙ k.number)
 
 never_out : (es : List Event) (d : Server) (f : ℕ → Numbering) → Reads d f → (n : ℕ) → Counts (log d es) n (f n) → NeverOut (log d es) n (f n)
 unfolding log

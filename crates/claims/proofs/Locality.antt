@@ -47,7 +47,7 @@ use Rattle.claims.proofs.LocalityRest.{rest_skipped, rest_error, scan_error, res
 use Rattle.claims.proofs.LocalityLocks.{locks_unmoved, locks_opening, locks_skipped, locks_error, locks_status, locks_setting, locks_answer}
 use Rattle.claims.proofs.LocalityLocks.{locks_withheld, locks_clock, locks_closing, freed, stay, pass_frames, refused_frames}
 use Rattle.claims.proofs.LocalitySilence.{fatal_heard, none_heard, closes_silently}
-use Rattle.claims.proofs.LocalityMessages.{num, synchronously, asynchronously, local_synchronous, local-asynchronous, issued_now, local_0, local_17}
+use Rattle.claims.proofs.LocalityMessages.{num, synchronously, asynchronously, local_synchronous, local_asynchronous, issued_now, local_0, local_17}
 
 -- the asynchronous channel's connection is its session's second
 pub second_is : (es : List Entry) (c : ℕ) → role_of es c ≡ r_asynchronous → (at es (slot_in es c)).asynchronous ≡ c
@@ -134,7 +134,7 @@ module _ (d : Server) (c : ℕ) (bs : List ℕ) (h : Header) (p : List ℕ) wher
   acts_local room eh ep r_synchronous e q = shown_acted (synchronously d c h p h.kind) (num d c h p) eh ep (local_synchronous d c h p h.kind (sync_acts (sync_passed d (slot_of d c) h p q)))
   acts_local room eh ep r_asynchronous e q =
       let g = async_passed h p q in
-      shown_acted (asynchronously d c h p h.kind) (num d c h p) eh ep (local-asynchronous d c h p (second_is d.locks.entries c e) h.kind (async_acts g) g.1.1.1.1.1.1.0)
+      shown_acted (asynchronously d c h p h.kind) (num d c h p) eh ep (local_asynchronous d c h p (second_is d.locks.entries c e) h.kind (async_acts g) g.1.1.1.1.1.1.0)
 
 -- an Error answers a message that is not skipped
 error_scan : (r : Role) (d : Server) (i : ℕ) (s : Scan) (n : ℕ) → verdict r d i s ≡ v_error n → (size s ≡ 0 → ⊥) × ((k : ℕ) → s ≡ Scan.skipping k → ⊥)

@@ -272,24 +272,24 @@ module _ (d : Server) (c : ℕ) (h : Header) (p : List ℕ) where
     es = d.locks.entries
 
     -- a release, by what becomes of it
-    abbrev afterRelease : Locks.Releasing → Locks.LockResult
-    afterRelease u = Locks.released u d.locks (slot_of d c) h.param
+    abbrev after_release : Locks.Releasing → Locks.LockResult
+    after_release u = Locks.released u d.locks (slot_of d c) h.param
 
     abbrev releasing : Locks.Releasing → Result
     releasing u =
-        let y = settle (Locks.frees_now u) (afterRelease u).locks in
+        let y = settle (Locks.frees_now u) (after_release u).locks in
         record {
           server = record { locks = y.locks; rest = d.rest };
           reply = took acted (16 + h.len) num;
-          frames = map lock_frame (afterRelease u).answers ++ map lock_frame y.answers;
+          frames = map lock_frame (after_release u).answers ++ map lock_frame y.answers;
         }
 
     abbrev ReleasedBy : Locks.Releasing → Type 0
     ReleasedBy u = Local d (message_acted (action 4 num (heard 5 (releasing u).frames))) (releasing u)
 
-    freed-now : eqb h.code 0 ≡ true → (k : Kind) → ReleasedBy (Locks.r_now k)
+    freed_now : eqb h.code 0 ≡ true → (k : Kind) → ReleasedBy (Locks.r_now k)
     unfolding grant_pass
-    freed-now q exclusive_lock =
+    freed_now q exclusive_lock =
         let y = Locks.update es (slot_of d c) Locks.without_exclusive in
         assemble d _ (releasing (Locks.r_now exclusive_lock)) y (pass_looks d.locks.clock d.locks.waiting y).grants
         (rest_kept d (action 4 num (with_code 1)) refl refl (λ x. refl))
@@ -300,7 +300,7 @@ module _ (d : Server) (c : ℕ) (h : Header) (p : List ℕ) where
         }
         (ap₂ (λ (a : ℕ) (fs : List Frame). frame_of a 5 1 0 [] ∷ fs) mine (pass_frames d.locks.clock d.locks.waiting y))
         (λ o k n e. cc)
-    freed-now q shared_lock =
+    freed_now q shared_lock =
         let y = Locks.update es (slot_of d c) Locks.without_shared in
         assemble d _ (releasing (Locks.r_now shared_lock)) y (pass_looks d.locks.clock d.locks.waiting y).grants
         (rest_kept d (action 4 num (with_code 2)) refl refl (λ x. refl))
@@ -312,8 +312,8 @@ module _ (d : Server) (c : ℕ) (h : Header) (p : List ℕ) where
         (ap₂ (λ (a : ℕ) (fs : List Frame). frame_of a 5 2 0 [] ∷ fs) mine (pass_frames d.locks.clock d.locks.waiting y))
         (λ o k n e. cc)
 
-    not-freed : eqb h.code 0 ≡ true → ReleasedBy Locks.r_invalid
-    not-freed q =
+    not_freed : eqb h.code 0 ≡ true → ReleasedBy Locks.r_invalid
+    not_freed q =
         assemble d _ (releasing Locks.r_invalid) es []
         (rest_kept d (action 4 num (with_code 3)) refl refl (λ x. refl))
         record { clock = refl; rows = row_kept blank (entry_row d.locks.clock) es es (action 4 num (with_code 3)) (λ x. rw q); look = rw q (refl, refl, refl) }
@@ -332,34 +332,34 @@ module _ (d : Server) (c : ℕ) (h : Header) (p : List ℕ) where
         refl
         (λ o k n e. cc)
 
-    released-by : eqb h.code 0 ≡ true → (t x s b : Bool) → (at es (slot_of d c)).exclusive ≡ x → ReleasedBy (Locks.releasing t x s b)
-    released-by q true x s b ex = not-freed q
-    released-by q false true s true ex = freed-now q exclusive_lock
-    released-by q false true s false ex = stands_on q exclusive_lock (rw ex)
-    released-by q false false false true ex = freed-now q shared_lock
-    released-by q false false false false ex = stands_on q shared_lock (rw ex)
-    released-by q false false true b ex = not-freed q
+    released_by : eqb h.code 0 ≡ true → (t x s b : Bool) → (at es (slot_of d c)).exclusive ≡ x → ReleasedBy (Locks.releasing t x s b)
+    released_by q true x s b ex = not_freed q
+    released_by q false true s true ex = freed_now q exclusive_lock
+    released_by q false true s false ex = stands_on q exclusive_lock (rw ex)
+    released_by q false false false true ex = freed_now q shared_lock
+    released_by q false false false false ex = stands_on q shared_lock (rw ex)
+    released_by q false false true b ex = not_freed q
 
     -- a request, by its ruling
-    abbrev afterRequest : Locks.Ruling → Locks.LockResult
-    afterRequest u = Locks.respond u d.locks (slot_of d c) h.param p
+    abbrev after_request : Locks.Ruling → Locks.LockResult
+    after_request u = Locks.respond u d.locks (slot_of d c) h.param p
 
     abbrev requesting : Locks.Ruling → Result
     requesting u =
         record {
-          server = record { locks = (afterRequest u).locks; rest = d.rest };
+          server = record { locks = (after_request u).locks; rest = d.rest };
           reply = took acted (16 + h.len) num;
-          frames = map lock_frame (afterRequest u).answers ++ [];
+          frames = map lock_frame (after_request u).answers ++ [];
         }
 
-    requested-by : eqb h.code 0 ≡ false → (u : Locks.Ruling) → Local d (message_acted (action 4 num (heard 5 (requesting u).frames))) (requesting u)
-    requested-by q Locks.invalid =
+    requested_by : eqb h.code 0 ≡ false → (u : Locks.Ruling) → Local d (message_acted (action 4 num (heard 5 (requesting u).frames))) (requesting u)
+    requested_by q Locks.invalid =
         assemble d _ (requesting Locks.invalid) es []
         (rest_kept d (action 4 num (with_code 3)) refl refl (λ x. refl))
         record { clock = refl; rows = row_kept blank (entry_row d.locks.clock) es es (action 4 num (with_code 3)) (λ x. rw q); look = rw q (refl, refl, refl) }
         (ap (λ (a : ℕ). frame_of a 5 3 0 [] ∷ []) mine)
         (λ o k n e. cc)
-    requested-by q Locks.granted =
+    requested_by q Locks.granted =
         assemble d _ (requesting Locks.granted) (Locks.grant d.locks.clock es (slot_of d c) p) []
         (rest_kept d (action 4 num (with_code 1)) refl refl (λ x. refl))
         record {
@@ -370,40 +370,40 @@ module _ (d : Server) (c : ℕ) (h : Header) (p : List ℕ) where
         }
         (ap (λ (a : ℕ). frame_of a 5 1 0 [] ∷ []) mine)
         (λ o k n e. cc)
-    requested-by q Locks.denied =
+    requested_by q Locks.denied =
         assemble d _ (requesting Locks.denied) es []
         (rest_kept d (action 4 num (with_code 0)) refl refl (λ x. refl))
         record { clock = refl; rows = row_kept blank (entry_row d.locks.clock) es es (action 4 num (with_code 0)) (λ x. rw q); look = rw q (refl, refl, refl) }
         (ap (λ (a : ℕ). frame_of a 5 0 0 [] ∷ []) mine)
         (λ o k n e. cc)
-    requested-by q Locks.queued =
+    requested_by q Locks.queued =
         assemble d _ (requesting Locks.queued) es []
         (rest_kept d (action 4 num silence) refl refl (λ x. refl))
         record { clock = refl; rows = row_kept blank (entry_row d.locks.clock) es es (action 4 num silence) (λ x. rw q); look = rw q (refl, refl, refl) }
         refl
         (λ o k n e. cc)
 
-    local-4 : LocalBy 4 num (asynchronously 4)
+    local_4 : LocalBy 4 num (asynchronously 4)
     unfolding finish change Acts.asynchronous_rest Acts.asynchronous_said Acts.asynchronous_event
-    local-4 = go (eqb h.code 0) refl
+    local_4 = go (eqb h.code 0) refl
       where
         by : Bool → Plan
         by b = record { reply = took acted (16 + h.len) num; rest = d.rest; first = []; said = []; event = Acts.lock_event b (slot_of d c) h p }
 
         go : (b : Bool) → eqb h.code 0 ≡ b → LocalBy 4 num (by b)
-        go true q = released-by q (Locks.stands (at es (slot_of d c)).standing) (at es (slot_of d c)).exclusive (no_shared (at es (slot_of d c))) (eqb (at es (slot_of d c)).last h.param) refl
+        go true q = released_by q (Locks.stands (at es (slot_of d c)).standing) (at es (slot_of d c)).exclusive (no_shared (at es (slot_of d c))) (eqb (at es (slot_of d c)).last h.param) refl
         go false q =
-            requested-by
+            requested_by
             q
             (Locks.ruling (Locks.holds p (at es (slot_of d c))) (all (Locks.elsewhere (slot_of d c)) d.locks.waiting) (Locks.invalid_by p (at es (slot_of d c)))
             (Locks.may_grant es (slot_of d c) p) (eqb h.param 0 || Locks.no_place d.locks.waiting))
 
-    pub local-asynchronous : (t : ℕ) → one_of (4 ∷ 10 ∷ 15 ∷ 19 ∷ 21 ∷ 24 ∷ []) t ≡ true → (eqb t 10 && ltb 6 h.code) ≡ false → LocalBy t num (asynchronously t)
-    local-asynchronous t e =
+    pub local_asynchronous : (t : ℕ) → one_of (4 ∷ 10 ∷ 15 ∷ 19 ∷ 21 ∷ 24 ∷ []) t ≡ true → (eqb t 10 && ltb 6 h.code) ≡ false → LocalBy t num (asynchronously t)
+    local_asynchronous t e =
         each_of
         (λ t. (eqb t 10 && ltb 6 h.code) ≡ false → LocalBy t num (asynchronously t))
         (4 ∷ 10 ∷ 15 ∷ 19 ∷ 21 ∷ 24 ∷ [])
-        ((λ q. local-4), ((λ q. local_10 q), ((λ q. local_15), ((λ q. local_19), ((λ q. local_21), ((λ q. local_24), tt))))))
+        ((λ q. local_4), ((λ q. local_10 q), ((λ q. local_15), ((λ q. local_19), ((λ q. local_21), ((λ q. local_24), tt))))))
         t
         e
 

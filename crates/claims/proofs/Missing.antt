@@ -161,9 +161,9 @@ module _ (d : Server) (c : ℕ) (room : ℕ) where
       record {
         some = λ k n q. positive (by_case bs k n q);
         none = λ f. not_more (step d (delivery c bs room)).reply (lacking_in d (delivery c bs room)) f;
-        remainder = λ k n q l. of-remainder k n q l (by_case bs k n q);
-        header_rest = λ k n q z l. of-header z l (by_case bs k n q);
-        payload_rest = λ k n q z l. of-payload z l (by_case bs k n q);
+        remainder = λ k n q l. of_remainder k n q l (by_case bs k n q);
+        header_rest = λ k n q z l. of_header z l (by_case bs k n q);
+        payload_rest = λ k n q z l. of_payload z l (by_case bs k n q);
       }
     where
       positive : {k : ℕ} → Case (connection_at d.rest c).remainder bs k → 0 < k
@@ -171,21 +171,21 @@ module _ (d : Server) (c : ℕ) (room : ℕ) where
       positive (inr (inl (a, l, e))) = omega arith
       positive (inr (inr (a, l, t, e))) = omega arith
 
-      of-remainder : (k n : ℕ) → (step d (delivery c bs room)).reply ≡ took more_needed k n → 0 < (connection_at d.rest c).remainder
+      of_remainder : (k n : ℕ) → (step d (delivery c bs room)).reply ≡ took more_needed k n → 0 < (connection_at d.rest c).remainder
           → Case (connection_at d.rest c).remainder bs (missing d (delivery c bs room))
           → (missing d (delivery c bs room) ≡ (connection_at d.rest c).remainder)
           × ((xs : List ℕ) → length xs ≡ missing d (delivery c bs room) → (step d (delivery c xs room)).reply ≡ took skipped (length xs) 0)
-      of-remainder k n q l (inl (a, e)) = (e, λ xs g. skipped_so bs xs (accepted d (delivery c bs room) more_needed k n q) (skips_all (connection_at d.rest c).remainder xs l (g ∙ e)))
-      of-remainder k n q l (inr (inl (a, t, e))) = absurd (omega arith)
-      of-remainder k n q l (inr (inr (a, t, u, e))) = absurd (omega arith)
+      of_remainder k n q l (inl (a, e)) = (e, λ xs g. skipped_so bs xs (accepted d (delivery c bs room) more_needed k n q) (skips_all (connection_at d.rest c).remainder xs l (g ∙ e)))
+      of_remainder k n q l (inr (inl (a, t, e))) = absurd (omega arith)
+      of_remainder k n q l (inr (inr (a, t, u, e))) = absurd (omega arith)
 
-      of-header : (connection_at d.rest c).remainder ≡ 0 → length bs < 16 → Case (connection_at d.rest c).remainder bs (missing d (delivery c bs room))
+      of_header : (connection_at d.rest c).remainder ≡ 0 → length bs < 16 → Case (connection_at d.rest c).remainder bs (missing d (delivery c bs room))
           → (length bs + missing d (delivery c bs room) ≡ 16)
           × ((xs : List ℕ) → length xs ≡ missing d (delivery c bs room)
           → (x y : ℕ) → (step d (delivery c (bs ++ xs) room)).reply ≡ took more_needed x y → missing d (delivery c (bs ++ xs) room) ≡ (header (bs ++ xs)).len)
-      of-header z l (inl (a, e)) = absurd (omega arith)
-      of-header z l (inr (inr (a, t, u, e))) = absurd (omega arith)
-      of-header z l (inr (inl (a, t, e))) = (e, λ xs g x y q. then xs g (by_case (bs ++ xs) x y q))
+      of_header z l (inl (a, e)) = absurd (omega arith)
+      of_header z l (inr (inr (a, t, u, e))) = absurd (omega arith)
+      of_header z l (inr (inl (a, t, e))) = (e, λ xs g x y q. then xs g (by_case (bs ++ xs) x y q))
         where
           then : (xs : List ℕ) → length xs ≡ missing d (delivery c bs room) → Case (connection_at d.rest c).remainder (bs ++ xs) (missing d (delivery c (bs ++ xs) room))
               → missing d (delivery c (bs ++ xs) room) ≡ (header (bs ++ xs)).len
@@ -193,13 +193,13 @@ module _ (d : Server) (c : ℕ) (room : ℕ) where
           then xs g (inr (inl (a, t, f))) = let n : length (bs ++ xs) ≡ length bs + length xs = length-append bs xs in absurd (omega arith)
           then xs g (inr (inr (a, t, u, f))) = let n : length (bs ++ xs) ≡ length bs + length xs = length-append bs xs in omega arith
 
-      of-payload : (connection_at d.rest c).remainder ≡ 0 → 16 ≤ length bs → Case (connection_at d.rest c).remainder bs (missing d (delivery c bs room))
+      of_payload : (connection_at d.rest c).remainder ≡ 0 → 16 ≤ length bs → Case (connection_at d.rest c).remainder bs (missing d (delivery c bs room))
           → (length bs + missing d (delivery c bs room) ≡ 16 + (header bs).len)
           × ((xs : List ℕ) → length xs ≡ missing d (delivery c bs room)
           → (x y : ℕ) → (step d (delivery c (bs ++ xs) room)).reply ≡ took more_needed x y → ⊥)
-      of-payload z l (inl (a, e)) = absurd (omega arith)
-      of-payload z l (inr (inl (a, t, e))) = absurd (omega arith)
-      of-payload z l (inr (inr (a, t, u, e))) = (e, λ xs g x y q. then xs g (by_case (bs ++ xs) x y q))
+      of_payload z l (inl (a, e)) = absurd (omega arith)
+      of_payload z l (inr (inl (a, t, e))) = absurd (omega arith)
+      of_payload z l (inr (inr (a, t, u, e))) = (e, λ xs g x y q. then xs g (by_case (bs ++ xs) x y q))
         where
           then : (xs : List ℕ) → length xs ≡ missing d (delivery c bs room) → Case (connection_at d.rest c).remainder (bs ++ xs) (missing d (delivery c (bs ++ xs) room)) → ⊥
           then xs g (inl (a, f)) = omega arith

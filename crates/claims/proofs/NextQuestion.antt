@@ -48,7 +48,7 @@ use Rattle.claims.proofs.Owed.{acts_connections}
 use Rattle.claims.proofs.OnlyWhole.{owed_run}
 use Rattle.claims.proofs.Tied.{tie, track_run}
 use Rattle.claims.proofs.Locality.{local_call}
-use Rattle.claims.proofs.SentTypes.{Mute, none-sent}
+use Rattle.claims.proofs.SentTypes.{Mute, none_sent}
 
 -- session n, and the remainder to skip on its synchronous connection
 abbrev session_of : Server → ℕ → Entry
@@ -159,7 +159,7 @@ module _ (d : Server) where
   -- a call by which no answer was sent sends none
   mute : (e : Event) → Mute (at_call d e) → any is_answer (step d e).frames ≡ true → ⊥
   mute e q a =
-      let n = none-sent (one_of (Data ∷ DataEND ∷ [])) refl d (at_call d e) (step d e) (local_call d e) q in
+      let n = none_sent (one_of (Data ∷ DataEND ∷ [])) refl d (at_call d e) (step d e) (local_call d e) q in
       false≢true (sym (ap not n) ∙ a)
 
   -- an answer that was sent was not withheld

@@ -284,8 +284,8 @@ module _ (d : Server) (f : ℕ → Numbering) (g : Reads d f) (r : Result) where
         go true = (refused_one_lem h (f n)).0
         go false = refl
 
-    errored-at : (i : ℕ) → live (at es' i) ≡ true → ByTable hap i → Goal hap i
-    errored-at i v t = go (eqb (at es i).synchronous c) refl
+    errored_at : (i : ℕ) → live (at es' i) ≡ true → ByTable hap i → Goal hap i
+    errored_at i v t = go (eqb (at es i).synchronous c) refl
       where
         n : ℕ
         n = (at es i).number
@@ -340,8 +340,8 @@ module _ (d : Server) (f : ℕ → Numbering) (g : Reads d f) (r : Result) where
 
     -- not Initialize: no connection changes
     module _ (q : eqb t₀ 0 ≡ false) where
-      same-connection : (n : ℕ) → (numbering_after did n (f n)).connection ≡ (f n).connection
-      same-connection n = go (eqb a.session n)
+      same_connection : (n : ℕ) → (numbering_after did n (f n)).connection ≡ (f n).connection
+      same_connection n = go (eqb a.session n)
         where
           go : (b : Bool) → (cond b (acted_for a.connection t₀ m₀ (f n)) (acted_for_another a.connection t₀ (f n))).connection ≡ (f n).connection
           go true = kept_connection a.connection m₀ (f n) t₀ q
@@ -358,8 +358,8 @@ module _ (d : Server) (f : ℕ → Numbering) (g : Reads d f) (r : Result) where
           kept true z w n e = ap (λ (z : Bool). cond z w n) e
           kept false z w n e = refl
 
-      session-acted : (i : ℕ) → live (at es' i) ≡ true → ByTable did i → Goal did i
-      session-acted i v t = go (same? i s₀)
+      session_acted : (i : ℕ) → live (at es' i) ≡ true → ByTable did i → Goal did i
+      session_acted i v t = go (same? i s₀)
         where
           n : ℕ
           n = (at es i).number
@@ -373,22 +373,22 @@ module _ (d : Server) (f : ℕ → Numbering) (g : Reads d f) (r : Result) where
           k₁ : Knows (f n) (at es i) (x i)
           k₁ = g.knows i alive
 
-          own-now : i ≡ s₀ → Same (acted_for a.connection t₀ m₀ (f n)) (f n).connection (clear_by t₀ (x i).in_clear) (step_by t₀ (x i).number_expected)
-          own-now e =
+          own_now : i ≡ s₀ → Same (acted_for a.connection t₀ m₀ (f n)) (f n).connection (clear_by t₀ (x i).in_clear) (step_by t₀ (x i).number_expected)
+          own_now e =
               let w = own a.connection m₀ (f n) t₀ q (λ o. fact.carries o ∙ ap (λ (j : ℕ). (x j).number_expected) (sym e) ∙ sym k₁.number) in
               (w.0, w.1 ∙ ap (clear_by t₀) k₁.in_clear_lem, w.2 ∙ ap (step_by t₀) k₁.number)
 
           go : (i ≡ s₀) ⊎ (i ≡ s₀ → ⊥) → Goal did i
           go (inl e) =
               let mine : eqb a.session n ≡ true = eq-eqb a.session n (fact.own_number q ∙ ap (λ (j : ℕ). (at es j).number) (sym e)) in
-              stays did i v _ _ (rw (eq-eqb i s₀ e) at u) (rw mine (own-now e)) (λ m w z. sym (same-connection m) ∙ z)
+              stays did i v _ _ (rw (eq-eqb i s₀ e) at u) (rw mine (own_now e)) (λ m w z. sym (same_connection m) ∙ z)
           go (inr e) =
               let not-mine : eqb a.session n ≡ false =
               ne_eqb a.session n (λ z.
               let w : (at es s₀).number ≡ n = sym (fact.own_number q) ∙ z in
               let l : live (at es s₀) ≡ true = ap (λ k. not (eqb k 0)) w ∙ alive in
               e (g.inv.sound.firm.numbers n i s₀ (both _ _ alive (eq-eqb n n refl)) (both _ _ l (eq-eqb _ _ w)))) in
-              stays did i v _ _ (rw (ne_eqb i s₀ e) at u) (rw (not-mine, q) (refl, k₁.in_clear_lem, k₁.number)) (λ m w z. sym (same-connection m) ∙ z)
+              stays did i v _ _ (rw (ne_eqb i s₀ e) at u) (rw (not-mine, q) (refl, k₁.in_clear_lem, k₁.number)) (λ m w z. sym (same_connection m) ∙ z)
 
     -- Initialize
     module _ (q : t₀ ≡ 0) where
@@ -408,8 +408,8 @@ module _ (d : Server) (f : ℕ → Numbering) (g : Reads d f) (r : Result) where
       other_place : (i : ℕ) → live (at es i) ≡ true → (at es i).synchronous ≡ a.connection → ⊥
       other_place i alive e = n₀.unused i (rw (alive, eq-eqb _ _ e))
 
-      session-begun : (i : ℕ) → live (at es' i) ≡ true → ByTable did i → Goal did i
-      session-begun i v t = go (same? i z₀)
+      session_begun : (i : ℕ) → live (at es' i) ≡ true → ByTable did i → Goal did i
+      session_begun i v t = go (same? i z₀)
         where
           go : (i ≡ z₀) ⊎ (i ≡ z₀ → ⊥) → Goal did i
           go (inl e) =
@@ -446,12 +446,12 @@ module _ (d : Server) (f : ℕ → Numbering) (g : Reads d f) (r : Result) where
                   by true y w c = absurd (w refl)
                   by false y w c = c
 
-    message-at : (i : ℕ) → live (at es' i) ≡ true → ByTable did i → Goal did i
-    message-at i v t = go (eqb t₀ 0) refl
+    message_at : (i : ℕ) → live (at es' i) ≡ true → ByTable did i → Goal did i
+    message_at i v t = go (eqb t₀ 0) refl
       where
         go : (b : Bool) → eqb t₀ 0 ≡ b → Goal did i
-        go true q = session-begun (eqb-true _ _ q) i v t
-        go false q = session-acted q i v t
+        go true q = session_begun (eqb-true _ _ q) i v t
+        go false q = session_acted q i v t
 
   -- any call
   call_at : (h : Happening) → Local d h r → Facts d h → (i : ℕ) → live (at es' i) ≡ true → Goal h i
@@ -459,8 +459,8 @@ module _ (d : Server) (f : ℕ → Numbering) (g : Reads d f) (r : Result) where
   call_at (connected c) l k i v = untouched (connected c) i v (table (connected c) l i v) (λ n. refl)
   call_at (disconnected c j) l k i v = closed_not (disconnected c j) i v (eqb i (slot_in es c)) (table (disconnected c j) l i v) (λ n. refl)
   call_at (skipped_over c j) l k i v = untouched (skipped_over c j) i v (table (skipped_over c j) l i v) (λ n. refl)
-  call_at (errored c h j) l k i v = errored-at c h j k i v (table (errored c h j) l i v)
-  call_at (message_acted a) l k i v = message-at a k i v (table (message_acted a) l i v)
+  call_at (errored c h j) l k i v = errored_at c h j k i v (table (errored c h j) l i v)
+  call_at (message_acted a) l k i v = message_at a k i v (table (message_acted a) l i v)
   call_at (clock_read t) l k i v = untouched (clock_read t) i v (table (clock_read t) l i v) (λ n. refl)
   call_at (status_set b) l k i v = untouched (status_set b) i v (table (status_set b) l i v) (λ n. refl)
   call_at (setting_made s) l k i v = untouched (setting_made s) i v (table (setting_made s) l i v) (λ n. refl)

@@ -99,41 +99,41 @@ module _ (d : Server) (c : ℕ) (bs : List ℕ) (b : Bytes bs) where
     abbrev Here : Acts.Plan → Type 0
     Here x = Takes d c bs room owed x
 
-    none-owed : (s : Scan) → scan q bs ≡ s → reads s ≡ true → owed c ≡ 0
-    none-owed s e r = sym (t c is_open) ∙ (fresh_scan_lem q bs s e r).0
+    none_owed : (s : Scan) → scan q bs ≡ s → reads s ≡ true → owed c ≡ 0
+    none_owed s e r = sym (t c is_open) ∙ (fresh_scan_lem q bs s e r).0
 
     abbrev i : ℕ
     i = slot_of d c
 
     -- closing
-    fatal-done : (n : ℕ) (s : Scan) (r : Role) → scan q bs ≡ s → reads s ≡ true →
+    fatal_done : (n : ℕ) (s : Scan) (r : Role) → scan q bs ≡ s → reads s ≡ true →
         ClosedBy (at d.locks.entries i).number bs (finish d (effect (v_fatal n) s r d i c)).frames → Here (effect (v_fatal n) s r d i c)
     unfolding effect
-    fatal-done n s r e f x = record { shows = (none-owed s e f, refl, x); tracks = tracks_closing d c owed _ t (no_change c owed) }
+    fatal_done n s r e f x = record { shows = (none_owed s e f, refl, x); tracks = tracks_closing d c owed _ t (no_change c owed) }
 
     -- a whole message
-    acts-shows : (r : Role) (h : Header) (p : List ℕ) (fs : List Frame) → scan q bs ≡ Scan.whole h p
+    acts_shows : (r : Role) (h : Header) (p : List ℕ) (fs : List Frame) → scan q bs ≡ Scan.whole h p
         → ShowsReply (Acts.acts r d i c h p).reply (owed c) c (bytes (taken (Acts.acts r d i c h p).reply) bs) fs
     unfolding Acts.acts
-    acts-shows r_none h p fs e = go (eqb h.kind 0)
+    acts_shows r_none h p fs e = go (eqb h.kind 0)
       where
         go : (o : Bool) → ShowsReply (Acts.opens o d c h).reply (owed c) c (bytes (taken (Acts.opens o d c h).reply) bs) fs
-        go true = (none-owed (Scan.whole h p) e refl, message_shown h p e)
-        go false = (none-owed (Scan.whole h p) e refl, message_shown h p e)
-    acts-shows r_half_open h p fs e = (none-owed (Scan.whole h p) e refl, message_shown h p e)
-    acts-shows r_synchronous h p fs e = (none-owed (Scan.whole h p) e refl, message_shown h p e)
-    acts-shows r_asynchronous h p fs e = (none-owed (Scan.whole h p) e refl, message_shown h p e)
+        go true = (none_owed (Scan.whole h p) e refl, message_shown h p e)
+        go false = (none_owed (Scan.whole h p) e refl, message_shown h p e)
+    acts_shows r_half_open h p fs e = (none_owed (Scan.whole h p) e refl, message_shown h p e)
+    acts_shows r_synchronous h p fs e = (none_owed (Scan.whole h p) e refl, message_shown h p e)
+    acts_shows r_asynchronous h p fs e = (none_owed (Scan.whole h p) e refl, message_shown h p e)
 
-    acts-owes : (r : Role) (h : Header) (p x : List ℕ) (j : ℕ) → owes_next (delivery c x room) (Acts.acts r d i c h p).reply owed j ≡ owed j
+    acts_owes : (r : Role) (h : Header) (p x : List ℕ) (j : ℕ) → owes_next (delivery c x room) (Acts.acts r d i c h p).reply owed j ≡ owed j
     unfolding Acts.acts
-    acts-owes r_none h p x j = go (eqb h.kind 0)
+    acts_owes r_none h p x j = go (eqb h.kind 0)
       where
         go : (o : Bool) → owes_next (delivery c x room) (Acts.opens o d c h).reply owed j ≡ owed j
         go true = no_change c owed j
         go false = no_change c owed j
-    acts-owes r_half_open h p x j = no_change c owed j
-    acts-owes r_synchronous h p x j = no_change c owed j
-    acts-owes r_asynchronous h p x j = no_change c owed j
+    acts_owes r_half_open h p x j = no_change c owed j
+    acts_owes r_synchronous h p x j = no_change c owed j
+    acts_owes r_asynchronous h p x j = no_change c owed j
 
     -- a whole message that is answered Error is within the limit: nothing is owed
     nothing_left : (h : Header) (p : List ℕ) → scan q bs ≡ Scan.whole h p → cond (ltb payload_limit (header (bytes (16 + h.len) bs)).len) (header (bytes (16 + h.len) bs)).len 0 ≡ 0
@@ -156,27 +156,27 @@ module _ (d : Server) (c : ℕ) (bs : List ℕ) (b : Bytes bs) where
     by_verdict v_more r h p e m o = absurd (false≢true m)
     by_verdict v_held r h p e m o = absurd (true≢false o)
     by_verdict v_skipped r h p e m o = absurd (false≢true m)
-    by_verdict v_ignored r h p e m o = record { shows = (none-owed (Scan.whole h p) e refl, message_shown h p e); tracks = tracks_same d.rest owed t d.rest _ refl (no_change c owed) }
+    by_verdict v_ignored r h p e m o = record { shows = (none_owed (Scan.whole h p) e refl, message_shown h p e); tracks = tracks_same d.rest owed t d.rest _ refl (no_change c owed) }
     by_verdict (v_error n) r h p e m o =
         record {
-          shows = (none-owed (Scan.whole h p) e refl, inl record { shown = message_shown h p e; code = n; permitted = error_code n m; sent = refl });
+          shows = (none_owed (Scan.whole h p) e refl, inl record { shown = message_shown h p e; code = n; permitted = error_code n m; sent = refl });
           tracks = tracks_store d.rest owed t c _ _ (sym (nothing_left h p e) ∙ here c _ _) (λ j f. elsewhere c _ (owed j) j f);
         }
     by_verdict (v_fatal n) r h p e m o =
         let w = ((alike bs).whole h p).0 (fresh_scan_lem q bs (Scan.whole h p) e refl).1 in
-        fatal-done n (Scan.whole h p) r e refl (by_message (message_with h p) w.decodes w.within)
+        fatal_done n (Scan.whole h p) r e refl (by_message (message_with h p) w.decodes w.within)
     by_verdict v_closed r h p e m o =
         let w = ((alike bs).whole h p).0 (fresh_scan_lem q bs (Scan.whole h p) e refl).1 in
-        record { shows = (none-owed (Scan.whole h p) e refl, refl, by_message (message_with h p) w.decodes w.within); tracks = tracks_closing d c owed _ t (no_change c owed) }
+        record { shows = (none_owed (Scan.whole h p) e refl, refl, by_message (message_with h p) w.decodes w.within); tracks = tracks_closing d c owed _ t (no_change c owed) }
     by_verdict v_acts r h p e m o =
-        record { shows = acts-shows r h p _ e; tracks = tracks_same d.rest owed t (Acts.acts r d i c h p).rest _ (acts_connections r d i c h p) (acts-owes r h p _) }
+        record { shows = acts_shows r h p _ e; tracks = tracks_same d.rest owed t (Acts.acts r d i c h p).rest _ (acts_connections r d i c h p) (acts_owes r h p _) }
 
     -- a header that begins right
     right : (s : Scan) → scan q bs ≡ s → reads s ≡ true → (s ≡ Scan.wrong → ⊥) → decode bs ≡ Decoded.wrong → ⊥
     right s e r n w = n (sym (fresh_scan_lem q bs s e r).1 ∙ (alike bs).wrong.1 w)
 
-    long-owes : (h : Header) → scan q bs ≡ Scan.long h → h.len ≡ cond (ltb payload_limit (header (bytes 16 bs)).len) (header (bytes 16 bs)).len 0
-    long-owes h e =
+    long_owes : (h : Header) → scan q bs ≡ Scan.long h → h.len ≡ cond (ltb payload_limit (header (bytes 16 bs)).len) (header (bytes 16 bs)).len 0
+    long_owes h e =
         let s = long_read h e in
         sym (ap (λ (z : Header). cond (ltb payload_limit z.len) z.len 0) s.head ∙ ap (λ (z : Bool). cond z h.len 0) (lt-ltb payload_limit h.len s.above))
 
@@ -184,22 +184,22 @@ module _ (d : Server) (c : ℕ) (bs : List ℕ) (b : Bytes bs) where
     unfolding effect finish change
     too_long h r e =
         record {
-          shows = (none-owed (Scan.long h) e refl, inr (long_shown h _ e refl));
-          tracks = tracks_store d.rest owed t c _ _ (long-owes h e ∙ here c _ _) (λ j f. elsewhere c _ (owed j) j f);
+          shows = (none_owed (Scan.long h) e refl, inr (long_shown h _ e refl));
+          tracks = tracks_store d.rest owed t c _ _ (long_owes h e ∙ here c _ _) (λ j f. elsewhere c _ (owed j) j f);
         }
 
     -- check 3, without a session and without its second channel
-    no-role-closes : (s : Scan) → scan q bs ≡ s → reads s ≡ true → 16 ≤ length bs → (s ≡ Scan.wrong → ⊥) → role_of d.locks.entries c ≡ r_none → Here (effect (v_fatal 3) s r_none d i c)
-    no-role-closes s e r l n f = fatal-done 3 s r_none e r (by_header l (right s e r n) (inl (no_session d c f, fatal_first 3 s r_none i)))
+    no_role_closes : (s : Scan) → scan q bs ≡ s → reads s ≡ true → 16 ≤ length bs → (s ≡ Scan.wrong → ⊥) → role_of d.locks.entries c ≡ r_none → Here (effect (v_fatal 3) s r_none d i c)
+    no_role_closes s e r l n f = fatal_done 3 s r_none e r (by_header l (right s e r n) (inl (no_session d c f, fatal_first 3 s r_none i)))
 
-    half-open-closes : (s : Scan) → scan q bs ≡ s → reads s ≡ true → 16 ≤ length bs → (s ≡ Scan.wrong → ⊥) → Here (effect (v_fatal 2) s r_half_open d i c)
-    half-open-closes s e r l n = fatal-done 2 s r_half_open e r (by_header l (right s e r n) (inr (fatal_first 2 s r_half_open i)))
+    half_open_closes : (s : Scan) → scan q bs ≡ s → reads s ≡ true → 16 ≤ length bs → (s ≡ Scan.wrong → ⊥) → Here (effect (v_fatal 2) s r_half_open d i c)
+    half_open_closes s e r l n = fatal_done 2 s r_half_open e r (by_header l (right s e r n) (inr (fatal_first 2 s r_half_open i)))
 
-    by-long : (h : Header) (r : Role) → scan q bs ≡ Scan.long h → role_of d.locks.entries c ≡ r → Here (effect (Rattle.model.specs.Checks.too_long r) (Scan.long h) r d i c)
-    by-long h r_none e f = no-role-closes (Scan.long h) e refl (((alike bs).long h).0 (fresh_scan_lem q bs (Scan.long h) e refl).1).sixteen (λ z. never cc) f
-    by-long h r_half_open e f = half-open-closes (Scan.long h) e refl (((alike bs).long h).0 (fresh_scan_lem q bs (Scan.long h) e refl).1).sixteen (λ z. never cc)
-    by-long h r_synchronous e f = too_long h r_synchronous e
-    by-long h r_asynchronous e f = too_long h r_asynchronous e
+    by_long : (h : Header) (r : Role) → scan q bs ≡ Scan.long h → role_of d.locks.entries c ≡ r → Here (effect (Rattle.model.specs.Checks.too_long r) (Scan.long h) r d i c)
+    by_long h r_none e f = no_role_closes (Scan.long h) e refl (((alike bs).long h).0 (fresh_scan_lem q bs (Scan.long h) e refl).1).sixteen (λ z. never cc) f
+    by_long h r_half_open e f = half_open_closes (Scan.long h) e refl (((alike bs).long h).0 (fresh_scan_lem q bs (Scan.long h) e refl).1).sixteen (λ z. never cc)
+    by_long h r_synchronous e f = too_long h r_synchronous e
+    by_long h r_asynchronous e f = too_long h r_asynchronous e
 
     by_part : (h : Header) (r : Role) → scan q bs ≡ Scan.part h → role_of d.locks.entries c ≡ r →
         omits (effect (partly r h) (Scan.part h) r d i c).reply ≡ false → Here (effect (partly r h) (Scan.part h) r d i c)
@@ -208,17 +208,17 @@ module _ (d : Server) (c : ℕ) (bs : List ℕ) (b : Bytes bs) where
       where
         go : (k : Bool) → omits (effect (cond k v_more (v_fatal 3)) (Scan.part h) r_none d i c).reply ≡ false → Here (effect (cond k v_more (v_fatal 3)) (Scan.part h) r_none d i c)
         go true o = absurd (true≢false o)
-        go false o = no-role-closes (Scan.part h) e refl (((alike bs).part h).0 (fresh_scan_lem q bs (Scan.part h) e refl).1).sixteen (λ z. never cc) f
-    by_part h r_half_open e f o = half-open-closes (Scan.part h) e refl (((alike bs).part h).0 (fresh_scan_lem q bs (Scan.part h) e refl).1).sixteen (λ z. never cc)
+        go false o = no_role_closes (Scan.part h) e refl (((alike bs).part h).0 (fresh_scan_lem q bs (Scan.part h) e refl).1).sixteen (λ z. never cc) f
+    by_part h r_half_open e f o = half_open_closes (Scan.part h) e refl (((alike bs).part h).0 (fresh_scan_lem q bs (Scan.part h) e refl).1).sixteen (λ z. never cc)
     by_part h r_synchronous e f o = absurd (true≢false o)
     by_part h r_asynchronous e f o = absurd (true≢false o)
 
-    by-scan : (s : Scan) (r : Role) → scan q bs ≡ s → role_of d.locks.entries c ≡ r → omits (effect (verdict r d i s) s r d i c).reply ≡ false → Here (effect (verdict r d i s) s r d i c)
+    by_scan : (s : Scan) (r : Role) → scan q bs ≡ s → role_of d.locks.entries c ≡ r → omits (effect (verdict r d i s) s r d i c).reply ≡ false → Here (effect (verdict r d i s) s r d i c)
     unfolding verdict effect finish change
-    by-scan empty r e f o = absurd (true≢false o)
-    by-scan few r e f o = absurd (true≢false o)
-    by-scan wrong r e f o = fatal-done 1 Scan.wrong r e refl (by_prologue ((alike bs).wrong.0 (fresh_scan_lem q bs Scan.wrong e refl).1) (fatal_first 1 Scan.wrong r i))
-    by-scan (skipping k) r e f o =
+    by_scan empty r e f o = absurd (true≢false o)
+    by_scan few r e f o = absurd (true≢false o)
+    by_scan wrong r e f o = fatal_done 1 Scan.wrong r e refl (by_prologue ((alike bs).wrong.0 (fresh_scan_lem q bs Scan.wrong e refl).1) (fatal_first 1 Scan.wrong r i))
+    by_scan (skipping k) r e f o =
         let g = skip_shape q bs k e in
         record {
           shows = record {
@@ -228,9 +228,9 @@ module _ (d : Server) (c : ℕ) (bs : List ℕ) (b : Bytes bs) where
           };
           tracks = tracks_store d.rest owed t c _ _ (ap (λ (z : ℕ). z - k) (t c is_open) ∙ here c _ _) (λ j x. elsewhere c _ (owed j) j x);
         }
-    by-scan (long h) r e f o = by-long h r e f
-    by-scan (part h) r e f o = by_part h r e f o
-    by-scan (whole h p) r e f o = by_verdict (judged r d i h p) r h p e (judged_of r d i h p) o
+    by_scan (long h) r e f o = by_long h r e f
+    by_scan (part h) r e f o = by_part h r e f o
+    by_scan (whole h p) r e f o = by_verdict (judged r d i h p) r h p e (judged_of r d i h p) o
 
 -- one call that is kept
 record Called (d : Server) (owed : ℕ → ℕ) (e : Event) : Type 0 where
@@ -242,7 +242,7 @@ call_delivered : (d : Server) (owed : ℕ → ℕ) (c : ℕ) (bs : List ℕ) (ro
 unfolding plan received refusal causes
 call_delivered d owed c bs room t b z o =
     let f = uncaused (causes d (delivery c bs room)) refl z in
-    by-scan d c bs b room owed t (not_off _ f.1.1.0) (scan (connection_at d.rest c).remainder bs) (role_of d.locks.entries c) refl refl o
+    by_scan d c bs b room owed t (not_off _ f.1.1.0) (scan (connection_at d.rest c).remainder bs) (role_of d.locks.entries c) refl refl o
 
 called : (d : Server) (owed : ℕ → ℕ) (e : Event) → Tracks d.rest owed → Possible e → omits (step d e).reply ≡ false → Called d owed e
 unfolding step answered finish plan

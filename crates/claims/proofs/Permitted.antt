@@ -178,9 +178,9 @@ module _ (d : Server) (c : ℕ) (bs : List ℕ) (room : ℕ) where
     unfolding finish Acts.acts
     opens_as f e = ap (λ (x : Result). x.reply) e ∙ rw (form_of (λ h. eqb h.kind 0 ≡ true) initialize_forms ((λ h t k l. eq-eqb _ _ t), tt) (header bs) f)
 
-    joins-as : permits async_initialize_forms (header bs) ≡ true → Does r_none → Acted (header bs).param
+    joins_as : permits async_initialize_forms (header bs) ≡ true → Does r_none → Acted (header bs).param
     unfolding finish Acts.acts
-    joins-as f e = ap (λ (x : Result). x.reply) e ∙ rw (form_of (λ h. eqb h.kind 0 ≡ false) async_initialize_forms ((λ h t k l. rw t), tt) (header bs) f)
+    joins_as f e = ap (λ (x : Result). x.reply) e ∙ rw (form_of (λ h. eqb h.kind 0 ≡ false) async_initialize_forms ((λ h t k l. rw t), tt) (header bs) f)
 
     acts : (n : ℕ) → refusal d (delivery c bs room) ≡ 0 → Permitted d last c bs n → Acted n
     unfolding finish Acts.acts
@@ -197,14 +197,14 @@ module _ (d : Server) (c : ℕ) (bs : List ℕ) (room : ℕ) where
         r ∙ ap (took acted (16 + (header bs).len)) (first_one d.locks.entries last _ m (ids _ _ r t) x)
     acts n z (Permitted.async_initialize j w o f h e) =
         let s = half_slot d.locks.entries firm (header bs).param j h e in
-        joins-as f (whole_does z w r_none (role_none d c o) (join_passes d p (header bs) (ap (λ i. half_open (at d.locks.entries i)) s ∙ h) f))
+        joins_as f (whole_does z w r_none (role_none d c o) (join_passes d p (header bs) (ap (λ i. half_open (at d.locks.entries i)) s ∙ h) f))
 
     -- what acted was permitted
     abbrev Was : ℕ → ℕ → Type 0
     Was k n = (k ≡ 16 + (header bs).len) × Permitted d last c bs n
 
-    same-reply : (k n m : ℕ) → took acted (16 + (header bs).len) m ≡ took acted k n → Permitted d last c bs m → Was k n
-    same-reply k n m e q = let e1 : k ≡ 16 + (header bs).len = cc in let e2 : m ≡ n = cc in (e1, subst (Permitted d last c bs) e2 q)
+    same_reply : (k n m : ℕ) → took acted (16 + (header bs).len) m ≡ took acted k n → Permitted d last c bs m → Was k n
+    same_reply k n m e q = let e1 : k ≡ 16 + (header bs).len = cc in let e2 : m ≡ n = cc in (e1, subst (Permitted d last c bs) e2 q)
 
     by_role : (r : Role) (k n : ℕ) → WholeMessage (connection_at d.rest c).remainder bs → role_of d.locks.entries c ≡ r → judged r d (slot_of d c) (header bs) p ≡ v_acts
         → (Acts.acts r d (slot_of d c) c (header bs) p).reply ≡ took acted k n → (step d (delivery c bs room)).reply ≡ took acted k n → Was k n
@@ -222,14 +222,14 @@ module _ (d : Server) (c : ℕ) (bs : List ℕ) (room : ℕ) where
         go (inr x) =
             let e' : took acted (16 + (header bs).len) (header bs).param ≡ took acted k n = rw x.0 at e in
             let j = slot_of_number d.locks.entries (header bs).param in
-            same-reply k n _ e' (Permitted.async_initialize j w o x.1 x.2 (live_found d.locks.entries (header bs).param (and_l (live (at d.locks.entries j)) _ x.2)))
+            same_reply k n _ e' (Permitted.async_initialize j w o x.1 x.2 (live_found d.locks.entries (header bs).param (and_l (live (at d.locks.entries j)) _ x.2)))
     by_role r_half_open k n w er q e f = absurd (let z : ◌≡◌ {A = ℕ} 0 1 = cc in omega arith)
-    by_role r_synchronous k n w er q e f = same-reply k n _ e (go (sync_permitted d (slot_of d c) p (header bs) q))
+    by_role r_synchronous k n w er q e f = same_reply k n _ e (go (sync_permitted d (slot_of d c) p (header bs) q))
       where
         go : Synchronous d (slot_of d c) p (header bs) → Permitted d last c bs (entry_of d c).number
         go (inl x) = Permitted.established _ w (Permitted.commands (sync_role d c er) x.0 x.1 x.2) x.3 (λ t. (admits_is d.rest.allowed p).0 (x.4 t))
         go (inr x) = Permitted.established _ w (Permitted.clear_complete (sync_role d c er) x.0) x.1 (λ t. absurd (no_clear (header bs) x.1 t))
-    by_role r_asynchronous k n w er q e f = same-reply k n _ e
+    by_role r_asynchronous k n w er q e f = same_reply k n _ e
         (Permitted.established _ w (Permitted.on_asynchronous (async_role d c er)) (async_permitted p (header bs) q)
         (λ t. absurd (no_async (header bs) (async_permitted p (header bs) q) t)))
 

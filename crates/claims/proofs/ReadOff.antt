@@ -36,7 +36,7 @@ use Rattle.claims.proofs.Invariant.{Inv}
 use Rattle.claims.proofs.Numbers.{live_found}
 use Rattle.claims.proofs.Events.{Pairs}
 use Rattle.claims.proofs.Fits.{Passes, opening_passed, sync_passed, async_passed, opens_fit, real_delivery, real_cut}
-use Rattle.claims.proofs.Simulation.{Alike, sim-ask, sim-free, sim-command, sim_clear, sim_tick, sim_enter, sim_pair, sim_drop}
+use Rattle.claims.proofs.Simulation.{Alike, sim_ask, sim_free, sim_command, sim_clear, sim_tick, sim_enter, sim_pair, sim_drop}
 
 -- a number of a list is one of its numbers
 abbrev pub Each : (ℕ → Type 0) → List ℕ → Type 0
@@ -129,8 +129,8 @@ module _ (d : Server) (m : Model) (a : Agrees d.locks m) (i : Inv d.locks) (c : 
 
   lock_alike : (b : Bool) → live (at d.locks.entries (slot_of d c)) ≡ true
       → Alike (change d.locks (Acts.lock_event b (slot_of d c) h p)) (LockModel.lock_message b (at d.locks.entries (slot_of d c)).number h bs m)
-  lock_alike true v = sim-free d.locks m a i.sound.good i.sound.firm (slot_of d c) v h.param
-  lock_alike false v = rw ep (sim-ask d.locks m a i.sound.good i.sound.firm (slot_of d c) v h.param p)
+  lock_alike true v = sim_free d.locks m a i.sound.good i.sound.firm (slot_of d c) v h.param
+  lock_alike false v = rw ep (sim_ask d.locks m a i.sound.good i.sound.firm (slot_of d c) v h.param p)
 
   async_alike : (k : Acts.AsynchronousKind) → live (at d.locks.entries (slot_of d c)) ≡ true
       → Alike (change d.locks (Acts.asynchronous_event k (slot_of d c) h p)) (do_act (act_for k) c (at d.locks.entries (slot_of d c)).number h bs m)
@@ -145,9 +145,9 @@ module _ (d : Server) (m : Model) (a : Agrees d.locks m) (i : Inv d.locks) (c : 
   sync_alike : (k : Acts.SynchronousKind) → live (at d.locks.entries (slot_of d c)) ≡ true
       → Alike (change d.locks (Acts.synchronous_event k (slot_of d c) h)) (do_act (sync_act_for k) c (at d.locks.entries (slot_of d c)).number h bs m)
   unfolding sync_act_for
-  sync_alike Acts.k_data v = sim-command d.locks m a i.sound.good i.sound.firm (slot_of d c) v h.param
-  sync_alike Acts.k_data_end v = sim-command d.locks m a i.sound.good i.sound.firm (slot_of d c) v h.param
-  sync_alike Acts.k_trigger v = sim-command d.locks m a i.sound.good i.sound.firm (slot_of d c) v h.param
+  sync_alike Acts.k_data v = sim_command d.locks m a i.sound.good i.sound.firm (slot_of d c) v h.param
+  sync_alike Acts.k_data_end v = sim_command d.locks m a i.sound.good i.sound.firm (slot_of d c) v h.param
+  sync_alike Acts.k_trigger v = sim_command d.locks m a i.sound.good i.sound.firm (slot_of d c) v h.param
   sync_alike Acts.k_clear_complete v = none_alike
 
   acts_alike : (r : Role) → role_of d.locks.entries c ≡ r → judged r d (slot_of d c) h p ≡ v_acts

@@ -111,17 +111,17 @@ module _ (ss : List Session) (es : List Entry) (s : Same ss es) (f : Firm es) (i
       tally_map p (on_number (at es i).number g) ss
       ∙ s (λ x. p (on_number (at es i).number g x))
       ∙ tally_seen (λ x. p (on_number (at es i).number g x)) es
-      ∙ tally_split (lower (λ x. p (on_number (at es i).number g x))) es i in-range
+      ∙ tally_split (lower (λ x. p (on_number (at es i).number g x))) es i in_range
       ∙ ap₂ (λ (b : Bool) (n : ℕ). one b + n) (ap₂ (λ (u b : Bool). u && p (cond b (g (as_session (at es i))) (as_session (at es i)))) v
       (eq-eqb (at es i).number (at es i).number refl) ∙ ap p (sym e))
       (tally_but_cong _ (lower p) es i (λ j d. while (live (at es j)) _ _
       (λ u. ap (λ b. p (cond b (g (as_session (at es j))) (as_session (at es j)))) (other j d u))))
-      ∙ sym (tally_seen p (set es i y) ∙ tally_split (lower p) (set es i y) i (rw (length-set es i y) in-range)
-      ∙ ap₂ (λ (b : Bool) (n : ℕ). one b + n) (ap (lower p) (get_or-set_same es i y blank in-range) ∙ ap (λ b. b && p (as_session y)) w)
+      ∙ sym (tally_seen p (set es i y) ∙ tally_split (lower p) (set es i y) i (rw (length-set es i y) in_range)
+      ∙ ap₂ (λ (b : Bool) (n : ℕ). one b + n) (ap (lower p) (get_or-set_same es i y blank in_range) ∙ ap (λ b. b && p (as_session y)) w)
       (tally_but_at (lower p) es i y))
     where
-      in-range : i < length es
-      in-range = inside live es i refl v
+      in_range : i < length es
+      in_range = inside live es i refl v
 
 -- a new session, in a free slot
 pub enter_seen : (ss : List Session) (es : List Entry) → Same ss es → (i : ℕ) (y : Entry) → live (at es i) ≡ false → i < length es → live y ≡ true → Same (as_session y ∷ ss) (set es i y)

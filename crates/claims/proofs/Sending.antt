@@ -38,7 +38,7 @@ use Rattle.claims.proofs.Fits.{opening_passed, sync_passed, async_passed, inv_ru
 use Rattle.claims.proofs.ReadOff.{each_of}
 use Rattle.model.proofs.Place.{sync_live, async_live}
 use Rattle.claims.proofs.Agreement.{frames_append, agreement}
-use Rattle.claims.proofs.Simulation.{Alike, due_by, due_at_lem, due_any_lem, waits-seen, sim-command, sim_clear}
+use Rattle.claims.proofs.Simulation.{Alike, due_by, due_at_lem, due_any_lem, waits_seen, sim_command, sim_clear}
 use Rattle.claims.proofs.Looking.{grants_seen}
 use Rattle.claims.proofs.Deciding.{async_own, told_frames}
 use Rattle.claims.proofs.Forms.{◌also◌}
@@ -124,10 +124,10 @@ module _ (d : Server) (m : Model) (a : Agrees d.locks m) (v : Inv d.locks) (c : 
 
   -- the answer of a standing release whose number passes a test
   module _ (i : ℕ) (u : live (at d.locks.entries i) ≡ true) where
-    ended-frames : (t : ℕ → Bool) (n : ℕ) (ws : List Waiting)
+    ended_frames : (t : ℕ → Bool) (n : ℕ) (ws : List Waiting)
         → map lock_frame (Locks.completed (due_by t (at d.locks.entries i).standing) (Locks.with_waiting d.locks ws) i n).answers
         ≡ map (lock_answer (at d.locks.entries i).asynchronous) (ended_codes m (at d.locks.entries i).number t)
-    ended-frames t n ws =
+    ended_frames t n ws =
         rw (
           own_seen m.sessions d.locks.entries a.sessions v.sound.firm i u (λ s. ends_exclusive t s.pending),
           own_seen m.sessions
@@ -154,9 +154,9 @@ module _ (d : Server) (m : Model) (a : Agrees d.locks m) (v : Inv d.locks) (c : 
             by false = refl
 
     -- whom the look after an event grants
-    granted-frames : (e : LockEvent) (o : ModelResult) → Fit d.locks.entries e → Alike (change d.locks e) o
+    granted_frames : (e : LockEvent) (o : ModelResult) → Fit d.locks.entries e → Alike (change d.locks e) o
         → map lock_frame (settle (frees d.locks e) (change d.locks e).locks).answers ≡ map told_frame (grants_after o)
-    granted-frames e o f h =
+    granted_frames e o f h =
         ap (λ (x : LockResult). map lock_frame x.answers) (always_settled d.locks v e f)
         ∙ sym (told_frames (grant_pass (change d.locks e).locks).answers)
         ∙ ap (map told_frame) (sym (grants_seen (change d.locks e) o h (change_sound d.locks v.sound.good v.sound.firm e f)))
@@ -194,9 +194,9 @@ module _ (d : Server) (m : Model) (a : Agrees d.locks m) (v : Inv d.locks) (c : 
       w.0
       ∙ ap (λ (fs : List Frame). paired ++ fs)
       (ap₂ ◌++◌
-      (ap (λ x. map lock_frame (Locks.completed x d.locks i p).answers) (due_at_lem p (at es i).standing) ∙ ended-frames i u (λ q. eqb q p) p d.locks.waiting
+      (ap (λ x. map lock_frame (Locks.completed x d.locks i p).answers) (due_at_lem p (at es i).standing) ∙ ended_frames i u (λ q. eqb q p) p d.locks.waiting
       ∙ ap (λ y. map (lock_answer y) (ended_codes m (at es i).number (λ q. eqb q p))) (sym second))
-      (granted-frames i u (Locks.command i p) (LockModel.message m (at es i).number p) u (sim-command d.locks m a v.sound.good v.sound.firm i u p))
+      (granted_frames i u (Locks.command i p) (LockModel.message m (at es i).number p) u (sim_command d.locks m a v.sound.good v.sound.firm i u p))
       ∙ ap (λ x. map (lock_answer (second_connection x m.sessions)) (ended_codes m x (λ q. eqb q p)) ++ map told_frame (grants_after (LockModel.message m x p))) n-is)
 
   some : List Frame → Bool
@@ -220,7 +220,7 @@ module _ (d : Server) (m : Model) (a : Agrees d.locks m) (v : Inv d.locks) (c : 
       w.0
       ∙ ap (λ (fs : List Frame). paired ++ fs)
       (quiet (Locks.due_at p (at es i).standing) i p
-      (ap (λ x. map lock_frame (Locks.completed x d.locks i p).answers) (due_at_lem p (at es i).standing) ∙ ended-frames i (sync_live es c w.1) (λ q. eqb q p) p d.locks.waiting
+      (ap (λ x. map lock_frame (Locks.completed x d.locks i p).answers) (due_at_lem p (at es i).standing) ∙ ended_frames i (sync_live es c w.1) (λ q. eqb q p) p d.locks.waiting
       ∙ ap (map (lock_answer (at es i).asynchronous)) (ap (λ x. ended_codes m x (λ q. eqb q p)) n-is ∙ z)))
       ∙ append-nil paired
 
@@ -241,17 +241,17 @@ module _ (d : Server) (m : Model) (a : Agrees d.locks m) (v : Inv d.locks) (c : 
       let zs = refuse es (elsewhere i) d.locks.waiting in
       let zeros-are : map lock_frame zs ≡ cond (any (λ w. eqb w.number (at es i).number) m.waiting) (lock_answer c 0 ∷ []) [] =
       ap (map lock_frame) (one_refused es i d.locks.waiting v.sound.good) ∙ go (all (elsewhere i) d.locks.waiting) mine
-      ∙ ap (λ b. cond b (lock_answer c 0 ∷ []) []) (sym (waits-seen d.locks m a v.sound.good v.sound.firm i u)) in
+      ∙ ap (λ b. cond b (lock_answer c 0 ∷ []) []) (sym (waits_seen d.locks m a v.sound.good v.sound.firm i u)) in
       let release-is : map lock_frame x.answers ≡ map (lock_answer c) (ended_codes m (at es i).number (λ p. true)) =
       ap (λ y. map lock_frame (Locks.completed y (Locks.with_waiting d.locks (keep (elsewhere i) d.locks.waiting)) i before_first).answers) (due_any_lem (at es i).standing)
-      ∙ ended-frames i u (λ p. true) before_first (keep (elsewhere i) d.locks.waiting) ∙ ap (λ y. map (lock_answer y) (ended_codes m (at es i).number (λ p. true))) mine in
+      ∙ ended_frames i u (λ p. true) before_first (keep (elsewhere i) d.locks.waiting) ∙ ap (λ y. map (lock_answer y) (ended_codes m (at es i).number (λ p. true))) mine in
       on_async AsyncDeviceClear k n e q o
       ∙ ap (λ (fs : List Frame). fs ++ (frame_of c AsyncDeviceClearAcknowledge (Acts.preference d) 0 []
       ∷ map lock_frame (settle (frees d.locks (Locks.clear i)) (change d.locks (Locks.clear i)).locks).answers))
       (frames_append zs x.answers)
       ∙ append_assoc (map lock_frame zs) (map lock_frame x.answers) _
       ∙ ap₂ ◌++◌ zeros-are (ap₂ ◌++◌ release-is (ap (λ (fs : List Frame). frame_of c AsyncDeviceClearAcknowledge (Acts.preference d) 0 [] ∷ fs)
-      (granted-frames i u (Locks.clear i) (LockModel.clearing (at es i).number m) u (sim_clear d.locks m a v.sound.good v.sound.firm i u))))
+      (granted_frames i u (Locks.clear i) (LockModel.clearing (at es i).number m) u (sim_clear d.locks m a v.sound.good v.sound.firm i u))))
       ∙ ap (λ x. cond (any (λ w. eqb w.number x) m.waiting) (lock_answer c 0 ∷ []) []
       ++ (map (lock_answer c) (ended_codes m x (λ p. true)) ++
       (frame_of c AsyncDeviceClearAcknowledge (Acts.preference d) 0 [] ∷ map told_frame (grants_after (LockModel.clearing x m))))) n-is

@@ -129,29 +129,29 @@ module _ (q : ℕ → Bool) (away : all (λ t. not (q t)) sent_types ≡ true) w
     none_answered (answer_sent n p end) = refl
     none_answered (answer_withheld n m) = refl
 
-    none-direct : (h : Happening) → Mute h → none (direct d h) ≡ true
-    none-direct unmoved m = refl
-    none-direct (connected c) m = refl
-    none-direct (disconnected c k) m = none_said k 2 (fatal_to d.locks.entries c) refl
-    none-direct (skipped_over c k) m = refl
-    none-direct (errored c h k) m = none_said k 3 (c ∷ []) refl
-    none-direct (message_acted a) m =
+    none_direct : (h : Happening) → Mute h → none (direct d h) ≡ true
+    none_direct unmoved m = refl
+    none_direct (connected c) m = refl
+    none_direct (disconnected c k) m = none_said k 2 (fatal_to d.locks.entries c) refl
+    none_direct (skipped_over c k) m = refl
+    none_direct (errored c h k) m = none_said k 3 (c ∷ []) refl
+    none_direct (message_acted a) m =
         none_in (replies d a) (kind_of a)
         (both _ _ (is_not 1 refl)
         (both _ _ (is_not 18 refl) (both _ _ (is_not 9 refl)
         (both _ _ (is_not 11 refl) (both _ _ (is_not 16 refl)
         (both _ _ (is_not 23 refl) (both _ _ (is_not 22 refl) (both _ _ (is_not 25 refl) refl))))))))
-    none-direct (clock_read t) m = refl
-    none-direct (status_set b) m = refl
-    none-direct (setting_made s) m = refl
-    none-direct (answer_sent n p end) m = absurd m
-    none-direct (answer_withheld n k) m = none_pair (at d.locks.entries (slot_of_number d.locks.entries n)) k
+    none_direct (clock_read t) m = refl
+    none_direct (status_set b) m = refl
+    none_direct (setting_made s) m = refl
+    none_direct (answer_sent n p end) m = absurd m
+    none_direct (answer_withheld n k) m = none_pair (at d.locks.entries (slot_of_number d.locks.entries n)) k
 
     -- so none of a call's
-    pub none-sent : (h : Happening) (r : Result) → Local d h r → Mute h → none r.frames ≡ true
-    none-sent h r l m =
+    pub none_sent : (h : Happening) (r : Result) → Local d h r → Mute h → none r.frames ≡ true
+    none_sent h r l m =
         ap none l.frames ∙ none_append (said_first d h) _ (none_first h)
-        (none_append (answered_first d h) _ (none_answered h) (none_append (direct d h) _ (none-direct h m) (none_to 1 l.due l.granted)))
+        (none_append (answered_first d h) _ (none_answered h) (none_append (direct d h) _ (none_direct h m) (none_to 1 l.due l.granted)))
 
 -- then none is kept
 pub none_kept : (p : Frame → Bool) (fs : List Frame) → all (λ f. not (p f)) fs ≡ true → keep p fs ≡ []

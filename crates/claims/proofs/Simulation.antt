@@ -131,28 +131,28 @@ due_any_lem (release_of k m) = refl
 
 module _ (l : Locks) (m : Model) (a : Agrees l m) (g : Good l.entries l.waiting) (f : Firm l.entries) where
   module _ (i : ℕ) (v : live (at l.entries i) ≡ true) where
-    tells-seen : (k : ℕ) (q : Bool) → tells m.sessions (at l.entries i).number k q ≡ told_of (tell l.entries i k q)
-    tells-seen k q = ap (λ (c : ℕ). record { connection = c; code = k; request = q }) (channel_seen m.sessions l.entries a.sessions f i v)
+    tells_seen : (k : ℕ) (q : Bool) → tells m.sessions (at l.entries i).number k q ≡ told_of (tell l.entries i k q)
+    tells_seen k q = ap (λ (c : ℕ). record { connection = c; code = k; request = q }) (channel_seen m.sessions l.entries a.sessions f i v)
 
     stored : (y : Entry) → y.number ≡ (at l.entries i).number → map (as_request l.entries) l.waiting ≡ map (as_request (set l.entries i y)) l.waiting
     stored y e = requests_same l.entries (set l.entries i y) (λ j u. num_same l.entries i y e j) l.waiting g
 
     -- by the tests: held, no request waits, too long, may be granted, timeout 0
-    ask-seen : (t : ℕ) (k : List ℕ) (h b s y z : Bool) → Alike (Locks.respond (ruling h b s y z) l i t k) (decided (h || (not b || s)) y z m (at l.entries i).number t k)
-    ask-seen t k true b s y z = record { agrees = a; told = ap (λ (x : Told). x ∷ []) (tells-seen 3 true) }
-    ask-seen t k false false s y z = record { agrees = a; told = ap (λ (x : Told). x ∷ []) (tells-seen 3 true) }
-    ask-seen t k false true true y z = record { agrees = a; told = ap (λ (x : Told). x ∷ []) (tells-seen 3 true) }
-    ask-seen t k false true false true z =
+    ask_seen : (t : ℕ) (k : List ℕ) (h b s y z : Bool) → Alike (Locks.respond (ruling h b s y z) l i t k) (decided (h || (not b || s)) y z m (at l.entries i).number t k)
+    ask_seen t k true b s y z = record { agrees = a; told = ap (λ (x : Told). x ∷ []) (tells_seen 3 true) }
+    ask_seen t k false false s y z = record { agrees = a; told = ap (λ (x : Told). x ∷ []) (tells_seen 3 true) }
+    ask_seen t k false true true y z = record { agrees = a; told = ap (λ (x : Told). x ∷ []) (tells_seen 3 true) }
+    ask_seen t k false true false true z =
         record {
           agrees = record {
             clock = a.clock;
             waiting = a.waiting ∙ stored (Locks.give_at l.clock k (at l.entries i)) (give_num k _);
             sessions = alter_seen m.sessions l.entries a.sessions f i v (LockModel.with_lock k) (Locks.give_at l.clock k (at l.entries i)) (give_live k _ v) (give_seen k _);
           };
-          told = ap (λ (x : Told). x ∷ []) (tells-seen 1 true);
+          told = ap (λ (x : Told). x ∷ []) (tells_seen 1 true);
         }
-    ask-seen t k false true false false true = record { agrees = a; told = ap (λ (x : Told). x ∷ []) (tells-seen 0 true) }
-    ask-seen t k false true false false false =
+    ask_seen t k false true false false true = record { agrees = a; told = ap (λ (x : Told). x ∷ []) (tells_seen 0 true) }
+    ask_seen t k false true false false false =
         record {
           agrees = record {
             clock = a.clock;
@@ -167,15 +167,15 @@ module _ (l : Locks) (m : Model) (a : Agrees l m) (g : Good l.entries l.waiting)
         map_snoc q [] w = refl
         map_snoc q (x ∷ ws) w = ap (λ (r : List Request). q x ∷ r) (map_snoc q ws w)
 
-    pub waits-seen : any (λ w. eqb w.number (at l.entries i).number) m.waiting ≡ not (all (elsewhere i) l.waiting)
-    waits-seen =
+    pub waits_seen : any (λ w. eqb w.number (at l.entries i).number) m.waiting ≡ not (all (elsewhere i) l.waiting)
+    waits_seen =
         ap not (ap (λ ws. all (λ w. not (eqb w.number (at l.entries i).number)) ws) a.waiting
         ∙ all_requests l.entries (λ w. not (eqb w.number (at l.entries i).number)) (elsewhere i)
         (λ w u. ap not (num_slot l.entries f i w.slot v u)) l.waiting g)
 
-    pub sim-ask : (t : ℕ) (k : List ℕ) → Alike (change l (Locks.request i t k)) (LockModel.request m (at l.entries i).number t k)
+    pub sim_ask : (t : ℕ) (k : List ℕ) → Alike (change l (Locks.request i t k)) (LockModel.request m (at l.entries i).number t k)
     unfolding LockModel.request
-    sim-ask t k =
+    sim_ask t k =
         rw (
           request_rule l g f i v t k,
           own_seen m.sessions l.entries a.sessions f i v (has k),
@@ -183,45 +183,45 @@ module _ (l : Locks) (m : Model) (a : Agrees l m) (g : Good l.entries l.waiting)
               (λ s. is_pending s.pending),
           holds_seen k (at l.entries i),
           pending_seen (at l.entries i).standing,
-          waits-seen,
+          waits_seen,
           allowed_seen
               m.sessions l.entries a.sessions f i v k,
         )
-        (ask-seen t k (holds k (at l.entries i)) (all (elsewhere i) l.waiting) _ (may_grant l.entries i k) (eqb t 0))
+        (ask_seen t k (holds k (at l.entries i)) (all (elsewhere i) l.waiting) _ (may_grant l.entries i k) (eqb t 0))
 
     -- a store at slot i, with an answer to a release or without
-    told-store : (y : Entry) (h : Session → Session) (k : ℕ) → y.number ≡ (at l.entries i).number → as_session y ≡ h (as_session (at l.entries i))
+    told_store : (y : Entry) (h : Session → Session) (k : ℕ) → y.number ≡ (at l.entries i).number → as_session y ≡ h (as_session (at l.entries i))
         → Alike (record { locks = Locks.with_entries l (set l.entries i y); answers = tell l.entries i k false ∷ [] })
         (record {
           model = LockModel.with_sessions m (LockModel.alter (at l.entries i).number h m.sessions);
           told = tells m.sessions (at l.entries i).number k false ∷ [];
         })
-    told-store y h k n e =
+    told_store y h k n e =
         record {
           agrees = record { clock = a.clock; waiting = a.waiting ∙ stored y n; sessions = alter_seen m.sessions l.entries a.sessions f i v h y (ap (λ n. not (eqb n 0)) n ∙ v) e };
-          told = ap (λ (x : Told). x ∷ []) (tells-seen k false);
+          told = ap (λ (x : Told). x ∷ []) (tells_seen k false);
         }
 
-    quiet-store : (y : Entry) (h : Session → Session) → y.number ≡ (at l.entries i).number → as_session y ≡ h (as_session (at l.entries i))
+    quiet_store : (y : Entry) (h : Session → Session) → y.number ≡ (at l.entries i).number → as_session y ≡ h (as_session (at l.entries i))
         → Alike (Locks.unanswered (Locks.with_entries l (set l.entries i y)))
         (record { model = LockModel.with_sessions m (LockModel.alter (at l.entries i).number h m.sessions); told = [] })
-    quiet-store y h n e =
+    quiet_store y h n e =
         record {
           agrees = record { clock = a.clock; waiting = a.waiting ∙ stored y n; sessions = alter_seen m.sessions l.entries a.sessions f i v h y (ap (λ n. not (eqb n 0)) n ∙ v) e };
           told = refl;
         }
 
     free_seen : (n : ℕ) (t x s b : Bool) → Alike (Locks.released (Locks.releasing t x s b) l i n) (LockModel.freed t x (not s) b m (at l.entries i).number n)
-    free_seen n true x s b = record { agrees = a; told = ap (λ (x : Told). x ∷ []) (tells-seen 3 false) }
-    free_seen n false true s true = told-store _ LockModel.exclusive_freed 1 refl refl
-    free_seen n false true s false = quiet-store _ (LockModel.pends (LockModel.exclusive_until n)) refl refl
-    free_seen n false false false true = told-store _ LockModel.shared_freed 2 refl refl
-    free_seen n false false false false = quiet-store _ (LockModel.pends (LockModel.shared_until n)) refl refl
-    free_seen n false false true b = record { agrees = a; told = ap (λ (x : Told). x ∷ []) (tells-seen 3 false) }
+    free_seen n true x s b = record { agrees = a; told = ap (λ (x : Told). x ∷ []) (tells_seen 3 false) }
+    free_seen n false true s true = told_store _ LockModel.exclusive_freed 1 refl refl
+    free_seen n false true s false = quiet_store _ (LockModel.pends (LockModel.exclusive_until n)) refl refl
+    free_seen n false false false true = told_store _ LockModel.shared_freed 2 refl refl
+    free_seen n false false false false = quiet_store _ (LockModel.pends (LockModel.shared_until n)) refl refl
+    free_seen n false false true b = record { agrees = a; told = ap (λ (x : Told). x ∷ []) (tells_seen 3 false) }
 
-    pub sim-free : (n : ℕ) → Alike (change l (Locks.release i n)) (LockModel.release m (at l.entries i).number n)
+    pub sim_free : (n : ℕ) → Alike (change l (Locks.release i n)) (LockModel.release m (at l.entries i).number n)
     unfolding change LockModel.release
-    sim-free n =
+    sim_free n =
         rw (
           own_seen m.sessions l.entries a.sessions f i v (λ s. is_pending s.pending),
           own_seen m.sessions l.entries a.sessions f i v
@@ -234,30 +234,30 @@ module _ (l : Locks) (m : Model) (a : Agrees l m) (g : Good l.entries l.waiting)
         (free_seen n (Locks.stands (at l.entries i).standing) (at l.entries i).exclusive (no_shared (at l.entries i)) (eqb (at l.entries i).last n))
 
     -- a message is heard of; by the standing release and the test of its number
-    hears-seen : (n : ℕ) (p : ℕ → Bool) (s : Standing) → Alike (Locks.completed (due_by p s) l i n)
+    hears_seen : (n : ℕ) (p : ℕ → Bool) (s : Standing) → Alike (Locks.completed (due_by p s) l i n)
         (LockModel.hears (LockModel.ends_exclusive p (as_pending s)) (LockModel.ends_shared p (as_pending s)) m (at l.entries i).number n)
-    hears-seen n p no_release = quiet-store _ (LockModel.hearing n) refl refl
-    hears-seen n p (release_of exclusive_lock q) = go (p q)
+    hears_seen n p no_release = quiet_store _ (LockModel.hearing n) refl refl
+    hears_seen n p (release_of exclusive_lock q) = go (p q)
       where
         go : (b : Bool) → Alike (Locks.completed (cond b (Locks.due_now exclusive_lock) Locks.not_due) l i n) (LockModel.hears b false m (at l.entries i).number n)
-        go true = told-store _ (λ s. LockModel.hearing n (LockModel.pends LockModel.none_pending (LockModel.exclusive_freed s))) 1 refl refl
-        go false = quiet-store _ (LockModel.hearing n) refl refl
-    hears-seen n p (release_of shared_lock q) = go (p q)
+        go true = told_store _ (λ s. LockModel.hearing n (LockModel.pends LockModel.none_pending (LockModel.exclusive_freed s))) 1 refl refl
+        go false = quiet_store _ (LockModel.hearing n) refl refl
+    hears_seen n p (release_of shared_lock q) = go (p q)
       where
         go : (b : Bool) → Alike (Locks.completed (cond b (Locks.due_now shared_lock) Locks.not_due) l i n) (LockModel.hears false b m (at l.entries i).number n)
-        go true = told-store _ (λ s. LockModel.hearing n (LockModel.pends LockModel.none_pending (LockModel.shared_freed s))) 2 refl refl
-        go false = quiet-store _ (LockModel.hearing n) refl refl
+        go true = told_store _ (λ s. LockModel.hearing n (LockModel.pends LockModel.none_pending (LockModel.shared_freed s))) 2 refl refl
+        go false = quiet_store _ (LockModel.hearing n) refl refl
 
-    pub sim-command : (n : ℕ) → Alike (change l (Locks.command i n)) (LockModel.message m (at l.entries i).number n)
+    pub sim_command : (n : ℕ) → Alike (change l (Locks.command i n)) (LockModel.message m (at l.entries i).number n)
     unfolding change LockModel.message
-    sim-command n =
+    sim_command n =
         rw (
           own_seen m.sessions l.entries a.sessions f i v (λ s. LockModel.ends_exclusive (λ q. eqb q n) s.pending),
           own_seen m.sessions
               l.entries a.sessions f i v (λ s. LockModel.ends_shared (λ q. eqb q n) s.pending),
           due_at_lem n (at l.entries i).standing,
         )
-        (hears-seen n (λ q. eqb q n) (at l.entries i).standing)
+        (hears_seen n (λ q. eqb q n) (at l.entries i).standing)
 
   pub sim_tick : (t : ℕ) → Alike (change l (Locks.reading t)) (LockModel.reading t m)
   unfolding change LockModel.reading
@@ -291,13 +291,13 @@ module _ (l : Locks) (m : Model) (a : Agrees l m) (g : Good l.entries l.waiting)
           waiting = a.waiting ∙ requests_same l.entries (set l.entries i (Locks.joined c (at l.entries i)))
               (λ j u. num_same l.entries i (Locks.joined c (at l.entries i)) refl j) l.waiting g;
           sessions = alter_seen m.sessions l.entries a.sessions f i x.alive (LockModel.also_on c) (Locks.joined c (at l.entries i)) x.alive
-              (joined-seen (at l.entries i) x.half);
+              (joined_seen (at l.entries i) x.half);
         };
         told = refl;
       }
     where
-      joined-seen : (e : Entry) → e.asynchronous ≡ no_connection → as_session (Locks.joined c e) ≡ LockModel.also_on c (as_session e)
-      joined-seen e h = rw (ne_eqb c no_connection x.real, eq-eqb e.asynchronous no_connection h)
+      joined_seen : (e : Entry) → e.asynchronous ≡ no_connection → as_session (Locks.joined c e) ≡ LockModel.also_on c (as_session e)
+      joined_seen e h = rw (ne_eqb c no_connection x.real, eq-eqb e.asynchronous no_connection h)
 
   -- the session of a connection
   gone_seen : (c : ℕ) → (c ≡ no_connection → ⊥) → (w : Waiting) → live (at l.entries w.slot) ≡ true
@@ -307,12 +307,12 @@ module _ (l : Locks) (m : Model) (a : Agrees l m) (g : Good l.entries l.waiting)
     where
       go : (w.slot ≡ slot_in l.entries c) ⊎ (w.slot ≡ slot_in l.entries c → ⊥)
           → (eqb (at l.entries w.slot).synchronous c || eqb (at l.entries w.slot).asynchronous c) ≡ eqb w.slot (slot_in l.entries c)
-      go (inl e) = at-conn (place_sound l.entries c) ∙ sym (eq-eqb _ _ e)
+      go (inl e) = at_conn (place_sound l.entries c) ∙ sym (eq-eqb _ _ e)
         where
-          at-conn : (is_on_connection c (at l.entries (slot_in l.entries c)) ≡ true) ⊎ (at l.entries (slot_in l.entries c) ≡ blank)
+          at_conn : (is_on_connection c (at l.entries (slot_in l.entries c)) ≡ true) ⊎ (at l.entries (slot_in l.entries c) ≡ blank)
               → (eqb (at l.entries w.slot).synchronous c || eqb (at l.entries w.slot).asynchronous c) ≡ true
-          at-conn (inl h) = ap (λ k. eqb (at l.entries k).synchronous c || eqb (at l.entries k).asynchronous c) e ∙ and_r (live (at l.entries (slot_in l.entries c))) _ h
-          at-conn (inr h) = absurd (true≢false (sym u ∙ ap (λ k. live (at l.entries k)) e ∙ ap live h))
+          at_conn (inl h) = ap (λ k. eqb (at l.entries k).synchronous c || eqb (at l.entries k).asynchronous c) e ∙ and_r (live (at l.entries (slot_in l.entries c))) _ h
+          at_conn (inr h) = absurd (true≢false (sym u ∙ ap (λ k. live (at l.entries k)) e ∙ ap live h))
       go (inr n) =
           isn't _ (λ h. n (f.connections c r w.slot (slot_in l.entries c) (both _ _ u h) (place_complete l.entries c w.slot (both _ _ u h))))
           ∙ sym (ne_eqb _ _ n)
@@ -358,7 +358,7 @@ sim_clear l m a g f i v =
           a.sessions f i v (λ s. LockModel.ends_shared (λ q. true) s.pending),
       due_any_lem (at l.entries i).standing,
     )
-    (then (refuse l.entries (elsewhere i) l.waiting) (hears-seen l' m' a' (good_keep l.entries (elsewhere i) l.waiting g) f i v before_first
+    (then (refuse l.entries (elsewhere i) l.waiting) (hears_seen l' m' a' (good_keep l.entries (elsewhere i) l.waiting g) f i v before_first
     (λ q. true) (at l.entries i).standing) told)
   where
     then : {x : LockResult} {o : ModelResult} {ts : List Told} (zs : List Answer) → Alike x o → ts ≡ map told_of zs →

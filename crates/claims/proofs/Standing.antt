@@ -35,7 +35,7 @@ use Rattle.claims.proofs.Invariant.{Inv, Firm, clean, backing, backed_at}
 use Rattle.claims.proofs.Events.{Fit}
 use Rattle.claims.proofs.Fits.{plan_fit, inv_call, inv_run}
 use Rattle.claims.proofs.Fewer.{Request, step_request}
-use Rattle.claims.proofs.Causes.{Mild, Acted, acted_reply, acted_sends, plan-cause}
+use Rattle.claims.proofs.Causes.{Mild, Acted, acted_reply, acted_sends, plan_cause}
 use Rattle.claims.proofs.Simulation.{give_num}
 use Rattle.claims.proofs.Looking.{pass_num}
 use Rattle.claims.proofs.Locality.{locality}
@@ -121,24 +121,24 @@ module _ (l : Locks) (v : Inv l) (j m : ℕ) (k : Kind) (h : (at l.entries j).st
   -- and so is a release
   freed_kept : (u : Locks.Releasing) (i n : ℕ) → (j ≡ i → u ≡ Locks.r_invalid) → Kept (Locks.released u l i n).locks.entries
   freed_kept Locks.r_invalid i n f = (refl, h)
-  freed_kept (Locks.r_now x) i n f = store i _ (λ q. absurd (let z : ◌≡◌ {A = ℕ} 0 1 = now-not (f q) in omega arith))
+  freed_kept (Locks.r_now x) i n f = store i _ (λ q. absurd (let z : ◌≡◌ {A = ℕ} 0 1 = now_not (f q) in omega arith))
     where
-      now-not : Locks.r_now x ≡ Locks.r_invalid → ◌≡◌ {A = ℕ} 0 1
-      now-not q = cc
-  freed_kept (Locks.r_stands x) i n f = store i _ (λ q. absurd (let z : ◌≡◌ {A = ℕ} 0 1 = stands-not (f q) in omega arith))
+      now_not : Locks.r_now x ≡ Locks.r_invalid → ◌≡◌ {A = ℕ} 0 1
+      now_not q = cc
+  freed_kept (Locks.r_stands x) i n f = store i _ (λ q. absurd (let z : ◌≡◌ {A = ℕ} 0 1 = stands_not (f q) in omega arith))
     where
-      stands-not : Locks.r_stands x ≡ Locks.r_invalid → ◌≡◌ {A = ℕ} 0 1
-      stands-not q = cc
+      stands_not : Locks.r_stands x ≡ Locks.r_invalid → ◌≡◌ {A = ℕ} 0 1
+      stands_not q = cc
 
   own_releasing : (i n : ℕ) → j ≡ i → Locks.releasing_of (at l.entries i) n ≡ Locks.r_invalid
   own_releasing i n q = ap (λ s. Locks.releasing (Locks.stands s) (at l.entries i).exclusive (no_shared (at l.entries i)) (eqb (at l.entries i).last n)) (stood i q)
 
   completed_kept : (u : Locks.Due) (ws : List Waiting) (i n : ℕ) → (j ≡ i → u ≡ Locks.not_due) → Kept (Locks.completed u (Locks.with_waiting l ws) i n).locks.entries
   completed_kept Locks.not_due ws i n f = store i _ (λ q. (refl, refl))
-  completed_kept (Locks.due_now x) ws i n f = store i _ (λ q. absurd (let z : ◌≡◌ {A = ℕ} 0 1 = due-not (f q) in omega arith))
+  completed_kept (Locks.due_now x) ws i n f = store i _ (λ q. absurd (let z : ◌≡◌ {A = ℕ} 0 1 = due_not (f q) in omega arith))
     where
-      due-not : Locks.due_now x ≡ Locks.not_due → ◌≡◌ {A = ℕ} 0 1
-      due-not q = cc
+      due_not : Locks.due_now x ≡ Locks.not_due → ◌≡◌ {A = ℕ} 0 1
+      due_not q = cc
 
   own_due : (i n : ℕ) → eqb m n ≡ false → j ≡ i → Locks.due_at n (at l.entries i).standing ≡ Locks.not_due
   own_due i n e q = ap (Locks.due_at n) (stood i q) ∙ ap (λ b. cond b (Locks.due_now k) Locks.not_due) e
@@ -251,7 +251,7 @@ module _ (d : Server) (v : Inv d.locks) (j m : ℕ) (k : Kind) (h : (at d.locks.
       go (inr n) = inl n
 
   plan_or : (e : Event) → refusal d e ≡ 0 → Or e (plan d e).event
-  plan_or = plan-cause d Or mild_or release_or command_or clear_or closing_or
+  plan_or = plan_cause d Or mild_or release_or command_or clear_or closing_or
 
 pub until : (d : Server) → Inv d.locks → (n j : ℕ) (k : Kind) (m : ℕ) (e : Event) → Stands n j k m d → Completes d j k m e ⊎ Stands n j k m (step d e).server
 unfolding step answered finish

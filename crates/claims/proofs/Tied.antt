@@ -93,8 +93,8 @@ module _ (d : Server) (f : ℕ → Track) (i : Inv d.locks) (z : length d.rest.e
         (eqb m n) (follows d.rest.made.prefers_overlap h.kind h.code h.param (f n)) (f n)
     heads m n = ap (λ (x : Header). cond (eqb m n) (follows d.rest.made.prefers_overlap x.kind x.code x.param (f n)) (f n)) eh
 
-    opens-tied : (b : Bool) → eqb h.kind 0 ≡ b → role_of d.locks.entries c ≡ r_none → Passes (Checks.opening_rules d h p) → Tracked (Acts.opens b d c h)
-    opens-tied true t0 e q =
+    opens_tied : (b : Bool) → eqb h.kind 0 ≡ b → role_of d.locks.entries c ≡ r_none → Passes (Checks.opening_rules d h p) → Tracked (Acts.opens b d c h)
+    opens_tied true t0 e q =
         let x : Enters d.locks.entries (slot_of_number d.locks.entries 0) _ c = opens_fit d c h p true t0 real i e q in
         let k = slot_of_number d.locks.entries 0 in
         let n = Rattle.model.specs.Locks.issued session_limit 0 d.locks.entries d.rest.last_issued in
@@ -108,7 +108,7 @@ module _ (d : Server) (f : ℕ → Track) (i : Inv d.locks) (z : length d.rest.e
               (borrow.Author.Tests.eqb-true h.kind 0 t0)) t;
           sized = length-set d.rest.exchanges k (open_exchange d.rest.made.prefers_overlap) ∙ z;
         }
-    opens-tied false t0 e q =
+    opens_tied false t0 e q =
         let t17 : eqb h.kind 17 ≡ true = rw t0 at (not_off (either 0 17 h.kind) q.0) in
         still d.rest _ _ _ tt refl (λ n. heads h.param n
         ∙ ap (λ (b : ℕ). cond (eqb h.param n) (follows d.rest.made.prefers_overlap b h.code h.param (f n)) (f n))
@@ -118,11 +118,11 @@ module _ (d : Server) (f : ℕ → Track) (i : Inv d.locks) (z : length d.rest.e
         both_same true x = refl
         both_same false x = refl
 
-    acts-tied : (r : Role) → role_of d.locks.entries c ≡ r → judged r d (slot_of d c) h p ≡ v_acts → Tracked (Acts.acts r d (slot_of d c) c h p)
+    acts_tied : (r : Role) → role_of d.locks.entries c ≡ r → judged r d (slot_of d c) h p ≡ v_acts → Tracked (Acts.acts r d (slot_of d c) c h p)
     unfolding Acts.acts
-    acts-tied r_none e q = opens-tied (eqb h.kind 0) refl e (opening_passed d h p q)
-    acts-tied r_half_open e q = absurd (let y : ◌≡◌ {A = ℕ} 0 1 = cc in omega arith)
-    acts-tied r_synchronous e q =
+    acts_tied r_none e q = opens_tied (eqb h.kind 0) refl e (opening_passed d h p q)
+    acts_tied r_half_open e q = absurd (let y : ◌≡◌ {A = ℕ} 0 1 = cc in omega arith)
+    acts_tied r_synchronous e q =
         let g = sync_passed d (slot_of d c) h p q in
         let k = slot_of d c in
         let v = sync_live d.locks.entries c e in
@@ -140,7 +140,7 @@ module _ (d : Server) (f : ℕ → Track) (i : Inv d.locks) (z : length d.rest.e
               t;
           sized = length-set d.rest.exchanges k x ∙ z;
         }
-    acts-tied r_asynchronous e q =
+    acts_tied r_asynchronous e q =
         let g = async_passed h p q in
         let k = slot_of d c in
         let v = async_live d.locks.entries c e in
@@ -194,7 +194,7 @@ module _ (d : Server) (f : ℕ → Track) (i : Inv d.locks) (z : length d.rest.e
   effect_tied c bs room k n v_acts (skipping x) r es er ev = still d.rest _ _ _ tt refl (λ m. refl) []
   effect_tied c bs room k n v_acts (long x) r es er ev = still d.rest _ _ _ tt refl (λ m. refl) []
   effect_tied c bs room k n v_acts (part x) r es er ev = still d.rest _ _ _ tt refl (λ m. refl) []
-  effect_tied c bs room k n v_acts (whole h p) r es er ev = acts-tied c n bs room h p (whole_scan k bs h p es).0 r er ev
+  effect_tied c bs room k n v_acts (whole h p) r es er ev = acts_tied c n bs room h p (whole_scan k bs h p es).0 r er ev
 
   -- an answer to session n that is not refused
   answering : (n : ℕ) (x : List ℕ) (end : Bool) (sh : List ℕ) (room : ℕ) → refusal d (answer n x end sh room) ≡ 0 → live (at d.locks.entries (slot_of_number d.locks.entries n)) ≡ true
@@ -218,9 +218,9 @@ module _ (d : Server) (f : ℕ → Track) (i : Inv d.locks) (z : length d.rest.e
       v : live (at d.locks.entries k) ≡ true
       v = answering n x end sh room q
 
-      answers-tied : (y : Exchange) (g : Track → Track) → track_of y ≡ g (track_of (exchange_at d.rest k)) →
+      answers_tied : (y : Exchange) (g : Track → Track) → track_of y ≡ g (track_of (exchange_at d.rest k)) →
           Tied (ends d.locks LockEvent.nothing) (with_exchange d.rest k y) (λ m. cond (eqb n m) (g (f m)) (f m))
-      answers-tied y g e =
+      answers_tied y g e =
           touch d.locks.entries (ends d.locks LockEvent.nothing) d.rest (with_exchange d.rest k y) f _ k g i.sound.firm v (calm_num d.locks LockEvent.nothing tt)
           (ap track_of (extra_here d.rest k y (within k v)) ∙ e)
           (λ j h. ap track_of (extra_there d.rest k y j h))
@@ -236,8 +236,8 @@ module _ (d : Server) (f : ℕ → Track) (i : Inv d.locks) (z : length d.rest.e
         event = LockEvent.nothing;
       }
           (λ m. track d.rest.made.prefers_overlap (answer n x end sh room) (cond w Reply.withheld Reply.done) m (f m))
-      go true fs = record { tied = answers-tied (interrupted (exchange_at d.rest k)) withheld_track refl; sized = length-set d.rest.exchanges k _ ∙ z }
-      go false fs = record { tied = answers-tied (answered_with end (exchange_at d.rest k)) (answered_track end) refl; sized = length-set d.rest.exchanges k _ ∙ z }
+      go true fs = record { tied = answers_tied (interrupted (exchange_at d.rest k)) withheld_track refl; sized = length-set d.rest.exchanges k _ ∙ z }
+      go false fs = record { tied = answers_tied (answered_with end (exchange_at d.rest k)) (answered_track end) refl; sized = length-set d.rest.exchanges k _ ∙ z }
 
 -- how the server was made stays
 opens_made : (b : Bool) (d : Server) (c : ℕ) (h : Header) → (Acts.opens b d c h).rest.made ≡ d.rest.made

@@ -36,7 +36,7 @@ use Rattle.claims.proofs.Numbers.{live_found}
 use Rattle.claims.proofs.Locality.{local_call, local_run}
 use Rattle.claims.proofs.Numbering.{ActedFacts, Facts, facts}
 use Rattle.claims.proofs.NextQuestion.{second_is}
-use Rattle.claims.proofs.SentTypes.{Mute, none-sent, none_kept}
+use Rattle.claims.proofs.SentTypes.{Mute, none_sent, none_kept}
 
 -- the session that an answer is sent to, and that a watch is set for, is live
 abbrev IsLive : Server → ℕ → Type 0
@@ -162,23 +162,23 @@ module _ (d : Server) (f : ℕ → Sensing) (g : Reads d f) (r : Result) where
         go (inl e) = eq-eqb i s₀ e ∙ sym (eq-eqb m _ (sym found ∙ ap (λ (j : ℕ). (at es j).number) (sym e)))
         go (inr o) = ne_eqb i s₀ o ∙ sym (ne_eqb m _ (λ z. o (g.inv.sound.firm.numbers m i s₀ (both _ _ v (eq-eqb _ _ (sym z))) (both _ _ there (eq-eqb _ _ found)))))
 
-    free-not : (i : ℕ) → live (at es i) ≡ false → eqb i s₀ ≡ false
-    free-not i v = ne_eqb i s₀ (λ e. true≢false (sym there ∙ ap (λ (j : ℕ). live (at es j)) (sym e) ∙ v))
+    free_not : (i : ℕ) → live (at es i) ≡ false → eqb i s₀ ≡ false
+    free_not i v = ne_eqb i s₀ (λ e. true≢false (sym there ∙ ap (λ (j : ℕ). live (at es j)) (sym e) ∙ v))
 
-    changed-at : (h : Happening) (k : Sensing → Sensing) → ((n : ℕ) (y : Sensing) → senses h n y ≡ cond (eqb m n) (k y) y) → (i : ℕ) → i < session_limit
+    changed_at : (h : Happening) (k : Sensing → Sensing) → ((n : ℕ) (y : Sensing) → senses h n y ≡ cond (eqb m n) (k y) y) → (i : ℕ) → i < session_limit
         → (at es' i).number ≡ (at es i).number → sensing_at r.server.rest i ≡ cond (eqb i s₀) (k (x i)) (x i) → Goal h i
-    changed-at h k s i q n e =
+    changed_at h k s i q n e =
         stays h i q n (λ y. cond (eqb i s₀) (k y) y) e
         (λ v. s (at es i).number (f (at es i).number) ∙ ap (λ (b : Bool). cond b (k (f (at es i).number)) (f (at es i).number)) (sym (mine i v)))
-        (λ v. ap (λ (b : Bool). cond b (k fresh_sensing) fresh_sensing) (free-not i v))
+        (λ v. ap (λ (b : Bool). cond b (k fresh_sensing) fresh_sensing) (free_not i v))
 
   -- a message that acted: Initialize takes a free slot, any other leaves who is where
   module _ (a : Action) (fact : ActedFacts d a) where
     abbrev did : Happening
     did = message_acted a
 
-    not-begun : (i : ℕ) → i < session_limit → eqb (kind_of a) 0 ≡ false → Leaves did i → Goal did i
-    not-begun i q t l =
+    not_begun : (i : ℕ) → i < session_limit → eqb (kind_of a) 0 ≡ false → Leaves did i → Goal did i
+    not_begun i q t l =
         kept did i q (l.0 ∙ same (eqb i (slot_acted es a)) (eqb (kind_of a) 0) t) l.1 (λ n. ap (λ (b : Bool). cond (b && eqb a.session n) fresh_sensing (f n)) t)
       where
         same : (b z : Bool) → z ≡ false → cond b (cond z a.session (at es i).number) (at es i).number ≡ (at es i).number
@@ -216,12 +216,12 @@ module _ (d : Server) (f : ℕ → Sensing) (g : Reads d f) (r : Result) where
             (ne_eqb a.session (at es i).number (λ z. n₀.fresh i (both _ _ v (eq-eqb _ _ (sym z))))))
             (λ v. refl)
 
-    acted-at : (i : ℕ) → i < session_limit → Leaves did i → Goal did i
-    acted-at i q l = go (eqb (kind_of a) 0) refl
+    acted_at : (i : ℕ) → i < session_limit → Leaves did i → Goal did i
+    acted_at i q l = go (eqb (kind_of a) 0) refl
       where
         go : (b : Bool) → eqb (kind_of a) 0 ≡ b → Goal did i
         go true t = begun i q (eqb-true _ _ t) l
-        go false t = not-begun i q t l
+        go false t = not_begun i q t l
 
   both_same : (b : Bool) (n m : ℕ) → n ≡ cond b m m → n ≡ m
   both_same true n m e = e
@@ -234,16 +234,16 @@ module _ (d : Server) (f : ℕ → Sensing) (g : Reads d f) (r : Result) where
   call_at (disconnected c j) l k v i q = let t = table (disconnected c j) l i q in closed_at (disconnected c j) i q (eqb i (slot_in es c)) t.0 t.1 (λ n. refl)
   call_at (skipped_over c j) l k v i q = let t = table (skipped_over c j) l i q in kept (skipped_over c j) i q t.0 t.1 (λ n. refl)
   call_at (errored c h j) l k v i q = let t = table (errored c h j) l i q in kept (errored c h j) i q (both_same (eqb i (slot_in es c) && eqb (at es i).synchronous c) _ _ t.0) t.1 (λ n. refl)
-  call_at (message_acted a) l k v i q = acted-at a k i q (table (message_acted a) l i q)
+  call_at (message_acted a) l k v i q = acted_at a k i q (table (message_acted a) l i q)
   call_at (clock_read u) l k v i q = let t = table (clock_read u) l i q in kept (clock_read u) i q t.0 t.1 (λ n. refl)
   call_at (status_set b) l k v i q = let t = table (status_set b) l i q in kept (status_set b) i q t.0 t.1 (λ n. refl)
   call_at (setting_made (watch m w)) l k v i q =
       let t = table (setting_made (watch m w)) l i q in
-      changed-at m v (setting_made (watch m w)) (λ y. record { watch = w; tripped = false; recorded = y.recorded }) (λ n y. refl) i q t.0 t.1
+      changed_at m v (setting_made (watch m w)) (λ y. record { watch = w; tripped = false; recorded = y.recorded }) (λ n y. refl) i q t.0 t.1
   call_at (setting_made (patterns text)) l k v i q = let t = table (setting_made (patterns text)) l i q in kept (setting_made (patterns text)) i q t.0 t.1 (λ n. refl)
   call_at (answer_sent m p end) l k v i q =
       let t = table (answer_sent m p end) l i q in
-      changed-at m v (answer_sent m p end) (told_by p) (λ n y. refl) i q (both_same (eqb i (slot_of_number es m)) _ _ t.0) t.1
+      changed_at m v (answer_sent m p end) (told_by p) (λ n y. refl) i q (both_same (eqb i (slot_of_number es m)) _ _ t.0) t.1
   call_at (answer_withheld m j) l k v i q = let t = table (answer_withheld m j) l i q in kept (answer_withheld m j) i q (both_same (eqb i (slot_of_number es m)) _ _ t.0) t.1 (λ n. refl)
 
   within : (h : Happening) → Local d h r → (i : ℕ) → live (at es' i) ≡ true → i < session_limit
@@ -291,40 +291,40 @@ module _ (v : Making) (es : List Event) where
   D = final (fresh v) es
 
   quiet : (h : Happening) (r : Result) → Local D h r → Mute h → keep is_service r.frames ≡ []
-  quiet h r l m = none_kept is_service r.frames (none-sent (λ t. eqb t 20) refl D h r l m)
+  quiet h r l m = none_kept is_service r.frames (none_sent (λ t. eqb t 20) refl D h r l m)
 
   -- an answer that was sent: its own frame is none, and the request is
   module _ (n : ℕ) (p : List ℕ) (end : Bool) (r : Result) (l : Local D (answer_sent n p end) r) (there : IsLive D n) where
     abbrev slot : ℕ
     slot = slot_of_number D.locks.entries n
 
-    abbrev own-frame : Frame
-    own-frame = frame_of (at D.locks.entries slot).synchronous (cond end 7 6) 0 (number_sent (exchange_at D.rest slot)) p
+    abbrev own_frame : Frame
+    own_frame = frame_of (at D.locks.entries slot).synchronous (cond end 7 6) 0 (number_sent (exchange_at D.rest slot)) p
 
-    known-here : sensing_at D.rest slot ≡ sensing_of v es n
-    known-here = (run_reads v es).knows slot there ∙ ap (sensing_of v es) (live_found D.locks.entries n there)
+    known_here : sensing_at D.rest slot ≡ sensing_of v es n
+    known_here = (run_reads v es).knows slot there ∙ ap (sensing_of v es) (live_found D.locks.entries n there)
 
-    sent : r.frames ≡ own-frame ∷ service_from (asynchronous_of v es n) (sensing_of v es n) p (status_of v es)
+    sent : r.frames ≡ own_frame ∷ service_from (asynchronous_of v es n) (sensing_of v es n) p (status_of v es)
     sent =
         l.frames
-        ∙ ap (λ gs. (own-frame ∷ service_to (at D.locks.entries slot) (sensing_at D.rest slot) p D.rest.status) ++ map (waiting_answer 1 l.due) gs) l.waiting.2
+        ∙ ap (λ gs. (own_frame ∷ service_to (at D.locks.entries slot) (sensing_at D.rest slot) p D.rest.status) ++ map (waiting_answer 1 l.due) gs) l.waiting.2
         ∙ append-nil _
-        ∙ (λ j. own-frame ∷ service_from (sym (second_is v es n there) j) (known-here j) p ((local_run (fresh v) es).status j))
+        ∙ (λ j. own_frame ∷ service_from (sym (second_is v es n there) j) (known_here j) p ((local_run (fresh v) es).status j))
 
-    not_own : (b : Bool) (gs : List Frame) → cond (eqb (cond b 7 6) 20) (own-frame ∷ gs) gs ≡ gs
+    not_own : (b : Bool) (gs : List Frame) → cond (eqb (cond b 7 6) 20) (own_frame ∷ gs) gs ≡ gs
     not_own true gs = refl
     not_own false gs = refl
 
-    the-request : (t : Bool) (c b : ℕ) → keep is_service (cond t (plain_to c 20 (request_code b) 0 ∷ []) []) ≡ cond t (plain_to c 20 (request_code b) 0 ∷ []) []
-    the-request true c b = refl
-    the-request false c b = refl
+    the_request : (t : Bool) (c b : ℕ) → keep is_service (cond t (plain_to c 20 (request_code b) 0 ∷ []) []) ≡ cond t (plain_to c 20 (request_code b) 0 ∷ []) []
+    the_request true c b = refl
+    the_request false c b = refl
 
     served : keep is_service r.frames ≡ served_by v es (answer_sent n p end)
     served =
         let s = sensing_of v es n in
         ap (keep is_service) sent
         ∙ not_own end (keep is_service (service_from (asynchronous_of v es n) s p (status_of v es)))
-        ∙ the-request (not s.tripped && trips_by p s) (asynchronous_of v es n) (status_of v es)
+        ∙ the_request (not s.tripped && trips_by p s) (asynchronous_of v es n) (status_of v es)
 
   serves_by : (h : Happening) (r : Result) → Local D h r → ForLive D h → keep is_service r.frames ≡ served_by v es h
   serves_by unmoved r l w = quiet unmoved r l tt

@@ -1,1 +1,3 @@
 // No code: proofs/ holds the proofs of the claims that model/specs states.
+
+#![tactic(auto)]

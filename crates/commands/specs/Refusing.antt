@@ -47,14 +47,14 @@ module _ (s : List ℕ) (i f g : ℕ) where
     or_true true = refl
     or_true false = refl
 
-    pub opens-last : length s ≤ i + 2 → opens s i f g ≡ true
-    opens-last l = two ∙ ap (λ (x : ℕ). eqb x g || not (between 65 90 x)) (get_or-eq_default s 0 l) ∙ or_true (eqb 0 g)
+    pub opens_last : length s ≤ i + 2 → opens s i f g ≡ true
+    opens_last l = two ∙ ap (λ (x : ℕ). eqb x g || not (between 65 90 x)) (get_or-eq_default s 0 l) ∙ or_true (eqb 0 g)
 
-    pub opens-second : get_or s (i + 2) 0 ≡ g → opens s i f g ≡ true
-    opens-second e = two ∙ rw (eq-eqb _ _ e)
+    pub opens_second : get_or s (i + 2) 0 ≡ g → opens s i f g ≡ true
+    opens_second e = two ∙ rw (eq-eqb _ _ e)
 
-    pub opens-other : (get_or s (i + 2) 0 ≡ g → ⊥) → opens s i f g ≡ not (between 65 90 (get_or s (i + 2) 0))
-    opens-other e = two ∙ rw (ne_eqb _ _ e)
+    pub opens_other : (get_or s (i + 2) 0 ≡ g → ⊥) → opens s i f g ≡ not (between 65 90 (get_or s (i + 2) 0))
+    opens_other e = two ∙ rw (ne_eqb _ _ e)
 
 -- no place from a up to e does
 abbrev pub Shut : List ℕ → ℕ → ℕ → ℕ → ℕ → Type 0
@@ -201,67 +201,67 @@ module _ (s c : List ℕ) where
 
   -- the line from `at` on, up to e
   module _ (at e : ℕ) (ends : e ≡ at + line_length (drop at s)) where
-    line-behind : (l : List ℕ) → behind (drop (line_length l) l) ≡ behind l
+    line_behind : (l : List ℕ) → behind (drop (line_length l) l) ≡ behind l
     unfolding line_length
-    line-behind [] = refl
-    line-behind (x ∷ l) = go (eqb x 10) refl (line-behind l)
+    line_behind [] = refl
+    line_behind (x ∷ l) = go (eqb x 10) refl (line_behind l)
       where
         go : (t : Bool) → eqb x 10 ≡ t → behind (drop (line_length l) l) ≡ behind l →
             behind (drop (cond t 0 (suc (line_length l))) (x ∷ l)) ≡ lines_of (drop (suc (cond t 0 (suc (line_length l)))) (x ∷ l))
         go true h k = rw h
         go false h k = k
 
-    same-behind : behind (drop e s) ≡ behind (drop at s)
-    same-behind = ap behind (ap (λ (x : ℕ). drop x s) ends ∙ sym (drop-drop (line_length (drop at s)) at s)) ∙ line-behind (drop at s)
+    same_behind : behind (drop e s) ≡ behind (drop at s)
+    same_behind = ap behind (ap (λ (x : ℕ). drop x s) ends ∙ sym (drop-drop (line_length (drop at s)) at s)) ∙ line_behind (drop at s)
 
-    first-line : at < length s → lines_of (drop at s) ≡ part at e s ∷ behind (drop e s)
-    first-line l =
+    first_line : at < length s → lines_of (drop at s) ≡ part at e s ∷ behind (drop e s)
+    first_line l =
         let m : at + suc (line_length (drop at s)) ≡ e + 1 = omega arith in
-        lines_next s at e l ends ∙ ap (λ (x : List (List ℕ)). part at e s ∷ x) (ap lines_of (sym (drop-drop (suc (line_length (drop at s))) at s ∙ ap (λ (x : ℕ). drop x s) m)) ∙ sym same-behind)
+        lines_next s at e l ends ∙ ap (λ (x : List (List ℕ)). part at e s ∷ x) (ap lines_of (sym (drop-drop (suc (line_length (drop at s))) at s ∙ ap (λ (x : ℕ). drop x s) m)) ∙ sym same_behind)
 
-    pub line-matched : at < length s → Matches (part at e s) c → Allows (lines_of (drop at s)) c
-    line-matched l m = subst (λ (x : List (List ℕ)). Allows x c) (sym (first-line l)) (inl m)
+    pub line_matched : at < length s → Matches (part at e s) c → Allows (lines_of (drop at s)) c
+    line_matched l m = subst (λ (x : List (List ℕ)). Allows x c) (sym (first_line l)) (inl m)
 
     pub line_refused : (Matches (part at e s) c → ⊥) → Allows (lines_of (drop at s)) c ↔ Allows (behind (drop e s)) c
     line_refused n = ⊎_elim
-        (λ (l : at < length s). allows_rest (lines_of (drop at s)) (part at e s) (behind (drop e s)) c (first-line l) n)
+        (λ (l : at < length s). allows_rest (lines_of (drop at s)) (part at e s) (behind (drop e s)) c (first_line l) n)
         (λ (l : length s ≤ at). Iff·trans (same_allows _ _ (lines_end s at l))
         (same_allows [] (behind (drop e s)) (sym (ap behind (drop_of_length-le s (let k : length s ≤ e = omega arith in k)) ∙ nothing_behind))))
         (lt_or_ge at (length s))
 
   -- the first line of all
   module _ (e : ℕ) (ends : e ≡ 0 + line_length (drop 0 s)) where
-    pub first-matched : Matches (take e s) c → Allows (lines_of s) c
-    first-matched m = ⊎_elim
-        (λ (l : 0 < length s). line-matched 0 e ends l (subst (λ (x : ℕ). Matches (take x s) c) (sym (sub-zero e)) m))
+    pub first_matched : Matches (take e s) c → Allows (lines_of s) c
+    first_matched m = ⊎_elim
+        (λ (l : 0 < length s). line_matched 0 e ends l (subst (λ (x : ℕ). Matches (take x s) c) (sym (sub-zero e)) m))
         (λ (l : length s ≤ 0). let n : length (take e s) ≡ 0 = let d : length (take e s) ≡ min e (length s) = length-take e s in omega arith in
         absurd (says_empty (take e s) c n m.good m.spells))
         (lt_or_ge 0 (length s))
 
-    first-refused : (Matches (take e s) c → ⊥) → Allows (lines_of s) c ↔ Allows (behind (drop e s)) c
-    first-refused n = line_refused 0 e ends (λ m. n (subst (λ (x : ℕ). Matches (take x s) c) (sub-zero e) m))
+    first_refused : (Matches (take e s) c → ⊥) → Allows (lines_of s) c ↔ Allows (behind (drop e s)) c
+    first_refused n = line_refused 0 e ends (λ m. n (subst (λ (x : ℕ). Matches (take x s) c) (sub-zero e) m))
 
-    pub first-passed : (Matches (take e s) c → ⊥) → Allows (lines_of s) c ↔ Allows (behind s) c
-    first-passed n = Iff·trans (first-refused n) (same_allows _ _ (same-behind 0 e ends))
+    pub first_passed : (Matches (take e s) c → ⊥) → Allows (lines_of s) c ↔ Allows (behind s) c
+    first_passed n = Iff·trans (first_refused n) (same_allows _ _ (same_behind 0 e ends))
 
   pub first_empty : length s ≡ 0 → Allows (lines_of s) c ↔ Allows (behind s) c
   first_empty z =
       let n : ℕ = 0 + line_length (drop 0 s) in
       let d : length (take n s) ≡ min n (length s) = length-take n s in
       let y : length (take n s) ≡ 0 = omega arith in
-      first-passed n refl (λ m. says_empty (take n s) c y m.good m.spells)
+      first_passed n refl (λ m. says_empty (take n s) c y m.good m.spells)
 
   -- it begins with another byte
   pub first_other : (f : ℕ) → f ≡ upper (get_or c 0 0) → (get_or s 0 0 ≡ f → ⊥) → Allows (lines_of s) c ↔ Allows (behind s) c
   first_other f ef n =
       let e : 0 + line_length s ≡ line_length s = omega arith in
-      first-passed (0 + line_length (drop 0 s)) refl (λ m. n ((line_fits s c (subst (λ (x : ℕ). Matches (take x s) c) e m)).0 ∙ sym ef))
+      first_passed (0 + line_length (drop 0 s)) refl (λ m. n ((line_fits s c (subst (λ (x : ℕ). Matches (take x s) c) e m)).0 ∙ sym ef))
 
   -- or its second byte is another capital
   pub first_second : (g : ℕ) → g ≡ upper (get_or c 1 0) → Capital (get_or s 1 0) → (get_or s 1 0 ≡ g → ⊥) → Allows (lines_of s) c ↔ Allows (behind s) c
   first_second g eg k n =
       let e : 0 + line_length s ≡ line_length s = omega arith in
-      first-passed (0 + line_length (drop 0 s)) refl (λ m. n ((line_fits s c (subst (λ (x : ℕ). Matches (take x s) c) e m)).1 k ∙ sym eg))
+      first_passed (0 + line_length (drop 0 s)) refl (λ m. n ((line_fits s c (subst (λ (x : ℕ). Matches (take x s) c) e m)).1 k ∙ sym eg))
 
 module _ (s c : List ℕ) (f g : ℕ) (ef : f ≡ upper (get_or c 0 0)) (eg : g ≡ upper (get_or c 1 0)) where
   -- a line that place i does not open matches nothing

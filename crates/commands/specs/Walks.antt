@@ -6,7 +6,7 @@ use Rattle.std.proofs.Math.Seq.{drop-append_seam}
 use Rattle.scpi.specs.Bytes.{colon_sign, query_sign, open_sign, close_sign, Small, All}
 use Rattle.scpi.specs.Grammar.{Word, short, long, Row, Row.r_none, Row.r_word, Row.r_bracket, text, Filled, Within}
 use Rattle.scpi.specs.Automaton.{scan, State.a_first, State.a_opened, State.a_closed}
-use Rattle.scpi.specs.Scans.{path_stay, path_colon, path_open, row-closed}
+use Rattle.scpi.specs.Scans.{path_stay, path_colon, path_open, row_closed}
 use Rattle.commands.specs.Sets.{On, Lands, Reach, reach_none, reach_word, reach_bracket}
 use Rattle.scpi.specs.Answers.{lt_or_ge}
 use Rattle.scpi.specs.Words.{leading, leading_all, part, HeadNot}
@@ -42,24 +42,24 @@ module _ (p : List ℕ) (b : ℕ) (w : Word) (t : List ℕ) (here : drop b p ≡
     at_caps : m ≡ b + length (short w)
     at_caps = em ∙ word_caps
 
-    pub behind-caps : drop m p ≡ w.smalls ++ t
-    behind-caps = rw (at_caps, ← drop-drop, there) (drop-append_seam (short w) (w.smalls ++ t))
+    pub behind_caps : drop m p ≡ w.smalls ++ t
+    behind_caps = rw (at_caps, ← drop-drop, there) (drop-append_seam (short w) (w.smalls ++ t))
 
     module _ (e : ℕ) (ee : e ≡ m + leading 97 122 (drop m p)) where
       at_end : e ≡ m + length w.smalls
-      at_end = ee ∙ rw behind-caps (ap (λ (k : ℕ). m + k) (leading_all 97 122 w.smalls t w.are_small n.1))
+      at_end = ee ∙ rw behind_caps (ap (λ (k : ℕ). m + k) (leading_all 97 122 w.smalls t w.are_small n.1))
 
-      pub behind-word : drop e p ≡ t
-      behind-word = rw (at_end, ← drop-drop, behind-caps) (drop-append_seam w.smalls t)
+      pub behind_word : drop e p ≡ t
+      behind_word = rw (at_end, ← drop-drop, behind_caps) (drop-append_seam w.smalls t)
 
-      pub part-short : (a : ℕ) (pre : List ℕ) → drop a p ≡ pre ++ (long w ++ t) → b ≡ a + length pre → part a m p ≡ pre ++ short w
-      part-short a pre d f =
+      pub part_short : (a : ℕ) (pre : List ℕ) → drop a p ≡ pre ++ (long w ++ t) → b ≡ a + length pre → part a m p ≡ pre ++ short w
+      part_short a pre d f =
           let g : length (pre ++ short w) ≡ m - a = let l : length (pre ++ short w) ≡ length pre + length (short w) = length-append pre (short w) in omega (arith, at_caps) in
           let s : drop a p ≡ (pre ++ short w) ++ (w.smalls ++ t) = d ∙ ap (λ (l : List ℕ). pre ++ l) (append_assoc (short w) w.smalls t) ∙ sym (append_assoc pre (short w) (w.smalls ++ t)) in
           ap (take (m - a)) s ∙ take_at (pre ++ short w) (w.smalls ++ t) (m - a) g
 
-      pub part-long : (a : ℕ) (pre : List ℕ) → drop a p ≡ pre ++ (long w ++ t) → b ≡ a + length pre → part a e p ≡ pre ++ long w
-      part-long a pre d f =
+      pub part_long : (a : ℕ) (pre : List ℕ) → drop a p ≡ pre ++ (long w ++ t) → b ≡ a + length pre → part a e p ≡ pre ++ long w
+      part_long a pre d f =
           let g : length (pre ++ long w) ≡ e - a =
           let l : length (pre ++ long w) ≡ length pre + length (long w) = length-append pre (long w) in
           let l' : length (long w) ≡ length (short w) + length w.smalls = length-append (short w) w.smalls in
@@ -143,9 +143,9 @@ module _ (d : ℕ) (p : List ℕ) (at : ℕ) (c s : List ℕ) (h : at < length p
           let nl : NoLetter (text r ++ rest) = no_letter r rest f in
           let y = k.word (omega (arith, em, word_caps p (at + 1) v (text r ++ rest) there nl)) in
           let ee : e ≡ m + leading 97 122 (drop m p) = y.1 in
-          let x = w.row y.0 r rest n f (behind-word p (at + 1) v (text r ++ rest) there nl m em e ee) in
-          let ps : part at m p ≡ colon_sign ∷ short v = part-short p (at + 1) v (text r ++ rest) there nl m em e ee at (colon_sign ∷ []) q' refl in
-          let pl : part at e p ≡ colon_sign ∷ long v = part-long p (at + 1) v (text r ++ rest) there nl m em e ee at (colon_sign ∷ []) q' refl in
+          let x = w.row y.0 r rest n f (behind_word p (at + 1) v (text r ++ rest) there nl m em e ee) in
+          let ps : part at m p ≡ colon_sign ∷ short v = part_short p (at + 1) v (text r ++ rest) there nl m em e ee at (colon_sign ∷ []) q' refl in
+          let pl : part at e p ≡ colon_sign ∷ long v = part_long p (at + 1) v (text r ++ rest) there nl m em e ee at (colon_sign ∷ []) q' refl in
           let st : (k : ℕ) → On t k ↔ (Lands (colon_sign ∷ short v) c s k ⊎ Lands (colon_sign ∷ long v) c s k) =
           subst (λ (a : List ℕ). (k : ℕ) → On t k ↔ (Lands (colon_sign ∷ short v) c s k ⊎ Lands a c s k)) pl
           (subst (λ (a : List ℕ). (k : ℕ) → On t k ↔ (Lands a c s k ⊎ Lands (part at e p) c s k)) ps y.2) in
@@ -211,7 +211,7 @@ module _ (d : ℕ) (p : List ℕ) (at : ℕ) (c s : List ℕ) (i : ℕ) (t : Lis
 
       closed : (at ≤ i + 1) × (i + 1 ≤ length p) × (scan (a_opened (suc d)) (drop at p) at ≡ scan (a_closed d) (drop (i + 1) p) (i + 1))
       closed =
-          row-closed d p at (omega (arith, begun, k.0)) (w.item begun) i
+          row_closed d p at (omega (arith, begun, k.0)) (w.item begun) i
           (w.onward, ended, (path_stay (suc d) p i k.0 (λ e. omega (arith, k.1)) (λ e. omega (arith, k.1))).2, w.read ended)
           k.0 k.1
 

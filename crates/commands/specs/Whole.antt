@@ -10,12 +10,12 @@ use Rattle.commands.specs.Spelling.{SpellsRow.s_dropped, SpellsTree, SpellsTree.
 use Rattle.commands.specs.Cuts.{Cut, cut_behind, cut_append, cut_first, cut_last, cut_inside}
 use Rattle.commands.specs.Sets.{On, Lands, Reach}
 use Rattle.scpi.specs.Answers.{Says, says_as}
-use Rattle.scpi.specs.Scans.{PathRead, path_end, path_stay, word_on, whole-end, EndRead, end_good, end_asked}
+use Rattle.scpi.specs.Scans.{PathRead, path_end, path_stay, word_on, whole_end, EndRead, end_good, end_asked}
 use Rattle.scpi.specs.Verdicts.{Verdict, verdict_short}
 use Rattle.scpi.specs.declared.Checked.TheVariants.{Good}
-use Rattle.scpi.specs.declared.Found.TheVariants.{On as read-on}
+use Rattle.scpi.specs.declared.Found.TheVariants.{On as read_on}
 use Rattle.scpi.specs.Words.{leading, starts, part, Begins, begins_starts, starts_begins, like_length, between_yes}
-use Rattle.commands.specs.Walks.{Ends, NoLetter, Walked, no_letter, behind-word, part-short, part-long}
+use Rattle.commands.specs.Walks.{Ends, NoLetter, Walked, no_letter, behind_word, part_short, part_long}
 
 -- the word and the row spell the command up to place k
 pub record Upto (w : Word) (r : Row) (c : List ℕ) (k : ℕ) : Type 0 where
@@ -315,12 +315,12 @@ module _ (p c : List ℕ) (m e : ℕ) (s t : List ℕ) (to : ℕ) (u : List ℕ)
     nl = no_letter r (mark q) (ends q)
 
     walked : (to ≤ length p) × (drop to p ≡ mark q) × ((j : ℕ) → On u j ↔ Reach r c t j)
-    walked = walk.row le r (mark q) h (ends q) (behind-word p 0 w (text r ++ mark q) here nl m em e ee)
+    walked = walk.row le r (mark q) h (ends q) (behind_word p 0 w (text r ++ mark q) here nl m em e ee)
 
     stepped : (k : ℕ) → On t k ↔ (Lands (short w) c s k ⊎ Lands (long w) c s k)
     stepped =
-        let ps : part 0 m p ≡ short w = part-short p 0 w (text r ++ mark q) here nl m em e ee 0 [] here refl in
-        let pl : part 0 e p ≡ long w = part-long p 0 w (text r ++ mark q) here nl m em e ee 0 [] here refl in
+        let ps : part 0 m p ≡ short w = part_short p 0 w (text r ++ mark q) here nl m em e ee 0 [] here refl in
+        let pl : part 0 e p ≡ long w = part_long p 0 w (text r ++ mark q) here nl m em e ee 0 [] here refl in
         subst (λ (a : List ℕ). (k : ℕ) → On t k ↔ (Lands (short w) c s k ⊎ Lands a c s k)) pl (subst (λ (a : List ℕ). (k : ℕ) → On t k ↔ (Lands a c s k ⊎ Lands (part 0 e p) c s k)) ps step)
 
     left : length p - to ≡ length (mark q)
@@ -344,35 +344,35 @@ module _ (p c : List ℕ) (m e : ℕ) (s t : List ℕ) (to : ℕ) (u : List ℕ)
 
   -- what the walk read up to a good end is a good pattern
   module _ (fits : length p ≤ 128) (some : 0 < m) (n : get_or p 0 0 ≡ star_sign → ⊥) where
-    read_whole : PathRead 0 p e (read-on to) → EndRead p to Good → GoodPattern p
+    read_whole : PathRead 0 p e (read_on to) → EndRead p to Good → GoodPattern p
     read_whole x f =
         let l : m ≤ e = omega arith in
-        subst (Verdict p) (whole-end p (omega arith) n e (word_on p 0 m em e some (omega arith) ee le) to x Good f) (verdict_short p fits)
+        subst (Verdict p) (whole_end p (omega arith) n e (word_on p 0 m em e some (omega arith) ee le) to x Good f) (verdict_short p fits)
 
     -- the pattern ended with the row
-    pub matches-plain : to ≡ length p → (b : Bool) → Says b (On u (length c)) → Says b (Matches p c)
-    matches-plain l b y =
+    pub matches_plain : to ≡ length p → (b : Bool) → Says b (On u (length c)) → Says b (Matches p c)
+    matches_plain l b y =
         let g : length p ≤ to = omega arith in
         let h : to ≤ length p = omega arith in
         path_matches p c b n (says_plain l b y) (read_whole (walk.onward, h, (path_end 0 p to h g).2, walk.read h) (end_good p to g))
 
     -- "?" is left
-    pub matches-asked : to + 1 ≡ length p → get_or p to 0 ≡ query_sign → (b : Bool) → Says b ((0 < length c) × (get_or c (length c - 1) 0 ≡ query_sign) × On u (length c - 1)) → Says b (Matches p c)
-    matches-asked l q b y =
+    pub matches_asked : to + 1 ≡ length p → get_or p to 0 ≡ query_sign → (b : Bool) → Says b ((0 < length c) × (get_or c (length c - 1) 0 ≡ query_sign) × On u (length c - 1)) → Says b (Matches p c)
+    matches_asked l q b y =
         let g : to < length p = omega arith in
         let h : to ≤ length p = omega arith in
         path_matches p c b n (says_asked l b y) (read_whole (walk.onward, h, (path_stay 0 p to g (λ z. omega arith) (λ z. omega arith)).2, walk.read h) (end_asked p to g q (omega arith)))
 
     -- something else is left, or the walk found the pattern bad
-    pub matches-none : (to ≡ length p → ⊥) → (to + 1 ≡ length p → get_or p to 0 ≡ query_sign → ⊥) → Matches p c → ⊥
-    matches-none f g = path_refused p c n (says_behind f g)
+    pub matches_none : (to ≡ length p → ⊥) → (to + 1 ≡ length p → get_or p to 0 ≡ query_sign → ⊥) → Matches p c → ⊥
+    matches_none f g = path_refused p c n (says_behind f g)
 
 -- the command does not begin with the pattern's capitals
 pub says_other : (p c : List ℕ) (m : ℕ) → m ≡ 0 + leading 65 90 (drop 0 p) → starts (part 0 m p) (drop 0 c) ≡ false → PathSays p c false
 says_other p c m em n w r q h same = λ s.
     let here : drop 0 p ≡ long w ++ (text r ++ mark q) = sym same in
     let nl : NoLetter (text r ++ mark q) = no_letter r (mark q) (ends q) in
-    let ps : part 0 m p ≡ short w = part-short p 0 w (text r ++ mark q) here nl m em (m + leading 97 122 (drop m p)) refl 0 [] here refl in
+    let ps : part 0 m p ≡ short w = part_short p 0 w (text r ++ mark q) here nl m em (m + leading 97 122 (drop m p)) refl 0 [] here refl in
     let f : starts (short w) c ≡ true = first_short w r q c s in
     let g : starts (short w) c ≡ false = ap (λ (l : List ℕ). starts l c) (sym ps) ∙ n in
     absurd (let k : ◌≡◌ {A = ℕ} 0 1 = cc in omega arith)

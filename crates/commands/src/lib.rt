@@ -1,4 +1,6 @@
 // Commands against patterns (02, Q-12): which commands a pattern matches, and lists of patterns: what is refused, what is allowed.
+#![tactic(auto)]
+
 pub mod allowing;
 pub mod listing;
 pub mod matching;

@@ -1,5 +1,7 @@
 // CRC-32 as IEEE 802.3 has it, in its reflected form (02: edb88320 hex): the register begins as ffffffff hex and is turned round at
 // the end. Eight bytes a step, by the eight rows of a table (`crc_table`); what is left of a run, a byte a step.
+#![tactic(auto)]
+
 ghost use Rattle.crc.specs.Crc.{byte_step, crc_of, feed_of, finish_of, first_register};
 ghost use Rattle.crc.specs.Looks.{looks_of};
 ghost use Rattle.std.specs.Prelude.{◌+◌, ◌*◌, ◌≤◌, ◌<◌, length, [], ◌∷◌, ◌≡◌};

@@ -1,6 +1,8 @@
 // The look-up table of CRC-32, as matches: a match of constants becomes a table in the object's constants, where a constant array would be
 // laid out on the stack at every sum. Keys go from 256 on: below 256 the compiler narrows them to signed bytes, an instruction more a look-up.
 // A match of 256 arms is inlined only into its one caller, so a sum calls `entry` at one place, in a loop that the compiler unrolls.
+#![tactic(auto)]
+
 ghost use Rattle.crc_table.specs.Polynomial.{crc_table};
 ghost use Rattle.crc_table.specs.Table.{Packed, rows_table};
 ghost use Rattle.std.specs.Prelude.{◌+◌, ◌*◌, ◌%◌, min, get_or, ◌≡◌};

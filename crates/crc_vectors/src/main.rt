@@ -1,6 +1,8 @@
 // Published check values of CRC-32, run on the proved code: the sum of all the bytes at once, and in two parts. What is printed is
 // compared with `stdout`, which is written from the published values.
 
+#![tactic(auto)]
+
 fn sum_in_parts(bytes: &[u8]) -> u32 {
     let e = bytes.len();
     let m = e / 3;

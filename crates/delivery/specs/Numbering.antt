@@ -68,18 +68,18 @@ module _ (h : Header) (x : Exchange) where
   off_channel r_asynchronous o = refl
 
   module _ (ro : Role) (e : role_number ro ≡ 2) where
-    on-channel : moves_on ro h x ≡ carries h x
-    on-channel = ap (λ (z : Role). moves_on z h x) (role_sync ro e)
+    on_channel : moves_on ro h x ≡ carries h x
+    on_channel = ap (λ (z : Role). moves_on z h x) (role_sync ro e)
 
-    pub left-in-clear : x.in_clear ≡ true → moves_on ro h x ≡ false
-    left-in-clear q = on-channel ∙ rw q
+    pub left_in_clear : x.in_clear ≡ true → moves_on ro h x ≡ false
+    left_in_clear q = on_channel ∙ rw q
 
     module _ (q : x.in_clear ≡ false) where
-      pub left-by-kind : is_command h.kind ≡ false → moves_on ro h x ≡ false
-      left-by-kind k = on-channel ∙ rw (q, sym (commands_are h.kind) ∙ k)
+      pub left_by_kind : is_command h.kind ≡ false → moves_on ro h x ≡ false
+      left_by_kind k = on_channel ∙ rw (q, sym (commands_are h.kind) ∙ k)
 
       pub by_number : is_command h.kind ≡ true → (b : Bool) → eqb h.param x.number_expected ≡ b → moves_on ro h x ≡ b
-      by_number k b n = on-channel ∙ rw (q, sym (commands_are h.kind) ∙ k) n
+      by_number k b n = on_channel ∙ rw (q, sym (commands_are h.kind) ∙ k) n
 
 -- an Error, behind a change of the session's exchange
 pub error_moved : (d d₁ : Server) (q : Rest) (c n k l : ℕ) (r : Delivery) (m m₁ m' : Memory) (out out' : List ℕ) → d₁ ≡ record { locks = d.locks; rest = q }

@@ -35,40 +35,40 @@ module _ (d : Server) (c i : ℕ) (x : Scan) (ro : Role) (r : Delivery) (m m' : 
   by_verdict y z e q = subst Done (sym e) q
 
   module _ (v : ℕ) where
-    pub fatal-done : 16 ≤ v → v < 32 → Did (finish d (close_plan d c i (fatals (v - 16) (channels d c)))) r m m' out out' → Done (verdict_of v)
+    pub fatal_done : 16 ≤ v → v < 32 → Did (finish d (close_plan d c i (fatals (v - 16) (channels d c)))) r m m' out out' → Done (verdict_of v)
     unfolding effect
-    fatal-done l u q = by_verdict (verdict_of v) (v_fatal (v - 16)) (rw (le-ltb v 16 l, lt-ltb v 32 u)) q
+    fatal_done l u q = by_verdict (verdict_of v) (v_fatal (v - 16)) (rw (le-ltb v 16 l, lt-ltb v 32 u)) q
 
     -- an Error that takes k bytes, leaves l to skip, and n as the number expected
     abbrev Erred : ℕ → ℕ → ℕ → Type 0
     Erred k l n =
         Did (finish d (plainly (took error_sent k 0) (with_connection (with_exchange d.rest i (with_number n (exchange_at d.rest i))) c (open_connection l)) (say c Error (v - 32) 0))) r m m' out out'
 
-    pub error-done : 32 ≤ v → (k l : ℕ) → size x ≡ k → leftover x ≡ l → (b : Bool) → number_taken ro x (exchange_at d.rest i) ≡ (moved_by b (exchange_at d.rest i)).number_expected
+    pub error_done : 32 ≤ v → (k l : ℕ) → size x ≡ k → leftover x ≡ l → (b : Bool) → number_taken ro x (exchange_at d.rest i) ≡ (moved_by b (exchange_at d.rest i)).number_expected
         → (d₁ : Server) (m₁ : Memory) → d₁ ≡ on_rest d (with_slot i (moved_by b)) → (Tidy m → Tidy m₁) → Did (finish d₁ (error_plan d₁ c (v - 32) k l)) r m₁ m' out out' → Done (verdict_of v)
     unfolding effect
-    error-done h k l e f b g d₁ m₁ p t q =
+    error_done h k l e f b g d₁ m₁ p t q =
         let n : ℕ = (moved_by b (exchange_at d.rest i)).number_expected in
         by_verdict (verdict_of v) (v_error (v - 32)) (rw (le-ltb v 16 (omega arith), le-ltb v 32 h))
         (subst (λ (a : ℕ). Erred (size x) (leftover x) a) (sym g)
         (subst (λ (a : ℕ). Erred (size x) a n) (sym f)
         (subst (λ (a : ℕ). Erred a l n) (sym e) (error_moved d d₁ (with_slot i (moved_by b) d.rest) c (v - 32) k l r m m₁ m' out out' p t q))))
 
-    pub closed-done : v ≡ 4 → Did (finish d (close_plan d c i [])) r m m' out out' → Done (verdict_of v)
+    pub closed_done : v ≡ 4 → Did (finish d (close_plan d c i [])) r m m' out out' → Done (verdict_of v)
     unfolding effect
-    closed-done e q = by_verdict (verdict_of v) v_closed (rw e) q
+    closed_done e q = by_verdict (verdict_of v) v_closed (rw e) q
 
-    pub ignored-done : v ≡ 3 → (k : ℕ) → size x ≡ k → Did (finish d (ignore_plan d k)) r m m' out out' → Done (verdict_of v)
+    pub ignored_done : v ≡ 3 → (k : ℕ) → size x ≡ k → Did (finish d (ignore_plan d k)) r m m' out out' → Done (verdict_of v)
     unfolding effect
-    ignored-done e k f q = by_verdict (verdict_of v) v_ignored (rw e) (subst (λ (a : ℕ). Did (finish d (ignore_plan d a)) r m m' out out') (sym f) q)
+    ignored_done e k f q = by_verdict (verdict_of v) v_ignored (rw e) (subst (λ (a : ℕ). Did (finish d (ignore_plan d a)) r m m' out out') (sym f) q)
 
-    pub held-done : v ≡ 2 → Did (finish d (idle d (took held 0 0))) r m m' out out' → Done (verdict_of v)
+    pub held_done : v ≡ 2 → Did (finish d (idle d (took held 0 0))) r m m' out out' → Done (verdict_of v)
     unfolding effect
-    held-done e q = by_verdict (verdict_of v) v_held (rw e) q
+    held_done e q = by_verdict (verdict_of v) v_held (rw e) q
 
-    pub more-done : v < 16 → (v ≡ 2 → ⊥) → (v ≡ 3 → ⊥) → (v ≡ 4 → ⊥) → (v ≡ 5 → ⊥) → Did (finish d (idle d (took more_needed 0 0))) r m m' out out' → Done (verdict_of v)
+    pub more_done : v < 16 → (v ≡ 2 → ⊥) → (v ≡ 3 → ⊥) → (v ≡ 4 → ⊥) → (v ≡ 5 → ⊥) → Did (finish d (idle d (took more_needed 0 0))) r m m' out out' → Done (verdict_of v)
     unfolding effect
-    more-done h e₂ e₃ e₄ e₅ q = by_verdict (verdict_of v) v_more (rw (lt-ltb v 16 h, ne_eqb v 2 e₂, ne_eqb v 3 e₃, ne_eqb v 4 e₄, ne_eqb v 5 e₅)) q
+    more_done h e₂ e₃ e₄ e₅ q = by_verdict (verdict_of v) v_more (rw (lt-ltb v 16 h, ne_eqb v 2 e₂, ne_eqb v 3 e₃, ne_eqb v 4 e₄, ne_eqb v 5 e₅)) q
 
 -- a whole message that acts
 pub acts_done : (d : Server) (c i : ℕ) (h : Header) (p : List ℕ) (ro : Role) (r : Delivery) (m m' : Memory) (out out' : List ℕ) (y : Verdict) → y ≡ v_acts

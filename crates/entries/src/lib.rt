@@ -1,4 +1,6 @@
 // The entry of an event that a call keeps: how its body begins, and the body's parts written, unless the event was refused.
+#![tactic(auto)]
+
 ghost use Rattle.std.specs.Prelude.{◌+◌, ◌≤◌, length, ◌++◌, ◌≡◌};
 ghost use Rattle.entries.specs.Entries.{Keeps, entry_unless};
 ghost use Rattle.journal.specs.Journal.{body_limit};

@@ -1,4 +1,6 @@
 // The bench examples of the scope paper, run on the proved server. What is printed is compared with `stdout`, which is written from the paper.
+#![tactic(auto)]
+
 mod bench;
 mod calls;
 mod text;

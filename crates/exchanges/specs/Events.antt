@@ -35,16 +35,16 @@ module _ (x : Exchange) where
   counted_number o n e = rw o e
 
   module _ (v : ℕ) (o : x.overlap ≡ false) (e : exchange_with 1 v x ≡ x) where
-    asked-read : x.asked ≡ asked_of v
-    asked-read = sym (ap (λ (y : Exchange). y.asked) e)
+    asked_read : x.asked ≡ asked_of v
+    asked_read = sym (ap (λ (y : Exchange). y.asked) e)
 
-    pub nothing-number : v ≡ 0 → answer_number x ≡ 0
+    pub nothing_number : v ≡ 0 → answer_number x ≡ 0
     unfolding answer_number
-    nothing-number h = rw o (ap number_asked asked-read ∙ rw (eq-eqb v 0 h))
+    nothing_number h = rw o (ap number_asked asked_read ∙ rw (eq-eqb v 0 h))
 
     pub asked_number_lem : (v ≡ 0 → ⊥) → answer_number x ≡ (v - 1) % 4294967296
     unfolding answer_number
-    asked_number_lem h = rw o (ap number_asked asked-read ∙ rw (ne_eqb v 0 h))
+    asked_number_lem h = rw o (ap number_asked asked_read ∙ rw (ne_eqb v 0 h))
 
 -- an answer without END: message available goes on, and it is counted; with END nothing is asked any more, and an RMT
 -- is expected

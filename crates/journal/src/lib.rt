@@ -1,4 +1,6 @@
 // The journal (02: day book): entries in a lent slice, the book, each with a trailer that points back; its writer and its two readers.
+#![tactic(auto)]
+
 ghost use Rattle.journal.specs.Writer.{kept_number};
 ghost use Rattle.std.specs.Prelude.{◌≡◌};
 

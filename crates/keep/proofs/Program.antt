@@ -236,12 +236,12 @@ module _ (v : Making) (m m' : Memory) (w b w' b' : List ℕ) (ts : List Told) (l
   found = read_open (bodies ts) w' b' all_hold
 
   module _ (k : ℕ) (w'' b'' : List ℕ) (h : Keeps (close_of w' b') k w'' b'') where
-    is-closed : IsClosed (bodies ts) (close_of w' b')
-    is-closed = close_closes (bodies ts) w' b' all_hold
+    is_closed : IsClosed (bodies ts) (close_of w' b')
+    is_closed = close_closes (bodies ts) w' b' all_hold
 
     shut : (k ≡ 0) × ClosedAs (bodies ts) w'' b''
     shut =
-        let c = is-closed in
+        let c = is_closed in
         let j : List ℕ = closed_journal (bodies ts) in
         let i : place w'' ≡ length j = ap place (h.words_are ∙ c.says) in
         let a : take (length j) b'' ≡ j = ap (take (length j)) h.book_is ∙ c.all in

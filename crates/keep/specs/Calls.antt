@@ -57,7 +57,7 @@ module _ (m m' : Memory) (e : Event) (out out' : List ℕ) (l : length out ≡ r
   told_done r h =
       let y : Reply = (step (view m) e).reply in
       let k : ℕ = length (bytes_of (step (view m) e).frames) in
-      by_numbers r.refusal r.output (ap (λ (a : DoneAnswer). a.refusal) h.numbers ∙ number_of y k) (ap (λ (a : DoneAnswer). a.output) h.numbers ∙ output-of y k) h.post
+      by_numbers r.refusal r.output (ap (λ (a : DoneAnswer). a.refusal) h.numbers ∙ number_of y k) (ap (λ (a : DoneAnswer). a.output) h.numbers ∙ output_of y k) h.post
     where
       number_of : (y : Reply) (k : ℕ) → (done_answer y k).refusal ≡ refused_by y
       number_of (refused n) k = refl
@@ -65,18 +65,18 @@ module _ (m m' : Memory) (e : Event) (out out' : List ℕ) (l : length out ≡ r
       number_of withheld k = refl
       number_of (took o j n) k = refl
 
-      output-of : (y : Reply) (k : ℕ) → (done_answer y k).output ≡ output_by y k
-      output-of (refused n) k = refl
-      output-of done k = refl
-      output-of withheld k = refl
-      output-of (took o j n) k = refl
+      output_of : (y : Reply) (k : ℕ) → (done_answer y k).output ≡ output_by y k
+      output_of (refused n) k = refl
+      output_of done k = refl
+      output_of withheld k = refl
+      output_of (took o j n) k = refl
 
   pub told_delivery : (r : Delivery) → Delivered e r m m' out out' → Handed (view m) e r.refusal r.output out'
   told_delivery r h =
       let y : Reply = (step (view m) e).reply in
       let k : ℕ = length (bytes_of (step (view m) e).frames) in
       by_numbers r.refusal r.output (ap (λ (a : DeliveryAnswer). a.refusal) h.numbers ∙ number_of y k (missing (view m) e))
-      (ap (λ (a : DeliveryAnswer). a.output) h.numbers ∙ output-of y k (missing (view m) e)) h.post
+      (ap (λ (a : DeliveryAnswer). a.output) h.numbers ∙ output_of y k (missing (view m) e)) h.post
     where
       number_of : (y : Reply) (k l : ℕ) → (delivery_answer y k l).refusal ≡ refused_by y
       number_of (refused n) k l = refl
@@ -84,17 +84,17 @@ module _ (m m' : Memory) (e : Event) (out out' : List ℕ) (l : length out ≡ r
       number_of withheld k l = refl
       number_of (took o j n) k l = refl
 
-      output-of : (y : Reply) (k l : ℕ) → (delivery_answer y k l).output ≡ output_by y k
-      output-of (refused n) k l = refl
-      output-of done k l = refl
-      output-of withheld k l = refl
-      output-of (took o j n) k l = refl
+      output_of : (y : Reply) (k l : ℕ) → (delivery_answer y k l).output ≡ output_by y k
+      output_of (refused n) k l = refl
+      output_of done k l = refl
+      output_of withheld k l = refl
+      output_of (took o j n) k l = refl
 
   pub told_answer : (r : Answered) → Replied e r m m' out out' → Handed (view m) e r.refusal r.output out'
   told_answer r h =
       let y : Reply = (step (view m) e).reply in
       let k : ℕ = length (bytes_of (step (view m) e).frames) in
-      by_numbers r.refusal r.output (ap (λ (a : AnsweredAnswer). a.refusal) h.numbers ∙ number_of y k) (ap (λ (a : AnsweredAnswer). a.output) h.numbers ∙ output-of y k) h.post
+      by_numbers r.refusal r.output (ap (λ (a : AnsweredAnswer). a.refusal) h.numbers ∙ number_of y k) (ap (λ (a : AnsweredAnswer). a.output) h.numbers ∙ output_of y k) h.post
     where
       number_of : (y : Reply) (k : ℕ) → (answered_answer y k).refusal ≡ refused_by y
       number_of (refused n) k = refl
@@ -102,11 +102,11 @@ module _ (m m' : Memory) (e : Event) (out out' : List ℕ) (l : length out ≡ r
       number_of withheld k = refl
       number_of (took o j n) k = refl
 
-      output-of : (y : Reply) (k : ℕ) → (answered_answer y k).output ≡ output_by y k
-      output-of (refused n) k = refl
-      output-of done k = refl
-      output-of withheld k = refl
-      output-of (took o j n) k = refl
+      output_of : (y : Reply) (k : ℕ) → (answered_answer y k).output ≡ output_by y k
+      output_of (refused n) k = refl
+      output_of done k = refl
+      output_of withheld k = refl
+      output_of (took o j n) k = refl
 
 -- a status change is never refused, and hands nothing over
 pub told_status : (m m' : Memory) (b : ℕ) → Post view (status b) m m' [] [] done 0 → Handed (view m) (status b) 0 0 []

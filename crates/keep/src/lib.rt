@@ -1,4 +1,6 @@
 // The calls that keep a journal (02, Q-7): each does the plain call's event, and then writes its entry.
+#![tactic(auto)]
+
 ghost use Rattle.std.specs.Prelude.{min, eqb, length, not, [], ◌≡◌};
 ghost use Rattle.model.specs.Interface.{Event, Event.answer, Event.clock, Event.cut, Event.delivery, Event.opening, Reply};
 ghost use Rattle.model.specs.Post.{Post};

@@ -87,30 +87,30 @@ module _ (l : Locks) (i : ℕ) (k : List ℕ) where
       ∙ ap (λ (x : Bool). ruling false true x m z) (short_of s h a e)
 
   module _ (t : ℕ) where
-    pub request-invalid : unable l i k ≡ true → change l (request i t k) ≡ told l (tell l.entries i 3 true)
+    pub request_invalid : unable l i k ≡ true → change l (request i t k) ≡ told l (tell l.entries i 3 true)
     unfolding change unable
-    request-invalid e =
+    request_invalid e =
         ap (λ (r : Ruling). respond r l i t k)
         (ruled_out (invalid_by k (at l.entries i)) (holds k (at l.entries i)) (all (elsewhere i) l.waiting) (may_grant l.entries i k) (eqb t 0 || no_place l.waiting) e)
 
-    pub request-decided : unable l i k ≡ false → change l (request i t k) ≡ decided l i t k
+    pub request_decided : unable l i k ≡ false → change l (request i t k) ≡ decided l i t k
     unfolding change unable decided
-    request-decided e =
+    request_decided e =
         ap (λ (r : Ruling). respond r l i t k)
         (ruled (invalid_by k (at l.entries i)) (holds k (at l.entries i)) (all (elsewhere i) l.waiting) (may_grant l.entries i k) (eqb t 0 || no_place l.waiting) e)
 
-    pub decided-granted : may_grant l.entries i k ≡ true → decided l i t k ≡ told (with_entries l (upd l.entries i (give_at l.clock k))) (tell l.entries i 1 true)
+    pub decided_granted : may_grant l.entries i k ≡ true → decided l i t k ≡ told (with_entries l (upd l.entries i (give_at l.clock k))) (tell l.entries i 1 true)
     unfolding decided
-    decided-granted e = rw (e, upd_set l.entries i blank (give_at l.clock k))
+    decided_granted e = rw (e, upd_set l.entries i blank (give_at l.clock k))
 
-    pub decided-denied : may_grant l.entries i k ≡ false → (eqb t 0 || no_place l.waiting) ≡ true → decided l i t k ≡ told l (tell l.entries i 0 true)
+    pub decided_denied : may_grant l.entries i k ≡ false → (eqb t 0 || no_place l.waiting) ≡ true → decided l i t k ≡ told l (tell l.entries i 0 true)
     unfolding decided
-    decided-denied e o = rw (e, o)
+    decided_denied e o = rw (e, o)
 
-    pub decided-queued : may_grant l.entries i k ≡ false → (eqb t 0 || no_place l.waiting) ≡ false
+    pub decided_queued : may_grant l.entries i k ≡ false → (eqb t 0 || no_place l.waiting) ≡ false
         → decided l i t k ≡ unanswered (with_waiting l (l.waiting ++ record { slot = i; deadline = l.clock + t; string = k } ∷ []))
     unfolding decided
-    decided-queued e o = rw (e, o)
+    decided_queued e o = rw (e, o)
 
 -- the kind that a string asks for, by its length
 pub holds_none : (k : List ℕ) (e : Entry) → length k ≡ 0 → holds k e ≡ e.exclusive

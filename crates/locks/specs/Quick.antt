@@ -8,7 +8,7 @@ use Rattle.model.specs.State.{Waiting, Locks, Kind.exclusive_lock, at}
 use Rattle.model.specs.Locks.{LockEvent.release, LockEvent.request, no_exclusive, no_shared, may_grant, give_at, tell, with_entries, elsewhere, stands, change, grant_pass}
 use Rattle.state.specs.Grid.{upd}
 use Rattle.holding.specs.Access.{but_one, one_of}
-use Rattle.locks.specs.Asking.{decided-granted, holds_none, request-decided, unable_waits}
+use Rattle.locks.specs.Asking.{decided_granted, holds_none, request_decided, unable_waits}
 use Rattle.grants.specs.Granting.{may_alone}
 use Rattle.holding.specs.Outcome.{told}
 use Rattle.locks.specs.Release.{freed, release_now, ruled_exclusive, ruled_now}
@@ -31,10 +31,10 @@ module _ (l : Locks) (i : ℕ) (k : List ℕ) (n : length k ≡ 0) (f : Free l i
 
   pub free_request : (t : ℕ) → change l (request i t k) ≡ told (with_entries l (upd l.entries i (give_at l.clock k))) (tell l.entries i 1 true)
   free_request t =
-      request-decided l i k t
+      request_decided l i k t
       (unable_waits l i k true (omega arith) f.settles (holds_none k (at l.entries i) n
       ∙ not-true (at l.entries i).exclusive (one_of no_exclusive l.entries i refl f.exclusive)) (none_waits i l.waiting f.waiting))
-      ∙ decided-granted l i k t free_grants
+      ∙ decided_granted l i k t free_grants
 
 -- slot i holds the exclusive lock, message n is the last, nobody waits, and no release of the slot stands
 pub record Ended (l : Locks) (i n : ℕ) : Type 0 where

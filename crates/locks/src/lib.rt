@@ -1,5 +1,7 @@
 // The lock rules of 01 in code: requests, releases, and a release that takes effect later. Each function does to the lent memory and the
 // output what the model says of one lock event.
+#![tactic(auto)]
+
 pub mod complete;
 pub mod quick;
 pub mod release;

@@ -1,5 +1,7 @@
 // A part of an entry, moved into the book: sixteen bytes a step, and of what is left eight, four, two, one. What a step moves is read before
 // the first byte of it is written, so that the machine moves it at once. Every byte is written behind those before it.
+#![tactic(auto)]
+
 ghost use Rattle.std.specs.Prelude.{◌+◌, ◌*◌, ◌/◌, ◌≤◌, min, length, [], ◌∷◌, ◌≡◌};
 ghost use Rattle.moves.specs.Body.{body_limit};
 ghost use Rattle.moves.specs.Moves.{moved};

@@ -1,4 +1,6 @@
 // The four questions of a host, which change nothing.
+#![tactic(auto)]
+
 mod asking;
 mod holders;
 mod watched;

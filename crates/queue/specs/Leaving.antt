@@ -20,7 +20,7 @@ use Rattle.state.specs.Change.{off, here}
 use Rattle.queue.specs.Requests.{count_of, Idle, part_behind, part_before, slot_small, laid_view, laid_string}
 use Rattle.queue.specs.Queue.{slot_off, past_count, on_waiting, queued}
 use Rattle.state.specs.Tidy.{Tidy, TidyOver, Counted, Away, ExchangeRange, ConnectionRange, OrderRange, TidyRequest, TidyQueue, TidyKey, SensingRange}
-use Rattle.state.specs.Keeping.{kept_values, kept_range, kept_singles, kept-rows, kept-homes, kept_request, kept_queue, kept_key, kept_list}
+use Rattle.state.specs.Keeping.{kept_values, kept_range, kept_singles, kept_rows, kept_homes, kept_request, kept_queue, kept_key, kept_list}
 use Rattle.queue.specs.Wiping.{Wiped, undated, emptied, request_wiped}
 
 -- memory that agrees with w, s in order in all but the queue, the count and the requests
@@ -42,8 +42,8 @@ module _ (In In' : ℕ → Type 0) (w w' s s' : List ℕ) (t : TidyOver In (memo
         orders = kept_range In w w' s s' t OrderRange ORDERS ORDER ORDER session_limit (λ i f h l. front (ORDERS + i * ORDER + f) (omega arith) (omega arith)) t.orders;
         singles = kept_singles In w w' s s' t (front CLOCK (omega arith) (omega arith)) (front HOLDER (omega arith) (omega arith))
             (subst (λ (x : ℕ). x < 2 ^ session_limit) (sym sharers) t.singles.sharers) count;
-        rows = kept-rows In w w' s s' t (λ i f h l. front (ENTRIES + i * ENTRY + f) (omega arith) (omega arith)) (λ c h. front (home_at c) (omega arith) (omega arith));
-        homes = kept-homes In w w' s s' t (λ i f h l. front (ENTRIES + i * ENTRY + f) (omega arith) (omega arith)) (λ c h. front (home_at c) (omega arith) (omega arith));
+        rows = kept_rows In w w' s s' t (λ i f h l. front (ENTRIES + i * ENTRY + f) (omega arith) (omega arith)) (λ c h. front (home_at c) (omega arith) (omega arith));
+        homes = kept_homes In w w' s s' t (λ i f h l. front (ENTRIES + i * ENTRY + f) (omega arith) (omega arith)) (λ c h. front (home_at c) (omega arith) (omega arith));
         requests = r;
         queue = q;
         key = kept_key In w w' s s' t (front KEY (omega arith) (omega arith)) (λ z. sym sharers ∙ z) (λ j l. letters j (inl l));
@@ -455,33 +455,33 @@ module _ (w s : List ℕ) (p : ℕ) (few : p < session_limit) (long : length w �
     short : i < session_limit
     short = slot_small w p
 
-    long-1 : length (set w (REQUESTS + i * REQUEST + 0) 0) ≡ WORDS
-    long-1 = length-set w (REQUESTS + i * REQUEST + 0) 0 ∙ long
+    long_1 : length (set w (REQUESTS + i * REQUEST + 0) 0) ≡ WORDS
+    long_1 = length-set w (REQUESTS + i * REQUEST + 0) 0 ∙ long
 
-    long-2 : length u ≡ WORDS
-    long-2 = length-set (set w (REQUESTS + i * REQUEST + 0) 0) (REQUESTS + i * REQUEST + 1) 0 ∙ long-1
+    long_2 : length u ≡ WORDS
+    long_2 = length-set (set w (REQUESTS + i * REQUEST + 0) 0) (REQUESTS + i * REQUEST + 1) 0 ∙ long_1
 
-    long-3 : length u' ≡ WORDS
-    long-3 = length-set u (QUEUE + p) 0 ∙ long-2
+    long_3 : length u' ≡ WORDS
+    long_3 = length-set u (QUEUE + p) 0 ∙ long_2
 
     same_word : (a : ℕ) → (a ≡ QUEUE + p → ⊥) → ((f : ℕ) → f < REQUEST → a ≡ REQUESTS + i * REQUEST + f → ⊥) → word u' a ≡ word w a
     same_word a o q = off u (QUEUE + p) 0 a o ∙ off (set w (REQUESTS + i * REQUEST + 0) 0) (REQUESTS + i * REQUEST + 1) 0 a (q 1 (lit< tt)) ∙ off w (REQUESTS + i * REQUEST + 0) 0 a (q 0 (lit< tt))
 
-    no-date : word u' (REQUESTS + i * REQUEST + 0) ≡ 0
-    no-date =
+    no_date : word u' (REQUESTS + i * REQUEST + 0) ≡ 0
+    no_date =
         off u (QUEUE + p) 0 (REQUESTS + i * REQUEST + 0) (omega (arith, short))
         ∙ off (set w (REQUESTS + i * REQUEST + 0) 0) (REQUESTS + i * REQUEST + 1) 0 (REQUESTS + i * REQUEST + 0) (omega arith)
         ∙ here w (REQUESTS + i * REQUEST + 0) 0 (omega (arith, short))
 
-    no-long : word u' (REQUESTS + i * REQUEST + 1) ≡ 0
-    no-long = off u (QUEUE + p) 0 (REQUESTS + i * REQUEST + 1) (omega (arith, short)) ∙ here (set w (REQUESTS + i * REQUEST + 0) 0) (REQUESTS + i * REQUEST + 1) 0 (omega (arith, short, long-1))
+    no_long : word u' (REQUESTS + i * REQUEST + 1) ≡ 0
+    no_long = off u (QUEUE + p) 0 (REQUESTS + i * REQUEST + 1) (omega (arith, short)) ∙ here (set w (REQUESTS + i * REQUEST + 0) 0) (REQUESTS + i * REQUEST + 1) 0 (omega (arith, short, long_1))
 
-    queue-same : (q : ℕ) → (q ≡ p → ⊥) → word u' (QUEUE + q) ≡ word w (QUEUE + q)
-    queue-same q o = same_word (QUEUE + q) (λ e. o (let z : q ≡ p = omega arith in z)) (λ f l e. omega (arith, short))
+    queue_same : (q : ℕ) → (q ≡ p → ⊥) → word u' (QUEUE + q) ≡ word w (QUEUE + q)
+    queue_same q o = same_word (QUEUE + q) (λ e. o (let z : q ≡ p = omega arith in z)) (λ f l e. omega (arith, short))
 
     slots_same : (q : ℕ) → (q ≡ p → ⊥) → slot_at u' q ≡ slot_at w q
     unfolding slot_at
-    slots_same q o = ap (λ (y : ℕ). y % session_limit) (queue-same q o)
+    slots_same q o = ap (λ (y : ℕ). y % session_limit) (queue_same q o)
 
     front_same : (a : ℕ) → a < REQUESTS → word u' a ≡ word w a
     front_same a l = same_word a (omega arith) (λ f m e. omega arith)
@@ -492,8 +492,8 @@ module _ (w s : List ℕ) (p : ℕ) (few : p < session_limit) (long : length w �
         (λ (y : j < k). x.blank (string_limit + i * string_limit + j) (omega arith) (omega arith))
         (λ (y : k ≤ j). x.others (string_limit + i * string_limit + j) (inr (omega arith)) ∙ (t.requests i short).behind j (omega arith) l)
 
-    pub wiped-left : Left w s u' s' p
-    wiped-left =
+    pub wiped_left : Left w s u' s' p
+    wiped_left =
         record {
           shown = past_count u s' p 0
               (omega (
@@ -502,23 +502,23 @@ module _ (w s : List ℕ) (p : ℕ) (few : p < session_limit) (long : length w �
                 off w (REQUESTS + i * REQUEST + 0)
                     0 COUNT (omega arith),
               )) ∙ request_wiped w s s' i k short long room (omega arith) x idle;
-          long = long-3;
+          long = long_3;
           room = x.room ∙ room;
           count = front_same COUNT (omega arith);
           slots = slots_same;
           tidy = λ n m t c a b.
-              left_tidy w s u' s' n p m t a b long-3 x.room
+              left_tidy w s u' s' n p m t a b long_3 x.room
               front_same
-              (here u (QUEUE + p) 0 (omega (arith, long-2)))
-              queue-same
+              (here u (QUEUE + p) 0 (omega (arith, long_2)))
+              queue_same
               (λ j l. x.others j (⊎_elim (λ (y : j < string_limit). inl (omega (arith, short))) (λ (y : LIST ≤ j). inr (omega (arith, short))) l))
               (λ j f l m o. same_word (REQUESTS + j * REQUEST + f) (omega arith) (λ g y e. ⊎_elim (λ (z : j < i). omega arith) (λ (z : i < j). omega arith) (apart j i o)))
               (λ j q l m o. x.others (string_limit + j * string_limit + q) (⊎_elim (λ (z : j < i). inl (omega arith)) (λ (z : i < j). inr (omega arith)) (apart j i o)))
               record {
-                fits = omega (arith, no-long);
+                fits = omega (arith, no_long);
                 behind = λ j y l. no_bytes n m t j l (below j k);
-                no_deadline = λ o. no-date;
-                no_string = λ o. no-long;
+                no_deadline = λ o. no_date;
+                no_string = λ o. no_long;
               };
         }
 

@@ -12,7 +12,7 @@ use Rattle.state.specs.Layout.{REQUESTS, REQUEST, QUEUE, WORDS, LIST, STRINGS, S
 use Rattle.state.specs.View.{memory, word, home_at}
 use Rattle.state.specs.Change.{off, here}
 use Rattle.state.specs.Tidy.{Tidy, Counted, ExchangeRange, ConnectionRange, OrderRange, TidyKey, SensingRange}
-use Rattle.state.specs.Keeping.{kept_values, kept_range, kept_singles, kept-rows, kept-homes, kept_request, kept_queue, kept_list, kept_away, count_from, count_to, sharers_tidy}
+use Rattle.state.specs.Keeping.{kept_values, kept_range, kept_singles, kept_rows, kept_homes, kept_request, kept_queue, kept_list, kept_away, count_from, count_to, sharers_tidy}
 use Rattle.queue.specs.Leaving.{splice_off}
 use Rattle.queue.specs.Wiping.{Wiped}
 
@@ -37,8 +37,8 @@ module _ (w w' s s' : List ℕ) (t : Tidy (memory w s)) (long : length w' ≡ WO
         orders = kept_range (Counted w) w w' s s' t OrderRange ORDERS ORDER ORDER session_limit (λ i f h l. same (ORDERS + i * ORDER + f) (omega arith) (omega arith)) t.orders;
         singles = kept_singles (Counted w) w w' s s' t (same CLOCK (omega arith) (omega arith)) (same HOLDER (omega arith) (omega arith)) sharers
             (subst (λ (x : ℕ). x ≤ session_limit) (sym count) t.singles.count);
-        rows = kept-rows (Counted w) w w' s s' t (λ i f h l. same (ENTRIES + i * ENTRY + f) (omega arith) (omega arith)) (λ c h. same (home_at c) (omega arith) (omega arith));
-        homes = kept-homes (Counted w) w w' s s' t (λ i f h l. same (ENTRIES + i * ENTRY + f) (omega arith) (omega arith)) (λ c h. same (home_at c) (omega arith) (omega arith));
+        rows = kept_rows (Counted w) w w' s s' t (λ i f h l. same (ENTRIES + i * ENTRY + f) (omega arith) (omega arith)) (λ c h. same (home_at c) (omega arith) (omega arith));
+        homes = kept_homes (Counted w) w w' s s' t (λ i f h l. same (ENTRIES + i * ENTRY + f) (omega arith) (omega arith)) (λ c h. same (home_at c) (omega arith) (omega arith));
         requests = λ i h.
             kept_request (Counted w) w w' s s' t (Counted w') i h (λ f l. same (REQUESTS + i * REQUEST + f) (omega arith) (omega arith))
             (λ j l. letters (string_limit + i * string_limit + j) (omega arith))
@@ -89,8 +89,8 @@ module _ (w s : List ℕ) (i left : ℕ) (t : Tidy (memory w s)) (e : left ≡ w
         (λ (y : n ≤ j). x.others j (inr (omega arith)) ∙ t.key.behind j (omega arith) l)
         (below j n)
 
-    pub last-left : Tidy (memory w' s')
-    last-left =
+    pub last_left : Tidy (memory w' s')
+    last_left =
         let f : word w KEY < string_limit = t.key.fits in
         key_tidy w w' s s' t (length-set (set w SHARERS left) KEY 0 ∙ long₁) x.room
         (λ a o p. off (set w SHARERS left) KEY 0 a p ∙ off w SHARERS left a o)

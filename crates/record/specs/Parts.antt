@@ -85,29 +85,29 @@ module _ (s : List ℕ) (at most : ℕ) (here : at ≤ length s) where
   row_no_length h = no_span_lem (then_none _ (number_missing s at 4 (omega arith) (omega arith)))
 
   module _ (n : ℕ) (four : 4 ≤ length s - at) (e : n ≡ number_at s at 4) where
-    to-test : get_row most (drop at s) ≡ choose (leb n most && leb n (length (drop (at + 4) s))) (found (take n (drop (at + 4) s)) (drop n (drop (at + 4) s))) none
+    to_test : get_row most (drop at s) ≡ choose (leb n most && leb n (length (drop (at + 4) s))) (found (take n (drop (at + 4) s)) (drop n (drop (at + 4) s))) none
     unfolding get_row
-    to-test =
+    to_test =
         then_is _ (number_there s at 4 (omega arith))
         ∙ ap (λ (k : ℕ). choose (leb k most && leb k (length (drop (at + 4) s))) (found (take k (drop (at + 4) s)) (drop k (drop (at + 4) s))) none) (sym e)
 
-    pub row-too-long : most < n → Spans no_span s at (get_row most (drop at s))
-    row-too-long h = no_span_lem (to-test ∙ no_is _ none (and_not (leb n (length (drop (at + 4) s))) (lt-leb n most h)))
+    pub row_too_long : most < n → Spans no_span s at (get_row most (drop at s))
+    row_too_long h = no_span_lem (to_test ∙ no_is _ none (and_not (leb n (length (drop (at + 4) s))) (lt-leb n most h)))
 
-    pub row-short : length s - at - 4 < n → Spans no_span s at (get_row most (drop at s))
-    row-short h =
+    pub row_short : length s - at - 4 < n → Spans no_span s at (get_row most (drop at s))
+    row_short h =
         let l : length (drop (at + 4) s) < n = simp length-drop (omega arith) in
-        no_span_lem (to-test ∙ no_is _ none (not_and (leb n most) (lt-leb n (length (drop (at + 4) s)) l)))
+        no_span_lem (to_test ∙ no_is _ none (not_and (leb n most) (lt-leb n (length (drop (at + 4) s)) l)))
 
-    pub row-there : n ≤ most → n ≤ length s - at - 4 → Spans (record { found = 1; begin = at + 4; len = n; next = at + 4 + n }) s at (get_row most (drop at s))
+    pub row_there : n ≤ most → n ≤ length s - at - 4 → Spans (record { found = 1; begin = at + 4; len = n; next = at + 4 + n }) s at (get_row most (drop at s))
     unfolding spanned
-    row-there w h =
+    row_there w h =
         let l : n ≤ length (drop (at + 4) s) = simp length-drop (omega arith) in
         record {
           says =
               yes_is _ none refl
               ∙ ap (λ (x : List ℕ). found (take n (drop (at + 4) s)) x) (sym (drop-drop n (at + 4) s))
-              ∙ sym (to-test ∙ yes_is _ none (and_is (le-leb n most w) (le-leb n (length (drop (at + 4) s)) l)));
+              ∙ sym (to_test ∙ yes_is _ none (and_is (le-leb n most w) (le-leb n (length (drop (at + 4) s)) l)));
           inside = omega arith;
           behind = omega arith;
           end = omega arith;
@@ -265,17 +265,17 @@ module _ (r : Parts) (s : List ℕ) (b : ℕ) (h : 6 ≤ length s) (g : b ≡ nu
     to_row : get_answer (drop 1 s) ≡ and_then (get_row body_limit (drop 6 s)) λ p v. and_then (get_row most_shown v) λ x w. found (answer (number_at s 1 4) b p x) w
     to_row = to_end ∙ yes_is _ none (le-leb b 1 l)
 
-    pub answer-no-payload : (t.found ≡ 1 → ⊥) → Reads r s none → Reads r s (get_answer (drop 1 s))
-    answer-no-payload f n = gone r s _ n (to_row ∙ then_none _ (row_not t s 6 _ p f))
+    pub answer_no_payload : (t.found ≡ 1 → ⊥) → Reads r s none → Reads r s (get_answer (drop 1 s))
+    answer_no_payload f n = gone r s _ n (to_row ∙ then_none _ (row_not t s 6 _ p f))
 
     module _ (f : t.found ≡ 1) (u : Span) (q : Spans u s t.next (get_row most_shown (drop t.next s))) where
-      pub answer-no-shown : (u.found ≡ 1 → ⊥) → Reads r s none → Reads r s (get_answer (drop 1 s))
-      answer-no-shown k n = gone r s _ n (to_row ∙ then_is _ (row_is t s 6 _ p f) ∙ then_none _ (row_not u s t.next _ q k))
+      pub answer_no_shown : (u.found ≡ 1 → ⊥) → Reads r s none → Reads r s (get_answer (drop 1 s))
+      answer_no_shown k n = gone r s _ n (to_row ∙ then_is _ (row_is t s 6 _ p f) ∙ then_none _ (row_not u s t.next _ q k))
 
-      pub answer-there : (a : ℕ) → a ≡ number_at s 1 4 → u.found ≡ 1
+      pub answer_there : (a : ℕ) → a ≡ number_at s 1 4 → u.found ≡ 1
           → r ≡ record { kind = 4; a = a; b = b; c = 0; first = t.begin; size = t.len; second = u.begin; extent = u.len; frames = u.next } → Reads r s (get_answer (drop 1 s))
       unfolding seen choose
-      answer-there a e k o =
+      answer_there a e k o =
           let w : found (answer a b (take t.len (drop t.begin s)) (take u.len (drop u.begin s))) (drop u.next s) ≡ get_answer (drop 1 s) =
           ap (λ (x : ℕ). found (answer x b (take t.len (drop t.begin s)) (take u.len (drop u.begin s))) (drop u.next s)) e
           ∙ sym (to_row ∙ then_is _ (row_is t s 6 _ p f) ∙ then_is _ (row_is u s t.next _ q k)) in

@@ -1,4 +1,6 @@
 // Remote and local control: the three flags, and what a control code makes of them.
+#![tactic(auto)]
+
 ghost use Rattle.model.specs.Exchange.{controlled};
 ghost use Rattle.model.specs.State.{Making, fresh};
 ghost use Rattle.remote.specs.Shown.{shown};

@@ -222,8 +222,8 @@ module _ (m m' : Memory) (frames : List ℕ) where
       (subst (λ (k : ℕ). Called (setting (watch n (outside l k))) a m m' [] []) f (subst (λ (k : ℕ). Called (setting (watch n (outside k y))) a m m' [] []) e p)) q
 
   module _ (out out' : List ℕ) (h : length out ≡ output_minimum) (l : length out' ≡ length out) where
-    by-done : (e : Event) (r : ℕ) (a : Done) → Called e a m m' out out' → r ≡ compared_of a.refusal a.output out' frames → went_of r (view m') ≡ by_deed (by_call (view m) e) frames
-    by-done e r a p q =
+    by_done : (e : Event) (r : ℕ) (a : Done) → Called e a m m' out out' → r ≡ compared_of a.refusal a.output out' frames → went_of r (view m') ≡ by_deed (by_call (view m) e) frames
+    by_done e r a p q =
         let y = (step (view m) e).reply in
         let k : ℕ = length (bytes_of (step (view m) e).frames) in
         let n : a.refusal ≡ (done_answer y k).refusal = ap (λ (z : DoneAnswer). z.refusal) p.numbers in
@@ -232,10 +232,10 @@ module _ (m m' : Memory) (frames : List ℕ) where
         (λ z. ap (λ (w : DoneAnswer). w.output) p.numbers ∙ done_output y k (fair (view m) e) (sym n ∙ z))
 
     pub cut_off : (c r : ℕ) (a : Done) → Called (cut c (length out)) a m m' out out' → r ≡ compared_of a.refusal a.output out' frames → Replays r (r-cut c) m m' frames
-    cut_off c r a p q = by-done (cut c output_minimum) r a (subst (λ (k : ℕ). Called (cut c k) a m m' out out') h p) q
+    cut_off c r a p q = by_done (cut c output_minimum) r a (subst (λ (k : ℕ). Called (cut c k) a m m' out out') h p) q
 
     pub clock_read : (t r : ℕ) (a : Done) → Called (clock t (length out)) a m m' out out' → r ≡ compared_of a.refusal a.output out' frames → Replays r (r-clock t) m m' frames
-    clock_read t r a p q = by-done (clock t output_minimum) r a (subst (λ (k : ℕ). Called (clock t k) a m m' out out') h p) q
+    clock_read t r a p q = by_done (clock t output_minimum) r a (subst (λ (k : ℕ). Called (clock t k) a m m' out out') h p) q
 
     pub delivered : (c : ℕ) (bs : List ℕ) (r : ℕ) (a : Delivery) → Delivered (delivery c bs (length out)) a m m' out out' →
         r ≡ compared_of a.refusal a.output out' frames → Replays r (r-delivery c bs) m m' frames
@@ -250,9 +250,9 @@ module _ (m m' : Memory) (frames : List ℕ) where
             ∙ called e m m' out out' frames a.refusal a.output o.post l (ap (λ (z : DeliveryAnswer). z.refusal) o.numbers ∙ delivery_refusal y k _)
             (λ z. ap (λ (w : DeliveryAnswer). w.output) o.numbers ∙ delivery_output y k _ (fair (view m) e) (sym (ap (λ (w : DeliveryAnswer). w.refusal) o.numbers) ∙ z))
 
-    pub answered-so : (n end : ℕ) (x sh : List ℕ) (r : ℕ) (a : Answered) → Replied (answer n x (not (eqb end 0)) sh (length out)) a m m' out out' →
+    pub answered_so : (n end : ℕ) (x sh : List ℕ) (r : ℕ) (a : Answered) → Replied (answer n x (not (eqb end 0)) sh (length out)) a m m' out out' →
         r ≡ compared_of a.refusal a.output out' frames → Replays r (r-answer n end x sh) m m' frames
-    answered-so n end x sh r a p q = go (subst (λ (k : ℕ). Replied (answer n x (not (eqb end 0)) sh k) a m m' out out') h p)
+    answered_so n end x sh r a p q = go (subst (λ (k : ℕ). Replied (answer n x (not (eqb end 0)) sh k) a m m' out out') h p)
       where
         go : Replied (answer n x (not (eqb end 0)) sh output_minimum) a m m' out out' → Replays r (r-answer n end x sh) m m' frames
         go o =
@@ -402,44 +402,44 @@ module _ (p : Parts) (s : List ℕ) (o : Reads p s (decode s)) where
     unfolding by_event
     judged e q g = subst (λ (x : List ℕ). Replays r e m m' x) rest_is g ∙ ap (by_event deed (view m)) (sym q ∙ o.says)
 
-    pub judged-0 : p.kind ≡ 0 → Replays r (r-opening p.a) m m' rest → Judges r m m' s
-    judged-0 e g = judged _ (at_0 e) g
+    pub judged_0 : p.kind ≡ 0 → Replays r (r-opening p.a) m m' rest → Judges r m m' s
+    judged_0 e g = judged _ (at_0 e) g
 
-    pub judged-1 : p.kind ≡ 1 → Replays r (r-delivery p.a (take (p.first + p.size - p.first) (drop p.first s))) m m' rest → Judges r m m' s
-    judged-1 e g =
+    pub judged_1 : p.kind ≡ 1 → Replays r (r-delivery p.a (take (p.first + p.size - p.first) (drop p.first s))) m m' rest → Judges r m m' s
+    judged_1 e g =
         let k : p.first + p.size - p.first ≡ p.size = omega arith in
         judged _ (at_1 e) (subst (λ (j : ℕ). Replays r (r-delivery p.a (take j (drop p.first s))) m m' rest) k g)
 
-    pub judged-2 : p.kind ≡ 2 → Replays r (r-cut p.a) m m' rest → Judges r m m' s
-    judged-2 e g = judged _ (at_2 e) g
+    pub judged_2 : p.kind ≡ 2 → Replays r (r-cut p.a) m m' rest → Judges r m m' s
+    judged_2 e g = judged _ (at_2 e) g
 
-    pub judged-3 : p.kind ≡ 3 → Replays r (r-clock p.a) m m' rest → Judges r m m' s
-    judged-3 e g = judged _ (at_3 e) g
+    pub judged_3 : p.kind ≡ 3 → Replays r (r-clock p.a) m m' rest → Judges r m m' s
+    judged_3 e g = judged _ (at_3 e) g
 
-    pub judged-4 : p.kind ≡ 4 → Replays r (r-answer p.a p.b (take (p.first + p.size - p.first) (drop p.first s))
+    pub judged_4 : p.kind ≡ 4 → Replays r (r-answer p.a p.b (take (p.first + p.size - p.first) (drop p.first s))
         (take (p.second + p.extent - p.second) (drop p.second s))) m m' rest → Judges r m m' s
-    judged-4 e g =
+    judged_4 e g =
         let k : p.first + p.size - p.first ≡ p.size = omega arith in
         let i : p.second + p.extent - p.second ≡ p.extent = omega arith in
         judged _ (at_4 e)
         (subst (λ (j : ℕ). Replays r (r-answer p.a p.b (take p.size (drop p.first s)) (take j (drop p.second s))) m m' rest) i
         (subst (λ (j : ℕ). Replays r (r-answer p.a p.b (take j (drop p.first s)) (take (p.second + p.extent - p.second) (drop p.second s))) m m' rest) k g))
 
-    pub judged-5 : p.kind ≡ 5 → Replays r (r-status p.a) m m' rest → Judges r m m' s
-    judged-5 e g = judged _ (at_5 e) g
+    pub judged_5 : p.kind ≡ 5 → Replays r (r-status p.a) m m' rest → Judges r m m' s
+    judged_5 e g = judged _ (at_5 e) g
 
-    pub judged-6 : p.kind ≡ 6 → Replays r (watch_off p.a) m m' rest → Judges r m m' s
-    judged-6 e g = judged _ (at_6 e) g
+    pub judged_6 : p.kind ≡ 6 → Replays r (watch_off p.a) m m' rest → Judges r m m' s
+    judged_6 e g = judged _ (at_6 e) g
 
-    pub judged-7 : p.kind ≡ 7 → Replays r (watch_above p.a p.b) m m' rest → Judges r m m' s
-    judged-7 e g = judged _ (at_7 e) g
+    pub judged_7 : p.kind ≡ 7 → Replays r (watch_above p.a p.b) m m' rest → Judges r m m' s
+    judged_7 e g = judged _ (at_7 e) g
 
-    pub judged-8 : p.kind ≡ 8 → Replays r (watch_outside p.a p.b p.c) m m' rest → Judges r m m' s
-    judged-8 e g = judged _ (at_8 e) g
+    pub judged_8 : p.kind ≡ 8 → Replays r (watch_outside p.a p.b p.c) m m' rest → Judges r m m' s
+    judged_8 e g = judged _ (at_8 e) g
 
     -- what is none of the others is a list
-    pub judged-9 : Later p → (p.kind ≡ 6 → ⊥) → (p.kind ≡ 7 → ⊥) → (p.kind ≡ 8 → ⊥) → Replays r (r-patterns (take (p.first + p.size - p.first) (drop p.first s))) m m' rest → Judges r m m' s
-    judged-9 l n₆ n₇ n₈ g =
+    pub judged_9 : Later p → (p.kind ≡ 6 → ⊥) → (p.kind ≡ 7 → ⊥) → (p.kind ≡ 8 → ⊥) → Replays r (r-patterns (take (p.first + p.size - p.first) (drop p.first s))) m m' rest → Judges r m m' s
+    judged_9 l n₆ n₇ n₈ g =
         let t : p.kind ≤ 10 = o.top in
         let n : p.kind ≡ 10 → ⊥ = l.0.0 in
         let e : p.kind ≡ 9 = nine p.kind (omega arith) l.0.1 l.0.2 l.0.3 l.0.4 l.1 l.2 n₆ n₇ n₈ in

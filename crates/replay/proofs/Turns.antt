@@ -16,7 +16,7 @@ use Rattle.verifier.specs.Judge.{Went, on, fault, by_event}
 use Rattle.verifier.specs.Feed.{Reading, feed}
 use Rattle.verifier.specs.Pieces.{feed_append}
 use Rattle.verifier.specs.Framing.{fault_of, Fed}
-use Rattle.verifier.specs.Standing.{wanted_of, reading_of, Sound, turn_more, turn-fault, entry-long, turn-wrong, turn-pass, stays}
+use Rattle.verifier.specs.Standing.{wanted_of, reading_of, Sound, turn_more, turn_fault, entry_long, turn_wrong, turn_pass, stays}
 use Rattle.verifier.specs.declared.Standing.{Standing}
 use Rattle.model.specs.Sizes.{output_minimum}
 use Rattle.model.specs.State.{Server}
@@ -44,38 +44,38 @@ module _ (r s : Standing) (buf new : List ℕ) (k : ℕ) (m : Memory) where
       → (k ≡ 0 → ⊥) → (k ≡ 7 → ⊥) → s ≡ record { have = r.have; count = r.count; at = r.at; last = r.last; fault = k } → Turned s r buf new m m bytes
   fault_turn [] o g p h f n w e = absurd (omega (arith, p))
   fault_turn (b ∷ x) o g p h f n w e =
-      let t = turn-fault deed r buf new b x k (view m) o g h f s n w e in
+      let t = turn_fault deed r buf new b x k (view m) o g h f s n w e in
       record { reading = t.0; sound = t.1; offset = subst (λ (y : Standing). y.at + y.have ≤ r.at + r.have + length (b ∷ x)) (sym e) (omega arith) }
 
   pub whole_room : (bytes : List ℕ) → Sound r buf → r.fault ≡ 0 → 0 < length bytes → r.have + length bytes ≤ wanted_of (take r.have buf) → Fed k r.have bytes buf new → k ≡ 7
       → (12 ≤ r.have + length bytes) × (r.have + length bytes ≤ length new)
   whole_room [] o g p h f z = absurd (omega (arith, p))
   whole_room (b ∷ x) o g p h f z =
-      (entry-long deed r buf new b x k (view m) o g h f z, omega (arith, room_for (b ∷ x) o g h, f.size))
+      (entry_long deed r buf new b x k (view m) o g h f z, omega (arith, room_for (b ∷ x) o g h, f.size))
 
   module _ (m' : Memory) (j e : ℕ) where
-    went-fault : (j ≡ 0 → ⊥) → (d : Server) → went_of j d ≡ fault (fault_of j)
+    went_fault : (j ≡ 0 → ⊥) → (d : Server) → went_of j d ≡ fault (fault_of j)
     unfolding went_of
-    went-fault n d = no_is _ _ (ne_eqb j 0 n)
+    went_fault n d = no_is _ _ (ne_eqb j 0 n)
 
     went_on : j ≡ 0 → (d : Server) → went_of j d ≡ on d
     unfolding went_of
     went_on z d = yes_is _ _ (eq-eqb j 0 z)
 
-    pub wrong-turn : (bytes : List ℕ) → Sound r buf → r.fault ≡ 0 → 0 < length bytes → r.have + length bytes ≤ wanted_of (take r.have buf) → Fed k r.have bytes buf new
+    pub wrong_turn : (bytes : List ℕ) → Sound r buf → r.fault ≡ 0 → 0 < length bytes → r.have + length bytes ≤ wanted_of (take r.have buf) → Fed k r.have bytes buf new
         → k ≡ 7 → e ≡ r.have + length bytes → Judges j m m' (take (e - 8 - 4) (drop 4 new)) → (j ≡ 0 → ⊥)
         → s ≡ record { have = r.have; count = r.count; at = r.at; last = r.last; fault = j } → Turned s r buf new m m' bytes
-    wrong-turn [] o g p h f z q w n i = absurd (omega (arith, p))
-    wrong-turn (b ∷ x) o g p h f z q w n i =
-        let t = turn-wrong deed r buf new b x k (view m) o g h f z s e q j n (sym w ∙ went-fault n (view m')) i (view m') in
+    wrong_turn [] o g p h f z q w n i = absurd (omega (arith, p))
+    wrong_turn (b ∷ x) o g p h f z q w n i =
+        let t = turn_wrong deed r buf new b x k (view m) o g h f z s e q j n (sym w ∙ went_fault n (view m')) i (view m') in
         record { reading = t.0; sound = t.1; offset = subst (λ (y : Standing). y.at + y.have ≤ r.at + r.have + length (b ∷ x)) (sym i) (omega arith) }
 
-    pub pass-turn : (bytes : List ℕ) → Sound r buf → r.fault ≡ 0 → 0 < length bytes → r.have + length bytes ≤ wanted_of (take r.have buf) → Fed k r.have bytes buf new
+    pub pass_turn : (bytes : List ℕ) → Sound r buf → r.fault ≡ 0 → 0 < length bytes → r.have + length bytes ≤ wanted_of (take r.have buf) → Fed k r.have bytes buf new
         → k ≡ 7 → e ≡ r.have + length bytes → Judges j m m' (take (e - 8 - 4) (drop 4 new)) → j ≡ 0
         → s ≡ record { have = 0; count = r.count + 1; at = r.at + e; last = r.at; fault = 0 } → Turned s r buf new m m' bytes
-    pass-turn [] o g p h f z q w y i = absurd (omega (arith, p))
-    pass-turn (b ∷ x) o g p h f z q w y i =
-        let t = turn-pass deed r buf new b x k (view m) o g h f z s e q (view m') (sym w ∙ went_on y (view m')) i in
+    pass_turn [] o g p h f z q w y i = absurd (omega (arith, p))
+    pass_turn (b ∷ x) o g p h f z q w y i =
+        let t = turn_pass deed r buf new b x k (view m) o g h f z s e q (view m') (sym w ∙ went_on y (view m')) i in
         record { reading = t.0; sound = t.1; offset = subst (λ (v : Standing). v.at + v.have ≤ r.at + r.have + length (b ∷ x)) (sym i) (omega (arith, q)) }
 
 -- the loop over a piece
@@ -113,18 +113,18 @@ module _ (r s : Standing) (buf₀ buf : List ℕ) (m₀ m : Memory) (piece : Lis
     pub further : (i < e) × (e ≤ length piece)
     further = let w : s.have < wanted_of (take s.have buf) = t.sound.short g in (omega (arith, p, q, w, h), omega (arith, p, q))
 
-    pub turn-ready : (out : List ℕ) → r.at + r.have + length piece < 2 ^ 63 → length out ≡ output_minimum
+    pub turn_ready : (out : List ℕ) → r.at + r.have + length piece < 2 ^ 63 → length out ≡ output_minimum
         → Sound s buf × (s.fault ≡ 0) × (0 < length (take (e - i) (drop i piece)))
         × (s.have + length (take (e - i) (drop i piece)) ≤ wanted_of (take s.have buf))
         × (s.at + s.have + length (take (e - i) (drop i piece)) < 2 ^ 63) × (length out ≡ output_minimum)
-    turn-ready out b l =
+    turn_ready out b l =
         let w : s.have < wanted_of (take s.have buf) = t.sound.short g in
         let k : length (take i piece) ≡ i = simp length-take (omega arith) in
         let o = t.offset in
         (t.sound, g, omega (arith, part_length, p, w, h), omega (arith, part_length, p, w), omega (arith, part_length, p, o, k, b), l)
 
-    pub fed-more : (s' : Standing) (buf' : List ℕ) (m' : Memory) → Turned s' s buf buf' m m' (take (e - i) (drop i piece)) → Turned s' r buf₀ buf' m₀ m' (take e piece)
-    fed-more s' buf' m' u =
+    pub fed_more : (s' : Standing) (buf' : List ℕ) (m' : Memory) → Turned s' s buf buf' m m' (take (e - i) (drop i piece)) → Turned s' r buf₀ buf' m₀ m' (take e piece)
+    fed_more s' buf' m' u =
         let a : take i piece ++ take (e - i) (drop i piece) ≡ take e piece = joined in
         let k : length (take i piece) ≡ i = simp length-take (omega arith) in
         let c : length (take e piece) ≡ e = simp length-take (omega (arith, p, q)) in

@@ -1,5 +1,7 @@
 // Replaying a journal: each entry's event is done by the server's own functions, over lent memory, and what they give is compared with
 // the frames beside it.
+#![tactic(auto)]
+
 mod body;
 mod events;
 

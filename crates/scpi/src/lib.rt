@@ -1,4 +1,6 @@
 // Command patterns in SCPI notation (02, Q-12): what is a pattern, and where does one go bad?
+#![tactic(auto)]
+
 pub mod bytes;
 pub mod checking;
 

@@ -371,11 +371,11 @@ module _ (v : Making) (m m' m'' : Memory) (ss : List Seen) (s : Seen) (f : Fresh
     mode : (said v es n).overlap ≡ false
     mode = sym (ap (λ (a : Track). a.overlap) (shown_said n)) ∙ o
 
-    withheld-then : refusal (view m') s.event ≡ 0 → question_unread shown ≡ true
+    withheld_then : refusal (view m') s.event ≡ 0 → question_unread shown ≡ true
         → (s.reply ≡ withheld)
         × (s.output ≡ bytes_of (frame_of (asynchronous_of v es n) AsyncInterrupted 0 (header shown).param []
         ∷ frame_of (synchronous_of v es n) Interrupted 0 (header shown).param [] ∷ []))
-    withheld-then q u =
+    withheld_then q u =
         let w = (next_question v es).withholds n payload shown room possible (ap₂ refusal (sym there) (sym x) ∙ q) mode r u in
         let h = then (answer n payload true shown room) x in
         (ap (λ (a : Seen). a.reply) h ∙ w.0, ap (λ (a : Seen). a.output) h ∙ ap bytes_of w.1)
@@ -684,7 +684,7 @@ program =
       locality = λ m m' ss g. local_run (view m) (seen_events ss);
       tie = tied;
       in_time = λ v m m' m'' ss s f g g' p n payload shown room x y o r. in_time v m m' m'' ss s f g g' p n payload shown room x o r y;
-      withheld_answer = λ v m m' m'' ss s f g g' p n payload shown room x q o r u. withheld-then v m m' m'' ss s f g g' p n payload shown room x o r q u;
+      withheld_answer = λ v m m' m'' ss s f g g' p n payload shown room x q o r u. withheld_then v m m' m'' ss s f g g' p n payload shown room x o r q u;
       number_read = λ v m m' ss f g j a.
           subst (λ (d : Server). live (at d.locks.entries j) ≡ true →
           Knows (taken_of ss (at d.locks.entries j).number) (at d.locks.entries j) (exchange_at d.rest j)) (sym (left v m m' ss f g))

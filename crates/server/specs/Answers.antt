@@ -19,7 +19,7 @@ use Rattle.state.specs.View.{Memory, view}
 use Rattle.exchanges.specs.Events.{Sends, answer_frame, answered_as, answer_finishes}
 use Rattle.exchanges.specs.Interrupted.{Noted, withheld_at}
 use Rattle.server.specs.declared.Answered.{Answered}
-use Rattle.server.specs.Causes.{short-room, enough-room}
+use Rattle.server.specs.Causes.{short_room, enough_room}
 use Rattle.server.specs.Events.{Replied, answered_numbers, taken_answer}
 
 -- the causes at slot i of an answer of n bytes, behind the buffer's
@@ -63,12 +63,12 @@ module _ (d : Server) (n i : ℕ) (p : List ℕ) (end : Bool) (sh : List ℕ) (r
   at_row = ap (λ (j : ℕ). small_room room ∷ answer_row d j (length p)) found
 
   pub answer_short_room : room < output_minimum → refusal d (answer n p end sh room) ≡ 7
-  answer_short_room = short-room d (answer n p end sh room) room (answer_row d i (length p)) at_row
+  answer_short_room = short_room d (answer n p end sh room) room (answer_row d i (length p)) at_row
 
   -- with room enough the slot's row decides
   pub answer_refused : output_minimum ≤ room → refusal d (answer n p end sh room) ≡ refused_at d i (length p)
   unfolding refused_at
-  answer_refused = enough-room d (answer n p end sh room) room (answer_row d i (length p)) at_row
+  answer_refused = enough_room d (answer n p end sh room) room (answer_row d i (length p)) at_row
 
 -- 02, Q-5: an answer that is not refused, withheld or sent: the exchange, the frames, the numbers
 pub record Gives (d : Server) (i : ℕ) (end : Bool) (p sh : List ℕ) (r : Answered) (d' : Server) (out out' : List ℕ) : Type 0 where

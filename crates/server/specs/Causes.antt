@@ -19,23 +19,23 @@ untimely d t = record { test = ltb clock_limit t; number = clock_above } ∷ rec
 
 module _ (d : Server) (e : Event) (room : ℕ) where
   module _ (cs : List Cause) (q : causes d e ≡ small_room room ∷ cs) where
-    pub short-room : room < output_minimum → refusal d e ≡ 7
+    pub short_room : room < output_minimum → refusal d e ≡ 7
     unfolding refusal
-    short-room h = ap first_cause q ∙ rw (lt-ltb room output_minimum h)
+    short_room h = ap first_cause q ∙ rw (lt-ltb room output_minimum h)
 
-    pub enough-room : output_minimum ≤ room → refusal d e ≡ first_cause cs
+    pub enough_room : output_minimum ≤ room → refusal d e ≡ first_cause cs
     unfolding refusal
-    enough-room h = ap first_cause q ∙ rw (le-ltb room output_minimum h)
+    enough_room h = ap first_cause q ∙ rw (le-ltb room output_minimum h)
 
   module _ (c : ℕ) (q : causes d e ≡ small_room room ∷ unknown d c) (h : output_minimum ≤ room) where
     pub no_number : connection_limit ≤ c → refusal d e ≡ 1
-    no_number l = enough-room (unknown d c) q h ∙ rw (le-leb connection_limit c l)
+    no_number l = enough_room (unknown d c) q h ∙ rw (le-leb connection_limit c l)
 
-    pub not-open : c < connection_limit → (connection_at d.rest c).is_open ≡ false → refusal d e ≡ 1
-    not-open l o = enough-room (unknown d c) q h ∙ rw (lt-leb connection_limit c l, o)
+    pub not_open_lem : c < connection_limit → (connection_at d.rest c).is_open ≡ false → refusal d e ≡ 1
+    not_open_lem l o = enough_room (unknown d c) q h ∙ rw (lt-leb connection_limit c l, o)
 
     pub is_open : c < connection_limit → (connection_at d.rest c).is_open ≡ true → refusal d e ≡ 0
-    is_open l o = enough-room (unknown d c) q h ∙ rw (lt-leb connection_limit c l, o)
+    is_open l o = enough_room (unknown d c) q h ∙ rw (lt-leb connection_limit c l, o)
 
 module _ (d : Server) (room : ℕ) where
   pub delivery_causes : (c : ℕ) (bs : List ℕ) → causes d (delivery c bs room) ≡ small_room room ∷ unknown d c

@@ -21,7 +21,7 @@ use Rattle.holding.specs.Outcome.{Met}
 use Rattle.sessions.specs.Closing.{ClosesPlace, closed_server}
 use Rattle.server.specs.declared.Answered.{Answered}
 use Rattle.server.specs.declared.Done.{Done}
-use Rattle.server.specs.Causes.{untimely, enough-room, clock_causes}
+use Rattle.server.specs.Causes.{untimely, enough_room, clock_causes}
 
 abbrev pub done_numbers : Done → DoneAnswer
 done_numbers r = record { refusal = r.refusal; output = r.output }
@@ -131,13 +131,13 @@ module _ (d : Server) (c : ℕ) where
 
 module _ (d : Server) (t room : ℕ) where
   pub clock_above_lem : output_minimum ≤ room → clock_limit < t → refusal d (clock t room) ≡ 4
-  clock_above_lem h l = enough-room d (clock t room) room (untimely d t) (clock_causes d room t) h ∙ rw (lt-ltb clock_limit t l)
+  clock_above_lem h l = enough_room d (clock t room) room (untimely d t) (clock_causes d room t) h ∙ rw (lt-ltb clock_limit t l)
 
   pub clock_back_lem : output_minimum ≤ room → t ≤ clock_limit → t < d.locks.clock → refusal d (clock t room) ≡ 3
-  clock_back_lem h l o = enough-room d (clock t room) room (untimely d t) (clock_causes d room t) h ∙ rw (le-ltb clock_limit t l, lt-ltb t d.locks.clock o)
+  clock_back_lem h l o = enough_room d (clock t room) room (untimely d t) (clock_causes d room t) h ∙ rw (le-ltb clock_limit t l, lt-ltb t d.locks.clock o)
 
   pub clock_taken : output_minimum ≤ room → t ≤ clock_limit → d.locks.clock ≤ t → refusal d (clock t room) ≡ 0
-  clock_taken h l o = enough-room d (clock t room) room (untimely d t) (clock_causes d room t) h ∙ rw (le-ltb clock_limit t l, le-ltb t d.locks.clock o)
+  clock_taken h l o = enough_room d (clock t room) room (untimely d t) (clock_causes d room t) h ∙ rw (le-ltb clock_limit t l, le-ltb t d.locks.clock o)
 
 -- a cut: the session closes, and those that wait are looked at
 pub cut_finishes : (d : Server) (c room : ℕ) → finish d (plan d (cut c room)) ≡ record {

@@ -1,4 +1,6 @@
 // The server: the events in code, and the C interface.
+#![tactic(auto)]
+
 ghost use Rattle.model.specs.Interface.{Event, Event.answer, Event.clock, Event.cut, Event.delivery, Event.opening};
 ghost use Rattle.model.specs.Interface.Reply.{done};
 ghost use Rattle.model.specs.Post.{Post};

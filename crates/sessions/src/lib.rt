@@ -1,4 +1,6 @@
 // What opens and closes a session, how an Error and a FatalError are answered, and the struct that a delivery answers with.
+#![tactic(auto)]
+
 pub mod answer;
 pub mod closing;
 pub mod mode;

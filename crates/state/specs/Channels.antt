@@ -207,8 +207,8 @@ module _ (w s : List ℕ) (i n c : ℕ) (long : length w ≡ WORDS) (h : i < ses
           let k : (g : ℕ) → g < ENTRY → row_word w₄ j g ≡ row_word w j g = (λ g x. same (ENTRIES + j * ENTRY + g) (λ f z e. q (let z : j ≡ i = omega arith in z)) (omega arith)) in
           same_row w w₄ j f (k 0 (lit< tt)) (k f m) (others_show j f l m q) (t.rows j l f o m)
 
-      shown-still : (x : ℕ) → x < connection_limit → Shown w x → TidyHome w₄ x
-      shown-still x l y = by (eqb y.slot i) refl
+      shown_still : (x : ℕ) → x < connection_limit → Shown w x → TidyHome w₄ x
+      shown_still x l y = by (eqb y.slot i) refl
         where
           by : (b : Bool) → eqb y.slot i ≡ b → TidyHome w₄ x
           by true e =
@@ -230,7 +230,7 @@ module _ (w s : List ℕ) (i n c : ℕ) (long : length w ≡ WORDS) (h : i < ses
       home x l false e =
           ⊎_elim
           (λ (z : home_of w x ≡ 0). inl (same (home_at x) (λ f z e. omega arith) (λ q. eqb-false x c e (let z : x ≡ c = omega arith in z)) ∙ z))
-          (λ (y : Shown w x). shown-still x l y)
+          (λ (y : Shown w x). shown_still x l y)
           (t.homes x l)
 
 -- connection c, which no slot shows, is the second of the live slot i: two stores
@@ -318,17 +318,17 @@ module _ (w s : List ℕ) (i c : ℕ) (long : length w ≡ WORDS) (h : i < sessi
           let k : (g : ℕ) → g < ENTRY → row_word v₂ j g ≡ row_word w j g = (λ g x. still (ENTRIES + j * ENTRY + g) (λ e. q (let z : j ≡ i = omega arith in z)) (omega arith)) in
           same_row w v₂ j f (k 0 (lit< tt)) (k f m) (others_still j f l m q) (t.rows j l f o m)
 
-      here-still : (x f : ℕ) → x < connection_limit → 0 < f → f < ENTRY → field_of w i f ≡ x → TidyHome v₂ x
-      here-still x zero l o m e = absurd (omega arith)
-      here-still x (suc zero) l o m e = inr record { slot = i; field = 1; few = h; some = lit< tt; small = lit< tt; is = first_still ∙ e }
-      here-still x (suc (suc zero)) l o m e = let n : no_connection ≡ x = sym none ∙ e in absurd (omega arith)
-      here-still x (suc (suc (suc f))) l o m e = absurd (omega arith)
+      here_still : (x f : ℕ) → x < connection_limit → 0 < f → f < ENTRY → field_of w i f ≡ x → TidyHome v₂ x
+      here_still x zero l o m e = absurd (omega arith)
+      here_still x (suc zero) l o m e = inr record { slot = i; field = 1; few = h; some = lit< tt; small = lit< tt; is = first_still ∙ e }
+      here_still x (suc (suc zero)) l o m e = let n : no_connection ≡ x = sym none ∙ e in absurd (omega arith)
+      here_still x (suc (suc (suc f))) l o m e = absurd (omega arith)
 
-      shown-still : (x : ℕ) → x < connection_limit → Shown w x → TidyHome v₂ x
-      shown-still x l y = by (eqb y.slot i) refl
+      shown_still : (x : ℕ) → x < connection_limit → Shown w x → TidyHome v₂ x
+      shown_still x l y = by (eqb y.slot i) refl
         where
           by : (b : Bool) → eqb y.slot i ≡ b → TidyHome v₂ x
-          by true e = here-still x y.field l y.some y.small (ap (λ (k : ℕ). field_of w k y.field) (sym (eqb-true y.slot i e)) ∙ y.is)
+          by true e = here_still x y.field l y.some y.small (ap (λ (k : ℕ). field_of w k y.field) (sym (eqb-true y.slot i e)) ∙ y.is)
           by false e =
               inr record {
                 slot = y.slot;
@@ -344,7 +344,7 @@ module _ (w s : List ℕ) (i c : ℕ) (long : length w ≡ WORDS) (h : i < sessi
       home x l false e =
           ⊎_elim
           (λ (z : home_of w x ≡ 0). inl (other_homes x l (eqb-false x c e) ∙ z))
-          (λ (y : Shown w x). shown-still x l y)
+          (λ (y : Shown w x). shown_still x l y)
           (t.homes x l)
 
 -- a closing: the number of slot i is 0, and it shows no connections
@@ -404,8 +404,8 @@ module _ (w s : List ℕ) (i f : ℕ) (long : length w ≡ WORDS) (h : i < sessi
     abbrev homeless : List ℕ
     homeless = set w (home_at c) 0
 
-    pub free-still : row_word homeless i 0 ≡ 0
-    free-still = off w (home_at c) 0 (ENTRIES + i * ENTRY + 0) (omega arith) ∙ free
+    pub free_still : row_word homeless i 0 ≡ 0
+    free_still = off w (home_at c) 0 (ENTRIES + i * ENTRY + 0) (omega arith) ∙ free
 
     unshown : Unshown w c
     unshown j g m x e =
@@ -417,9 +417,9 @@ module _ (w s : List ℕ) (i f : ℕ) (long : length w ≡ WORDS) (h : i < sessi
     away : (j g : ℕ) → home_of homeless c ≡ home_in j (suc g) → ⊥
     away j g e = let y : 0 ≡ home_in j (suc g) = sym (here w (home_at c) 0 (omega arith)) ∙ e in omega arith
 
-    pub home-cleared : view (memory homeless s) ≡ view (memory w s)
+    pub home_cleared : view (memory homeless s) ≡ view (memory w s)
     unfolding locks_of entries_of
-    home-cleared =
+    home_cleared =
         let a : ℕ = home_at c in
         let key : List ℕ = key_of w s in
         home_stored w s c 0 long few

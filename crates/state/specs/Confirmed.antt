@@ -46,8 +46,8 @@ module _ (n c h k : ℕ) where
 
   -- and back: a connection that is shown
   module _ (x : ℕ) (small : x < connection_limit) (e : confirmed n c h k ≡ x) where
-    pub shown-live : n ≡ 0 → ⊥
-    shown-live p = let z : no_connection ≡ x = sym (free_shows_none p) ∙ e in omega arith
+    pub shown_live : n ≡ 0 → ⊥
+    shown_live p = let z : no_connection ≡ x = sym (free_shows_none p) ∙ e in omega arith
 
     pub shown_home : h ≡ k
     shown_home = by (eqb h k) refl
@@ -56,11 +56,11 @@ module _ (n c h k : ℕ) where
         by true q = eqb-true h k q
         by false q = absurd (let z : no_connection ≡ x = sym (stray_shows_none (eqb-false h k q)) ∙ e in omega arith)
 
-    pub shown-named : c ≡ x
-    shown-named = by (ltb c connection_limit) refl
+    pub shown_named : c ≡ x
+    shown_named = by (ltb c connection_limit) refl
       where
         by : (b : Bool) → ltb c connection_limit ≡ b → c ≡ x
-        by true q = sym (shown shown-live (ltb-true c connection_limit q) shown_home) ∙ e
+        by true q = sym (shown shown_live (ltb-true c connection_limit q) shown_home) ∙ e
         by false q = absurd (let z : no_connection ≡ x = sym (past_shows_none (ltb-false c connection_limit q)) ∙ e in omega arith)
 
 pub field_small : (w : List ℕ) (i f : ℕ) → field_of w i (suc f) < 256
@@ -122,8 +122,8 @@ module _ (w w' : List ℕ) (i : ℕ) where
           let h : home_of w' (row_word w' i (suc f)) ≡ home_of w' c = ap (home_of w') (q ∙ e) in
           stray_shows_none (row_word w' i 0) (row_word w' i (suc f)) (home_of w' (row_word w' i (suc f))) (home_in i (suc f)) (λ t. away (sym h ∙ t))
 
-      was-hidden : row_word w i (suc f) ≡ c → field_of w i (suc f) ≡ no_connection
-      was-hidden e = on (not (eqb (row_word w i 0) 0) && (ltb (row_word w i (suc f)) connection_limit && eqb (home_of w (row_word w i (suc f))) (home_in i (suc f)))) refl
+      was_hidden : row_word w i (suc f) ≡ c → field_of w i (suc f) ≡ no_connection
+      was_hidden e = on (not (eqb (row_word w i 0) 0) && (ltb (row_word w i (suc f)) connection_limit && eqb (home_of w (row_word w i (suc f))) (home_in i (suc f)))) refl
         where
           on : (b : Bool) → (not (eqb (row_word w i 0) 0) && (ltb (row_word w i (suc f)) connection_limit && eqb (home_of w (row_word w i (suc f))) (home_in i (suc f)))) ≡ b
               → cond b (row_word w i (suc f)) no_connection ≡ no_connection
@@ -131,7 +131,7 @@ module _ (w w' : List ℕ) (i : ℕ) where
           on false t = refl
 
       by : (b : Bool) → eqb (row_word w i (suc f)) c ≡ b → field_of w' i (suc f) ≡ field_of w i (suc f)
-      by true e = let z : row_word w i (suc f) ≡ c = eqb-true (row_word w i (suc f)) c e in hidden z ∙ sym (was-hidden z)
+      by true e = let z : row_word w i (suc f) ≡ c = eqb-true (row_word w i (suc f)) c e in hidden z ∙ sym (was_hidden z)
       by false e = confirmed_same f p q (λ l. homes (row_word w i (suc f)) l (eqb-false (row_word w i (suc f)) c e))
 
 -- what slot i shows in field f, by its words
@@ -171,9 +171,9 @@ module _ (w : List ℕ) (i : ℕ) where
   shows c zero o l e = absurd (o refl)
   shows c (suc f) o l e =
       let x : ℕ = row_word w i (suc f) in
-      let n : x ≡ c = shown-named (row_word w i 0) x (home_of w x) (home_in i (suc f)) c l e in
+      let n : x ≡ c = shown_named (row_word w i 0) x (home_of w x) (home_in i (suc f)) c l e in
       record {
-        lives = shown-live (row_word w i 0) x (home_of w x) (home_in i (suc f)) c l e;
+        lives = shown_live (row_word w i 0) x (home_of w x) (home_in i (suc f)) c l e;
         names = n;
         home = ap (home_of w) (sym n) ∙ shown_home (row_word w i 0) x (home_of w x) (home_in i (suc f)) c l e;
       }

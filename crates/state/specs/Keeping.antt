@@ -37,14 +37,14 @@ module _ (In : ℕ → Type 0) (w w' s s' : List ℕ) (t : TidyOver In (memory w
     pub kept_field : (i f : ℕ) → i < session_limit → f < ENTRY → field_of w' i f ≡ field_of w i f
     kept_field i f h l = field_same w w' i (λ g x. row i g h x) home f l
 
-    pub kept-rows : (i : ℕ) → i < session_limit → TidyRow w' i
-    kept-rows i h f o l =
+    pub kept_rows : (i : ℕ) → i < session_limit → TidyRow w' i
+    kept_rows i h f o l =
         row i f h l
         ∙ t.rows i h f o l
         ∙ sym (ap₂ (λ (x y : ℕ). cond (eqb x 0) 0 y) (row i 0 h (lit< tt)) (kept_field i f h l))
 
-    pub kept-homes : (c : ℕ) → c < connection_limit → TidyHome w' c
-    kept-homes c h =
+    pub kept_homes : (c : ℕ) → c < connection_limit → TidyHome w' c
+    kept_homes c h =
         ⊎_elim
         (λ (z : home_of w c ≡ 0). inl (home c h ∙ z))
         (λ (x : Shown w c). inr record { slot = x.slot; field = x.field; few = x.few; some = x.some; small = x.small; is = kept_field x.slot x.field x.few x.small ∙ x.is })
@@ -169,8 +169,8 @@ module _ (w s : List ℕ) (a v : ℕ) (t : Tidy (memory w s)) (x : InPlace w a v
           sharers = placed (λ (y : ℕ). y < 2 ^ session_limit) SHARERS t.singles.sharers x.sharers;
           count = subst (λ (y : ℕ). y ≤ session_limit) (sym count_off) t.singles.count;
         };
-        rows = kept-rows (Counted w) w w' s s t row_off home_off;
-        homes = kept-homes (Counted w) w w' s s t row_off home_off;
+        rows = kept_rows (Counted w) w w' s s t row_off home_off;
+        homes = kept_homes (Counted w) w w' s s t row_off home_off;
         requests = λ i h.
             kept_request (Counted w) w w' s s t (Counted w') i h (λ f l. behind_all (REQUESTS + i * REQUEST + f) (omega arith)) (λ j l. refl)
             (kept_away (Counted w) w w' s s t (Counted w') i queue_off (count_to w w' count_off));

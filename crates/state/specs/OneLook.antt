@@ -140,8 +140,8 @@ module _ (w s : List ℕ) (c : ℕ) (few : c < connection_limit) where
     pub role_half : field_of w i 2 ≡ no_connection → role_number (role_in c (at es i)) ≡ 1
     role_half q = role_half_open c (at es i) (lives_at i 1 h (omega arith) e) (asynchronous_at w s i h ∙ q)
 
-    pub role-first : (field_of w i 2 ≡ no_connection → ⊥) → role_number (role_in c (at es i)) ≡ 2
-    role-first q = role_synchronous c (at es i) (lives_at i 1 h (omega arith) e) (λ z. q (sym (asynchronous_at w s i h) ∙ z)) (synchronous_at w s i h ∙ e)
+    pub role_first : (field_of w i 2 ≡ no_connection → ⊥) → role_number (role_in c (at es i)) ≡ 2
+    role_first q = role_synchronous c (at es i) (lives_at i 1 h (omega arith) e) (λ z. q (sym (asynchronous_at w s i h) ∙ z)) (synchronous_at w s i h ∙ e)
 
   -- where no session is found, nobody shows the connection
   pub nobody : slot_in es c ≡ session_limit → Unshown w c

@@ -58,10 +58,10 @@ module _ {S : Type 0} (deed : S → Event → Deed S) where
     abbrev to : ℕ → Reading S
     to k = by_framing p s k
 
-    to-choose : (c : Bool) (a b : ℕ) (x y : Reading S) → x ≡ to a → y ≡ to b → choose c x y ≡ to (choose c a b)
+    to_choose : (c : Bool) (a b : ℕ) (x y : Reading S) → x ≡ to a → y ≡ to b → choose c x y ≡ to (choose c a b)
     unfolding choose
-    to-choose true a b x y e f = e
-    to-choose false a b x y e f = f
+    to_choose true a b x y e f = e
+    to_choose false a b x y e f = f
 
     is_zero : reading p s ≡ to 0
     unfolding by_framing choose
@@ -71,26 +71,26 @@ module _ {S : Type 0} (deed : S → Event → Deed S) where
     unfolding by_framing choose fault_of
     is_one = refl
 
-    is-two : by_next (stops (wrong p.count in_distance)) ≡ to 2
+    is_two : by_next (stops (wrong p.count in_distance)) ≡ to 2
     unfolding by_framing choose fault_of by_next
-    is-two = refl
+    is_two = refl
 
-    is-three : by_next (stops (wrong p.count in_sum)) ≡ to 3
+    is_three : by_next (stops (wrong p.count in_sum)) ≡ to 3
     unfolding by_framing choose fault_of by_next
-    is-three = refl
+    is_three = refl
 
-    is-six : done (wrong p.count in_trailer) ≡ to 6
+    is_six : done (wrong p.count in_trailer) ≡ to 6
     unfolding by_framing choose fault_of
-    is-six = refl
+    is_six = refl
 
-    is-seven : by_next (by_step p (length s) (by_event deed p.server (decode (body_of s)))) ≡ to 7
+    is_seven : by_next (by_step p (length s) (by_event deed p.server (decode (body_of s)))) ≡ to 7
     unfolding by_framing choose
-    is-seven = refl
+    is_seven = refl
 
-    next-choose : (c : Bool) (x y : Next S) → by_next (choose c x y) ≡ choose c (by_next x) (by_next y)
+    next_choose : (c : Bool) (x y : Next S) → by_next (choose c x y) ≡ choose c (by_next x) (by_next y)
     unfolding choose
-    next-choose true x y = refl
-    next-choose false x y = refl
+    next_choose true x y = refl
+    next_choose false x y = refl
 
     entry_frame : by_next (entry_of deed p s)
         ≡ to (choose (eqb (number_at s (length_of s + 4) 4) (length_of s + 4))
@@ -100,44 +100,44 @@ module _ {S : Type 0} (deed : S → Event → Deed S) where
     entry_frame =
         let c : Bool = eqb (number_at s (length_of s + 4) 4) (length_of s + 4) in
         let d : Bool = eqb (number_at s (length_of s + 8) 4) (crc_of (take (length_of s + 4) s)) in
-        next-choose c _ _ ∙ to-choose c (choose d 7 3) 2 _ _ (next-choose d _ _ ∙ to-choose d 7 3 _ _ is-seven is-three) is-two
+        next_choose c _ _ ∙ to_choose c (choose d 7 3) 2 _ _ (next_choose d _ _ ∙ to_choose d 7 3 _ _ is_seven is_three) is_two
 
     -- A byte more, by the answer: all of `settle` but the layout and the server.
-    pub settle-framing : settle deed p s ≡ by_framing p s (framing_of s)
+    pub settle_framing : settle deed p s ≡ by_framing p s (framing_of s)
     unfolding settle framing_of
-    settle-framing =
-        to-choose (leb (length s) 3) 0 _ _ _ is_zero
-        (to-choose (is_back s) _ _ _ _ (to-choose (leb (length s) 12) 0 6 _ _ is_zero is-six)
-        (to-choose (leb (length_of s) body_limit) _ 1 _ _ (to-choose (leb (length_of s + 12) (length s)) _ 0 _ _ entry_frame is_zero) is_one))
+    settle_framing =
+        to_choose (leb (length s) 3) 0 _ _ _ is_zero
+        (to_choose (is_back s) _ _ _ _ (to_choose (leb (length s) 12) 0 6 _ _ is_zero is_six)
+        (to_choose (leb (length_of s) body_limit) _ 1 _ _ (to_choose (leb (length_of s + 12) (length s)) _ 0 _ _ entry_frame is_zero) is_one))
 
   -- the verdict at the end, by the answer
   unfoldable pub by_end : ℕ → ℕ → Verdict
   by_end count k = choose (eqb k 0) (accepted count) (wrong count (fault_of k))
 
   module _ (p : Place S) (s : List ℕ) where
-    end-choose : (c : Bool) (a b : ℕ) (x y : Verdict) → x ≡ by_end p.count a → y ≡ by_end p.count b → choose c x y ≡ by_end p.count (choose c a b)
+    end_choose : (c : Bool) (a b : ℕ) (x y : Verdict) → x ≡ by_end p.count a → y ≡ by_end p.count b → choose c x y ≡ by_end p.count (choose c a b)
     unfolding choose
-    end-choose true a b x y e f = e
-    end-choose false a b x y e f = f
+    end_choose true a b x y e f = e
+    end_choose false a b x y e f = f
 
-    end-zero : accepted p.count ≡ by_end p.count 0
+    end_zero : accepted p.count ≡ by_end p.count 0
     unfolding by_end choose
-    end-zero = refl
+    end_zero = refl
 
-    end-one : wrong p.count in_length ≡ by_end p.count 1
+    end_one : wrong p.count in_length ≡ by_end p.count 1
     unfolding by_end choose fault_of
-    end-one = refl
+    end_one = refl
 
-    end-six : wrong p.count in_trailer ≡ by_end p.count 6
+    end_six : wrong p.count in_trailer ≡ by_end p.count 6
     unfolding by_end choose fault_of
-    end-six = refl
+    end_six = refl
 
-    pub finish-end : finish (reading p s) ≡ by_end p.count (end_of s p.last p.count)
+    pub finish_end : finish (reading p s) ≡ by_end p.count (end_of s p.last p.count)
     unfolding finish end_of trailer_of
-    finish-end =
-        end-choose (is_back s) _ 1 _ _
-        (end-choose (eqb (length s) 12 && eqb (number_at s 4 4) p.last && eqb (number_at s 8 4) p.count) 0 6 _ _ end-zero end-six)
-        end-one
+    finish_end =
+        end_choose (is_back s) _ 1 _ _
+        (end_choose (eqb (length s) 12 && eqb (number_at s 4 4) p.last && eqb (number_at s 8 4) p.count) 0 6 _ _ end_zero end_six)
+        end_one
 
 -- laws for the code: one for each way out
 module _ (s : List ℕ) where
@@ -154,23 +154,23 @@ module _ (s : List ℕ) where
   not_back n e b = not_and (leb 4 (length s)) (ne_eqb (number_at s 0 4) (number mark) (λ z. b (e ∙ z)))
 
   module _ (n : ℕ) (e : n ≡ number_at s 0 4) (h : 3 < length s) where
-    pub back-short : n ≡ 1111573323 → length s ≤ 12 → 0 ≡ framing_of s
+    pub back_short : n ≡ 1111573323 → length s ≤ 12 → 0 ≡ framing_of s
     unfolding framing_of
-    back-short b l = sym (no_is _ _ (lt-leb (length s) 3 h) ∙ yes_is _ _ (is_back_lem n e h b) ∙ yes_is _ _ (le-leb (length s) 12 l))
+    back_short b l = sym (no_is _ _ (lt-leb (length s) 3 h) ∙ yes_is _ _ (is_back_lem n e h b) ∙ yes_is _ _ (le-leb (length s) 12 l))
 
     pub back_long : n ≡ 1111573323 → 12 < length s → 6 ≡ framing_of s
     unfolding framing_of
     back_long b l = sym (no_is _ _ (lt-leb (length s) 3 h) ∙ yes_is _ _ (is_back_lem n e h b) ∙ no_is _ _ (lt-leb (length s) 12 l))
 
     module _ (b : n ≡ 1111573323 → ⊥) where
-      to-limit : framing_of s
+      to_limit : framing_of s
           ≡ choose (leb n body_limit)
           (choose (leb (n + 12) (length s))
           (choose (eqb (number_at s (n + 4) 4) (n + 4)) (choose (eqb (number_at s (n + 8) 4) (crc_of (take (n + 4) s))) 7 3) 2)
           0)
           1
       unfolding framing_of length_of
-      to-limit =
+      to_limit =
           no_is _ _ (lt-leb (length s) 3 h) ∙ no_is _ _ (not_back n e b)
           ∙ ap
           (λ (k : ℕ). choose (leb k body_limit)
@@ -181,30 +181,30 @@ module _ (s : List ℕ) where
           (sym e)
 
       pub too_long : body_limit < n → 1 ≡ framing_of s
-      too_long l = sym (to-limit ∙ no_is _ _ (lt-leb n body_limit l))
+      too_long l = sym (to_limit ∙ no_is _ _ (lt-leb n body_limit l))
 
       module _ (w : n ≤ body_limit) where
         pub short : length s < n + 12 → 0 ≡ framing_of s
-        short l = sym (to-limit ∙ yes_is _ _ (le-leb n body_limit w) ∙ no_is _ _ (lt-leb (n + 12) (length s) l))
+        short l = sym (to_limit ∙ yes_is _ _ (le-leb n body_limit w) ∙ no_is _ _ (lt-leb (n + 12) (length s) l))
 
         module _ (l : n + 12 ≤ length s) (d : ℕ) (f : d ≡ number_at s (n + 4) 4) where
-          to-distance : framing_of s ≡ choose (eqb d (n + 4)) (choose (eqb (number_at s (n + 8) 4) (crc_of (take (n + 4) s))) 7 3) 2
-          to-distance =
-              to-limit ∙ yes_is _ _ (le-leb n body_limit w) ∙ yes_is _ _ (le-leb (n + 12) (length s) l)
+          to_distance : framing_of s ≡ choose (eqb d (n + 4)) (choose (eqb (number_at s (n + 8) 4) (crc_of (take (n + 4) s))) 7 3) 2
+          to_distance =
+              to_limit ∙ yes_is _ _ (le-leb n body_limit w) ∙ yes_is _ _ (le-leb (n + 12) (length s) l)
               ∙ ap (λ (k : ℕ). choose (eqb k (n + 4)) (choose (eqb (number_at s (n + 8) 4) (crc_of (take (n + 4) s))) 7 3) 2) (sym f)
 
           pub bad_distance : (d ≡ n + 4 → ⊥) → 2 ≡ framing_of s
-          bad_distance g = sym (to-distance ∙ no_is _ _ (ne_eqb d (n + 4) g))
+          bad_distance g = sym (to_distance ∙ no_is _ _ (ne_eqb d (n + 4) g))
 
           module _ (g : d ≡ n + 4) (x y : ℕ) (i : x ≡ number_at s (n + 8) 4) (j : y ≡ crc_of (take (n + 4) s)) where
-            to-sum : framing_of s ≡ choose (eqb x y) 7 3
-            to-sum = to-distance ∙ yes_is _ _ (eq-eqb d (n + 4) g) ∙ ap₂ (λ (u v : ℕ). choose (eqb u v) 7 3) (sym i) (sym j)
+            to_sum : framing_of s ≡ choose (eqb x y) 7 3
+            to_sum = to_distance ∙ yes_is _ _ (eq-eqb d (n + 4) g) ∙ ap₂ (λ (u v : ℕ). choose (eqb u v) 7 3) (sym i) (sym j)
 
             pub bad_sum : (x ≡ y → ⊥) → 3 ≡ framing_of s
-            bad_sum q = sym (to-sum ∙ no_is _ _ (ne_eqb x y q))
+            bad_sum q = sym (to_sum ∙ no_is _ _ (ne_eqb x y q))
 
             pub all_right : x ≡ y → 7 ≡ framing_of s
-            all_right q = sym (to-sum ∙ yes_is _ _ (eq-eqb x y q))
+            all_right q = sym (to_sum ∙ yes_is _ _ (eq-eqb x y q))
 
 -- the end of the book
 module _ (s : List ℕ) (last count : ℕ) where
@@ -216,26 +216,26 @@ module _ (s : List ℕ) (last count : ℕ) where
   end_few h = no_trailer (few_not_back s h)
 
   module _ (n : ℕ) (e : n ≡ number_at s 0 4) (h : 4 ≤ length s) where
-    pub end-entry : (n ≡ 1111573323 → ⊥) → 1 ≡ end_of s last count
-    end-entry b = no_trailer (not_back s n e b)
+    pub end_entry : (n ≡ 1111573323 → ⊥) → 1 ≡ end_of s last count
+    end_entry b = no_trailer (not_back s n e b)
 
     module _ (b : n ≡ 1111573323) where
       bad : (eqb (length s) 12 && eqb (number_at s 4 4) last && eqb (number_at s 8 4) count) ≡ false → 6 ≡ end_of s last count
       unfolding end_of
       bad f = sym (yes_is _ _ (is_back_lem s n e (omega arith) b) ∙ no_is _ _ f)
 
-      pub end-length : (length s ≡ 12 → ⊥) → 6 ≡ end_of s last count
-      end-length f = bad (and_not (eqb (number_at s 8 4) count) (and_not (eqb (number_at s 4 4) last) (ne_eqb (length s) 12 f)))
+      pub end_length : (length s ≡ 12 → ⊥) → 6 ≡ end_of s last count
+      end_length f = bad (and_not (eqb (number_at s 8 4) count) (and_not (eqb (number_at s 4 4) last) (ne_eqb (length s) 12 f)))
 
-      pub end-last : (x : ℕ) → x ≡ number_at s 4 4 → (x ≡ last → ⊥) → 6 ≡ end_of s last count
-      end-last x i f = bad (and_not (eqb (number_at s 8 4) count) (not_and (eqb (length s) 12) (ne_eqb (number_at s 4 4) last (λ z. f (i ∙ z)))))
+      pub end_last : (x : ℕ) → x ≡ number_at s 4 4 → (x ≡ last → ⊥) → 6 ≡ end_of s last count
+      end_last x i f = bad (and_not (eqb (number_at s 8 4) count) (not_and (eqb (length s) 12) (ne_eqb (number_at s 4 4) last (λ z. f (i ∙ z)))))
 
-      pub end-count : (y : ℕ) → y ≡ number_at s 8 4 → (y ≡ count → ⊥) → 6 ≡ end_of s last count
-      end-count y j f = bad (not_and (eqb (length s) 12 && eqb (number_at s 4 4) last) (ne_eqb (number_at s 8 4) count (λ z. f (j ∙ z))))
+      pub end_count : (y : ℕ) → y ≡ number_at s 8 4 → (y ≡ count → ⊥) → 6 ≡ end_of s last count
+      end_count y j f = bad (not_and (eqb (length s) 12 && eqb (number_at s 4 4) last) (ne_eqb (number_at s 8 4) count (λ z. f (j ∙ z))))
 
-      pub end-right : length s ≡ 12 → (x y : ℕ) → x ≡ number_at s 4 4 → x ≡ last → y ≡ number_at s 8 4 → y ≡ count → 0 ≡ end_of s last count
+      pub end_right : length s ≡ 12 → (x y : ℕ) → x ≡ number_at s 4 4 → x ≡ last → y ≡ number_at s 8 4 → y ≡ count → 0 ≡ end_of s last count
       unfolding end_of
-      end-right l x y i p j q =
+      end_right l x y i p j q =
           sym
           (yes_is _ _ (is_back_lem s n e (omega arith) b)
           ∙ yes_is _ _

@@ -117,9 +117,9 @@ module _ {S : Type 0} (deed : S → Event → Deed S) where
     whole_length : length (t ++ s) ≡ length t + length s
     whole_length = length-append t s
 
-    by-entry : 4 ≤ length t → is_back t ≡ false → length_of t ≤ body_limit → length t ≡ length_of t + 12 → (x : Next S) → entry_of deed p t ≡ x → Goal (by_next (entry_of deed p t))
+    by_entry : 4 ≤ length t → is_back t ≡ false → length_of t ≤ body_limit → length t ≡ length_of t + 12 → (x : Next S) → entry_of deed p t ≡ x → Goal (by_next (entry_of deed p t))
     unfolding by_next
-    by-entry four b l n x e =
+    by_entry four b l n x e =
         let m : length_of (t ++ s) ≡ length_of t = length_front t s four in
         let z : length t ≡ length_of (t ++ s) + 12 = omega arith in
         let w : length_of (t ++ s) + 12 ≤ length (t ++ s) = omega (arith, whole_length) in
@@ -140,26 +140,26 @@ module _ {S : Type 0} (deed : S → Event → Deed S) where
     by_bytes four b l true e =
         let n : length_of t + 12 ≤ length t = leb-true (length_of t + 12) (length t) e in
         let m : length t ≤ length_of t + 12 = small b in
-        via (yes_is _ _ e) (by-entry four b l (omega arith) (entry_of deed p t) refl)
+        via (yes_is _ _ e) (by_entry four b l (omega arith) (entry_of deed p t) refl)
     by_bytes four b l false e =
         let n : length t < length_of t + 12 = leb-false (length_of t + 12) (length t) e in
         via (no_is _ _ e) (ih (suc k) p t (record { back = λ c. let z : ◌≡◌ {A = ℕ} 0 1 = cc in absurd (omega arith); short = λ c. n }) fuel)
 
-    by-limit : 4 ≤ length t → is_back t ≡ false → (c : Bool) → leb (length_of t) body_limit ≡ c
+    by_limit : 4 ≤ length t → is_back t ≡ false → (c : Bool) → leb (length_of t) body_limit ≡ c
         → Goal (choose (leb (length_of t) body_limit) (choose (leb (length_of t + 12) (length t)) (by_next (entry_of deed p t)) (reading p t)) (done (wrong p.count in_length)))
-    by-limit four b true e = via (yes_is _ _ e) (by_bytes four b (leb-true (length_of t) body_limit e) (leb (length_of t + 12) (length t)) refl)
-    by-limit four b false e =
+    by_limit four b true e = via (yes_is _ _ e) (by_bytes four b (leb-true (length_of t) body_limit e) (leb (length_of t + 12) (length t)) refl)
+    by_limit four b false e =
         let n : body_limit < length_of t = leb-false (length_of t) body_limit e in
         let m : length_of (t ++ s) ≡ length_of t = length_front t s four in
         via (no_is _ _ e)
         (stands (wrong p.count in_length) s
         ∙ sym (at_stop k p (t ++ s) (wrong p.count in_length) (place_short p (t ++ s) (back_front t s four ∙ b) (long_not (t ++ s) (omega arith)))))
 
-    by-trailer : 4 ≤ length t → is_back t ≡ true → (c : Bool) → leb (length t) 12 ≡ c → Goal (choose (leb (length t) 12) (reading p t) (done (wrong p.count in_trailer)))
-    by-trailer four b true e =
+    by_trailer : 4 ≤ length t → is_back t ≡ true → (c : Bool) → leb (length t) 12 ≡ c → Goal (choose (leb (length t) 12) (reading p t) (done (wrong p.count in_trailer)))
+    by_trailer four b true e =
         let n : length t ≤ 12 = leb-true (length t) 12 e in
         via (yes_is _ _ e) (ih (suc k) p t (record { back = λ c. n; short = λ c. let z : ◌≡◌ {A = ℕ} 0 1 = cc in absurd (omega arith) }) fuel)
-    by-trailer four b false e =
+    by_trailer four b false e =
         let n : 12 < length t = leb-false (length t) 12 e in
         via (no_is _ _ e)
         (stands (wrong p.count in_trailer) s
@@ -171,8 +171,8 @@ module _ {S : Type 0} (deed : S → Event → Deed S) where
         → Goal (choose (is_back t)
         (choose (leb (length t) 12) (reading p t) (done (wrong p.count in_trailer)))
         (choose (leb (length_of t) body_limit) (choose (leb (length_of t + 12) (length t)) (by_next (entry_of deed p t)) (reading p t)) (done (wrong p.count in_length))))
-    by_back four true e = via (yes_is _ _ e) (by-trailer four e (leb (length t) 12) refl)
-    by_back four false e = via (no_is _ _ e) (by-limit four e (leb (length_of t) body_limit) refl)
+    by_back four true e = via (yes_is _ _ e) (by_trailer four e (leb (length t) 12) refl)
+    by_back four false e = via (no_is _ _ e) (by_limit four e (leb (length_of t) body_limit) refl)
 
     settled : (c : Bool) → leb (length t) 3 ≡ c → Goal (settle deed p t)
     unfolding settle

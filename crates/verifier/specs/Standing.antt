@@ -20,7 +20,7 @@ use Rattle.verifier.specs.Judge.{Verdict, wrong, in_length, in_trailer, Deed, We
 use Rattle.verifier.specs.Feed.{Reading, reading, done, by_next, settle, finish, feed_byte, feed}
 use Rattle.verifier.specs.Pieces.{length_front, back_front, few_not_back}
 use Rattle.verifier.specs.Places.{chosen}
-use Rattle.verifier.specs.Framing.{framing_of, end_of, fault_of, by_framing, settle-framing, by_end, finish-end, Fed}
+use Rattle.verifier.specs.Framing.{framing_of, end_of, fault_of, by_framing, settle_framing, by_end, finish_end, Fed}
 use Rattle.verifier.specs.Whole.{frame_whole, not_chosen, neither}
 use Rattle.verifier.specs.declared.Standing.{Standing}
 
@@ -194,7 +194,7 @@ module _ {S : Type 0} (deed : S → Event → Deed S) (r : Standing) (buf new : 
   turned =
       ap (λ (y : Reading S). feed deed y (b ∷ x)) (yes_is _ _ (eq-eqb r.fault 0 going))
       ∙ at_once deed x (place_in r d) had b (omega (arith, had_length, h)) (o.fits going)
-      ∙ settle-framing deed (place_in r d) all
+      ∙ settle_framing deed (place_in r d) all
       ∙ ap (by_framing deed (place_in r d) all) (sym f.kind)
 
   module _ (r' : Standing) where
@@ -224,10 +224,10 @@ module _ {S : Type 0} (deed : S → Event → Deed S) (r : Standing) (buf new : 
         (no_is _ _ (ne_eqb j 0 n), record { room = f.size ∙ o.room; short = λ z. absurd (n z); fits = λ z. absurd (n z); count = o.count })
 
     -- a fault of the framing
-    pub turn-fault : (k ≡ 0 → ⊥) → (k ≡ 7 → ⊥) → r' ≡ record { have = r.have; count = r.count; at = r.at; last = r.last; fault = k }
+    pub turn_fault : (k ≡ 0 → ⊥) → (k ≡ 7 → ⊥) → r' ≡ record { have = r.have; count = r.count; at = r.at; last = r.last; fault = k }
         → (reading_of r' new d ≡ feed deed (reading_of r buf d) (b ∷ x)) × Sound r' new
     unfolding by_framing
-    turn-fault n m e =
+    turn_fault n m e =
         let y = faulty k n e in
         (y.0 ∙ sym (turned ∙ no_is _ _ (ne_eqb k 0 n) ∙ no_is _ _ (ne_eqb k 7 m)), y.1)
 
@@ -236,8 +236,8 @@ module _ {S : Type 0} (deed : S → Event → Deed S) (r : Standing) (buf new : 
     one : length all ≡ length_of all + 12
     one = just_one had (b ∷ x) (omega (arith, had_length, h)) (sym f.kind ∙ z)
 
-    pub entry-long : 12 ≤ r.have + length (b ∷ x)
-    entry-long = omega (arith, one, all_length)
+    pub entry_long : 12 ≤ r.have + length (b ∷ x)
+    entry_long = omega (arith, one, all_length)
 
     -- its body is what the code cuts out
     body_is : (e : ℕ) → e ≡ r.have + length (b ∷ x) → take (e - 8 - 4) (drop 4 new) ≡ body_of all
@@ -248,37 +248,37 @@ module _ {S : Type 0} (deed : S → Event → Deed S) (r : Standing) (buf new : 
         ∙ sym (take-take (length_of all) (e - 4) (drop 4 new) u)
         ∙ ap (take (length_of all)) (sym (drop_take 4 e new) ∙ ap (drop 4) (ap (λ (j : ℕ). take j new) q ∙ f.had))
 
-    whole-turn : (e : ℕ) → e ≡ r.have + length (b ∷ x)
+    whole_turn : (e : ℕ) → e ≡ r.have + length (b ∷ x)
         → feed deed (reading_of r buf d) (b ∷ x) ≡ by_next (by_step (place_in r d) (length all) (by_event deed d (decode (take (e - 8 - 4) (drop 4 new)))))
     unfolding by_framing choose
-    whole-turn e q =
+    whole_turn e q =
         turned ∙ ap (by_framing deed (place_in r d) all) z
         ∙ ap (λ (y : List ℕ). by_next (by_step (place_in r d) (length all) (by_event deed d (decode y)))) (sym (body_is e q))
 
     module _ (r' : Standing) (e : ℕ) (q : e ≡ r.have + length (b ∷ x)) where
       -- its layout or its frames are wrong
-      pub turn-wrong : (j : ℕ) → (j ≡ 0 → ⊥) → by_event deed d (decode (take (e - 8 - 4) (drop 4 new))) ≡ fault (fault_of j)
+      pub turn_wrong : (j : ℕ) → (j ≡ 0 → ⊥) → by_event deed d (decode (take (e - 8 - 4) (drop 4 new))) ≡ fault (fault_of j)
           → r' ≡ record { have = r.have; count = r.count; at = r.at; last = r.last; fault = j }
           → (d' : S) → (reading_of r' new d' ≡ feed deed (reading_of r buf d) (b ∷ x)) × Sound r' new
       unfolding reading_of by_step by_next
-      turn-wrong j n w i d' =
+      turn_wrong j n w i d' =
           rw i (
-            no_is _ _ (ne_eqb j 0 n) ∙ sym (whole-turn e q ∙ ap (λ (y : Went S). by_next (by_step (place_in r d) (length all) y)) w),
+            no_is _ _ (ne_eqb j 0 n) ∙ sym (whole_turn e q ∙ ap (λ (y : Went S). by_next (by_step (place_in r d) (length all) y)) w),
             record { room = f.size ∙ o.room; short = λ y. absurd (n y); fits = λ y. absurd (n y); count = o.count },
           )
 
       -- it is right
-      pub turn-pass : (d' : S) → by_event deed d (decode (take (e - 8 - 4) (drop 4 new))) ≡ on d'
+      pub turn_pass : (d' : S) → by_event deed d (decode (take (e - 8 - 4) (drop 4 new))) ≡ on d'
           → r' ≡ record { have = 0; count = r.count + 1; at = r.at + e; last = r.at; fault = 0 }
           → (reading_of r' new d' ≡ feed deed (reading_of r buf d) (b ∷ x)) × Sound r' new
       unfolding reading_of by_step by_next wanted_of choose
-      turn-pass d' w i =
+      turn_pass d' w i =
           let c : r.count ≤ r.at = o.count in
           let l : e ≡ length all = q ∙ sym all_length in
-          let g : 12 ≤ e = omega (arith, entry-long) in
+          let g : 12 ≤ e = omega (arith, entry_long) in
           rw i (
             ap (λ (n : ℕ). reading (record { count = r.count + 1; at = r.at + n; last = r.at; server = d' }) []) l
-                ∙ sym (whole-turn e q ∙ ap (λ (y : Went S). by_next (by_step (place_in r d) (length all) y)) w),
+                ∙ sym (whole_turn e q ∙ ap (λ (y : Went S). by_next (by_step (place_in r d) (length all) y)) w),
             record { room = f.size ∙ o.room; short = λ _. omega arith; fits = λ _. omega arith; count = omega arith },
           )
 
@@ -302,7 +302,7 @@ module _ {S : Type 0} (deed : S → Event → Deed S) (r : Standing) (buf : List
   ending_reads e =
       let t : eqb r.fault 0 ≡ true = eq-eqb r.fault 0 e in
       ap finish (yes_is (reading (place_in r d) (take r.have buf)) (done (wrong r.count (fault_of r.fault))) t)
-      ∙ finish-end deed (place_in r d) (take r.have buf)
+      ∙ finish_end deed (place_in r d) (take r.have buf)
       ∙ ap (by_end deed r.count) (sym (yes_is (end_of (take r.have buf) r.last r.count) r.fault t))
 
   ending_fault : (r.fault ≡ 0 → ⊥) → finish (reading_of r buf d) ≡ by_end deed r.count (ending_of r buf)

@@ -1,5 +1,7 @@
 // The verifier (02: judge) without the server: what the bytes had from a place on come to. Whoever has the server goes on from
 // a whole entry: its layout (crate record), its frames beside the server's.
+#![tactic(auto)]
+
 ghost use Rattle.std.specs.Prelude.{◌+◌, ◌-◌, ◌≤◌, ◌<◌, min, length, take, ◌≡◌};
 ghost use Rattle.verifier.specs.Framing.{Fed, end_of, framing_of};
 ghost use Rattle.verifier.specs.Standing.{ending_of, start, wanted_of};

@@ -53,20 +53,20 @@ module _ (r : Standing) (buf : List ℕ) (m m' : Memory) (turns : ℕ) (g : Goin
       record { bytes = []; reads = λ n. absurd (n f); have = λ z. absurd (omega (arith, z, f)) }
 
   module _ (t : 0 < turns) (x : List ℕ) (l : length x ≤ 16384) where
-    pub may-feed : (out : List ℕ) → length out ≡ output_minimum → Sound r buf × (r.at + r.have + length x < 2 ^ 63) × (length out ≡ output_minimum)
-    may-feed out h = (g.sound, omega (arith, g.offset), h)
+    pub may_feed : (out : List ℕ) → length out ≡ output_minimum → Sound r buf × (r.at + r.have + length x < 2 ^ 63) × (length out ≡ output_minimum)
+    may_feed out h = (g.sound, omega (arith, g.offset), h)
 
     module _ (s : Standing) (buf' : List ℕ) (m'' : Memory) (u : Turned s r buf buf' m' m'' x) where
-      read-on : reading_of s buf' (view m'') ≡ feed deed (reading (first (view m)) []) (g.bytes ++ x)
-      read-on =
+      read_on : reading_of s buf' (view m'') ≡ feed deed (reading (first (view m)) []) (g.bytes ++ x)
+      read_on =
           u.reading ∙ ap (λ (y : Reading Server). feed deed y x) g.reads
           ∙ sym (feed_append deed (reading (first (view m)) []) g.bytes x)
 
       pub faulty : Judged s buf' m m''
-      faulty = record { bytes = g.bytes ++ x; reads = λ _. read-on; have = sound_have s buf' u.sound }
+      faulty = record { bytes = g.bytes ++ x; reads = λ _. read_on; have = sound_have s buf' u.sound }
 
       pub on : (k : ℕ) → k ≡ turns - 1 → Going s buf' m m'' k
-      on k e = record { bytes = g.bytes ++ x; reads = read-on; sound = u.sound; offset = omega (arith, e, g.offset, u.offset) }
+      on k e = record { bytes = g.bytes ++ x; reads = read_on; sound = u.sound; offset = omega (arith, e, g.offset, u.offset) }
 
 pub short_piece : (n : ℕ) (piece : List ℕ) → length piece ≤ 16384 → length (take n piece) ≤ 16384
 short_piece n piece h = simp length-take (omega arith)

@@ -1,4 +1,6 @@
 // `verify FILE VENDOR MODE`: the verdict over a journal, in one line. The file is read in pieces; its bytes are judged by crate replay.
+#![tactic(auto)]
+
 mod arguments;
 mod say;
 

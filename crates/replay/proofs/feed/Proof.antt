@@ -5,7 +5,7 @@ use Prim.Native.Nat.{◌-◌, ◌≤◌}
 use lib.ListN.{length, take}
 use Rattle.state.specs.View.{memory}
 use Rattle.replay.specs.Turn.{Turned}
-use Rattle.replay.proofs.Turns.{none_fed, may_ask, fed_stays, all_fed, further, turn-ready, fed-more}
+use Rattle.replay.proofs.Turns.{none_fed, may_ask, fed_stays, all_fed, further, turn_ready, fed_more}
 use borrow.Author.Rules.{rules}
 use Rattle.replay.proofs.feed.Statement.{statement}
 use Rattle.replay.proofs.feed.Tie as tie
@@ -49,7 +49,7 @@ part-turn-end c = omega (arith, c.before.before.before.before.portion.ensures, c
 
 turn-requires : tie.Need-turn-requires invariant-loop decreases-loop
 turn-requires c κs = let l = c.before.before.before.before.before.before.before.before.before.before.loop in
-    turn-ready _ _ _ _ _ _ _ l.i l.invariant.1 c.before.before.before.before.before.before.before.before.before.loop-test.true
+    turn_ready _ _ _ _ _ _ _ l.i l.invariant.1 c.before.before.before.before.before.before.before.before.before.loop-test.true
     c.before.before.before.before.before.before.before.if1.false c.before.before.before.before.before.portion.result _
     c.before.before.before.before.before.portion.ensures refl l.out
     c.before.before.before.before.before.before.before.before.before.before.before.before.before.before.requires.1
@@ -71,7 +71,7 @@ loop-again c = let l = c.before.before.before.before.before.before.before.before
     c.before.before.before.before.before.before.before.before.before.before.portion.result _
     c.before.before.before.before.before.before.before.before.before.before.portion.ensures refl in (
       f.1,
-      fed-more _ _ _ _ _ _ _ l.i l.invariant.1
+      fed_more _ _ _ _ _ _ _ l.i l.invariant.1
           c.before.before.before.before.before.before.before.before.before.before.before.before.before.before.loop-test.true
           c.before.before.before.before.before.before.before.before.before.before.before.before.if1.false
           c.before.before.before.before.before.before.before.before.before.before.portion.result _

@@ -2,7 +2,7 @@
 use mathlib.Core.Path.{refl}
 use native.Mathlib.Omega.{arith}
 use Rattle.state.specs.View.{memory}
-use Rattle.replay.proofs.Turns.{room_for, more_turn, fault_turn, whole_room, wrong-turn, pass-turn}
+use Rattle.replay.proofs.Turns.{room_for, more_turn, fault_turn, whole_room, wrong_turn, pass_turn}
 use borrow.Author.Rules.{rules}
 use Rattle.replay.proofs.turn.Statement.{statement}
 use Rattle.replay.proofs.turn.Tie as tie
@@ -44,7 +44,7 @@ returns-3 : tie.Need-returns-3
 returns-3 c =
     let a = c.before.before.before.before.before.before.before.before.before.before.before.before.before.before.before.before.before.before.args in
     let p = c.before.before.before.before.before.before.before.before.before.before.before.before.before.before.before.before.before.before.requires in
-    wrong-turn a.r _ a.buf.now _ _ (memory a.words.now a.strings.now) _ _ _ a.bytes.now p.0 p.1 p.2 p.3
+    wrong_turn a.r _ a.buf.now _ _ (memory a.words.now a.strings.now) _ _ _ a.bytes.now p.0 p.1 p.2 p.3
     c.before.before.before.before.before.before.before.before.before.before.before.before.before.feed.ensures
     c.before.before.before.before.before.before.before.before.before.if2.false refl c.before.before.before.before.replay-part.ensures
     c.before.if3.true c.failed2.ensures
@@ -53,7 +53,7 @@ returns-4 : tie.Need-returns-4
 returns-4 c =
     let a = c.before.before.before.before.before.before.before.before.before.before.before.before.before.before.before.before.before.before.before.args in
     let p = c.before.before.before.before.before.before.before.before.before.before.before.before.before.before.before.before.before.before.before.requires in
-    pass-turn a.r _ a.buf.now _ _ (memory a.words.now a.strings.now) _ _ _ a.bytes.now p.0 p.1 p.2 p.3
+    pass_turn a.r _ a.buf.now _ _ (memory a.words.now a.strings.now) _ _ _ a.bytes.now p.0 p.1 p.2 p.3
     c.before.before.before.before.before.before.before.before.before.before.before.before.before.before.feed.ensures
     c.before.before.before.before.before.before.before.before.before.before.if2.false refl
     c.before.before.before.before.before.replay-part.ensures c.before.before.if3.false refl

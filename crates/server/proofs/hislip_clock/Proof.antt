@@ -4,7 +4,7 @@ use native.Mathlib.Omega.{arith}
 use lib.ListN.{length}
 use Rattle.state.specs.View.{memory, view}
 use Rattle.model.specs.Interface.{Event.clock}
-use Rattle.server.specs.Causes.{untimely, clock_causes, short-room}
+use Rattle.server.specs.Causes.{untimely, clock_causes, short_room}
 use Rattle.server.specs.Events.{refused_call, clock_call, clock_above_lem, clock_back_lem, clock_taken}
 use borrow.Author.Rules.{rules}
 use Rattle.server.proofs.hislip_clock.Statement.{statement}
@@ -17,7 +17,7 @@ returns c = let a = c.before.before.before.args in
     let d = view m in
     let out = a.out.now in
     let room = length out in
-    refused_call (clock a.milliseconds room) 6 _ m out (short-room d (clock a.milliseconds room) room (untimely d a.milliseconds)
+    refused_call (clock a.milliseconds room) 6 _ m out (short_room d (clock a.milliseconds room) room (untimely d a.milliseconds)
     (clock_causes d room a.milliseconds) c.before.if1.true) c.told.ensures
 
 returns-2 : tie.Need-returns-2

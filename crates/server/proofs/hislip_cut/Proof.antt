@@ -6,7 +6,7 @@ use lib.ListN.{length}
 use borrow.Author.Tests.{not-true, not-false}
 use Rattle.state.specs.View.{memory, view}
 use Rattle.model.specs.Interface.{Event.cut}
-use Rattle.server.specs.Causes.{unknown, cut_causes, short-room, no_number, not-open, is_open}
+use Rattle.server.specs.Causes.{unknown, cut_causes, short_room, no_number, not_open_lem, is_open}
 use Rattle.server.specs.Events.{refused_call, cut_call}
 use borrow.Author.Rules.{rules}
 use Rattle.server.proofs.hislip_cut.Statement.{statement}
@@ -19,7 +19,7 @@ returns c = let a = c.before.before.before.args in
     let d = view m in
     let out = a.out.now in
     let room = length out in
-    refused_call (cut a.connection room) 6 _ m out (short-room d (cut a.connection room) room (unknown d a.connection)
+    refused_call (cut a.connection room) 6 _ m out (short_room d (cut a.connection room) room (unknown d a.connection)
     (cut_causes d room a.connection) c.before.if1.true) c.told.ensures
 
 returns-2 : tie.Need-returns-2
@@ -39,7 +39,7 @@ returns-3 c = let a = c.before.before.before.before.before.before.before.args in
     let d = view m in
     let out = a.out.now in
     let room = length out in
-    refused_call (cut a.connection room) 0 _ m out (not-open d (cut a.connection room) room a.connection (cut_causes d room a.connection)
+    refused_call (cut a.connection room) 0 _ m out (not_open_lem d (cut a.connection room) room a.connection (cut_causes d room a.connection)
     c.before.before.before.before.before.if1.false (omega arith)
     (c.before.before.is_open.ensures ∙ not-true _ c.before.if3.true)) c.told3.ensures
 

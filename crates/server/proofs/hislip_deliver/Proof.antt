@@ -10,7 +10,7 @@ use Rattle.state.specs.View.{memory, rest_of, view}
 use Rattle.sessions.specs.Did.{did_nothing, numbers_of}
 use Rattle.delivery.specs.Scanning.{message_received, short_received}
 use Rattle.server.specs.Calls.{refused_delivery, taken_delivery}
-use Rattle.server.specs.Causes.{unknown, delivery_causes, short-room, no_number, not-open, is_open}
+use Rattle.server.specs.Causes.{unknown, delivery_causes, short_room, no_number, not_open_lem, is_open}
 use borrow.Author.Rules.{rules}
 use Rattle.server.proofs.hislip_deliver.Statement.{statement}
 use Rattle.server.proofs.hislip_deliver.Tie as tie
@@ -78,7 +78,7 @@ returns-4 c =
     let bs = a.bytes.now in
     let room = length a.out.now in
     refused_delivery (delivery a.connection bs room) 0 _ m a.out.now
-    (not-open d (delivery a.connection bs room) room a.connection (delivery_causes d room a.connection bs) n.before.if1.true n.if2.true
+    (not_open_lem d (delivery a.connection bs room) room a.connection (delivery_causes d room a.connection bs) n.before.if1.true n.if2.true
     (f.before.is_open.ensures ∙ f.if5.false)) c.refuse.ensures
 
 returns-5 : tie.Need-returns-5
@@ -100,7 +100,7 @@ returns-6 c =
     let bs = a.bytes.now in
     let room = length a.out.now in
     refused_delivery (delivery a.connection bs room) 6 _ m a.out.now
-    (short-room d (delivery a.connection bs room) room (unknown d a.connection) (delivery_causes d room a.connection bs) c.before.if1.false) c.refuse3.ensures
+    (short_room d (delivery a.connection bs room) room (unknown d a.connection) (delivery_causes d room a.connection bs) c.before.if1.false) c.refuse3.ensures
 
 pub hislip_deliver_spec : {M : Type 1} → statement M
 hislip_deliver_spec =

@@ -1,7 +1,7 @@
 -- `verifier::framing` meets its contract. Assumes nothing.
 use native.Mathlib.Omega.{arith}
 use lib.ListN.{length-take}
-use Rattle.verifier.specs.Framing.{few, back-short, back_long, too_long, short, bad_distance, bad_sum, all_right}
+use Rattle.verifier.specs.Framing.{few, back_short, back_long, too_long, short, bad_distance, bad_sum, all_right}
 use borrow.Author.Rules.{rules}
 use Rattle.verifier.proofs.framing.Statement.{statement}
 use Rattle.verifier.proofs.framing.Tie as tie
@@ -10,7 +10,7 @@ returns : tie.Need-returns
 returns c = few _ c.if1.true
 
 returns-2 : tie.Need-returns-2
-returns-2 c = back-short _ _ c.before.before.number4.ensures.0 c.before.before.before.if1.false c.before.if2.true c.if3.true
+returns-2 c = back_short _ _ c.before.before.number4.ensures.0 c.before.before.before.if1.false c.before.if2.true c.if3.true
 
 returns-3 : tie.Need-returns-3
 returns-3 c = back_long _ _ c.before.before.number4.ensures.0 c.before.before.before.if1.false c.before.if2.true c.if3.false

@@ -4,7 +4,7 @@ use Prim.Native.Nat.{◌≤◌}
 use native.Mathlib.Omega.{arith}
 use lib.ListN.{length, take}
 use Rattle.state.specs.View.{memory}
-use Rattle.verify.specs.Judged.{Going, begun, stopped, not_read, may-feed, faulty, on, short_piece}
+use Rattle.verify.specs.Judged.{Going, begun, stopped, not_read, may_feed, faulty, on, short_piece}
 use borrow.Author.Rules.{rules}
 use Rattle.verify.proofs.judge.Statement.{statement}
 use Rattle.verify.proofs.judge.Tie as tie
@@ -72,7 +72,7 @@ slice-aggregate-feed c = search rules
 
 feed-requires : tie.Need-feed-requires invariant-loop decreases-loop
 feed-requires c κs = let l = c.before.before.before.before.before.before.before.before.before.before.before.before.before.before.loop in
-    may-feed _ _ _ _ _ l.invariant.3
+    may_feed _ _ _ _ _ l.invariant.3
     c.before.before.before.before.before.before.before.before.before.before.before.before.before.loop-test.true
     (take c.before.before.before.before.before.before.count.result
     c.before.before.before.before.before.before.before.before.before.before.before.read.new.1.0)

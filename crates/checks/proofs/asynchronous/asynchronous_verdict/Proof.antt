@@ -2,7 +2,7 @@
 use mathlib.Core.Path.{refl, sym, ◌∙◌}
 use Rattle.wire.specs.Class.{class_of, asynchronous}
 use Rattle.checks.specs.Classes.{is_vendor_lem, not_vendor, is_unrecognised_lem, not_unrecognised}
-use Rattle.checks.specs.Asynchronous.{async_closed, async_error, async-vendor, async-unrecognised, async-again, async-code, async-payload, async_acts}
+use Rattle.checks.specs.Asynchronous.{async_closed, async_error, async_vendor, async_unrecognised, async_again, async_code, async_payload, async_acts}
 use Rattle.checks.specs.Numbers.{numbered}
 use borrow.Author.Rules.{rules}
 use Rattle.checks.proofs.asynchronous.asynchronous_verdict.Statement.{statement}
@@ -18,19 +18,19 @@ returns-2 c = let a = c.before.before.args in
 
 returns-3 : tie.Need-returns-3
 returns-3 c = let a = c.before.before.before.before.args in
-    λ p n. numbered _ _ (async-vendor a.kind a.code n a.len p c.before.before.before.if1.false c.before.before.if2.false
+    λ p n. numbered _ _ (async_vendor a.kind a.code n a.len p c.before.before.before.if1.false c.before.before.if2.false
     (is_vendor_lem (class_of asynchronous a.kind) c.before.class_of.result c.before.class_of.ensures c.if3.true)) refl
 
 returns-4 : tie.Need-returns-4
 returns-4 c = let a = c.before.before.before.before.before.args in
-    λ p n. numbered _ _ (async-unrecognised a.kind a.code n a.len p c.before.before.before.before.if1.false
+    λ p n. numbered _ _ (async_unrecognised a.kind a.code n a.len p c.before.before.before.before.if1.false
     c.before.before.before.if2.false (not_vendor (class_of asynchronous a.kind) c.before.before.class_of.result
     c.before.before.class_of.ensures c.before.if3.false)
     (is_unrecognised_lem (class_of asynchronous a.kind) c.before.before.class_of.result c.before.before.class_of.ensures c.if4.true)) refl
 
 returns-5 : tie.Need-returns-5
 returns-5 c = let a = c.before.before.before.before.before.before.args in
-    λ p n. numbered _ _ (async-again a.kind a.code n a.len p c.before.before.before.before.before.if1.false
+    λ p n. numbered _ _ (async_again a.kind a.code n a.len p c.before.before.before.before.before.if1.false
     c.before.before.before.before.if2.false (not_vendor (class_of asynchronous a.kind) c.before.before.before.class_of.result
     c.before.before.before.class_of.ensures c.before.before.if3.false)
     (not_unrecognised (class_of asynchronous a.kind) c.before.before.before.class_of.result c.before.before.before.class_of.ensures
@@ -45,7 +45,7 @@ returns-6 c =
     let at-if2 = at-class-of.before in
     let at-if1 = at-if2.before in
     let a = at-if1.before.args in
-    λ p n. numbered _ _ (async-code a.kind a.code n a.len p at-if1.if1.false
+    λ p n. numbered _ _ (async_code a.kind a.code n a.len p at-if1.if1.false
     at-if2.if2.false
     (not_vendor (class_of asynchronous a.kind) at-class-of.class_of.result
     at-class-of.class_of.ensures at-if3.if3.false)
@@ -64,7 +64,7 @@ returns-7 c =
     let at-if2 = at-class-of.before in
     let at-if1 = at-if2.before in
     let a = at-if1.before.args in
-    λ p n. numbered _ _ (async-payload a.kind a.code n a.len p at-if1.if1.false
+    λ p n. numbered _ _ (async_payload a.kind a.code n a.len p at-if1.if1.false
     at-if2.if2.false
     (not_vendor (class_of asynchronous a.kind) at-class-of.class_of.result
     at-class-of.class_of.ensures at-if3.if3.false)

@@ -5,7 +5,7 @@ use borrow.Author.Tests.{not-true, not-false}
 use Rattle.model.specs.Checks.{first, opening_rules}
 use Rattle.state.specs.View.{memory, view}
 use Rattle.checks.specs.Numbers.{message, numbered, same_number}
-use Rattle.checks.specs.Opening.{open_other, join-payload, join-unknown, join-session}
+use Rattle.checks.specs.Opening.{open_other, join_payload, join_unknown, join_session}
 use borrow.Author.Rules.{rules}
 use Rattle.checks.proofs.opening.opening_verdict.Statement.{statement}
 use Rattle.checks.proofs.opening.opening_verdict.Tie as tie
@@ -22,17 +22,17 @@ returns-2 c = let a = c.before.before.before.args in
 
 returns-3 : tie.Need-returns-3
 returns-3 c = let a = c.before.before.before.before.args in
-    λ s m. numbered _ _ (join-payload (view (memory a.w.now s)) a.kind m a.param a.len a.payload.now c.before.if2.false c.if3.true)
+    λ s m. numbered _ _ (join_payload (view (memory a.w.now s)) a.kind m a.param a.len a.payload.now c.before.if2.false c.if3.true)
     refl
 
 returns-4 : tie.Need-returns-4
 returns-4 c = let a = c.before.before.before.before.before.before.args in
-    λ s m. numbered _ _ (join-unknown (view (memory a.w.now s)) a.kind m a.param a.len a.payload.now c.before.before.before.if2.false
+    λ s m. numbered _ _ (join_unknown (view (memory a.w.now s)) a.kind m a.param a.len a.payload.now c.before.before.before.if2.false
     c.before.before.if3.false (c.before.is_half_open.ensures s ∙ not-true _ c.if4.true)) refl
 
 returns-5 : tie.Need-returns-5
 returns-5 c = let a = c.before.before.before.before.before.before.args in
-    λ s m. numbered _ _ (join-session (view (memory a.w.now s)) a.kind m a.param a.len a.payload.now c.before.before.before.if2.false
+    λ s m. numbered _ _ (join_session (view (memory a.w.now s)) a.kind m a.param a.len a.payload.now c.before.before.before.if2.false
     c.before.before.if3.false (c.before.is_half_open.ensures s ∙ not-false _ c.if4.false)) refl
 
 pub opening_verdict_spec : {M : Type 1} → statement M

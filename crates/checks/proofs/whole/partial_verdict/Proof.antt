@@ -2,7 +2,7 @@
 use mathlib.Core.Path.{refl, sym, ◌∙◌}
 use native.Mathlib.Omega.{arith}
 use Rattle.checks.specs.Numbers.{message, numbered}
-use Rattle.checks.specs.Roles.{partly_half_open, partly_established, partly-opens, partly-joins, partly-other}
+use Rattle.checks.specs.Roles.{partly_half_open, partly_established, partly_opens, partly_joins, partly_other}
 use Rattle.checks.proofs.whole.partial_verdict.Statement.{statement}
 use Rattle.checks.proofs.whole.partial_verdict.Tie as tie
 
@@ -18,17 +18,17 @@ returns-2 c = (
 )
 
 returns-3 : tie.Need-returns-3
-returns-3 c = (λ z. omega arith, λ z. omega arith, λ r m n l e. numbered _ _ (partly-opens (message c.before.before.before.args.kind m n l) r (e ∙ c.before.if2.false) c.match.keys1) refl)
+returns-3 c = (λ z. omega arith, λ z. omega arith, λ r m n l e. numbered _ _ (partly_opens (message c.before.before.before.args.kind m n l) r (e ∙ c.before.if2.false) c.match.keys1) refl)
 
 returns-4 : tie.Need-returns-4
-returns-4 c = (λ z. omega arith, λ z. omega arith, λ r m n l e. numbered _ _ (partly-joins (message c.before.before.before.args.kind m n l) r (e ∙ c.before.if2.false) c.match.keys2) refl)
+returns-4 c = (λ z. omega arith, λ z. omega arith, λ r m n l e. numbered _ _ (partly_joins (message c.before.before.before.args.kind m n l) r (e ∙ c.before.if2.false) c.match.keys2) refl)
 
 returns-5 : tie.Need-returns-5
 returns-5 c = (
   λ z. omega arith,
   λ z. omega arith,
   λ r m n l e. numbered _ _
-      (partly-other (message c.before.before.before.args.kind m n l) r (e ∙ c.before.if2.false) c.match.rest.0.1 c.match.rest.1) refl,
+      (partly_other (message c.before.before.before.args.kind m n l) r (e ∙ c.before.if2.false) c.match.rest.0.1 c.match.rest.1) refl,
 )
 
 pub partial_verdict_spec : {M : Type 1} → statement M

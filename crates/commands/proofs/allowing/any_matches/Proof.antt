@@ -9,7 +9,7 @@ use native.Mathlib.Omega.{arith}
 use lib.ListN.{length, drop}
 use Rattle.scpi.specs.Answers.{untrue}
 use Rattle.commands.specs.Lists.{Allows, lines_of}
-use Rattle.commands.specs.Refusing.{opens, opens_newline, behind, behind_newline, behind_end, same_allows, line-matched, line_refused, moved}
+use Rattle.commands.specs.Refusing.{opens, opens_newline, behind, behind_newline, behind_end, same_allows, line_matched, line_refused, moved}
 use borrow.Author.Rules.{rules}
 use Rattle.commands.proofs.allowing.any_matches.Statement.{statement}
 use Rattle.commands.proofs.allowing.any_matches.Tie as tie
@@ -52,7 +52,7 @@ returns-2 c =
     let a = at-raised-at.before.before.before.args in
     let b = behind_newline a.text.now a.c.now l.at (search rules) (opens_newline a.text.now l.at f.result g.result (l.invariant.1 t.true)) in (
       λ x. l.invariant.2.1 (subst (λ (y : List (List ℕ)). Allows y a.c.now) (sym b)
-          (line-matched a.text.now a.c.now (l.at + 1) e.result e.ensures.0 t.true (m.ensures.0 c.if2.true))),
+          (line_matched a.text.now a.c.now (l.at + 1) e.result e.ensures.0 t.true (m.ensures.0 c.if2.true))),
       λ x. refl,
     )
 

@@ -2,7 +2,7 @@
 use mathlib.Core.Path.{refl, sym, ◌∙◌}
 use lib.Seq.{length-take-le}
 use Rattle.scpi.specs.Answers.{untrue}
-use Rattle.commands.specs.Refusing.{first-matched, first-passed, first_empty, first_other, first_second}
+use Rattle.commands.specs.Refusing.{first_matched, first_passed, first_empty, first_other, first_second}
 use borrow.Author.Rules.{rules}
 use Rattle.commands.proofs.allowing.first_matches.Statement.{statement}
 use Rattle.commands.proofs.allowing.first_matches.Tie as tie
@@ -36,8 +36,8 @@ returns-4 c =
     let m = c.matches in
     let e = at-line-end.line-end in
     let a = on.before.before.args in (
-      λ t. first-matched a.text.now a.c.now e.result e.ensures.0 (m.ensures.0 t),
-      λ t. first-passed a.text.now a.c.now e.result
+      λ t. first_matched a.text.now a.c.now e.result e.ensures.0 (m.ensures.0 t),
+      λ t. first_passed a.text.now a.c.now e.result
           e.ensures.0 (λ x. untrue (sym t ∙ m.ensures.1 x)),
     )
 

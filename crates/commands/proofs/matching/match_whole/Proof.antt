@@ -5,7 +5,7 @@ use borrow.Author.Rules.{rules}
 use borrow.Author.Tests.{not-true, not-false}
 use Rattle.commands.specs.Landing.{landing_origin}
 use Rattle.commands.specs.Places.{origin, origin_on}
-use Rattle.commands.specs.Whole.{says_other, says_none, path_refused, matches-plain, matches-asked, matches-none}
+use Rattle.commands.specs.Whole.{says_other, says_none, path_refused, matches_plain, matches_asked, matches_none}
 use Rattle.commands.proofs.matching.match_whole.Statement.{statement}
 use Rattle.commands.proofs.matching.match_whole.Tie as tie
 
@@ -36,7 +36,7 @@ returns-3 c =
     let m = o.before in
     let s = m.before.before.before in
     let a = s.args in
-    matches-plain a.p.now a.c.now m.run-end.result e.run-end2.result origin t.spread-on.result w.match-path.result.at w.match-path.result.on
+    matches_plain a.p.now a.c.now m.run-end.result e.run-end2.result origin t.spread-on.result w.match-path.result.at w.match-path.result.on
     m.run-end.ensures.0 e.run-end2.ensures.0 e.run-end2.ensures.1 origin_on (landing_origin _ _ a.c.now t.spread-on.result t.spread-on.ensures)
     w.match-path.ensures s.requires.0 (omega (arith, o.if1.false)) s.requires.2 f.if3.true c.holds.result c.holds.ensures
 
@@ -53,7 +53,7 @@ returns-4 c =
     let m = o.before in
     let s = m.before.before.before in
     let a = s.args in
-    matches-none a.p.now a.c.now m.run-end.result e.run-end2.result origin t.spread-on.result w.match-path.result.at w.match-path.result.on
+    matches_none a.p.now a.c.now m.run-end.result e.run-end2.result origin t.spread-on.result w.match-path.result.at w.match-path.result.on
     m.run-end.ensures.0 e.run-end2.ensures.0 e.run-end2.ensures.1 origin_on (landing_origin _ _ a.c.now t.spread-on.result t.spread-on.ensures)
     w.match-path.ensures s.requires.0 (omega (arith, o.if1.false)) s.requires.2 f.if3.false (λ x y. omega (arith, c.if4.true))
 
@@ -67,7 +67,7 @@ returns-5 c =
     let m = o.before in
     let s = m.before.before.before in
     let a = s.args in
-    matches-none a.p.now a.c.now m.run-end.result e.run-end2.result origin t.spread-on.result w.match-path.result.at w.match-path.result.on
+    matches_none a.p.now a.c.now m.run-end.result e.run-end2.result origin t.spread-on.result w.match-path.result.at w.match-path.result.on
     m.run-end.ensures.0 e.run-end2.ensures.0 e.run-end2.ensures.1 origin_on (landing_origin _ _ a.c.now t.spread-on.result t.spread-on.ensures)
     w.match-path.ensures s.requires.0 (omega (arith, o.if1.false)) s.requires.2 f.if3.false (λ x y. c.if5.true y)
 
@@ -83,7 +83,7 @@ returns-6 c =
     let m = o.before in
     let s = m.before.before.before in
     let a = s.args in
-    matches-asked a.p.now a.c.now m.run-end.result e.run-end2.result origin t.spread-on.result w.match-path.result.at w.match-path.result.on
+    matches_asked a.p.now a.c.now m.run-end.result e.run-end2.result origin t.spread-on.result w.match-path.result.at w.match-path.result.on
     m.run-end.ensures.0 e.run-end2.ensures.0 e.run-end2.ensures.1 origin_on (landing_origin _ _ a.c.now t.spread-on.result t.spread-on.ensures)
     w.match-path.ensures s.requires.0 (omega (arith, o.if1.false)) s.requires.2 (omega (arith, g.if4.false)) q.if5.false c.asked.result c.asked.ensures
 

@@ -5,7 +5,7 @@ use borrow.Author.Tests.{not-true, not-false}
 use Rattle.checks.specs.Numbers.{message}
 use Rattle.model.specs.State.{exchange_at}
 use Rattle.state.specs.View.{rest_of}
-use Rattle.delivery.specs.Numbering.{off_channel, left-in-clear, left-by-kind, by_number}
+use Rattle.delivery.specs.Numbering.{off_channel, left_in_clear, left_by_kind, by_number}
 use borrow.Author.Rules.{rules}
 use Rattle.delivery.proofs.deliver.carries.Statement.{statement}
 use Rattle.delivery.proofs.deliver.carries.Tie as tie
@@ -20,14 +20,14 @@ in-clear-requires c κs = c.before.requires c.if1.false
 returns-2 : tie.Need-returns-2
 returns-2 c = let a = c.before.before.before.args in (
   λ z. absurd (true≢false (sym z)),
-  λ ro m l e. left-in-clear (message a.kind m a.param l) (exchange_at (rest_of a.w.now) a.i) ro
+  λ ro m l e. left_in_clear (message a.kind m a.param l) (exchange_at (rest_of a.w.now) a.i) ro
       (e ∙ c.before.before.if1.false) (c.before.in_clear_lem.ensures ∙ c.if2.true),
 )
 
 returns-3 : tie.Need-returns-3
 returns-3 c = let a = c.before.before.before.before.before.args in (
   λ z. absurd (true≢false (sym z)),
-  λ ro m l e. left-by-kind (message a.kind m a.param l) (exchange_at (rest_of a.w.now) a.i) ro
+  λ ro m l e. left_by_kind (message a.kind m a.param l) (exchange_at (rest_of a.w.now) a.i) ro
       (e ∙ c.before.before.before.before.if1.false) (c.before.before.before.in_clear_lem.ensures ∙ c.before.before.if2.false)
       (c.before.is_command_lem.ensures ∙ not-true _ c.if3.true),
 )

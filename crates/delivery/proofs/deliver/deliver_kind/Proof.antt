@@ -11,7 +11,7 @@ use Rattle.sessions.specs.Did.{did_nothing, numbers_of}
 use Rattle.model.specs.Interface.{Reply.took, Outcome.held}
 use Rattle.delivery.specs.Acting.{role_sync}
 use Rattle.delivery.specs.Numbering.{moved_whole}
-use Rattle.delivery.specs.Verdicts.{acts_done, by_verdict, held-done, of_role}
+use Rattle.delivery.specs.Verdicts.{acts_done, by_verdict, held_done, of_role}
 use borrow.Author.Rules.{rules}
 use Rattle.delivery.proofs.deliver.deliver_kind.Statement.{statement}
 use Rattle.delivery.proofs.deliver.deliver_kind.Tie as tie
@@ -64,7 +64,7 @@ returns-3 c =
     let h = message a.kind a.code a.param a.len in
     let x = whole h a.payload.now in
     λ ro e. by_verdict d a.c a.i x ro _ _ _ _ _ (judged ro d a.i h a.payload.now) (verdict_of v.result) (v.ensures a.strings.now ro e (λ z. refl)).case
-    (held-done d a.c a.i x ro _ _ _ _ _ v.result c.before.if3.true (did_nothing 0 (took held 0 0) _ _ _ (ap numbers_of c.quiet.ensures)))
+    (held_done d a.c a.i x ro _ _ _ _ _ v.result c.before.if3.true (did_nothing 0 (took held 0 0) _ _ _ (ap numbers_of c.quiet.ensures)))
 
 carries-requires : tie.Need-carries-requires
 carries-requires c κs = λ e. c.before.before.before.before.before.before.before.before.before.requires.5 (λ z. omega arith)

@@ -12,7 +12,7 @@ use Rattle.state.specs.View.{memory, rest_of, view}
 use Rattle.sessions.specs.Did.{did_nothing, numbers_of}
 use Rattle.model.specs.Interface.{Reply.took, Outcome.held}
 use Rattle.delivery.specs.Numbering.{moved_whole}
-use Rattle.delivery.specs.Verdicts.{acts_done, by_verdict, held-done}
+use Rattle.delivery.specs.Verdicts.{acts_done, by_verdict, held_done}
 use borrow.Author.Rules.{rules}
 use Rattle.delivery.proofs.deliver.deliver_plain.Statement.{statement}
 use Rattle.delivery.proofs.deliver.deliver_plain.Tie as tie
@@ -43,7 +43,7 @@ returns-2 c =
     ∙ (v.ensures a.strings.now a.payload.now).case in
     let x = whole h a.payload.now in
     by_verdict d a.c a.i x r_synchronous _ _ _ _ _ (judged r_synchronous d a.i h a.payload.now) (verdict_of v.result) e
-    (held-done d a.c a.i x r_synchronous _ _ _ _ _ v.result c.before.if2.true (did_nothing 0 (took held 0 0) _ _ _ (ap numbers_of c.quiet.ensures)))
+    (held_done d a.c a.i x r_synchronous _ _ _ _ _ v.result c.before.if2.true (did_nothing 0 (took held 0 0) _ _ _ (ap numbers_of c.quiet.ensures)))
 
 carries-requires : tie.Need-carries-requires
 carries-requires c κs = λ e. c.before.before.before.before.before.before.before.requires.5

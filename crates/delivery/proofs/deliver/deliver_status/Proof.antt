@@ -11,7 +11,7 @@ use Rattle.sessions.specs.Asynchronous.{did_message}
 use Rattle.sessions.specs.Did.{did_nothing, numbers_of}
 use Rattle.model.specs.Acts.{AsynchronousKind.k_status_query}
 use Rattle.model.specs.Interface.{Reply.took, Outcome.held}
-use Rattle.delivery.specs.Verdicts.{acts_done, by_verdict, held-done}
+use Rattle.delivery.specs.Verdicts.{acts_done, by_verdict, held_done}
 use borrow.Author.Rules.{rules}
 use Rattle.delivery.proofs.deliver.deliver_status.Statement.{statement}
 use Rattle.delivery.proofs.deliver.deliver_status.Tie as tie
@@ -41,7 +41,7 @@ returns-2 c =
     (λ q. let z : ⊥ = omega arith in z) ∙ (v.ensures a.payload.now a.param).case in
     let x = whole h a.payload.now in
     by_verdict d a.c a.i x r_asynchronous _ _ _ _ _ (judged r_asynchronous d a.i h a.payload.now) (verdict_of v.result) e
-    (held-done d a.c a.i x r_asynchronous _ _ _ _ _ v.result c.before.if2.true (did_nothing 0 (took held 0 0) _ _ _ (ap numbers_of c.quiet.ensures)))
+    (held_done d a.c a.i x r_asynchronous _ _ _ _ _ v.result c.before.if2.true (did_nothing 0 (took held 0 0) _ _ _ (ap numbers_of c.quiet.ensures)))
 
 returns-3 : tie.Need-returns-3
 returns-3 c =

@@ -1,5 +1,5 @@
 -- `events::answer_number` meets its contract: by the mode, from the words that were read.
-use Rattle.exchanges.specs.Events.{counted_number, nothing-number, asked_number_lem}
+use Rattle.exchanges.specs.Events.{counted_number, nothing_number, asked_number_lem}
 use mathlib.Core.Path.{sym, ◌∙◌}
 use Rattle.model.specs.State.{exchange_at}
 use Rattle.state.specs.View.{rest_of}
@@ -13,7 +13,7 @@ returns c = let a = c.before.before.before.args in counted_number (exchange_at (
 returns-2 : tie.Need-returns-2
 returns-2 c = let a = c.before.before.before.before.before.args in
     let e = c.before.before.exchange in
-    nothing-number (exchange_at (rest_of a.w.now) a.i) e.result
+    nothing_number (exchange_at (rest_of a.w.now) a.i) e.result
     (c.before.before.before.before.is-overlap.ensures ∙ c.before.before.before.if1.false) e.ensures.0 c.before.if2.true
     ∙ sym c.new.ensures
 

@@ -10,7 +10,7 @@ open-session-requires c κs = let p = c.before.requires in (search rules, p.1, s
 returns : tie.Need-returns
 returns c = let a = c.before.before.before.before.before.args in
     let s = a.strings.now in
-    let o = c.before.before.before.open-session.ensures in
+    let o = c.before.before.before.open_session.ensures in
     let x = c.drop-locks.ensures in
     entered _ _ _ a.i a.n a.c (o.0 s) x.0 (λ t. x.1 (o.1 s c.before.before.before.before.before.requires.4 t))
 

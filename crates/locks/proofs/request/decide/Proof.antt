@@ -1,6 +1,6 @@
 -- `request::decide` meets its contract: the ways of the rule that are left.
 use mathlib.Core.Path.{refl, ◌∙◌}
-use Rattle.locks.specs.Asking.{decided-denied, decided-granted, decided-queued, has_place, met_none}
+use Rattle.locks.specs.Asking.{decided_denied, decided_granted, decided_queued, has_place, met_none}
 use Rattle.grants.specs.Granting.{given_noted}
 use Rattle.holding.specs.Outcome.{met_one}
 use Rattle.state.specs.View.{locks_of, memory, view}
@@ -21,7 +21,7 @@ returns c = let a = c.before.before.before.before.before.before.before.before.be
     let p = c.before.before.before.before.before.before.before.put-answer.ensures in
     let g = c.before.before.give-asked.ensures in
     let n = c.note-grant.ensures in
-    met_one _ _ _ _ _ _ _ _ _ (decided-granted (locks_of a.w.now a.strings.now) a.i a.string.now a.timeout
+    met_one _ _ _ _ _ _ _ _ _ (decided_granted (locks_of a.w.now a.strings.now) a.i a.string.now a.timeout
     (c.before.before.before.before.before.before.before.before.before.before.before.may-give.ensures
     ∙ c.before.before.before.before.before.before.before.before.before.before.if1.true))
     (given_noted (view (memory a.w.now a.strings.now)) _ _ a.i a.string.now g.0 (n.0 _)) (p.1 a.strings.now) p.0 (search rules) (λ t. n.1 _ (g.1 t))
@@ -30,7 +30,7 @@ returns-2 : tie.Need-returns-2
 returns-2 c = let a = c.before.before.before.before.before.before.before.before.before.before.before.before.before.before.args in
     let p = c.before.before.put-answer2.ensures in
     let s = a.strings.now in
-    met_one _ _ _ _ _ _ _ _ _ (decided-denied (locks_of a.w.now a.strings.now) a.i a.string.now a.timeout
+    met_one _ _ _ _ _ _ _ _ _ (decided_denied (locks_of a.w.now a.strings.now) a.i a.string.now a.timeout
     (c.before.before.before.before.before.before.before.before.before.may-give.ensures
     ∙ c.before.before.before.before.before.before.before.before.if1.false)
     (c.before.before.before.before.before.before.cannot-wait.ensures s ∙ c.before.before.before.before.before.if2.true)) refl (p.1 s)
@@ -48,7 +48,7 @@ wait-requires c κs = let a = c.before.before.before.before.before.before.before
 
 returns-3 : tie.Need-returns-3
 returns-3 c = let a = c.before.before.before.before.before.before.before.before.before.before.before.before.args in
-    met_none _ _ _ _ _ _ (decided-queued (locks_of a.w.now a.strings.now) a.i a.string.now a.timeout
+    met_none _ _ _ _ _ _ (decided_queued (locks_of a.w.now a.strings.now) a.i a.string.now a.timeout
     (c.before.before.before.before.before.before.before.may-give.ensures ∙ c.before.before.before.before.before.before.if1.false)
     (c.before.before.before.before.cannot-wait.ensures a.strings.now ∙ c.before.before.before.if2.false)) c.wait.ensures.0
     c.wait.ensures.1

@@ -1,6 +1,6 @@
 -- `request::request_lock` meets its contract: answered 3, or decided.
 use mathlib.Core.Path.{refl, sym, ◌∙◌}
-use Rattle.locks.specs.Asking.{able_idle, able_short, request-decided, request-invalid}
+use Rattle.locks.specs.Asking.{able_idle, able_short, request_decided, request_invalid}
 use Rattle.holding.specs.Outcome.{met_is, met_one}
 use Rattle.state.specs.View.{locks_of}
 use borrow.Author.Rules.{rules}
@@ -14,7 +14,7 @@ returns c =
     let at-is-invalid = at-if1.before in
     let a = at-is-invalid.before.before.before.before.args in
     let p = at-put-answer.put-answer.ensures in
-    met_one _ _ _ _ _ _ _ _ _ (request-invalid (locks_of a.w.now a.strings.now) a.i a.string.now a.timeout
+    met_one _ _ _ _ _ _ _ _ _ (request_invalid (locks_of a.w.now a.strings.now) a.i a.string.now a.timeout
     (at-is-invalid.is-invalid.ensures a.strings.now a.string.now refl
     ∙ at-if1.if1.true)) refl (p.1 a.strings.now) p.0 (search rules) (λ t. t)
 
@@ -33,7 +33,7 @@ returns-2 c =
     let at-is-invalid = at-if1.before in
     let a = at-is-invalid.before.before.before.before.args in
     let u = at-is-invalid.is-invalid.ensures a.strings.now a.string.now refl ∙ at-if1.if1.false in
-    met_is _ _ _ _ _ _ _ _ (sym (request-decided (locks_of a.w.now a.strings.now) a.i a.string.now a.timeout u)) at-decide.decide.ensures
+    met_is _ _ _ _ _ _ _ _ (sym (request_decided (locks_of a.w.now a.strings.now) a.i a.string.now a.timeout u)) at-decide.decide.ensures
 
 pub request_lock_spec : {M : Type 1} → statement M
 request_lock_spec =

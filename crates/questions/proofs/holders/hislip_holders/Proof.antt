@@ -148,9 +148,9 @@ module _ {M : Type 1} {𝓤 : Ura M} (𝓛 : Logic 𝓤) (at_mem : Memory → SP
     abbrev to_fill : (Fills 𝓛 at_mem run).Ghost
     to_fill = (((κ', tt), (q', tt), tt, (ref, (t.rows, (t.count, tt))), (s ∷ [], (rows_vals t.rows, (vint w64 t.count ∷ [], tt)))), tt)
 
-    goes-fill : Tells (view (memory ws bs)) (length ys) t → Is Rows t.rows (rows_vals t.rows) → t.count < 2 ^ 64
+    goes_fill : Tells (view (memory ws bs)) (length ys) t → Is Rows t.rows (rows_vals t.rows) → t.count < 2 ^ 64
         → ent 𝓤 (sep 𝓤 (sep 𝓤 (A.lft κ' q') (sem 𝓛 ftrue)) (sem 𝓛 ((MutSlice (named 2) κ' T.the_row).own_val ref (s ∷ [])))) ((Fills 𝓛 at_mem run).pre to_fill)
-    goes-fill e gs fits =
+    goes_fill e gs fits =
         qed 𝓛 ((‵ (flft κ' q') ⊛ ‵ ftrue) ∷ ‵ ((MutSlice (named 2) κ' T.the_row).own_val ref (s ∷ [])) ∷ []) ∵ says ! (e.few, e.room_for) $ frame ! $
         nothing ! $ owned ! usize (Is usize) (uint_Makes 𝓛 w64) t.count _ (refl, fits) $ fjoin ! $ owned ! Rows (Is Rows) (rows_makes 𝓛)
         t.rows _ gs $ fjoin ! $ move ! (1 ∷ 0 ∷ []) $ fjoin ! $ done !
@@ -193,7 +193,7 @@ module _ {M : Type 1} {𝓤 : Ura M} (𝓛 : Logic 𝓤) (at_mem : Memory → SP
         (and_then ! (load ! (from ! (fld ! refl (stop !))) (look_in ! 17 (sub ! 1 refl (whole !)))) (no_more !)))) (from ! (stop !))
         (init ! 3 refl (tt, (tt, (record { fits = gn.0 }, tt)))) $
         -- the call of `fill_slice`
-        move ! (26 ∷ 1 ∷ []) $ join ! $ move ! (0 ∷ 25 ∷ []) $ use2 𝓛 (raw ((Fills 𝓛 at_mem run).pre (to_fill t))) (goes-fill t e gs fields.1.0.1) $
+        move ! (26 ∷ 1 ∷ []) $ join ! $ move ! (0 ∷ 25 ∷ []) $ use2 𝓛 (raw ((Fills 𝓛 at_mem run).pre (to_fill t))) (goes_fill t e gs fields.1.0.1) $
         calls_at ! fm (Fills 𝓛 at_mem run) known-fill (to_fill t)
         (and_then ! (load ! (from ! (stop !)) (look ! 3 refl))
         (and_then ! (load ! (from ! (stop !)) (look ! 11 refl)) (and_then ! (load ! (from ! (stop !)) (look ! 9 refl)) (no_more !)))) (λ v.

@@ -4,7 +4,7 @@ use mathlib.Core.Path.{◌≡◌, refl, ◌∙◌}
 use lib.ListN.{length}
 use native.Mathlib.Omega.{arith}
 use Rattle.wire.specs.Field.{number_at}
-use Rattle.record.specs.Parts.{byte_at, answer_none, answer_no_end, answer-no-payload, answer-no-shown, answer-there}
+use Rattle.record.specs.Parts.{byte_at, answer_none, answer_no_end, answer_no_payload, answer_no_shown, answer_there}
 use borrow.Author.Rules.{rules}
 use Rattle.record.proofs.events.answer.Statement.{statement}
 use Rattle.record.proofs.events.answer.Tie as tie
@@ -26,7 +26,7 @@ returns-3 c =
     let at-if1 = at_wide.before.before.before in
     let s = at-if1.before.before.args.s.now in
     let h : 6 ≤ length s = at-if1.if1.false in
-    answer-no-payload _ _ _ h (at_wide.wide.ensures.0 ∙ byte_at s 5 (omega arith))
+    answer_no_payload _ _ _ h (at_wide.wide.ensures.0 ∙ byte_at s 5 (omega arith))
     at-if2.if2.false _ at-row-at.row_at.ensures c.before.if3.true c.nothing3.ensures
 
 returns-4 : tie.Need-returns-4
@@ -39,7 +39,7 @@ returns-4 c =
     let at-if1 = at_wide.before.before.before in
     let s = at-if1.before.before.args.s.now in
     let h : 6 ≤ length s = at-if1.if1.false in
-    answer-no-shown _ _ _ h (at_wide.wide.ensures.0 ∙ byte_at s 5 (omega arith))
+    answer_no_shown _ _ _ h (at_wide.wide.ensures.0 ∙ byte_at s 5 (omega arith))
     at-if2.if2.false _ at-row-at.row_at.ensures
     at-if3.if3.false _ at-row-at2.row-at2.ensures c.before.if4.true c.nothing4.ensures
 
@@ -54,7 +54,7 @@ returns-5 c =
     let at-if1 = at-number4.before in
     let s = at-if1.before.before.args.s.now in
     let h : 6 ≤ length s = at-if1.if1.false in
-    answer-there _ _ _ h (at_wide.wide.ensures.0 ∙ byte_at s 5 (omega arith))
+    answer_there _ _ _ h (at_wide.wide.ensures.0 ∙ byte_at s 5 (omega arith))
     at-if2.if2.false _ at-row-at.row_at.ensures
     at-if3.if3.false _ at-row-at2.row-at2.ensures _
     at-number4.number4.ensures.0 c.if4.false refl

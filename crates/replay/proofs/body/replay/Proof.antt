@@ -1,7 +1,7 @@
 -- `replay::body::replay` meets its contract.
 use native.Mathlib.Omega.{arith}
 use Rattle.state.specs.View.{memory}
-use Rattle.replay.proofs.Laws.{fits_0, fits_1, fits_2, judged-0, judged-1, judged-2, judged-3, no_layout}
+use Rattle.replay.proofs.Laws.{fits_0, fits_1, fits_2, judged_0, judged_1, judged_2, judged_3, no_layout}
 use borrow.Author.Rules.{rules}
 use Rattle.replay.proofs.body.replay.Statement.{statement}
 use Rattle.replay.proofs.body.replay.Tie as tie
@@ -22,7 +22,7 @@ returns-2 c =
     let at-if2 = c.before.before.before.before in
     let at_read = at-if2.before.before.before.before in
     let a = at_read.before.before.before.args in
-    judged-0 _ a.body.now at_read.read.ensures (memory a.words.now a.strings.now) _
+    judged_0 _ a.body.now at_read.read.ensures (memory a.words.now a.strings.now) _
     _ at-if2.if2.true c.opens.ensures
 
 delivers-requires : tie.Need-delivers-requires
@@ -41,7 +41,7 @@ returns-3 c =
     let at-delivers = c.before.before in
     let at-if3 = at-delivers.before.before.before.before.before.before.before in
     let at_read = at-if3.before.before.before.before.before.before in
-    let a = at_read.before.before.before.args in judged-1 _ a.body.now
+    let a = at_read.before.before.before.args in judged_1 _ a.body.now
     at_read.read.ensures
     (memory a.words.now a.strings.now) _ _ at-if3.if3.true
     at-delivers.delivers.ensures
@@ -64,7 +64,7 @@ returns-4 c =
     let at-if4 = at-cuts.before.before.before.before.before in
     let on = at-if4.before.before.before.before.before.before in
     let at_read = on.before.before in
-    let a = at_read.before.before.before.args in judged-2 _ a.body.now
+    let a = at_read.before.before.before.args in judged_2 _ a.body.now
     at_read.read.ensures
     (memory a.words.now a.strings.now) _ _ at-if4.if4.true at-cuts.cuts.ensures
 
@@ -74,7 +74,7 @@ returns-5 c =
     let at-if5 = at-reads-clock.before.before.before.before.before in
     let on = at-if5.before.before.before.before.before.before in
     let at_read = on.before.before.before.before in
-    let a = at_read.before.before.before.args in judged-3 _ a.body.now
+    let a = at_read.before.before.before.args in judged_3 _ a.body.now
     at_read.read.ensures
     (memory a.words.now a.strings.now) _ _ at-if5.if5.true
     at-reads-clock.reads-clock.ensures

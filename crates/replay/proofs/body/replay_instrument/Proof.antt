@@ -1,7 +1,7 @@
 -- `replay::body::replay_instrument` meets its contract.
 use native.Mathlib.Omega.{arith}
 use Rattle.state.specs.View.{memory}
-use Rattle.replay.proofs.Laws.{fits_4, fits_5, judged-4, judged-5}
+use Rattle.replay.proofs.Laws.{fits_4, fits_5, judged_4, judged_5}
 use borrow.Author.Rules.{rules}
 use Rattle.replay.proofs.body.replay_instrument.Statement.{statement}
 use Rattle.replay.proofs.body.replay_instrument.Tie as tie
@@ -38,7 +38,7 @@ answers-requires c κs = let f = fits_4 _ _ c.before.before.before.before.before
 
 returns : tie.Need-returns
 returns c = let a = c.before.before.before.before.before.before.before.before.before.before.before.before.before.before.before.args in
-    judged-4 a.p a.body.now
+    judged_4 a.p a.body.now
     c.before.before.before.before.before.before.before.before.before.before.before.before.before.before.before.requires.0
     (memory a.words.now a.strings.now) _ _ c.before.before.before.before.before.before.before.before.before.before.before.if1.true
     c.before.before.answers.ensures
@@ -49,7 +49,7 @@ sets-status-requires c κs = fits_5 _ _ c.before.before.before.before.before.bef
 
 returns-2 : tie.Need-returns-2
 returns-2 c = let a = c.before.before.before.before.before.before.before.before.before.before.args in
-    judged-5 a.p a.body.now c.before.before.before.before.before.before.before.before.before.before.requires.0
+    judged_5 a.p a.body.now c.before.before.before.before.before.before.before.before.before.before.requires.0
     (memory a.words.now a.strings.now) _ _ c.before.before.before.before.if2.true c.sets-status.ensures
 
 replay-setting-requires : tie.Need-replay-setting-requires

@@ -1,7 +1,7 @@
 -- `replay::body::replay_setting` meets its contract.
 use native.Mathlib.Omega.{arith}
 use Rattle.state.specs.View.{memory}
-use Rattle.replay.proofs.Laws.{fits_6, fits_7, fits_8, judged-6, judged-7, judged-8, judged-9}
+use Rattle.replay.proofs.Laws.{fits_6, fits_7, fits_8, judged_6, judged_7, judged_8, judged_9}
 use borrow.Author.Rules.{rules}
 use Rattle.replay.proofs.body.replay_setting.Statement.{statement}
 use Rattle.replay.proofs.body.replay_setting.Tie as tie
@@ -30,7 +30,7 @@ sets-off-requires c κs = fits_6 _ _ c.before.before.before.before.before.before
 
 returns : tie.Need-returns
 returns c = let a = c.before.before.before.before.before.before.before.args in
-    judged-6 a.p a.body.now c.before.before.before.before.before.before.before.requires.0 (memory a.words.now a.strings.now) _ _
+    judged_6 a.p a.body.now c.before.before.before.before.before.before.before.requires.0 (memory a.words.now a.strings.now) _ _
     c.before.before.before.before.if1.true c.sets-off.ensures
 
 sets-above-requires : tie.Need-sets-above-requires
@@ -39,7 +39,7 @@ sets-above-requires c κs = fits_7 _ _ c.before.before.before.before.before.befo
 
 returns-2 : tie.Need-returns-2
 returns-2 c = let a = c.before.before.before.before.before.before.before.before.before.args in
-    judged-7 a.p a.body.now c.before.before.before.before.before.before.before.before.before.requires.0
+    judged_7 a.p a.body.now c.before.before.before.before.before.before.before.before.before.requires.0
     (memory a.words.now a.strings.now) _ _ c.before.before.before.before.if2.true c.sets-above.ensures
 
 sets-outside-requires : tie.Need-sets-outside-requires
@@ -49,12 +49,12 @@ sets-outside-requires c κs = fits_8 _ _ c.before.before.before.before.before.be
 
 returns-3 : tie.Need-returns-3
 returns-3 c = let a = c.before.before.before.before.before.before.before.before.before.before.before.args in
-    judged-8 a.p a.body.now c.before.before.before.before.before.before.before.before.before.before.before.requires.0
+    judged_8 a.p a.body.now c.before.before.before.before.before.before.before.before.before.before.before.requires.0
     (memory a.words.now a.strings.now) _ _ c.before.before.before.before.if3.true c.sets-outside.ensures
 
 returns-4 : tie.Need-returns-4
 returns-4 c = let a = c.before.before.before.before.before.before.before.before.before.before.before.before.before.args in
-    judged-9 a.p a.body.now c.before.before.before.before.before.before.before.before.before.before.before.before.before.requires.0
+    judged_9 a.p a.body.now c.before.before.before.before.before.before.before.before.before.before.before.before.before.requires.0
     (memory a.words.now a.strings.now) _ _
     c.before.before.before.before.before.before.before.before.before.before.before.before.before.requires.1
     c.before.before.before.before.before.before.before.before.before.before.if1.false

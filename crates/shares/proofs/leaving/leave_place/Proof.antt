@@ -2,7 +2,7 @@
 use mathlib.Core.Path.{◌≡◌, sym, ◌∙◌}
 use native.Mathlib.Omega.{arith}
 use Rattle.bits.specs.Bits.{bit}
-use Rattle.queue.specs.Leaving.{kept_left, wiped-left}
+use Rattle.queue.specs.Leaving.{kept_left, wiped_left}
 use Rattle.queue.specs.Requests.{slot_small}
 use Rattle.state.specs.View.{slot_at}
 use borrow.Author.Rules.{rules}
@@ -33,7 +33,7 @@ returns-2 c =
     let e : bit a.stay (slot_at a.w.now a.p) ≡ 0 = omega (arith, at-bit-of.bit-of.ensures) in
     let x = at-wipe-request.wipe-request.ensures in
     rw x.0
-    (wiped-left a.w.now a.strings.now a.p p.0 p.1 p.2 p.3 _ ((p.4 (slot_at a.w.now a.p) (slot_small a.w.now a.p)).1 e) x.1)
+    (wiped_left a.w.now a.strings.now a.p p.0 p.1 p.2 p.3 _ ((p.4 (slot_at a.w.now a.p) (slot_small a.w.now a.p)).1 e) x.1)
 
 pub leave_place_spec : {M : Type 1} → statement M
 leave_place_spec =

@@ -8,7 +8,7 @@ use Rattle.model.specs.Sizes.{session_limit}
 use Rattle.state.specs.Change.{here}
 use Rattle.state.specs.Granting.{shared_dropped}
 use Rattle.state.specs.Layout.{SHARERS}
-use Rattle.queue.specs.Unsharing.{none_left, others_left, last-left}
+use Rattle.queue.specs.Unsharing.{none_left, others_left, last_left}
 use Rattle.state.specs.View.{memory, view}
 use borrow.Author.Rules.{rules}
 use Rattle.shares.proofs.sharing.leave_sharers_in.Statement.{statement}
@@ -50,7 +50,7 @@ returns-3 c =
     let s : List ℕ = a.strings.now in
     let e = at-taken-out.taken_out.ensures in
     let x = at-wipe-key.wipe-key.ensures in
-    (x.0 ∙ ap (λ (x : ℕ). view (memory (set w SHARERS x) s)) e ∙ shared_dropped w s a.i p.0 p.1, λ t. rw x.1 (last-left w s a.i _ t e _ x.2))
+    (x.0 ∙ ap (λ (x : ℕ). view (memory (set w SHARERS x) s)) e ∙ shared_dropped w s a.i p.0 p.1, λ t. rw x.1 (last_left w s a.i _ t e _ x.2))
 
 pub leave_sharers_in_spec : {M : Type 1} → statement M
 leave_sharers_in_spec =

@@ -3,7 +3,7 @@ use mathlib.Core.Path.{refl, sym, ap, subst, ◌∙◌}
 use mathlib.Core.List.{List, []}
 use Prim.Native.Nat.{ℕ}
 use native.Mathlib.Omega.{arith}
-use Rattle.state.specs.Channels.{free-still, home-cleared}
+use Rattle.state.specs.Channels.{free_still, home_cleared}
 use Rattle.state.specs.Closing.{LeftHome, left_none, left_wiped}
 use Rattle.state.specs.View.{home_of, memory, row_word, view}
 use borrow.Author.Rules.{rules}
@@ -35,8 +35,8 @@ returns-3 c =
     let e = c.set-home.ensures in
     let q = sym at_home.home.ensures ∙ at-if2.if2.false ∙ at-home-in.home-in.ensures in
     let r = at_row.row.ensures in (
-      λ s. ap (λ (y : List ℕ). view (memory y s)) e.0 ∙ home-cleared w s a.i a.f e.1 (search rules) p.3 (search rules) (search rules) x (search rules) q,
-      ap (λ (y : List ℕ). row_word y a.i 0) e.0 ∙ free-still w [] a.i a.f e.1 (search rules) p.3 (search rules) (search rules) x (search rules) q,
+      λ s. ap (λ (y : List ℕ). view (memory y s)) e.0 ∙ home_cleared w s a.i a.f e.1 (search rules) p.3 (search rules) (search rules) x (search rules) q,
+      ap (λ (y : List ℕ). row_word y a.i 0) e.0 ∙ free_still w [] a.i a.f e.1 (search rules) p.3 (search rules) (search rules) x (search rules) q,
       subst (λ (y : List ℕ). LeftHome w y a.i a.f) (sym e.0) (left_wiped w a.i a.f x e.1 (search rules) (sym r) q),
     )
 

@@ -2,7 +2,7 @@
 use mathlib.Core.Path.{◌≡◌, sym, ap, ◌∙◌}
 use Prim.Native.Nat.{◌+◌, ◌-◌, ◌*◌, ◌<◌}
 use native.Mathlib.Omega.{arith}
-use Rattle.state.specs.OneLook.{role_second, role_half, role-first}
+use Rattle.state.specs.OneLook.{role_second, role_half, role_first}
 use Rattle.model.specs.Sizes.{connection_limit, no_connection}
 use Rattle.state.specs.Confirmed.{field_past, field_stray, field_shown}
 use Rattle.state.specs.View.{field_of, home_in, home_of, row_word}
@@ -45,7 +45,7 @@ returns-4 c = let a = c.before.before.before.before.before.args in
     let r = c.before.before.before.row.ensures in
     let n : row_word w a.i 2 < connection_limit = omega (arith, r, c.before.before.if2.false) in
     let y : field_of w a.i 2 ≡ row_word w a.i 2 = field_shown w a.i 2 (λ z. omega arith) p.3 n (ap (home_of w) (sym r) ∙ sym c.before.home.ensures ∙ c.if3.false ∙ k) in
-    (λ s x l e. role-first w s x l a.i (search rules) (ap (field_of w a.i) (sym f) ∙ e) (λ q. let z : row_word w a.i 2 ≡ no_connection = sym y ∙ q in omega arith), omega arith)
+    (λ s x l e. role_first w s x l a.i (search rules) (ap (field_of w a.i) (sym f) ∙ e) (λ q. let z : row_word w a.i 2 ≡ no_connection = sym y ∙ q in omega arith), omega arith)
 
 pub role_at_spec : {M : Type 1} → statement M
 role_at_spec = tie.close (tie.spec returns (λ c κs. search rules) returns-2 (λ c κs. search rules) (λ c. search rules) returns-3 returns-4)

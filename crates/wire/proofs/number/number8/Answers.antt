@@ -4,4 +4,4 @@ use Rattle.wire.specs.Stores.{reads_number}
 use Rattle.wire.proofs.number.number8.Goals as goal
 
 pub returns : goal.returns
-returns c =    let a = c.args in cc (reads_number 7 a.s.now a.at (omega arith))
+returns c = let a = c.args in cc (reads_number 7 a.s.now a.at (omega arith))

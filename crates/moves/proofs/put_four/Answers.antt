@@ -1,0 +1,21 @@
+-- `put_four` meets its contract: what was read, stored one behind the other.
+use native.Mathlib.Omega.{arith}
+use lib.ListN.{length-set}
+use Rattle.moves.specs.Moves.{step_moved}
+use borrow.Author.Rules.{rules}
+use Rattle.moves.proofs.put_four.Goals as goal
+
+pub returns : goal.returns
+returns c = step_moved 3 _ _ _ _ (search rules) (search rules)
+
+pub bounds-book-at-2 : goal.bounds-book-at-2
+bounds-book-at-2 c = simp length-set (omega arith)
+
+pub bounds-book-at-3 : goal.bounds-book-at-3
+bounds-book-at-3 c = simp length-set (omega arith)
+
+pub bounds-book-at-4 : goal.bounds-book-at-4
+bounds-book-at-4 c = simp length-set (omega arith)
+
+pub shape_of-book : goal.shape_of-book
+shape_of-book c = simp length-set (omega arith)
