@@ -40,6 +40,7 @@ SETTLED = {
     "rows_in": "rows_in_lem",
     "list_read": "list_read_lem",
     "bit-xor": "bit_xor_lem",
+    "is-nan": "is_nan_lem",
     "no_span": "no_span_lem",
     "isLive": "IsLive",
 }

@@ -15,7 +15,7 @@ import re
 import sys
 
 NAME = r"[^\s(){}\[\],;.:\"`λ]+"
-OUTER = {"args", "requires", "ranges", "type_inv", "type-inv", "utf8", "auto"}
+OUTER = {"args", "requires", "ranges", "type_inv", "utf8", "auto", "well_formed"}
 SEARCH = re.compile(r"^(search rules|\(search rules\))$")
 
 
@@ -24,7 +24,12 @@ class Left(Exception):
 
 
 def plain(name):
-    return name.replace("_", "-")
+    """A name with its dashes, underscores and capitals alike."""
+    return re.sub("_lem$", "", name).replace("_", "-").lower()
+
+
+def unnumbered(name):
+    return re.sub(r"-?[0-9]+$", "", plain(name))
 
 
 def chunks(text):
@@ -108,6 +113,10 @@ class Walk:
         for i, (a, b) in enumerate(self.needs):
             if plain(b) == plain(old):
                 return i, b
+        short = re.sub(r"^(overflow|nonzero)-", "", plain(old))
+        for i, (a, b) in enumerate(self.needs):
+            if plain(a) == short:
+                return i, b
         raise Left(f"no goal {old}")
 
     def up(self, place, n):
@@ -129,6 +138,13 @@ class Walk:
             if a and plain(a) == plain(old):
                 note(f"step {old} is not behind {place}; took {b}")
                 return b, at
+        at = place
+        while at is not None and at in self.places:
+            a, b = self.places[at][1]
+            if a and unnumbered(a) == unnumbered(old):
+                note(f"step {old} at {place}: took {b}")
+                return b, at
+            at = self.places[at][0]
         return None, None
 
     def arm(self, place, old, rest):
@@ -190,7 +206,8 @@ class Walk:
             else:
                 return m[0]
             step, rest = rest[0], rest[1:]
-            if step in OUTER:
+            if step.replace("-", "_") in OUTER:
+                step = step.replace("-", "_")
                 return ".".join(["c", step] + rest)
             arm = self.arm(at, step, rest)
             if arm:
@@ -202,7 +219,8 @@ class Walk:
             return ".".join(["c", new] + rest)
 
         text = re.sub(r"(?<![^\s(){}\[\],;])(" + NAME + r")((?:\.before)*)((?:\.(?!before\b)" + NAME + r")+)", turn, text)
-        text = re.sub(r"\bnot-(?:true|false) _ (c\.[^\s().]*\bnot-[^\s()]*)", r"\1", text)
+        text = re.sub(r"\bnot-(?:true|false) (?:_|" + NAME + r"(?:\.\w+)*) (c\.[^\s().]*\bnot-[^\s()]*)", r"\1", text)
+        text = re.sub(r"c\.in-[\w-]+\.known_told[\w-]*-own\.given(?:\.[0-9]+)*", "(search rules)", text)
         alias.update(parts)
         for who in alias:
             if who != "c" and re.search(r"(?<![^\s(){}\[\],;])" + re.escape(who) + r"(?![^\s(){}\[\],;])", text):

@@ -2,7 +2,7 @@
 use Rattle.std.specs.Prelude.{◌≡◌, ◌⊎◌, ◌↔◌, Bool, cond, ◌&&◌, ◌||◌, ℕ, zero, suc, ◌+◌, ◌-◌, ◌≤◌, ◌<◌, min, length, take}
 use Rattle.std.proofs.Math.Path.{refl, sym, ap}
 use Rattle.std.proofs.Common.{subst, ◌∙◌, inl, inr, ⊎_elim, drop_of_length-le, take-append-drop, length-drop, length-take, drop-cons, drop-drop}
-use Rattle.std.proofs.Math.Logic.{Iff·trans}
+use Rattle.std.proofs.Math.Logic.{Iff.trans as iff_trans}
 use Rattle.std.proofs.Math.Bool.{true, false, not}
 use mathlib.Core.List.{List, [], ◌∷◌, ◌++◌}
 use Rattle.std.proofs.Math.Nat.{sub-zero}
@@ -225,7 +225,7 @@ module _ (s c : List ℕ) where
     pub line_refused : (Matches (part at e s) c → ⊥) → Allows (lines_of (drop at s)) c ↔ Allows (behind (drop e s)) c
     line_refused n = ⊎_elim
         (λ (l : at < length s). allows_rest (lines_of (drop at s)) (part at e s) (behind (drop e s)) c (first_line l) n)
-        (λ (l : length s ≤ at). Iff·trans (same_allows _ _ (lines_end s at l))
+        (λ (l : length s ≤ at). iff_trans (same_allows _ _ (lines_end s at l))
         (same_allows [] (behind (drop e s)) (sym (ap behind (drop_of_length-le s (let k : length s ≤ e = omega arith in k)) ∙ nothing_behind))))
         (lt_or_ge at (length s))
 
@@ -242,7 +242,7 @@ module _ (s c : List ℕ) where
     first_refused n = line_refused 0 e ends (λ m. n (subst (λ (x : ℕ). Matches (take x s) c) (sub-zero e) m))
 
     pub first_passed : (Matches (take e s) c → ⊥) → Allows (lines_of s) c ↔ Allows (behind s) c
-    first_passed n = Iff·trans (first_refused n) (same_allows _ _ (same_behind 0 e ends))
+    first_passed n = iff_trans (first_refused n) (same_allows _ _ (same_behind 0 e ends))
 
   pub first_empty : length s ≡ 0 → Allows (lines_of s) c ↔ Allows (behind s) c
   first_empty z =
@@ -294,7 +294,7 @@ module _ (s c : List ℕ) (f g : ℕ) (ef : f ≡ upper (get_or c 0 0)) (eg : g 
       go : (t : Bool) → eqb (get_or s i 0) 10 ≡ t → Allows (behind (drop i s)) c ↔ Allows (behind (drop (i + 1) s)) c
       go true e =
           let b : get_or s i 0 ≡ 10 = eqb-true _ _ e in
-          Iff·trans (same_allows s c _ _ (behind_newline s c i l b)) (⊎_elim
+          iff_trans (same_allows s c _ _ (behind_newline s c i l b)) (⊎_elim
           (λ (k : i + 1 < length s). passed_line i b k o)
           (λ (k : length s ≤ i + 1). let d : drop (i + 1) s ≡ [] = drop_of_length-le s k in subst (λ (x : List ℕ). Allows (lines_of x) c ↔ Allows (behind x) c) (sym d) (λ h. h, λ h. h))
           (lt_or_ge (i + 1) (length s)))
@@ -304,8 +304,8 @@ module _ (s c : List ℕ) (f g : ℕ) (ef : f ≡ upper (get_or c 0 0)) (eg : g 
   shut_passed zero a l h = same_allows s c _ _ (ap (λ (x : ℕ). behind (drop x s)) (let e : a ≡ a + 0 = omega arith in e))
   shut_passed (suc n) a l h =
       let e : a + 1 + n ≡ a + suc n = omega arith in
-      Iff·trans (pass a (omega arith) (h a (omega arith) (omega arith)))
-      (Iff·trans (shut_passed n (a + 1) (omega arith) (λ k p q. h k (omega arith) (omega arith)))
+      iff_trans (pass a (omega arith) (h a (omega arith) (omega arith)))
+      (iff_trans (shut_passed n (a + 1) (omega arith) (λ k p q. h k (omega arith) (omega arith)))
       (same_allows s c _ _ (ap (λ (x : ℕ). behind (drop x s)) e)))
 
   pub moved : (e r : ℕ) → e ≤ r → r ≤ length s → Shut s f g e r → Allows (behind (drop e s)) c ↔ Allows (behind (drop r s)) c

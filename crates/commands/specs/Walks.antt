@@ -1,7 +1,7 @@
 -- What walking along a row of a pattern with a set of places of a command comes to. Assumes nothing.
 use Rattle.std.specs.Prelude.{◌≡◌, refl, ◌⊎◌, ◌↔◌, List, [], ◌∷◌, ◌++◌, ℕ, suc, ◌+◌, ◌-◌, ◌≤◌, ◌<◌, length, get_or, take, drop}
 use Rattle.std.proofs.Common.{sym, ap, subst, ◌∙◌, inl, inr, ⊎_elim, append_assoc, arith, length-append, drop_of_length-le, drop-cons, drop-drop, take_at}
-use Rattle.std.proofs.Math.Logic.{Iff·trans}
+use Rattle.std.proofs.Math.Logic.{Iff.trans as iff_trans}
 use Rattle.std.proofs.Math.Seq.{drop-append_seam}
 use Rattle.scpi.specs.Bytes.{colon_sign, query_sign, open_sign, close_sign, Small, All}
 use Rattle.scpi.specs.Grammar.{Word, short, long, Row, Row.r_none, Row.r_word, Row.r_bracket, text, Filled, Within}
@@ -149,7 +149,7 @@ module _ (d : ℕ) (p : List ℕ) (at : ℕ) (c s : List ℕ) (h : at < length p
           let st : (k : ℕ) → On t k ↔ (Lands (colon_sign ∷ short v) c s k ⊎ Lands (colon_sign ∷ long v) c s k) =
           subst (λ (a : List ℕ). (k : ℕ) → On t k ↔ (Lands (colon_sign ∷ short v) c s k ⊎ Lands a c s k)) pl
           (subst (λ (a : List ℕ). (k : ℕ) → On t k ↔ (Lands a c s k ⊎ Lands (part at e p) c s k)) ps y.2) in
-          (x.0, x.1, λ j. Iff·trans (x.2 j) (reach_word v r c s t j st))
+          (x.0, x.1, λ j. iff_trans (x.2 j) (reach_word v r c s t j st))
 
   -- a bracket, and the walk behind it
   pub walk_bracket : (i : ℕ) (t : List ℕ) → get_or p at 0 ≡ open_sign → d < 8 → Bracketed d p (at + 1) c s i t → Walked d p i c t to u → Walked d p at c s to u
@@ -172,7 +172,7 @@ module _ (d : ℕ) (p : List ℕ) (at : ℕ) (c s : List ℕ) (h : at < length p
           let e' : drop (at + 1) p ≡ text q ++ (close_sign ∷ (text r ++ rest)) = tail_at open_sign ((text q ++ (close_sign ∷ text r)) ++ rest) e ∙ append_assoc (text q) (close_sign ∷ text r) rest in
           let y = k.row q (text r ++ rest) n.1 n.2 e' in
           let x = w.row y.0 r rest n.3 f y.1 in
-          (x.0, x.1, λ j. Iff·trans (x.2 j) (reach_bracket q r c s t j y.2))
+          (x.0, x.1, λ j. iff_trans (x.2 j) (reach_bracket q r c s t j y.2))
 
 -- "]" stands at i, behind a row from `at` on that is not empty
 abbrev pub Closes : List ℕ → ℕ → ℕ → Type 0

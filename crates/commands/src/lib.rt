@@ -6,7 +6,7 @@ pub mod listing;
 pub mod matching;
 
 // A list of patterns is taken, has a first bad pattern (its number from 0, and the place in it), or is too long.
-#[derive(Drop)]
+#[derive(Clone, Copy)]
 pub enum Judged {
     Taken,
     BadPattern(usize, usize),

@@ -17,7 +17,7 @@ use scpi::checking::check;
 
 // Where a walk came to: a place of the pattern and a set of places of the command, a bit for each. Where the pattern is bad the place is the one
 // behind its end: nobody reads on there, and a bracket or a pattern that should end there is refused.
-#[derive(Drop)]
+#[derive(Clone, Copy)]
 struct Walk {
     at: usize,
     on: [u64; 3],
@@ -142,7 +142,7 @@ fn spread(t: [u64; 3], p: &[u8], a: usize, m: usize, e: usize, c: &[u8], i: usiz
 }
 
 // Where a step came to: the places that are left, where spellings from the others end, and the next place.
-#[derive(Drop)]
+#[derive(Clone, Copy)]
 struct Stride {
     left: [u64; 3],
     on: [u64; 3],

@@ -8,7 +8,7 @@ pub mod reader;
 pub mod writer;
 
 // What a call of the writer did.
-#[derive(Drop)]
+#[derive(Clone, Copy)]
 pub enum Kept {
     Written,
     NoRoom,
@@ -28,7 +28,7 @@ pub fn kept_number(k: Kept) -> u64
 
 // What stands at a place of a book: `found` 0: no whole entry. Else the offset and the length of its body, and the next place.
 #[repr(C)]
-#[derive(Drop)]
+#[derive(Clone, Copy)]
 pub struct Found {
     pub found: u64,
     pub body: usize,

@@ -21,7 +21,7 @@ use state::sizes::{Strings, Words};
 
 // What the calls answer: the plain call's numbers, then what became of the entry: 0 written (or the event was refused), 1 no room, 2 closed.
 #[repr(C)]
-#[derive(Drop)]
+#[derive(Clone, Copy)]
 pub struct KeptDelivery {
     pub refusal: u64,
     pub outcome: u64,
@@ -33,7 +33,7 @@ pub struct KeptDelivery {
 }
 
 #[repr(C)]
-#[derive(Drop)]
+#[derive(Clone, Copy)]
 pub struct KeptDone {
     pub refusal: u64,
     pub output: u64,
@@ -41,7 +41,7 @@ pub struct KeptDone {
 }
 
 #[repr(C)]
-#[derive(Drop)]
+#[derive(Clone, Copy)]
 pub struct KeptAnswered {
     pub refusal: u64,
     pub withheld: u64,
@@ -50,7 +50,7 @@ pub struct KeptAnswered {
 }
 
 #[repr(C)]
-#[derive(Drop)]
+#[derive(Clone, Copy)]
 pub struct KeptAlone {
     pub kept: u64,
 }

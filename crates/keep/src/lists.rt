@@ -10,7 +10,7 @@ use state::sizes::{Strings, Words};
 
 // What the call answers: hislip_patterns' numbers, then what became of the entry.
 #[repr(C)]
-#[derive(Drop)]
+#[derive(Clone, Copy)]
 pub struct KeptListed {
     pub refusal: u64,
     pub pattern: u64,

@@ -12,7 +12,7 @@ use state::{search, tables};
 
 // How many requests wait, and the earliest deadline (0 if none waits).
 #[repr(C)]
-#[derive(Drop)]
+#[derive(Clone, Copy)]
 pub struct Deadline {
     pub waiting: u64,
     pub deadline: u64,
@@ -20,7 +20,7 @@ pub struct Deadline {
 
 // The refusal (0: none), and the largest answer that the session's client takes.
 #[repr(C)]
-#[derive(Drop)]
+#[derive(Clone, Copy)]
 pub struct Size {
     pub refusal: u64,
     pub size: u64,

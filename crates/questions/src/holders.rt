@@ -15,7 +15,7 @@ const LIST_TOO_SHORT: u64 = 9;
 // A holding session: its SessionID, whether it holds exclusive and whether shared (1 or 0), the clock reading of its last grant, the number
 // of locks granted to it.
 #[repr(C)]
-#[derive(Drop)]
+#[derive(Clone, Copy)]
 pub struct Row {
     pub session: u64,
     pub exclusive: u64,

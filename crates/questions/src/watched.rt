@@ -11,7 +11,7 @@ use state::{search, tables};
 
 // The refusal (0: none), 1 if a numeric reading was sent to the session, and then the last, the lowest and the highest.
 #[repr(C)]
-#[derive(Drop)]
+#[derive(Clone, Copy)]
 pub struct Readings {
     pub refusal: u64,
     pub seen: u64,

@@ -6,7 +6,7 @@ ghost use Rattle.record.specs.Parts.{Spans};
 use wire::number;
 
 // A row of bytes in a body: `found` 0: none. Else where it begins, its length, and the place behind it.
-#[derive(Drop)]
+#[derive(Clone, Copy)]
 pub struct Span {
     pub found: u64,
     pub begin: usize,

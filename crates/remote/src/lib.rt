@@ -7,7 +7,7 @@ ghost use Rattle.remote.specs.Shown.{shown};
 ghost use Rattle.std.specs.Prelude.{◌≡◌};
 
 #[repr(C)]
-#[derive(Drop)]
+#[derive(Clone, Copy)]
 pub struct RemoteLocal {
     pub enable: bool,
     pub lockout: bool,

@@ -5,14 +5,14 @@ pub mod bytes;
 pub mod checking;
 
 // A pattern is good, or bad at a place, counted from 0.
-#[derive(Drop)]
+#[derive(Clone, Copy)]
 pub enum Checked {
     Good,
     Bad(usize),
 }
 
 // What reading a part of a pattern finds: it goes on at a place, or it is bad at one.
-#[derive(Drop)]
+#[derive(Clone, Copy)]
 pub enum Found {
     On(usize),
     Wrong(usize),

@@ -33,7 +33,7 @@ const HEADER: usize = 16;
 
 // What the other calls answer the host: the refusal (0: none), and how many bytes of the output hold frames.
 #[repr(C)]
-#[derive(Drop)]
+#[derive(Clone, Copy)]
 pub struct Done {
     pub refusal: u64,
     pub output: u64,
@@ -186,7 +186,7 @@ pub extern "C" fn hislip_string_bytes() -> u64
 
 // What hislip_answer answers the host: the refusal (0: none), 1 if the answer was withheld, and how many bytes of the output hold frames.
 #[repr(C)]
-#[derive(Drop)]
+#[derive(Clone, Copy)]
 pub struct Answered {
     pub refusal: u64,
     pub withheld: u64,

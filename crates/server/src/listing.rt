@@ -15,7 +15,7 @@ const TOO_MANY_PATTERNS: u64 = 12;
 
 // What hislip_patterns answers the host: the refusal (0: none), and with refusal 11 the first bad pattern, from 0, and the place in it.
 #[repr(C)]
-#[derive(Drop)]
+#[derive(Clone, Copy)]
 pub struct Listed {
     pub refusal: u64,
     pub pattern: u64,

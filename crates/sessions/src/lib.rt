@@ -12,7 +12,7 @@ pub mod session_id;
 // What a delivery answers the host: the refusal (0: none); the outcome; the session's number; the bytes taken; how many bytes of the output
 // hold frames; how many bytes are missing, if more are needed.
 #[repr(C)]
-#[derive(Drop)]
+#[derive(Clone, Copy)]
 pub struct Delivery {
     pub refusal: u64,
     pub outcome: u64,

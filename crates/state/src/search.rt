@@ -23,7 +23,7 @@ pub const ON_ASYNCHRONOUS: u8 = 3;
 const LAST_HOME: u64 = SESSIONS * 2;
 
 // The slot of a connection's session (past the slots: none), and the connection's role.
-#[derive(Drop)]
+#[derive(Clone, Copy)]
 pub struct Place {
     pub slot: usize,
     pub role: u8,

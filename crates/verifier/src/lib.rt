@@ -123,7 +123,7 @@ pub fn equal(x: &[u8], y: &[u8]) -> bool
 
 // Where a reading stands: bytes had from this place on, entries passed, the offset of this place, that of the entry before it, and the
 // fault (0: none so far). The bytes had stand in a lent buffer.
-#[derive(Drop)]
+#[derive(Clone, Copy)]
 pub struct Standing {
     pub have: usize,
     pub count: u64,

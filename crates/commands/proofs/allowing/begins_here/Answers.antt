@@ -1,0 +1,8 @@
+-- `allowing::begins_here` meets its contract: the tests are those of the definition.
+use mathlib.Core.Path.{refl}
+use Rattle.commands.specs.Refusing.{begins}
+use Rattle.commands.proofs.allowing.begins_here.Goals as goal
+
+pub returns : goal.returns
+unfolding begins
+returns c = refl
