@@ -28,7 +28,7 @@ returns-then-fits c = let a = c.args in
     write_done a.words.now _ _ (entry (a.a.now ++ a.b.now ++ a.c.now ++ a.d.now)) _ _ _ _ n
     (sym c.is_open.ensures ∙ c.if-not-is_open.false)
     (sym c.fits.ensures ∙ c.if-fits.true)
-    (words_then a.words.now _ _ _ n (rw (← c.wrapping_add_u64-count.ensures) c.set_words.ensures))
+    (words_then a.words.now _ _ _ n (rw (← c.wrapping_add_u64-count.ensures.value) c.set_words.ensures))
     c.put_entry.ensures
 
 pub returns : goal.returns
