@@ -115,7 +115,7 @@ sensed_due p s = record { watch = s.watch; tripped = s.tripped || trips_by p s; 
 noted_all_lem : (l : Limits) (o : Noticed) (bs : List ℕ) → (watched l o bs).recorded ≡ noted_all bs o.recorded
 unfolding watched stepped
 noted_all_lem l o [] = refl
-noted_all_lem l o (b ∷ bs) = noted_all_lem l _ bs
+noted_all_lem l o (b ∷ bs) = noted_all_lem l (stepped l o b) bs
 
 sensed_due_lem : (p : List ℕ) (s : Sensing) → sensed p s ≡ sensed_due p s
 unfolding sensed

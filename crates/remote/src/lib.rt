@@ -65,7 +65,7 @@ impl RemoteLocal {
     }
 }
 
-// The same in place, on flags that the caller lends: the struct is copied out, and what `controlled` makes of it is stored. Proved by hand.
+// The same in place, on flags that the caller lends: the struct is copied out, and what `controlled` makes of it is stored.
 pub fn control(flags: &mut RemoteLocal, code: u8)
     ensures { shown flags.new ≡ controlled code (shown flags.old) }
 {
@@ -73,7 +73,7 @@ pub fn control(flags: &mut RemoteLocal, code: u8)
     *flags = f.controlled(code);
 }
 
-// The same with plain parameters: a copy of the flags is lent. Proved by hand.
+// The same with plain parameters: a copy of the flags is lent.
 pub fn commanded(flags: RemoteLocal, code: u8) -> RemoteLocal
     ensures { shown result ≡ controlled code (shown flags) }
 {
