@@ -328,7 +328,7 @@ def turn(names, crate, folder, path):
             if not d.params or not re.match(r"^[a-z]\w*$", d.params[0]):
                 raise Left(f"{d.name} {d.params}")
             body = walk.body(d.body, d.params[0], walk.asked[i][0], note)
-            if SEARCH.match(body.strip()):
+            if SEARCH.match(body.strip()) and not d.unfolding:
                 continue
             answers.append((d, new, body))
         elif inv:
@@ -351,7 +351,7 @@ def turn(names, crate, folder, path):
             if not re.match(r"^" + NAME + r"$", arg):
                 note(f"argument {arg[:60]}")
             continue
-        if it[2].strip() == "search rules" or i >= len(walk.needs):
+        if (it[2].strip() == "search rules" and not spec.unfolding) or i >= len(walk.needs):
             continue
         new = walk.needs[i][1]
         body = walk.body(it[2], it[1], walk.asked[i][0], note)

@@ -1,0 +1,53 @@
+-- `sharing::give_shared` meets its contract: the same, with the string of slot i's request.
+use mathlib.Core.Path.{refl, ap, ◌∙◌}
+use Rattle.model.specs.Lists.{all}
+use Rattle.model.specs.Locks.{no_shared}
+use Rattle.model.specs.State.{Server}
+use Rattle.queue.specs.Requests.{string_at}
+use Rattle.queue.specs.Sharing.{fits_key, given_laid, no_sharers}
+use Rattle.queue.specs.Unsharing.{first_tidy}
+use Rattle.state.specs.View.{memory}
+use borrow.Author.Rules.{rules}
+use Rattle.shares.proofs.sharing.give_shared.Goals as goal
+
+pub copy_key-requires : goal.copy_key-requires
+copy_key-requires c = let a = c.args in (
+  search rules,
+  search rules,
+  search rules,
+  search rules,
+  search rules,
+  search rules,
+  c.nobody_shares.ensures a.strings.now
+      ∙ c.if-nobody_shares.true,
+)
+
+pub first_sharer-requires : goal.first_sharer-requires
+first_sharer-requires c = let a = c.args in (
+  search rules,
+  no_sharers _ _ (ap (λ (d : Server). all no_shared d.locks.entries) c.copy_key.ensures.0
+      ∙ c.nobody_shares.ensures a.strings.now ∙ c.if-nobody_shares.true),
+)
+
+pub returns-then-nobody_shares : goal.returns-then-nobody_shares
+returns-then-nobody_shares c = let a = c.args in
+    let y = c.copy_key.ensures in
+    let q = c.requires in
+    let f = c.first_sharer.ensures in
+    let none = no_sharers a.w.now a.strings.now (c.nobody_shares.ensures a.strings.now
+    ∙ c.if-nobody_shares.true) in (
+      given_laid (memory a.w.now a.strings.now) _ _ a.i _ (string_at a.w.now a.strings.now a.i) y.0 y.1 (f.0 _),
+      λ t. rw
+          (f.1, y.2, y.3) (first_tidy a.w.now a.strings.now (string_at a.w.now a.strings.now a.i) a.i t q.0 (search rules)
+          (search rules) none f.2),
+    )
+
+pub returns : goal.returns
+returns c = let a = c.args in
+    let j = c.join_sharers.ensures in (
+      given_laid (memory a.w.now a.strings.now) (memory a.w.now a.strings.now) _ a.i _ (string_at a.w.now a.strings.now a.i) refl
+          (fits_key a.w.now a.strings.now (string_at a.w.now a.strings.now a.i)
+          (c.nobody_shares.ensures a.strings.now ∙ c.if-nobody_shares.false)
+          c.requires.4) (j.0 a.strings.now),
+      j.1 a.strings.now,
+    )
