@@ -219,7 +219,7 @@ class Walk:
             return ".".join(["c", new] + rest)
 
         text = re.sub(r"(?<![^\s(){}\[\],;])(" + NAME + r")((?:\.before)*)((?:\.(?!before\b)" + NAME + r")+)", turn, text)
-        text = re.sub(r"\bnot-(?:true|false) (?:_|" + NAME + r"(?:\.\w+)*) (c\.[^\s().]*\bnot-[^\s()]*)", r"\1", text)
+        text = re.sub(r"\bnot-(?:true|false) (?:_|" + NAME + r"(?:\.[\w«»]+)*) (c\.[^\s().]*\bnot-[^\s()]*)", r"\1", text)
         text = re.sub(r"c\.in-[\w-]+\.known_told[\w-]*-own\.given(?:\.[0-9]+)*", "(search rules)", text)
         alias.update(parts)
         for who in alias:
