@@ -1,0 +1,51 @@
+-- `holders::put_in` meets its contract. The invariant: the first i rows, and what is carried put into the others, are the whole.
+use mathlib.Core.Path.{◌≡◌, ◌∙◌}
+use mathlib.Core.Logic.{⊎_elim}
+use Prim.Native.Nat.{ℕ, ◌<◌, ◌-◌}
+use native.Mathlib.Nat.{sub-zero}
+use native.Mathlib.Omega.{arith}
+use lib.ListN.{length, length-set}
+use Rattle.questions.specs.Holders.{put_stays, put_swaps, put_last}
+use Rattle.questions.proofs.holders.put_in.Goals as goal
+
+pub loop-i-init : goal.loop-i-init
+loop-i-init c = (omega arith, omega arith, rw sub-zero)
+
+pub offset_bounds-out-i : goal.offset_bounds-out-i
+offset_bounds-out-i c = omega arith
+
+pub bounds-out-i : goal.bounds-out-i
+bounds-out-i c = omega arith
+
+pub offset_bounds-out-i-then-carried-x : goal.offset_bounds-out-i-then-carried-x
+offset_bounds-out-i-then-carried-x c = omega arith
+
+pub bounds-out-i-then-carried-x : goal.bounds-out-i-then-carried-x
+bounds-out-i-then-carried-x c = omega arith
+
+pub overflow_add-i : goal.overflow_add-i
+overflow_add-i c = omega arith
+
+pub loop-i-smaller : goal.loop-i-smaller
+loop-i-smaller c = omega arith
+
+pub loop-i-preserved : goal.loop-i-preserved
+loop-i-preserved c = let n : ℕ = c.args.n in
+    let h : c.loop-i.i < length c.loop-i.out = omega arith in
+    ⊎_elim
+    (λ y. (omega arith, rw y.1 (simp length-set c.loop-i.invariant.1), rw (y.1, y.2) (put_swaps n c.loop-i.i c.loop-i.out c.loop-i.carried _ (omega arith) h y.0.taken ∙ c.loop-i.invariant.2)))
+    (λ y. (omega arith, rw y.1 c.loop-i.invariant.1, rw (y.1, y.2) (put_stays n c.loop-i.i c.loop-i.out c.loop-i.carried _ (omega arith) h y.0.left ∙ c.loop-i.invariant.2)))
+    c.if-carried-x.branch
+
+pub offset_bounds-out-n : goal.offset_bounds-out-n
+offset_bounds-out-n c = omega arith
+
+pub bounds-out-n : goal.bounds-out-n
+bounds-out-n c = omega arith
+
+pub returns : goal.returns
+returns c = let l = c.loop-i in
+    let n : ℕ = c.args.n in
+    let e : l.i ≡ n = omega arith in
+    let h : n < length l.out = omega arith in
+    put_last n l.i l.out l.carried e h ∙ l.invariant.2

@@ -1,0 +1,54 @@
+-- `watched::hislip_readings` meets its contract: no such slot, a free one, a session's, seen or not.
+use mathlib.Core.Path.{refl}
+use mathlib.Core.Bool.{true}
+use Rattle.readings.specs.Record.{recorded}
+use Rattle.model.specs.State.{at}
+use Rattle.state.specs.View.{memory, view, locks_of}
+use Rattle.state.specs.Search.{number_read}
+use Rattle.questions.specs.Found.{not_there, not_live, is_live}
+use Rattle.questions.specs.Asking.{nobody_told, none_told, some_told}
+use Rattle.questions.proofs.watched.hislip_readings.Goals as goal
+
+pub returns-then-i-ge-SESSION_LIMIT : goal.returns-then-i-ge-SESSION_LIMIT
+returns-then-i-ge-SESSION_LIMIT c = let a = c.args in
+    let w = a.words.now in
+    let s = a.strings.now in
+    let f = c.slot_of_number-i in
+    let e = at (locks_of w s).entries f.result in
+    nobody_told (view (memory w s)) a.session f.result (f.ensures.1 s) _ (not_there w s f.result c.if-i-ge-SESSION_LIMIT.true) c.no_readings.ensures
+
+pub returns-then-entry-eq0 : goal.returns-then-entry-eq0
+returns-then-entry-eq0 c = let a = c.args in
+    let w = a.words.now in
+    let s = a.strings.now in
+    let f = c.slot_of_number-i in
+    let e = at (locks_of w s).entries f.result in
+    let r = c.entry in
+    nobody_told (view (memory w s)) a.session f.result (f.ensures.1 s) _
+    (not_live e r.result (number_read e r.result (r.ensures.0 s)) c.if-entry-eq0.true) c.no_readings-then-entry-eq0.ensures
+
+pub returns-then-not-told : goal.returns-then-not-told
+unfolding recorded
+returns-then-not-told c = let a = c.args in
+    let w = a.words.now in
+    let s = a.strings.now in
+    let f = c.slot_of_number-i in
+    let e = at (locks_of w s).entries f.result in
+    let r = c.entry in
+    let x = c.record_at-told in
+    none_told (view (memory w s)) a.session f.result (f.ensures.1 s) _ (recorded x.result)
+    (is_live e r.result (number_read e r.result (r.ensures.0 s)) c.if-entry-eq0.false) x.ensures
+    (c.if-not-told.true) c.no_readings-then-not-told.ensures
+
+pub returns : goal.returns
+unfolding recorded
+returns c = let a = c.args in
+    let w = a.words.now in
+    let s = a.strings.now in
+    let f = c.slot_of_number-i in
+    let e = at (locks_of w s).entries f.result in
+    let r = c.entry in
+    let x = c.record_at-told in
+    some_told (view (memory w s)) a.session f.result (f.ensures.1 s) _ (recorded x.result)
+    (is_live e r.result (number_read e r.result (r.ensures.0 s)) c.if-entry-eq0.false) x.ensures
+    (c.if-not-told.false) refl
