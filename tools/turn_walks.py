@@ -219,7 +219,7 @@ class Walk:
             return ".".join(["c", new] + rest)
 
         text = re.sub(r"(?<![^\s(){}\[\],;])(" + NAME + r")((?:\.before)*)((?:\.(?!before\b)" + NAME + r")+)", turn, text)
-        text = re.sub(r"\bnot-(?:true|false) (?:_|" + NAME + r"(?:\.[\w«»]+)*) (c\.[^\s().]*\bnot-[^\s()]*)", r"\1", text)
+        text = re.sub(r"\bnot-(?:true|false) (?:_|" + NAME + r"(?:\.[\w«»]+)*)\s+(c\.[^\s().]*\bnot-[^\s()]*)", r"\1", text)
         text = re.sub(r"c\.in-[\w-]+\.known_told[\w-]*-own\.given(?:\.[0-9]+)*", "(search rules)", text)
         alias.update(parts)
         for who in alias:
@@ -321,7 +321,8 @@ def turn(names, crate, folder, path):
         need = re.match(r"^tie\.Need-(" + NAME + r")(.*)$", d.type, re.S)
         inv = re.match(r"^tie\.(invariant-|decreases-)(" + NAME + r")$", d.type)
         if need:
-            i, new = walk.goal(need[1])
+            known = [plain(a) for a, b in walk.needs]
+            i, new = walk.goal(need[1] if plain(need[1]) in known or plain(d.name) not in known else d.name)
             names_of[d.name] = new
             if d.clauses > 1:
                 raise Left(f"{d.name} has clauses")
@@ -330,6 +331,7 @@ def turn(names, crate, folder, path):
             body = walk.body(d.body, d.params[0], walk.asked[i][0], note)
             if SEARCH.match(body.strip()) and not d.unfolding:
                 continue
+            d.more = "".join(" " + x for x in d.params[1:] if x not in ("κs", "_"))
             answers.append((d, new, body))
         elif inv:
             new, body = walk.invariant(inv[1] + inv[2], d.params, d.body)
@@ -385,7 +387,7 @@ def turn(names, crate, folder, path):
             if d.unfolding:
                 lines.append(d.unfolding)
             body = body.replace("    let", " let", 1) if body.startswith("    let") else body
-            lines.append(f"{new} c ={body if body.startswith((' ', chr(10))) else ' ' + body}")
+            lines.append(f"{new} c{getattr(d, 'more', '')} ={body if body.startswith((' ', chr(10))) else ' ' + body}")
             parts.append("\n".join(lines))
         whole = "\n\n".join(parts)
         file = "\n".join(head + used(uses, whole) + [f"use Rattle.{crate}.proofs.{path.replace('/', '.')}.Goals as goal", "", whole, ""])

@@ -1,12 +1,12 @@
 -- `holders::put_in` meets its contract. The invariant: the first i rows, and what is carried put into the others, are the whole.
 use mathlib.Core.Path.{◌≡◌, ◌∙◌}
-use mathlib.Core.Logic.{⊎_elim}
 use Prim.Native.Nat.{ℕ, ◌<◌, ◌-◌}
 use native.Mathlib.Nat.{sub-zero}
 use native.Mathlib.Omega.{arith}
 use lib.ListN.{length, length-set}
 use Rattle.questions.specs.Holders.{put_stays, put_swaps, put_last}
 use Rattle.questions.proofs.holders.put_in.Goals as goal
+use Rattle.questions.proofs.holders.put_in.Goals.{then-carried-x, else-carried-x}
 
 pub loop-i-init : goal.loop-i-init
 loop-i-init c = (omega arith, omega arith, rw sub-zero)
@@ -32,10 +32,10 @@ loop-i-smaller c = omega arith
 pub loop-i-preserved : goal.loop-i-preserved
 loop-i-preserved c = let n : ℕ = c.args.n in
     let h : c.loop-i.i < length c.loop-i.out = omega arith in
-    ⊎_elim
-    (λ y. (omega arith, rw y.1 (simp length-set c.loop-i.invariant.1), rw (y.1, y.2) (put_swaps n c.loop-i.i c.loop-i.out c.loop-i.carried _ (omega arith) h y.0.taken ∙ c.loop-i.invariant.2)))
-    (λ y. (omega arith, rw y.1 c.loop-i.invariant.1, rw (y.1, y.2) (put_stays n c.loop-i.i c.loop-i.out c.loop-i.carried _ (omega arith) h y.0.left ∙ c.loop-i.invariant.2)))
-    c.if-carried-x.branch
+    elim c.if-carried-x.branch [
+      then-carried-x y ↦ (omega arith, rw y.out-is (simp length-set c.loop-i.invariant.1), rw (y.out-is, y.carried-is) (put_swaps n c.loop-i.i c.loop-i.out c.loop-i.carried _ (omega arith) h y.if-carried-x.true ∙ c.loop-i.invariant.2))
+      | else-carried-x y ↦ (omega arith, rw y.out-is c.loop-i.invariant.1, rw (y.out-is, y.carried-is) (put_stays n c.loop-i.i c.loop-i.out c.loop-i.carried _ (omega arith) h y.if-carried-x.false ∙ c.loop-i.invariant.2))
+    ]
 
 pub offset_bounds-out-n : goal.offset_bounds-out-n
 offset_bounds-out-n c = omega arith

@@ -1,4 +1,5 @@
 -- `watched::hislip_readings` meets its contract: no such slot, a free one, a session's, seen or not.
+use borrow.Author.Tests.{not-true, not-false}
 use mathlib.Core.Path.{refl}
 use mathlib.Core.Bool.{true}
 use Rattle.readings.specs.Record.{recorded}
@@ -38,7 +39,7 @@ returns-then-not-told c = let a = c.args in
     let x = c.record_at-told in
     none_told (view (memory w s)) a.session f.result (f.ensures.1 s) _ (recorded x.result)
     (is_live e r.result (number_read e r.result (r.ensures.0 s)) c.if-entry-eq0.false) x.ensures
-    (c.if-not-told.true) c.no_readings-then-not-told.ensures
+    (not-true _ c.if-not-told.true) c.no_readings-then-not-told.ensures
 
 pub returns : goal.returns
 unfolding recorded
@@ -51,4 +52,4 @@ returns c = let a = c.args in
     let x = c.record_at-told in
     some_told (view (memory w s)) a.session f.result (f.ensures.1 s) _ (recorded x.result)
     (is_live e r.result (number_read e r.result (r.ensures.0 s)) c.if-entry-eq0.false) x.ensures
-    (c.if-not-told.false) refl
+    (not-false _ c.if-not-told.false) refl
