@@ -188,7 +188,7 @@ def stands(today, crate, path):
         if not os.path.isfile(q):
             return False
         now.setdefault(file, open(q, encoding="utf-8").read())
-        if now[file].count(old) != 1:
+        if now[file].count(old) != 1 or re.search(r"(?<=[\w)]) \.[a-z]|·|\bnow \(", new):
             return False
         now[file] = now[file].replace(old, new, 1)
     return True

@@ -9,8 +9,7 @@ use entries::Writer;
 use journal::{Found, reader, writer};
 
 // A new, empty journal, whatever the words were. Of the book nothing is written.
-#[unsafe(no_mangle)]
-pub extern "C" fn hislip_journal_new(journal: &mut Writer, book: &[u8]) -> KeptAlone
+pub fn hislip_journal_new(journal: &mut Writer, book: &[u8]) -> KeptAlone
     ensures { Keeps (new_of journal.old book.now) result.kept journal.new book.now }
 {
     let k = writer::new(journal, book);
@@ -19,8 +18,7 @@ pub extern "C" fn hislip_journal_new(journal: &mut Writer, book: &[u8]) -> KeptA
 }
 
 // The closing trailer behind the last entry.
-#[unsafe(no_mangle)]
-pub extern "C" fn hislip_journal_close(journal: &mut Writer, book: &mut [u8]) -> KeptAlone
+pub fn hislip_journal_close(journal: &mut Writer, book: &mut [u8]) -> KeptAlone
     ensures { Keeps (close_of journal.old book.old) result.kept journal.new book.new }
 {
     let k = writer::close(journal, book);
@@ -29,16 +27,14 @@ pub extern "C" fn hislip_journal_close(journal: &mut Writer, book: &mut [u8]) ->
 }
 
 // The entry that begins at a place.
-#[unsafe(no_mangle)]
-pub extern "C" fn hislip_journal_forward(book: &[u8], at: u64) -> Found
+pub fn hislip_journal_forward(book: &[u8], at: u64) -> Found
     ensures { result ≡ forward_at book.now at }
 {
     reader::forward(book, at as usize)
 }
 
 // The entry that ends at a place of a closed journal.
-#[unsafe(no_mangle)]
-pub extern "C" fn hislip_journal_backward(book: &[u8], at: u64) -> Found
+pub fn hislip_journal_backward(book: &[u8], at: u64) -> Found
     ensures { result ≡ backward_at book.now at }
 {
     reader::backward(book, at as usize)

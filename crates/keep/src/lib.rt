@@ -10,9 +10,9 @@ ghost use Rattle.state.specs.Tidy.{Tidy};
 ghost use Rattle.state.specs.View.{memory, view};
 ghost use Rattle.keep.specs.Keeping.{Keeps, keeping, looked, of_answered, of_delivery, of_done};
 
-mod book;
-mod lists;
-mod watches;
+pub mod book;
+pub mod lists;
+pub mod watches;
 
 use entries::{Writer, heads, keep_delivery, keep_entry, keep_numbers};
 use record::events::{MOST_DELIVERED, MOST_SHOWN};
@@ -76,8 +76,7 @@ fn done(r: Done, kept: u64) -> KeptDone
 }
 
 // A connection opens.
-#[unsafe(no_mangle)]
-pub extern "C" fn hislip_keep_open(
+pub fn hislip_keep_open(
     words: &mut Words,
     strings: &mut Strings,
     connection: u32,
@@ -96,8 +95,7 @@ pub extern "C" fn hislip_keep_open(
 }
 
 // A connection is cut.
-#[unsafe(no_mangle)]
-pub extern "C" fn hislip_keep_cut(
+pub fn hislip_keep_cut(
     words: &mut Words,
     strings: &mut Strings,
     connection: u32,
@@ -118,8 +116,7 @@ pub extern "C" fn hislip_keep_cut(
 }
 
 // The clock reads so many milliseconds.
-#[unsafe(no_mangle)]
-pub extern "C" fn hislip_keep_clock(
+pub fn hislip_keep_clock(
     words: &mut Words,
     strings: &mut Strings,
     milliseconds: u64,
@@ -140,8 +137,7 @@ pub extern "C" fn hislip_keep_clock(
 }
 
 // The instrument's status byte changes.
-#[unsafe(no_mangle)]
-pub extern "C" fn hislip_keep_status(
+pub fn hislip_keep_status(
     words: &mut Words,
     strings: &mut Strings,
     status: u8,
@@ -160,8 +156,7 @@ pub extern "C" fn hislip_keep_status(
 }
 
 // Unread bytes of a connection are delivered. With a journal kept no more than the first 1,040 are looked at.
-#[unsafe(no_mangle)]
-pub extern "C" fn hislip_keep_deliver(
+pub fn hislip_keep_deliver(
     words: &mut Words,
     strings: &mut Strings,
     connection: u32,
@@ -201,8 +196,7 @@ pub extern "C" fn hislip_keep_deliver(
 
 // The instrument answers a session, with END unless `end` is 0. Of what is unread of the session's synchronous connection only the first 16
 // bytes count.
-#[unsafe(no_mangle)]
-pub extern "C" fn hislip_keep_answer(
+pub fn hislip_keep_answer(
     words: &mut Words,
     strings: &mut Strings,
     session: u32,

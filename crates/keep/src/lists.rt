@@ -19,8 +19,7 @@ pub struct KeptListed {
 }
 
 // The host sets the list of allowed commands.
-#[unsafe(no_mangle)]
-pub extern "C" fn hislip_keep_patterns(
+pub fn hislip_keep_patterns(
     words: &mut Words,
     strings: &mut Strings,
     text: &[u8],

@@ -14,8 +14,7 @@ use server::watches;
 use state::sizes::{Strings, Words};
 
 // No reading trips.
-#[unsafe(no_mangle)]
-pub extern "C" fn hislip_keep_watch_off(
+pub fn hislip_keep_watch_off(
     words: &mut Words,
     strings: &mut Strings,
     session: u32,
@@ -34,8 +33,7 @@ pub extern "C" fn hislip_keep_watch_off(
 }
 
 // A reading above the limit trips.
-#[unsafe(no_mangle)]
-pub extern "C" fn hislip_keep_watch_above(
+pub fn hislip_keep_watch_above(
     words: &mut Words,
     strings: &mut Strings,
     session: u32,
@@ -56,8 +54,7 @@ pub extern "C" fn hislip_keep_watch_above(
 }
 
 // A reading below the low limit or above the high one trips.
-#[unsafe(no_mangle)]
-pub extern "C" fn hislip_keep_watch_outside(
+pub fn hislip_keep_watch_outside(
     words: &mut Words,
     strings: &mut Strings,
     session: u32,

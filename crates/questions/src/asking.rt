@@ -33,8 +33,7 @@ fn sized(refusal: u64, size: u64) -> Size
 }
 
 // Until when a host may sleep: no reading of the clock before the deadline answers anybody.
-#[unsafe(no_mangle)]
-pub extern "C" fn hislip_deadline(words: &Words, strings: &Strings) -> Deadline
+pub fn hislip_deadline(words: &Words, strings: &Strings) -> Deadline
     ensures { deadline_numbers result ≡ deadline_answer (view (memory words.now strings.now)) }
 {
     let n = requests::waiting_count(words);
@@ -46,8 +45,7 @@ pub extern "C" fn hislip_deadline(words: &Words, strings: &Strings) -> Deadline
 }
 
 // How long an answer to a session may be, so that a host can cut a longer one.
-#[unsafe(no_mangle)]
-pub extern "C" fn hislip_client_size(words: &Words, strings: &Strings, session: u32) -> Size
+pub fn hislip_client_size(words: &Words, strings: &Strings, session: u32) -> Size
     ensures { size_numbers result ≡ size_answer (view (memory words.now strings.now)) session }
 {
     let i = search::slot_of_number(words, session as u64);

@@ -166,7 +166,7 @@ pub fn told(w: &Words, s: &Strings, room: usize) -> Filling
     }
 }
 
-// The first n rows of src into the slice that is lent: a loop, proved by hand.
+// The first n rows of src into the slice that is lent.
 pub fn fill_slice(rows: &mut [Row], src: [Row; 32], n: usize)
     requires { (n ≤ 32) × (n ≤ length rows.old) }
     ensures { rows.new ≡ take n src ++ drop n rows.old }
@@ -178,9 +178,8 @@ pub fn fill_slice(rows: &mut [Row], src: [Row; 32], n: usize)
     }
 }
 
-// Who holds what, since when, in the list that the host lends: ascending by SessionID; further rows are untouched. Proved by hand.
-#[unsafe(no_mangle)]
-pub extern "C" fn hislip_holders(words: &Words, strings: &Strings, rows: &mut [Row]) -> Counted
+// Who holds what, since when, in the list that the host lends: ascending by SessionID; further rows are untouched.
+pub fn hislip_holders(words: &Words, strings: &Strings, rows: &mut [Row]) -> Counted
     ensures { (result ≡ counted_of (holders_answer (view (memory words.now strings.now)) (length rows.old)))
         × (rows.new ≡ list_filled (rows_in (view (memory words.now strings.now))) rows.old) }
 {

@@ -33,8 +33,7 @@ fn no_readings(refusal: u64) -> Readings
 }
 
 // The record of a session's readings.
-#[unsafe(no_mangle)]
-pub extern "C" fn hislip_readings(words: &Words, strings: &Strings, session: u32) -> Readings
+pub fn hislip_readings(words: &Words, strings: &Strings, session: u32) -> Readings
     ensures { readings_numbers result ≡ readings_answer (view (memory words.now strings.now)) session }
 {
     let i = search::slot_of_number(words, session as u64);

@@ -1,4 +1,4 @@
-// The server: the events in code, and the C interface.
+// The server: the events in code, and the calls that a host makes (crate hislip_c exports them to C).
 #![tactic(auto)]
 
 ghost use Rattle.model.specs.Interface.{Event, Event.answer, Event.clock, Event.cut, Event.delivery, Event.opening};
@@ -41,8 +41,7 @@ pub struct Done {
 
 // Unread bytes of a connection are delivered. The way of a message is the first at each test, so that the compiler lays it out in one row, and a
 // piece of a header is answered here, where the answer has not to be joined with others.
-#[unsafe(no_mangle)]
-pub extern "C" fn hislip_deliver(
+pub fn hislip_deliver(
     words: &mut Words,
     strings: &mut Strings,
     connection: u32,
@@ -77,8 +76,7 @@ fn told(refusal: u64, output: u64) -> Done
 }
 
 // A connection opens.
-#[unsafe(no_mangle)]
-pub extern "C" fn hislip_open(words: &mut Words, strings: &mut Strings, connection: u32) -> Done
+pub fn hislip_open(words: &mut Words, strings: &mut Strings, connection: u32) -> Done
     ensures { Called (opening connection) result (memory words.old strings.old) (memory words.new strings.new) [] [] }
 {
     if connection >= CONNECTIONS {
@@ -92,13 +90,7 @@ pub extern "C" fn hislip_open(words: &mut Words, strings: &mut Strings, connecti
 }
 
 // A connection is cut.
-#[unsafe(no_mangle)]
-pub extern "C" fn hislip_cut(
-    words: &mut Words,
-    strings: &mut Strings,
-    connection: u32,
-    out: &mut [u8],
-) -> Done
+pub fn hislip_cut(words: &mut Words, strings: &mut Strings, connection: u32, out: &mut [u8]) -> Done
     ensures { Called (cut connection (length out.old)) result (memory words.old strings.old)
         (memory words.new strings.new) out.old out.new }
 {
@@ -118,8 +110,7 @@ pub extern "C" fn hislip_cut(
 }
 
 // The clock reads so many milliseconds.
-#[unsafe(no_mangle)]
-pub extern "C" fn hislip_clock(
+pub fn hislip_clock(
     words: &mut Words,
     strings: &mut Strings,
     milliseconds: u64,
@@ -142,8 +133,7 @@ pub extern "C" fn hislip_clock(
 }
 
 // The instrument's status byte changes.
-#[unsafe(no_mangle)]
-pub extern "C" fn hislip_status(words: &mut Words, strings: &mut Strings, status: u8)
+pub fn hislip_status(words: &mut Words, strings: &mut Strings, status: u8)
     ensures { Post view (Event.status status) (memory words.old strings.old) (memory words.new strings.new) []
         [] done 0 × (Tidy (memory words.old strings.old) → Tidy (memory words.new strings.new)) }
 {
@@ -161,8 +151,7 @@ fn is_set(b: u8) -> bool
 }
 
 // A fresh server in the lent memory, which prefers synchronized mode if `overlap` is 0, else overlap mode.
-#[unsafe(no_mangle)]
-pub extern "C" fn hislip_new(words: &mut Words, strings: &mut Strings, vendor: u16, overlap: u8)
+pub fn hislip_new(words: &mut Words, strings: &mut Strings, vendor: u16, overlap: u8)
     ensures { Fresh (record { vendor = vendor; prefers_overlap = not (eqb overlap 0) }) (memory words.new strings.new) }
 {
     let prefers = is_set(overlap);
@@ -170,15 +159,13 @@ pub extern "C" fn hislip_new(words: &mut Words, strings: &mut Strings, vendor: u
 }
 
 // How many words and bytes to lend.
-#[unsafe(no_mangle)]
-pub extern "C" fn hislip_words() -> u64
+pub fn hislip_words() -> u64
     ensures { result ≡ WORDS }
 {
     sizes::words()
 }
 
-#[unsafe(no_mangle)]
-pub extern "C" fn hislip_string_bytes() -> u64
+pub fn hislip_string_bytes() -> u64
     ensures { result ≡ STRINGS }
 {
     sizes::string_bytes()
@@ -249,8 +236,7 @@ fn answer_refusal(words: &Words, i: usize, n: usize) -> u64
 }
 
 // The instrument answers a session, with END unless `end` is 0; `shown` is what is unread of the session's synchronous connection.
-#[unsafe(no_mangle)]
-pub extern "C" fn hislip_answer(
+pub fn hislip_answer(
     words: &mut Words,
     strings: &mut Strings,
     session: u32,

@@ -34,8 +34,7 @@ fn told(refusal: u64, pattern: u64, place: u64) -> Listed
 
 // The host sets the list of allowed commands: a text, each pattern ended by a newline, which the last one may lack. No bytes are the empty
 // list, which allows nothing.
-#[unsafe(no_mangle)]
-pub extern "C" fn hislip_patterns(words: &mut Words, strings: &mut Strings, text: &[u8]) -> Listed
+pub fn hislip_patterns(words: &mut Words, strings: &mut Strings, text: &[u8]) -> Listed
     ensures { SetsList text.now result (memory words.old strings.old) (memory words.new strings.new) }
 {
     let ruling = judge(text);

@@ -41,16 +41,14 @@ fn set_watch(words: &mut Words, strings: &mut Strings, session: u32, new: Watch)
 }
 
 // No reading trips.
-#[unsafe(no_mangle)]
-pub extern "C" fn hislip_watch_off(words: &mut Words, strings: &mut Strings, session: u32) -> Done
+pub fn hislip_watch_off(words: &mut Words, strings: &mut Strings, session: u32) -> Done
     ensures { Called (setting (watch session off)) result (memory words.old strings.old) (memory words.new strings.new) [] [] }
 {
     set_watch(words, strings, session, Watch::Off)
 }
 
 // A reading above the limit trips.
-#[unsafe(no_mangle)]
-pub extern "C" fn hislip_watch_above(
+pub fn hislip_watch_above(
     words: &mut Words,
     strings: &mut Strings,
     session: u32,
@@ -62,8 +60,7 @@ pub extern "C" fn hislip_watch_above(
 }
 
 // A reading below the low limit or above the high one trips.
-#[unsafe(no_mangle)]
-pub extern "C" fn hislip_watch_outside(
+pub fn hislip_watch_outside(
     words: &mut Words,
     strings: &mut Strings,
     session: u32,

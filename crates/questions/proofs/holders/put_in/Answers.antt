@@ -33,7 +33,7 @@ pub loop-i-preserved : goal.loop-i-preserved
 loop-i-preserved c = let n : ℕ = c.args.n in
     let h : c.loop-i.i < length c.loop-i.out = omega arith in
     elim c.if-carried-x.branch [
-      then-carried-x y ↦ (omega arith, rw y.out-is (simp length-set c.loop-i.invariant.1), rw (y.out-is, y.carried-is) (put_swaps n c.loop-i.i c.loop-i.out c.loop-i.carried _ (omega arith) h y.if-carried-x.true ∙ c.loop-i.invariant.2))
+      | then-carried-x y ↦ (omega arith, rw y.out-is (simp length-set c.loop-i.invariant.1), rw (y.out-is, y.carried-is) (put_swaps n c.loop-i.i c.loop-i.out c.loop-i.carried _ (omega arith) h y.if-carried-x.true ∙ c.loop-i.invariant.2))
       | else-carried-x y ↦ (omega arith, rw y.out-is c.loop-i.invariant.1, rw (y.out-is, y.carried-is) (put_stays n c.loop-i.i c.loop-i.out c.loop-i.carried _ (omega arith) h y.if-carried-x.false ∙ c.loop-i.invariant.2))
     ]
 

@@ -8,7 +8,7 @@ use Rattle.questions.specs.Holders.{row_key}
 use Rattle.questions.proofs.holders.put_in.Given as goal
 
 abbrev pub invariant-loop-i : goal.invariant-loop-i
-invariant-loop-i l =    (l.i ≤ l.n) × (length l.out ≡ 32) × (take l.i l.out ++ put_by row_key l.carried (take (l.n - l.i) (drop l.i l.out)) ≡ put_by row_key l.initial.carried (take l.n l.initial.out))
+invariant-loop-i l = (l.i ≤ l.n) × (length l.out ≡ 32) × (take l.i l.out ++ put_by row_key l.carried (take (l.n - l.i) (drop l.i l.out)) ≡ put_by row_key l.initial.carried (take l.n l.initial.out))
 
 abbrev pub decreases-loop-i : goal.decreases-loop-i
 decreases-loop-i l = l.n - l.i
