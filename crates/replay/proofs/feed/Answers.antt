@@ -60,9 +60,9 @@ loop-i-preserved c = let l = c.loop-i in
           c.portion.result _
           c.portion.ensures refl _ _ _
           c.turn-s.ensures,
-      c.turn-s.auto.1.1.1.1.0
+      c.turn-s.auto.out
           ∙ l.invariant.2,
-      c.turn-s.auto.1.0 ∙ l.invariant.3,
+      c.turn-s.auto.buf ∙ l.invariant.3,
     )
 
 pub returns : goal.returns

@@ -7,5 +7,5 @@ pub returns : goal.returns
 returns c = let a = c.args in
     answered_so (memory a.words.now a.strings.now) _ a.frames.now a.out.now _
     c.requires.2
-    c.hislip_answer-a.auto.1.1.1.1.1.1.0 a.session a.end a.payload.now a.shown.now _ _
+    c.hislip_answer-a.auto.out a.session a.end a.payload.now a.shown.now _ _
     c.hislip_answer-a.ensures c.compared.ensures

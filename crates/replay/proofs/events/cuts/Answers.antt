@@ -7,5 +7,5 @@ pub returns : goal.returns
 returns c = let a = c.args in
     cut_off (memory a.words.now a.strings.now) _ a.frames.now a.out.now _
     c.requires.1
-    c.hislip_cut-a.auto.1.1.1.0 a.connection _ _ c.hislip_cut-a.ensures
+    c.hislip_cut-a.auto.out a.connection _ _ c.hislip_cut-a.ensures
     c.compared.ensures

@@ -7,5 +7,5 @@ pub returns : goal.returns
 returns c = let a = c.args in
     delivered (memory a.words.now a.strings.now) _ a.frames.now a.out.now _
     c.requires.1
-    c.hislip_deliver-a.auto.1.1.1.1.0 a.connection a.bytes.now _ _
+    c.hislip_deliver-a.auto.out a.connection a.bytes.now _ _
     c.hislip_deliver-a.ensures c.compared.ensures

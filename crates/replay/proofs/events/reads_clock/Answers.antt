@@ -7,5 +7,5 @@ pub returns : goal.returns
 returns c = let a = c.args in
     clock_read (memory a.words.now a.strings.now) _ a.frames.now a.out.now _
     c.requires
-    c.hislip_clock-a.auto.1.1.1.0 a.milliseconds _ _ c.hislip_clock-a.ensures
+    c.hislip_clock-a.auto.out a.milliseconds _ _ c.hislip_clock-a.ensures
     c.compared.ensures
