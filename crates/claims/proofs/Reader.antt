@@ -11,7 +11,7 @@ use borrow.Author.Tests.{ltb-true, ltb-false}
 use Rattle.wire.specs.declared.Header.{Header}
 use Rattle.wire.specs.Field.{Bytes}
 use Rattle.wire.specs.Message.{Message, header, header_of, prologue, message_of, encode, Decoded, decided, decode}
-use Rattle.wire.specs.RoundTrip.{encode_decode}
+use Rattle.wire.proofs.RoundTrip.{encode_decode}
 use Rattle.wire.proofs.ReadFrames.{length_encode}
 use Rattle.model.specs.Sizes.{payload_limit}
 use Rattle.model.specs.Scan.{Scan, sorted, fresh_scan}

@@ -10,7 +10,7 @@ use borrow.Author.Tests.{eqb-true, ltb-true, ltb-false, lt-ltb, leb-true, leb-fa
 use Rattle.wire.specs.declared.Header.{Header}
 use Rattle.wire.specs.Field.{Bytes, length_field, number_bound}
 use Rattle.wire.specs.Message.{Fits, header}
-use Rattle.wire.specs.RoundTrip.{decoded_fits}
+use Rattle.wire.proofs.RoundTrip.{decoded_fits}
 use Rattle.wire.specs.Frame.{Frame, frame_of}
 use Rattle.wire.specs.ReadFrames.{FrameFits, AllFit}
 use Rattle.wire.proofs.Bytes.{take_bytes, drop_bytes, bytes_field}

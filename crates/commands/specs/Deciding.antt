@@ -9,7 +9,8 @@ use Rattle.commands.specs.Spelling.{SpellsWord, SpellsWord.in_short, SpellsWord.
 use Rattle.commands.specs.Spelling.{SpellsRow.s_dropped, SpellsTree, SpellsTree.s_path, Matches}
 use Rattle.scpi.specs.Answers.{untrue}
 use Rattle.commands.specs.Whole.{star_in, star_out}
-use Rattle.scpi.specs.Verdicts.{Verdict, verdict_of, verdict_is, good_not_bad}
+use Rattle.scpi.specs.Verdicts.{Verdict, verdict_of, good_not_bad}
+use Rattle.scpi.proofs.Verdicts.{verdict_is}
 use Rattle.commands.specs.OneReading.{one_reading}
 use Rattle.commands.specs.Lists.{Allows}
 

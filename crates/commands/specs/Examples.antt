@@ -55,10 +55,6 @@ pub empty_line : lines_of (10 ∷ []) ≡ [] ∷ []
 unfolding lines_of
 empty_line = refl
 
-pub two_lines : lines_of (65 ∷ 10 ∷ 66 ∷ []) ≡ (65 ∷ []) ∷ (66 ∷ []) ∷ []
-unfolding lines_of
-two_lines = refl
-
 pub two_ended : lines_of (65 ∷ 10 ∷ 66 ∷ 10 ∷ []) ≡ (65 ∷ []) ∷ (66 ∷ []) ∷ []
 unfolding lines_of
 two_ended = refl

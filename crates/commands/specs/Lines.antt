@@ -1,8 +1,8 @@
 -- The lines of a text one after the other, a text made of lines, and how long a text that is taken can be. Assumes nothing.
-use Rattle.std.specs.Prelude.{◌≡◌, refl, ◌⊎◌, ◌↔◌, Bool, true, false, cond, ◌||◌, eqb, length, take}
-use Rattle.std.proofs.Common.{sym, ap, subst, ◌∙◌, inr, ⊎_elim, not-suc-le-zero, drop-drop, take-suc}
+use Rattle.std.specs.Prelude.{◌≡◌, refl, ◌↔◌, Bool, true, false, ◌||◌, eqb, length, take}
+use Rattle.std.proofs.Common.{sym, ap, subst, ◌∙◌, inr, ⊎_elim, take-suc}
 use mathlib.Core.List.{List, [], ◌∷◌, ◌++◌, append_assoc, append-nil}
-use Prim.Native.Nat.{ℕ, suc, ◌+◌, ◌-◌, ◌*◌, ◌≤◌, ◌<◌}
+use Prim.Native.Nat.{ℕ, suc, ◌+◌, ◌≤◌, ◌<◌}
 use Rattle.std.proofs.Math.Numerals.{add-one}
 use native.Mathlib.Omega.{arith}
 use Rattle.std.proofs.Math.ListN.{get_or, drop, drop_of_length-le}
@@ -11,10 +11,7 @@ use borrow.Author.Tests.{eq-eqb, ne_eqb}
 use Rattle.scpi.specs.Answers.{untrue}
 use Rattle.scpi.specs.Bytes.{All}
 use Rattle.commands.specs.Spelling.{Matches}
-use Rattle.scpi.specs.Words.{part}
-use Rattle.commands.specs.Lists.{more, lines_of, line_length, AllGood, Listed, command_of, Allows}
-
--- ---- a text has the lines that it was made of
+use Rattle.commands.specs.Lists.{lines_of, line_length, command_of, Allows}
 
 abbrev pub NoNewline : List ℕ → Type 0
 NoNewline p = All (λ (b : ℕ). b ≡ 10 → ⊥) p
@@ -28,54 +25,21 @@ abbrev pub text_of : List (List ℕ) → List ℕ
 text_of [] = []
 text_of (p ∷ ps) = p ++ (10 ∷ text_of ps)
 
-lines_first : (p s : List ℕ) → NoNewline p → lines_of (p ++ (10 ∷ s)) ≡ p ∷ lines_of s
+pub lines_first : (p s : List ℕ) → NoNewline p → lines_of (p ++ (10 ∷ s)) ≡ p ∷ lines_of s
 unfolding lines_of
 lines_first [] s h = refl
 lines_first (b ∷ p) s h = rw (ne_eqb b 10 h.0, lines_first p s h.1)
-
-lines_only : (b : ℕ) (p : List ℕ) → NoNewline (b ∷ p) → lines_of (b ∷ p) ≡ (b ∷ p) ∷ []
-unfolding lines_of
-lines_only b [] h = rw (ne_eqb b 10 h.0)
-lines_only b (x ∷ p) h = ap (λ (t : Bool). cond t ([] ∷ lines_of (x ∷ p)) (more b (lines_of (x ∷ p)))) (ne_eqb b 10 h.0) ∙ ap (more b) (lines_only x p h.1)
 
 pub lines_text : (ps : List (List ℕ)) → NoNewlines ps → lines_of (text_of ps) ≡ ps
 unfolding lines_of
 lines_text [] h = refl
 lines_text (p ∷ ps) h = lines_first p (text_of ps) h.0 ∙ ap (λ (l : List (List ℕ)). p ∷ l) (lines_text ps h.1)
 
--- the last one may lack its newline
-pub lines_last : (ps : List (List ℕ)) (b : ℕ) (p : List ℕ) → NoNewlines ps → NoNewline (b ∷ p) → lines_of (text_of ps ++ (b ∷ p)) ≡ ps ++ ((b ∷ p) ∷ [])
-lines_last [] b p h k = lines_only b p k
-lines_last (q ∷ ps) b p h k =
-    ap lines_of (append_assoc q (10 ∷ text_of ps) (b ∷ p))
-    ∙ lines_first q (text_of ps ++ (b ∷ p)) h.0
-    ∙ ap (λ (l : List (List ℕ)). q ∷ l) (lines_last ps b p h.1 k)
-
 -- ---- a text that is taken has at most 32 lines of 129 bytes
 
-abbrev total : List (List ℕ) → ℕ
+abbrev pub total : List (List ℕ) → ℕ
 total [] = 0
 total (p ∷ ps) = length p + 1 + total ps
-
-total_more : (b : ℕ) (ls : List (List ℕ)) → suc (total ls) ≤ total (more b ls)
-total_more b [] = omega arith
-total_more b (l ∷ ls) = omega arith
-
-length_lines : (s : List ℕ) → length s ≤ total (lines_of s)
-unfolding lines_of
-length_lines [] = omega arith
-length_lines (b ∷ s) = go (eqb b 10) (length_lines s)
-  where
-    go : (t : Bool) → length s ≤ total (lines_of s) → suc (length s) ≤ total (cond t ([] ∷ lines_of s) (more b (lines_of s)))
-    go true h = omega arith
-    go false h = omega (arith, total_more b (lines_of s))
-
-total_good : (ps : List (List ℕ)) → AllGood ps → total ps ≤ 129 * length ps
-total_good [] g = omega arith
-total_good (p ∷ ps) g = omega (arith, g.0.fits, total_good ps g.1)
-
-pub listed_room : (s : List ℕ) → Listed (lines_of s) → length s ≤ 4128
-listed_room s h = omega (arith, length_lines s, total_good (lines_of s) h.1, h.0)
 
 -- ---- the laws of the loops
 
@@ -108,26 +72,6 @@ line_clear s a n true l e h = untrue (sym e)
 line_clear s a n false l e h =
     let q : a + n + 1 ≡ a + (n + 1) = omega arith in
     h refl ∙ line_more s (a + n) l (λ b. untrue (sym e ∙ eq-eqb _ _ b)) ∙ ap (λ (i : ℕ). i + line_length (drop i s)) q
-
-lines_step : (s : List ℕ) → 0 < length s → lines_of s ≡ take (line_length s) s ∷ lines_of (drop (suc (line_length s)) s)
-unfolding lines_of line_length
-lines_step [] h = absurd (not-suc-le-zero h)
-lines_step (b ∷ s) h = go (eqb b 10) s (lines_step s)
-  where
-    go : (t : Bool) (s : List ℕ) → (0 < length s → lines_of s ≡ take (line_length s) s ∷ lines_of (drop (suc (line_length s)) s))
-        → cond t ([] ∷ lines_of s) (more b (lines_of s)) ≡ take (cond t 0 (suc (line_length s))) (b ∷ s) ∷ lines_of (drop (suc (cond t 0 (suc (line_length s)))) (b ∷ s))
-    go true s f = refl
-    go false [] f = refl
-    go false (x ∷ s) f = ap (more b) (f (omega arith))
-
-pub lines_next : (s : List ℕ) (at e : ℕ) → at < length s → e ≡ at + line_length (drop at s) → lines_of (drop at s) ≡ part at e s ∷ lines_of (drop (e + 1) s)
-lines_next s at e l h =
-    let d : drop at s ≡ get_or s at 0 ∷ drop (suc at) s = drop-cons s at 0 l in
-    let n : 0 < length (drop at s) = rw d (omega arith) in
-    let k : line_length (drop at s) ≡ e - at = omega arith in
-    let m : suc (e - at) + at ≡ e + 1 = omega arith in
-    lines_step (drop at s) n ∙ ap (λ (x : ℕ). take x (drop at s) ∷ lines_of (drop (suc x) (drop at s))) k
-    ∙ ap (λ (x : List ℕ). part at e s ∷ lines_of x) (drop-drop (suc (e - at)) at s ∙ ap (λ (x : ℕ). drop x s) (let o : at + suc (e - at) ≡ e + 1 = omega arith in o))
 
 pub lines_end : (s : List ℕ) (at : ℕ) → length s ≤ at → lines_of (drop at s) ≡ []
 unfolding lines_of

@@ -7,7 +7,8 @@ use Rattle.scpi.specs.declared.Checked.TheVariants.{Good, Bad}
 use Rattle.commands.specs.declared.Judged.{Judged}
 use Rattle.commands.specs.declared.Judged.TheVariants.{Taken, BadPattern, TooMany}
 use Rattle.scpi.specs.Grammar.{GoodPattern}
-use Rattle.scpi.specs.Verdicts.{Verdict, Exactly, verdict_of, verdict_is, exactly_verdict, bad_one, good_not_bad}
+use Rattle.scpi.specs.Verdicts.{Verdict, Exactly, verdict_of, bad_one, good_not_bad}
+use Rattle.scpi.proofs.Verdicts.{verdict_is, exactly_verdict}
 use Rattle.commands.specs.Lists.{AllGood, FirstBad, Ruling}
 
 -- r is the ruling, and no other is

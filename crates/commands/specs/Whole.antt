@@ -11,7 +11,8 @@ use Rattle.commands.specs.Cuts.{Cut, cut_behind, cut_append, cut_first, cut_last
 use Rattle.commands.specs.Sets.{On, Lands, Reach}
 use Rattle.scpi.specs.Answers.{Says, says_as}
 use Rattle.scpi.specs.Scans.{PathRead, path_end, path_stay, word_on, whole_end, EndRead, end_good, end_asked}
-use Rattle.scpi.specs.Verdicts.{Verdict, verdict_short}
+use Rattle.scpi.specs.Verdicts.{Verdict}
+use Rattle.scpi.proofs.Verdicts.{verdict_short}
 use Rattle.scpi.specs.declared.Checked.TheVariants.{Good}
 use Rattle.scpi.specs.declared.Found.TheVariants.{On as read_on}
 use Rattle.scpi.specs.Words.{leading, starts, part, Begins, begins_starts, starts_begins, like_length, between_yes}

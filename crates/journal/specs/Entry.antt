@@ -1,17 +1,16 @@
 -- An entry and its bytes: what was written is read again, whatever follows it, and what is read was written. Assumes nothing.
-use Rattle.std.specs.Prelude.{◌≡◌, ℕ, ◌+◌, ◌-◌, ◌^◌, ◌<◌, ◌≤◌, Bool, true, false, ◌&&◌, leb, List, [], ◌++◌, length, take, drop, ◌==◌, nat_eq, nat_le}
-use Rattle.std.proofs.Math.Path.{refl, sym, ap, ap₂}
-use Rattle.std.proofs.Common.{◌∙◌, ⊎_elim, lit<, length-take, length-drop, take-append-drop, drop_at, take_all, take-add, take-take, le-leb, eq-eqb, leb-true, eqb-true}
-use mathlib.Core.List.{append_assoc, append-nil}
+use Rattle.std.specs.Prelude.{◌≡◌, ℕ, ◌+◌, ◌^◌, ◌<◌, ◌≤◌, Bool, true, false, ◌&&◌, leb, List, [], ◌++◌, length, take, drop, ◌==◌, nat_eq, nat_le}
+use Rattle.std.proofs.Math.Path.{sym, ap, ap₂}
+use Rattle.std.proofs.Common.{◌∙◌, ⊎_elim, lit<, length-take, length-drop, take-append-drop, drop_at, take_all, take-add, leb-true, eqb-true}
+use mathlib.Core.List.{append-nil}
 use native.Mathlib.Omega.{arith}
 use Rattle.std.proofs.Math.ListN.{length-append}
 use Rattle.std.proofs.Math.Seq.{take_at}
 use Rattle.std.proofs.lemmas.Bool.{lt-leb}
 use Rattle.wire.specs.Field.{field, number, number_at, Bytes, length_field, number_field}
 use Rattle.crc.specs.Crc.{crc_of}
-use Rattle.crc.specs.Feed.{crc_lt}
 use Rattle.journal.specs.Journal.{body_limit, headed, entry, mark, closing, Fine, length_of, body_of, whole}
-use Rattle.journal.specs.Bytes.{below, and_left, and_right, and_is, and_not, not_and, take_bytes, drop_bytes, append_bytes, field_bytes, field_at}
+use Rattle.journal.specs.Bytes.{below, and_left, and_right, and_not, not_and, take_bytes, drop_bytes, field_at}
 
 pub length_entry : (b : List ℕ) → length (entry b) ≡ length b + 12
 unfolding entry
@@ -30,67 +29,8 @@ number_at_lem p n x rest place e h =
 
 -- an entry with what follows, cut at each of its fields
 module _ (b rest : List ℕ) where
-  sum : ℕ
-  sum = crc_of (headed b)
-
   pub headed_length : length (headed b) ≡ length b + 4
   headed_length = simp (length-append, length_field) (omega arith)
-
-  at_length : entry b ++ rest ≡ [] ++ (field 4 (length b) ++ (b ++ (field 4 (length b + 4) ++ (field 4 sum ++ rest))))
-  unfolding entry sum
-  at_length = simp append_assoc
-
-  at_distance : entry b ++ rest ≡ headed b ++ (field 4 (length b + 4) ++ (field 4 sum ++ rest))
-  unfolding entry sum
-  at_distance = simp append_assoc
-
-  at_sum : entry b ++ rest ≡ headed b ++ field 4 (length b + 4) ++ (field 4 sum ++ rest)
-  unfolding entry sum
-  at_sum = simp append_assoc
-
-  -- it says its length, holds its body, and what follows it follows it
-  pub says_length : length b ≤ body_limit → length_of (entry b ++ rest) ≡ length b
-  unfolding length_of
-  says_length h =
-      ap (λ (l : List ℕ). number_at l 0 4) at_length
-      ∙ number_at_lem [] 4 (length b) (b ++ (field 4 (length b + 4) ++ (field 4 sum ++ rest))) 0 refl (omega arith)
-
-  pub holds_body : length b ≤ body_limit → body_of (entry b ++ rest) ≡ b
-  holds_body h =
-      ap (λ (n : ℕ). take n (drop 4 (entry b ++ rest))) (says_length h)
-      ∙ ap (λ (l : List ℕ). take (length b) (drop 4 l)) at_length
-      ∙ ap (take (length b)) (drop_at (field 4 (length b)) (b ++ (field 4 (length b + 4) ++ (field 4 sum ++ rest))) 4 (length_field 4 (length b)))
-      ∙ take_at b (field 4 (length b + 4) ++ (field 4 sum ++ rest)) (length b) refl
-
-  pub behind : length b ≤ body_limit → drop (length_of (entry b ++ rest) + 12) (entry b ++ rest) ≡ rest
-  behind h =
-      ap (λ (n : ℕ). drop (n + 12) (entry b ++ rest)) (says_length h)
-      ∙ drop_at (entry b) rest (length b + 12) (length_entry b)
-
-  -- what was written is a whole entry
-  pub whole_entry : Fine b → whole (entry b ++ rest) ≡ true
-  unfolding whole sum
-  whole_entry f =
-      let w : length b ≤ body_limit = f.within in
-      let s : List ℕ = entry b ++ rest in
-      let n : length_of s ≡ length b = says_length w in
-      let l : length s ≡ length b + 12 + length rest = length-append (entry b) rest ∙ ap (λ (k : ℕ). k + length rest) (length_entry b) in
-      let d : number_at s (length b + 4) 4 ≡ length b + 4 =
-      ap (λ (l : List ℕ). number_at l (length b + 4) 4) at_distance
-      ∙ number_at_lem (headed b) 4 (length b + 4) (field 4 sum ++ rest) (length b + 4) headed_length (omega arith) in
-      let t : take (length b + 4) s ≡ headed b =
-      ap (take (length b + 4)) at_distance ∙ take_at (headed b) (field 4 (length b + 4) ++ (field 4 sum ++ rest)) (length b + 4) headed_length in
-      let g : length (headed b ++ field 4 (length b + 4)) ≡ length b + 8 = simp (length-append, length_field) (omega arith) in
-      let c : number_at s (length b + 8) 4 ≡ sum =
-      ap (λ (l : List ℕ). number_at l (length b + 8) 4) at_sum
-      ∙ number_at_lem (headed b ++ field 4 (length b + 4)) 4 sum rest (length b + 8) g
-      (crc_lt (headed b) (append_bytes (field 4 (length b)) b (field_bytes 4 (length b)) f.bytes)) in
-      rw n
-      (and_is
-      (and_is
-      (and_is (le-leb (length b + 12) (length s) (omega arith)) (le-leb (length b) body_limit w))
-      (eq-eqb (number_at s (length b + 4) 4) (length b + 4) d))
-      (eq-eqb (number_at s (length b + 8) 4) (crc_of (take (length b + 4) s)) (c ∙ ap crc_of (sym t))))
 
 -- the tests that a whole entry passed
 pub record Whole (s : List ℕ) : Type 0 where
@@ -171,21 +111,6 @@ mark_too_long = lit< tt
 pub closing_not_whole : (o n : ℕ) (rest : List ℕ) → whole (closing o n ++ rest) ≡ false
 unfolding closing length_of
 closing_not_whole o n rest = too_long (closing o n ++ rest) (lit< tt)
-
--- a part of an entry, or of the closing trailer, is no whole entry
-pub part_not_whole : (b : List ℕ) (k : ℕ) → length b ≤ body_limit → k < length (entry b) → whole (take k (entry b)) ≡ false
-unfolding length_of
-part_not_whole b k w h =
-    let s : List ℕ = take k (entry b) in
-    let e : length (entry b) ≡ length b + 12 = length_entry b in
-    let l : length s ≡ k = simp length-take (omega arith) in
-    ⊎_elim
-    (λ (c : k < 12). short s (omega arith))
-    (λ (c : 12 ≤ k).
-    let n : length_of s ≡ length b =
-    ap number (take-take 4 k (entry b) (omega arith)) ∙ ap (λ (x : List ℕ). length_of x) (sym (append-nil (entry b))) ∙ says_length b [] w in
-    short s (omega arith))
-    (below k 12)
 
 pub closing_part_not_whole : (o n k : ℕ) → whole (take k (closing o n)) ≡ false
 closing_part_not_whole o n k =

@@ -1,16 +1,16 @@
 -- What the writer's calls leave in the book: an open journal holds its entries, and a closed one is whole. Assumes nothing.
-use Rattle.std.specs.Prelude.{◌≡◌, ℕ, ◌+◌, ◌-◌, ◌%◌, ◌^◌, ◌<◌, ◌≤◌, min, Bool, true, false, leb, List, [], ◌∷◌, ◌++◌, length, take, ◌==◌, nat_eq, nat_le}
+use Rattle.std.specs.Prelude.{◌≡◌, ℕ, ◌+◌, ◌%◌, ◌^◌, ◌<◌, ◌≤◌, min, Bool, true, false, leb, List, [], ◌∷◌, ◌++◌, length, take, ◌==◌, nat_eq, nat_le}
 use Rattle.std.proofs.Math.Path.{refl, sym, ap}
-use Rattle.std.proofs.Common.{subst, ◌∙◌, append-nil, leb-true, le-leb}
+use Rattle.std.proofs.Common.{subst, ◌∙◌, leb-true, le-leb}
 use Rattle.std.proofs.Math.Nat.{mod-eq_of_lt}
 use native.Mathlib.Omega.{arith}
 use Rattle.std.proofs.Math.ListN.{length-append}
 use Rattle.std.proofs.lemmas.Bool.{lt-leb}
 use Rattle.wire.specs.Splice.{splice, take_splice, length_splice}
-use Rattle.journal.specs.Journal.{choose, entry, entries, closing, last_from, last_offset, closed_journal, Fine, AllFine, forward, reach}
+use Rattle.journal.specs.Journal.{choose, entry, entries, closing, last_from, last_offset, closed_journal, Fine, AllFine, reach}
 use Rattle.journal.specs.Bytes.{yes_is, no_is}
-use Rattle.journal.specs.Entry.{length_closing, short}
-use Rattle.journal.specs.Forward.{count_entries, forward_exact}
+use Rattle.journal.specs.Entry.{length_closing}
+use Rattle.journal.specs.Forward.{count_entries}
 use Rattle.journal.specs.Backward.{entries_last, fine_append}
 use Rattle.journal.specs.Trailer.{last_offset_lem}
 use Rattle.journal.specs.Writer.{Done, place, shut, left, new_of, writing, append_of, close_of}
@@ -143,10 +143,3 @@ now_closed bs book p r fine =
 
 pub close_closes : (bs : List (List ℕ)) (words book : List ℕ) → Holds bs words book → IsClosed bs (close_of words book)
 close_closes bs words book o = subst (λ (w : List ℕ). IsClosed bs (close_of w book)) (sym o.says) (now_closed bs book o.begins o.room o.fine)
-
--- what the forward reader finds in the bytes of an open journal
-pub read_open : (bs : List (List ℕ)) (words book : List ℕ) → Holds bs words book → forward (take (place words) book) ≡ bs
-read_open bs words book o =
-    ap (λ (w : List ℕ). forward (take (place w) book)) o.says
-    ∙ ap forward (o.begins ∙ sym (append-nil (entries bs)))
-    ∙ forward_exact bs [] o.fine (short [] (omega arith))

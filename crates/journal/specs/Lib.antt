@@ -12,7 +12,6 @@ pub mod Reach
 pub mod Run
 pub mod Steps
 pub mod Stops
-pub mod Torn
 pub mod Trailer
 pub mod Walks
 pub mod Writer

@@ -1,13 +1,12 @@
 -- The laws that the writer's code cites. Assumes nothing.
 use Rattle.std.specs.Prelude.{◌≡◌, ℕ, ◌+◌, ◌-◌, ◌%◌, ◌^◌, ◌≤◌, true, false, leb, List, [], ◌∷◌, ◌++◌, length, take, drop, ◌==◌, nat_eq, nat_le, slice_set}
 use Rattle.std.proofs.Math.Path.{refl}
-use Rattle.std.proofs.Common.{sym, ap, ap₂, subst, ◌∙◌, append_assoc, arith, length-append, length-take, drop_at}
+use Rattle.std.proofs.Common.{sym, ap, subst, ◌∙◌, append_assoc, arith, length-append, length-take, drop_at}
 use Rattle.wire.specs.Field.{field, length_field}
 use Rattle.wire.specs.Splice.{splice, splice_splice, take_splice}
-use Rattle.crc.specs.Crc.{crc_of}
 use Rattle.journal.specs.Journal.{headed, entry, mark, closing}
 use Rattle.journal.specs.Bytes.{yes_is, no_is}
-use Rattle.journal.specs.Entry.{headed_length, length_entry}
+use Rattle.journal.specs.Entry.{length_entry}
 use Rattle.journal.specs.Steps.{drop_take}
 use Rattle.journal.specs.Writer.{Done, Met, place, count, shut, left, new_of, writing}
 use Rattle.journal.specs.declared.Kept.{Kept}
@@ -22,7 +21,7 @@ four_words (_ ∷ _ ∷ _ ∷ _ ∷ []) a b c d e = refl
 four_words (_ ∷ _ ∷ _ ∷ _ ∷ _ ∷ l) a b c d e = absurd (omega arith)
 
 -- what is written behind what was written
-next : (l : List ℕ) (a : ℕ) (x : List ℕ) (p : ℕ) (y : List ℕ) → p ≡ a + length x → a + length x ≤ length l → splice (splice l a x) p y ≡ splice l a (x ++ y)
+pub next : (l : List ℕ) (a : ℕ) (x : List ℕ) (p : ℕ) (y : List ℕ) → p ≡ a + length x → a + length x ≤ length l → splice (splice l a x) p y ≡ splice l a (x ++ y)
 next l a x p y e h = ap (λ (k : ℕ). splice (splice l a x) k y) e ∙ splice_splice l a x h y
 
 back_is_mark : field 4 1111573323 ≡ mark
@@ -76,18 +75,6 @@ headed_back l at x e p h =
     ∙ ap (λ (k : ℕ). drop at (take k (splice l at x))) p
     ∙ ap (drop at) (take_splice l at x h)
     ∙ drop_at (take at l) x at t
-
-pub entry_written : (l : List ℕ) (at : ℕ) (b : List ℕ) (n s : ℕ) → n ≡ length b → s ≡ crc_of (take (at + (n + 4) - at) (drop at (splice l at (headed b)))) → at + 12 + n ≤ length l
-    → splice (splice (splice l at (headed b)) (at + (n + 4)) (field 4 (n + 4))) (at + (n + 8)) (field 4 s) ≡ splice l at (entry b)
-unfolding entry
-entry_written l at b n s e p h =
-    let x : length (headed b) ≡ length b + 4 = headed_length b [] in
-    let y : length (headed b ++ field 4 (length b + 4)) ≡ length b + 8 = simp (length-append, length_field) (omega arith) in
-    let q : s ≡ crc_of (headed b) = p ∙ ap crc_of (headed_back l at (headed b) (at + (n + 4)) (omega arith) (omega arith)) in
-    ap₂ (λ (k m : ℕ). splice (splice (splice l at (headed b)) (at + (k + 4)) (field 4 (k + 4))) (at + (k + 8)) (field 4 m)) e q
-    ∙ ap (λ (z : List ℕ). splice z (at + (length b + 8)) (field 4 (crc_of (headed b))))
-    (next l at (headed b) (at + (length b + 4)) (field 4 (length b + 4)) (omega arith) (omega arith))
-    ∙ next l at (headed b ++ field 4 (length b + 4)) (at + (length b + 8)) (field 4 (crc_of (headed b))) (omega arith) (omega arith)
 
 -- what does D' does D, where the two are one
 via : {D D' : Done} {r : Kept} {w b : List ℕ} → D ≡ D' → Met D' r w b → Met D r w b

@@ -14,7 +14,7 @@ use Rattle.record.specs.Layout.{status as r-status, watch_off, watch_above, watc
 use Rattle.verifier.specs.Judge.{Deed, refused, gave}
 use Rattle.verifier.specs.Right.{Yields, Right, none, more}
 use Rattle.model.specs.Sizes.{output_minimum, payload_limit, list_limit}
-use Rattle.commands.specs.Lines.{listed_room}
+use Rattle.commands.proofs.Lines.{listed_room}
 use Rattle.readings.specs.Watch.{Limits, Limits.off, Limits.above, Limits.outside}
 use Rattle.model.specs.State.{Server}
 use Rattle.model.specs.Interface.{Event, Event.opening, Event.delivery, Event.cut, Event.clock, Event.answer, Event.status, Event.setting, Setting}

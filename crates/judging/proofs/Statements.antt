@@ -20,10 +20,11 @@ use Rattle.journal.specs.Run.{open_run}
 use Rattle.record.specs.Layout.{body_bytes}
 use Rattle.verifier.specs.Judge.{Fault, Verdict, accepted, wrong, first, stops, place_of, judge}
 use Rattle.verifier.specs.Feed.{reading, feed_pieces, finish, joined}
-use Rattle.verifier.specs.Pieces.{pieces_judge}
+use Rattle.verifier.proofs.Pieces.{pieces_judge}
 use Rattle.verifier.specs.Right.{Right}
 use Rattle.verifier.specs.Naming.{after, Named}
-use Rattle.verifier.specs.Verdict.{Accepted, accepted_is, closed_accepted, writer_accepted, wrong_is, stopped_is}
+use Rattle.verifier.specs.Verdict.{Accepted, accepted_is}
+use Rattle.verifier.proofs.VerdictLaws.{closed_accepted, writer_accepted, wrong_is, stopped_is}
 use Rattle.model.specs.State.{Making, Server, fresh}
 use Rattle.model.specs.Interface.{Event, Event.answer, Reply.done}
 use Rattle.model.specs.Step.{Line, step, final, log}

@@ -30,19 +30,20 @@ use Rattle.server.specs.Program.{Run, Run.stop as no_more}
 use Rattle.server.proofs.Program.{program}
 use Rattle.journal.specs.Journal.{body_limit, choose, entry, entries, closed_journal, Fine, forward, backward}
 use Rattle.journal.specs.Bytes.{yes_is, no_is, append_bytes, field_bytes}
-use Rattle.journal.specs.Forward.{forward_closed}
-use Rattle.journal.specs.Backward.{backward_closed}
-use Rattle.journal.specs.Prefix.{stopped}
-use Rattle.journal.specs.Holds.{Holds, new_holds, append_holds, append_left_out, IsClosed, close_closes, read_open}
+use Rattle.journal.proofs.Forward.{forward_closed}
+use Rattle.journal.proofs.Backward.{backward_closed}
+use Rattle.journal.proofs.Prefix.{stopped}
+use Rattle.journal.specs.Holds.{Holds, new_holds, append_holds, append_left_out, IsClosed, close_closes}
+use Rattle.journal.proofs.Holds.{read_open}
 use Rattle.journal.specs.Writer.{Done, place, left, new_of, append_of, close_of, kept_number}
 use Rattle.journal.specs.declared.Kept.{Kept}
 use Rattle.journal.specs.declared.Kept.TheVariants.{Written, NoRoom}
 use Rattle.record.specs.Layout as layout
 use Rattle.record.specs.Layout.{encode, row}
-use Rattle.record.specs.RoundTrip.{read_again}
+use Rattle.record.proofs.RoundTrip.{read_again}
 use Rattle.keep.specs.Lists.{cons_bytes, row_bytes, list_row}
 use Rattle.verifier.specs.Judge.{accepted as passed, judge}
-use Rattle.verifier.specs.Verdict.{writer_accepted}
+use Rattle.verifier.proofs.VerdictLaws.{writer_accepted}
 use Rattle.judging.specs.Kept.{recorded, AllKeepable, is_refused, bodies_of}
 use Rattle.judging.specs.Replay.{deed, verdict}
 use Rattle.judging.proofs.Calls.{step_taken, no_cause, rights}

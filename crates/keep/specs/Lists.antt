@@ -8,7 +8,7 @@ use Rattle.scpi.specs.Grammar.{Word, short, long, Row, Row.r_none, Row.r_word, R
 use Rattle.commands.specs.declared.Judged.{Judged}
 use Rattle.commands.specs.declared.Judged.TheVariants.{Taken, BadPattern, TooMany}
 use Rattle.commands.specs.Lists.{lines_of, more, AllGood, Listed}
-use Rattle.commands.specs.Lines.{listed_room}
+use Rattle.commands.proofs.Lines.{listed_room}
 use Rattle.commands.specs.Rulings.{judged, judged_is}
 use Rattle.model.specs.Sizes.{list_limit}
 use Rattle.model.specs.State.{Server}

@@ -1,2 +1,4 @@
 pub mod Digits
 pub mod Steps
+pub mod Examples
+pub mod Order

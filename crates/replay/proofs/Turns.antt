@@ -16,7 +16,8 @@ use Rattle.verifier.specs.Judge.{Went, on, fault, by_event}
 use Rattle.verifier.specs.Feed.{Reading, feed}
 use Rattle.verifier.specs.Pieces.{feed_append}
 use Rattle.verifier.specs.Framing.{fault_of, Fed}
-use Rattle.verifier.specs.Standing.{wanted_of, reading_of, Sound, turn_more, turn_fault, entry_long, turn_wrong, turn_pass, stays}
+use Rattle.verifier.specs.Standing.{wanted_of, reading_of, Sound, entry_long, stays}
+use Rattle.verifier.proofs.StandingLaws.{turn_more, turn_fault, turn_wrong, turn_pass}
 use Rattle.verifier.specs.declared.Standing.{Standing}
 use Rattle.model.specs.Sizes.{output_minimum}
 use Rattle.model.specs.State.{Server}

@@ -10,7 +10,7 @@ use Rattle.wire.specs.Splice.{splice_nil}
 use Rattle.commands.specs.declared.Judged.{Judged}
 use Rattle.commands.specs.declared.Judged.TheVariants.{Taken, BadPattern, TooMany}
 use Rattle.commands.specs.Lists.{lines_of}
-use Rattle.commands.specs.Lines.{listed_room}
+use Rattle.commands.proofs.Lines.{listed_room}
 use Rattle.commands.specs.Rulings.{Ruled, judged, ruled_judged}
 use Rattle.model.specs.Sizes.{list_limit}
 use Rattle.model.specs.State.{Server, Rest, Allowed.only, with_allowed}

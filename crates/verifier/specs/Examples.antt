@@ -1,14 +1,14 @@
 -- The definition on small books, computed. The server here keeps the status byte, gives no frames, and refuses all other events. Assumes nothing.
-use Rattle.std.specs.Prelude.{◌≡◌, refl, Bool, true, false, ◌&&◌, List, [], ◌∷◌, ◌++◌, ℕ, take}
+use Rattle.std.specs.Prelude.{◌≡◌, refl, [], ◌∷◌, ◌++◌, ℕ, take}
 use Rattle.wire.specs.Field.{field}
 use Rattle.crc.specs.Crc.{steps, bit_step, byte_step, feed_of, crc_of}
 use Rattle.journal.specs.Journal.{choose, entry, entries, closing, length_of, closed_journal, last_from}
 use Rattle.record.specs.Layout.{Event, opening, delivery, cut, clock, answer, status, watch_off, watch_above, watch_outside, patterns, encode, decode, by_tag}
-use Rattle.record.specs.Layout.{and_then, get_number, get_opening, get_status, get_clock}
-use Rattle.verifier.specs.Judge.{Verdict, accepted, wrong, in_length, in_distance, in_sum, in_layout, in_parcels, in_trailer, Deed, refused, gave}
+use Rattle.record.specs.Layout.{and_then, get_number, get_status, get_clock}
+use Rattle.verifier.specs.Judge.{accepted, wrong, in_length, in_sum, in_layout, in_parcels, in_trailer, Deed, refused, gave}
 use Rattle.verifier.specs.Judge.{is_back, enough, by_step, trailer_of, and_on, by_deed, by_event, entry_of, place_of, judge_on, judge}
 
-abbrev keep : ℕ → Event → Deed ℕ
+abbrev pub keep : ℕ → Event → Deed ℕ
 keep d (opening c) = refused
 keep d (delivery c b) = refused
 keep d (cut c) = refused
@@ -45,17 +45,6 @@ wrong_count : judge keep 0 (closing 0 1) ≡ wrong 0 in_trailer
 unfolding judge judge_on and_on place_of is_back enough length_of choose trailer_of closing field
 wrong_count = refl
 
--- two status changes; the second with a frame that was not given; a refused event; no layout; no trailer
-two_entries : judge keep 0 (closed_journal (encode (status 65) ∷ encode (status 7) ∷ [])) ≡ accepted 2
-unfolding judge judge_on and_on place_of is_back enough length_of choose trailer_of closed_journal entries last_from closing field entry entry_of by_step by_event by_deed
-    decode by_tag get_status and_then get_number encode crc_of feed_of byte_step steps bit_step
-two_entries = refl
-
-other_frames : judge keep 0 (closed_journal (encode (status 65) ∷ (encode (status 7) ++ (1 ∷ [])) ∷ [])) ≡ wrong 1 in_parcels
-unfolding judge judge_on and_on place_of is_back enough length_of choose trailer_of closed_journal entries last_from closing field entry entry_of by_step by_event by_deed
-    decode by_tag get_status and_then get_number encode crc_of feed_of byte_step steps bit_step
-other_frames = refl
-
 refused_event : judge keep 0 (closed_journal (encode (clock 3) ∷ [])) ≡ wrong 0 in_parcels
 unfolding judge judge_on and_on place_of is_back enough length_of choose trailer_of closed_journal entries last_from closing field entry entry_of by_step by_event by_deed
     decode by_tag get_clock and_then get_number encode crc_of feed_of byte_step steps bit_step
@@ -65,16 +54,6 @@ no_layout : judge keep 0 (closed_journal ((10 ∷ []) ∷ [])) ≡ wrong 0 in_la
 unfolding judge judge_on and_on place_of is_back enough length_of choose trailer_of closed_journal entries last_from closing field entry entry_of by_step by_event by_deed
     decode by_tag get_status and_then get_number encode crc_of feed_of byte_step steps bit_step
 no_layout = refl
-
-not_closed : judge keep 0 (entry (encode (status 65))) ≡ wrong 1 in_length
-unfolding judge judge_on and_on place_of is_back enough length_of choose trailer_of closed_journal entries last_from closing field entry entry_of by_step by_event by_deed
-    decode by_tag get_status and_then get_number encode crc_of feed_of byte_step steps bit_step
-not_closed = refl
-
--- an entry that says one byte more than its body has, and one whose last byte is not the sum's
-bad_distance : judge keep 0 (field 4 2 ++ (5 ∷ 65 ∷ []) ++ field 4 7 ++ field 4 0) ≡ wrong 0 in_distance
-unfolding judge judge_on and_on place_of is_back enough length_of choose field entry_of crc_of feed_of byte_step steps bit_step
-bad_distance = refl
 
 bad_sum : judge keep 0 (field 4 2 ++ (5 ∷ 65 ∷ []) ++ field 4 6 ++ field 4 0) ≡ wrong 0 in_sum
 unfolding judge judge_on and_on place_of is_back enough length_of choose field entry_of crc_of feed_of byte_step steps bit_step

@@ -1,7 +1,7 @@
 -- What the bytes had come to, without the server: what the code answers. Assumes nothing.
-use Rattle.std.specs.Prelude.{◌≡◌, ◌&&◌, List, [], ◌∷◌, ◌++◌, ℕ, zero, suc, ◌+◌, ◌-◌, ◌%◌, ◌^◌, ◌≤◌, ◌<◌, leb, length, get_or, set, take, drop}
+use Rattle.std.specs.Prelude.{◌≡◌, ◌&&◌, List, [], ◌∷◌, ◌++◌, ℕ, suc, ◌+◌, ◌≤◌, ◌<◌, leb, length, get_or, take, drop}
 use Rattle.std.proofs.Math.Path.{refl, sym, ap}
-use Rattle.std.proofs.Common.{ap₂, subst, ◌∙◌, mod-eq_of_lt, arith, add-one, drop_of_length-le, length-append, take-suc-set, drop-cons, le-leb, eq-eqb, ne_eqb}
+use Rattle.std.proofs.Common.{ap₂, ◌∙◌, arith, drop_of_length-le, drop-cons, le-leb, eq-eqb, ne_eqb}
 use Rattle.std.proofs.Math.Bool.{Bool, true, false}
 use Rattle.std.proofs.Math.Dec.{eqb}
 use Rattle.std.proofs.lemmas.Bool.{lt-leb}
@@ -11,9 +11,9 @@ use Rattle.crc.specs.Crc.{crc_of}
 use Rattle.journal.specs.Journal.{choose, body_limit, mark, length_of, body_of}
 use Rattle.journal.specs.Bytes.{yes_is, no_is, and_is, and_not, not_and}
 use Rattle.record.specs.Layout.{Event, decode}
-use Rattle.verifier.specs.Judge.{Fault, in_length, in_distance, in_sum, in_layout, in_parcels, in_trailer, Verdict, accepted, wrong, Deed, Place, Next, goes}
-use Rattle.verifier.specs.Judge.{stops, same, is_back, by_step, trailer_of, first, by_event, entry_of}
-use Rattle.verifier.specs.Feed.{Reading, reading, done, by_next, settle, finish}
+use Rattle.verifier.specs.Judge.{Fault, in_length, in_distance, in_sum, in_layout, in_parcels, in_trailer, Verdict, accepted, wrong, Deed, Place}
+use Rattle.verifier.specs.Judge.{same, is_back, by_step, trailer_of, by_event}
+use Rattle.verifier.specs.Feed.{Reading, reading, done, by_next, finish}
 use Rattle.verifier.specs.Pieces.{few_not_back}
 
 -- 0: more bytes are needed; 7: a whole entry with right distance and sum; else the fault's number, in the faults' order from 1 on
@@ -55,60 +55,8 @@ module _ {S : Type 0} (deed : S → Event → Deed S) where
       (done (wrong p.count (fault_of k))))
 
   module _ (p : Place S) (s : List ℕ) where
-    abbrev to : ℕ → Reading S
+    abbrev pub to : ℕ → Reading S
     to k = by_framing p s k
-
-    to_choose : (c : Bool) (a b : ℕ) (x y : Reading S) → x ≡ to a → y ≡ to b → choose c x y ≡ to (choose c a b)
-    unfolding choose
-    to_choose true a b x y e f = e
-    to_choose false a b x y e f = f
-
-    is_zero : reading p s ≡ to 0
-    unfolding by_framing choose
-    is_zero = refl
-
-    is_one : done (wrong p.count in_length) ≡ to 1
-    unfolding by_framing choose fault_of
-    is_one = refl
-
-    is_two : by_next (stops (wrong p.count in_distance)) ≡ to 2
-    unfolding by_framing choose fault_of by_next
-    is_two = refl
-
-    is_three : by_next (stops (wrong p.count in_sum)) ≡ to 3
-    unfolding by_framing choose fault_of by_next
-    is_three = refl
-
-    is_six : done (wrong p.count in_trailer) ≡ to 6
-    unfolding by_framing choose fault_of
-    is_six = refl
-
-    is_seven : by_next (by_step p (length s) (by_event deed p.server (decode (body_of s)))) ≡ to 7
-    unfolding by_framing choose
-    is_seven = refl
-
-    next_choose : (c : Bool) (x y : Next S) → by_next (choose c x y) ≡ choose c (by_next x) (by_next y)
-    unfolding choose
-    next_choose true x y = refl
-    next_choose false x y = refl
-
-    entry_frame : by_next (entry_of deed p s)
-        ≡ to (choose (eqb (number_at s (length_of s + 4) 4) (length_of s + 4))
-        (choose (eqb (number_at s (length_of s + 8) 4) (crc_of (take (length_of s + 4) s))) 7 3)
-        2)
-    unfolding entry_of
-    entry_frame =
-        let c : Bool = eqb (number_at s (length_of s + 4) 4) (length_of s + 4) in
-        let d : Bool = eqb (number_at s (length_of s + 8) 4) (crc_of (take (length_of s + 4) s)) in
-        next_choose c _ _ ∙ to_choose c (choose d 7 3) 2 _ _ (next_choose d _ _ ∙ to_choose d 7 3 _ _ is_seven is_three) is_two
-
-    -- A byte more, by the answer: all of `settle` but the layout and the server.
-    pub settle_framing : settle deed p s ≡ by_framing p s (framing_of s)
-    unfolding settle framing_of
-    settle_framing =
-        to_choose (leb (length s) 3) 0 _ _ _ is_zero
-        (to_choose (is_back s) _ _ _ _ (to_choose (leb (length s) 12) 0 6 _ _ is_zero is_six)
-        (to_choose (leb (length_of s) body_limit) _ 1 _ _ (to_choose (leb (length_of s + 12) (length s)) _ 0 _ _ entry_frame is_zero) is_one))
 
   -- the verdict at the end, by the answer
   unfoldable pub by_end : ℕ → ℕ → Verdict

@@ -11,9 +11,11 @@ use Rattle.wire.specs.Field.{field, number, number_at, Bytes, length_field, numb
 use Rattle.crc.specs.Crc.{crc_of}
 use Rattle.journal.specs.Journal.{choose, body_limit, mark, entry, entries, closing, last_from, Fine, AllFine, length_of, body_of}
 use Rattle.journal.specs.Bytes.{yes_is, no_is, and_is, and_left, and_right, and_not, not_and, take_bytes, drop_bytes, field_at}
-use Rattle.journal.specs.Entry.{length_entry, says_length, holds_body, whole_entry, Whole, passed, entry_again, read_fine}
+use Rattle.journal.specs.Entry.{length_entry, Whole, passed, entry_again, read_fine}
+use Rattle.journal.proofs.Entry.{says_length, holds_body, whole_entry}
 use Rattle.record.specs.Layout.{Event, Read, found, none, Fits, encode, body_bytes, decode}
-use Rattle.record.specs.RoundTrip.{read_again, read_written}
+use Rattle.record.specs.RoundTrip.{read_written}
+use Rattle.record.proofs.RoundTrip.{read_again}
 use Rattle.verifier.specs.Judge.{Fault, in_length, in_distance, in_sum, in_layout, in_parcels, in_trailer, Verdict, accepted, wrong, Deed, refused, gave, Went}
 use Rattle.verifier.specs.Judge.{on, fault, Place, Next, goes, stops, same, is_back, enough, by_step, trailer_of, and_on, by_deed, first, by_event, entry_of}
 use Rattle.verifier.specs.Judge.{place_of, judge_on, judge}

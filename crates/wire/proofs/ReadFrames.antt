@@ -2,7 +2,8 @@
 use Rattle.std.proofs.Common.{◌≡◌, ℕ, zero, suc, ◌+◌, ◌<◌, ◌≤◌, List, [], ◌∷◌, ◌++◌, length, drop, sym, refl, ap, ◌∙◌, append_assoc, arith, lit<, length-append, drop-drop, drop_at}
 use Rattle.wire.specs.Field.{field, Bytes}
 use Rattle.wire.specs.Message.{Message, header_bytes, header_of, encode, Decoded, Decoded.short, Decoded.wrong, Decoded.whole, decode}
-use Rattle.wire.specs.RoundTrip.{length_header, decode_encode, encode_decode}
+use Rattle.wire.specs.RoundTrip.{length_header}
+use Rattle.wire.proofs.RoundTrip.{decode_encode, encode_decode}
 use Rattle.wire.specs.declared.Header.{Header}
 use Rattle.wire.specs.Frame.{Frame, frame_bytes, bytes_of, length_frame}
 use Rattle.wire.proofs.Bytes.{drop_bytes, bytes_append, bytes_cons, bytes_field}

@@ -8,4 +8,4 @@ pub slice_bounds-framing-end-2 : goal.slice_bounds-framing-end-2
 slice_bounds-framing-end-2 c = simp length-take (omega arith)
 
 pub returns : goal.returns
-returns c =    put_behind _ c.args.have c.args.bytes.now c.args.buf.now _ c.requires c.put_bytes.ensures c.framing.ensures
+returns c = put_behind _ c.args.have c.args.bytes.now c.args.buf.now _ c.requires c.put_bytes.ensures c.framing.ensures

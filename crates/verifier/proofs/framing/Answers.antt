@@ -28,14 +28,14 @@ pub slice_bounds-crc32-end : goal.slice_bounds-crc32-end
 slice_bounds-crc32-end c = simp length-take (omega arith)
 
 pub returns-then-number4-sum : goal.returns-then-number4-sum
-returns-then-number4-sum c =    bad_sum _ _ c.number4-n.ensures.0
+returns-then-number4-sum c = bad_sum _ _ c.number4-n.ensures.0
     c.if-s-le3.false
     c.if-n-eq-BACK.false c.if-n-gt-BODY_LIMIT.false
     c.if-s-e.false _ c.number4.ensures.0
     c.if-number4-n.false _ _ c.number4-2.ensures.0 c.crc32-sum.ensures c.if-number4-sum.true
 
 pub returns : goal.returns
-returns c =    all_right _ _ c.number4-n.ensures.0
+returns c = all_right _ _ c.number4-n.ensures.0
     c.if-s-le3.false
     c.if-n-eq-BACK.false c.if-n-gt-BODY_LIMIT.false
     c.if-s-e.false _ c.number4.ensures.0

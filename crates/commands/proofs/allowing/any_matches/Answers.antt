@@ -7,7 +7,8 @@ use Prim.Native.Nat.{ℕ, ◌+◌, ◌-◌}
 use native.Mathlib.Omega.{arith}
 use Rattle.scpi.specs.Answers.{untrue}
 use Rattle.commands.specs.Lists.{Allows}
-use Rattle.commands.specs.Refusing.{opens_newline, behind_newline, behind_end, same_allows, line_matched, line_refused, moved}
+use Rattle.commands.specs.Refusing.{opens_newline, behind_newline, behind_end, same_allows}
+use Rattle.commands.proofs.Refusing.{line_matched, line_refused, moved}
 use borrow.Author.Rules.{rules}
 use Rattle.commands.proofs.allowing.any_matches.Goals as goal
 

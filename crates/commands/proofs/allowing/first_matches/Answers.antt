@@ -2,7 +2,7 @@
 use mathlib.Core.Path.{sym, ◌∙◌}
 use lib.Seq.{length-take-le}
 use Rattle.scpi.specs.Answers.{untrue}
-use Rattle.commands.specs.Refusing.{first_matched, first_passed, first_empty, first_other, first_second}
+use Rattle.commands.proofs.Refusing.{first_matched, first_passed, first_empty, first_other, first_second}
 use Rattle.commands.proofs.allowing.first_matches.Goals as goal
 
 pub returns-then-text-eq0 : goal.returns-then-text-eq0

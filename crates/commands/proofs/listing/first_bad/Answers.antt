@@ -5,7 +5,8 @@ use lib.ListN.{drop}
 use borrow.Author.Rules.{rules}
 use Rattle.scpi.specs.Words.{part}
 use Rattle.commands.specs.Lists.{lines_of}
-use Rattle.commands.specs.Lines.{lines_next, lines_end}
+use Rattle.commands.specs.Lines.{lines_end}
+use Rattle.commands.proofs.Lines.{lines_next}
 use Rattle.commands.specs.Rulings.{turn_bad, turn_good, turn_end}
 use Rattle.commands.proofs.listing.first_bad.Goals as goal
 

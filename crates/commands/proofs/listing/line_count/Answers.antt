@@ -5,7 +5,8 @@ use native.Mathlib.Omega.{arith}
 use lib.ListN.{length, drop}
 use borrow.Author.Rules.{rules}
 use Rattle.commands.specs.Lists.{lines_of}
-use Rattle.commands.specs.Lines.{lines_next, lines_end}
+use Rattle.commands.specs.Lines.{lines_end}
+use Rattle.commands.proofs.Lines.{lines_next}
 use Rattle.commands.proofs.listing.line_count.Goals as goal
 
 pub loop-at-init : goal.loop-at-init

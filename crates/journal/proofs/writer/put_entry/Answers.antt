@@ -1,6 +1,7 @@
 -- `writer::put_entry` meets its contract: the parts in a row are the entry.
 use Rattle.std.proofs.Common.{◌++◌, sym, ◌∙◌, arith}
-use Rattle.journal.specs.Written.{body_length, entry_written}
+use Rattle.journal.specs.Written.{body_length}
+use Rattle.journal.proofs.Written.{entry_written}
 use Rattle.journal.proofs.writer.put_entry.Goals as goal
 
 pub returns : goal.returns

@@ -1,7 +1,7 @@
 -- `writer::put_numbered` meets its contract: the parts in a row are the entry.
 use Rattle.std.proofs.Common.{sym, ◌∙◌, arith}
 use Rattle.journal.specs.Numbered.{numbered_body, numbered_size, numbered_then}
-use Rattle.journal.specs.Written.{entry_written}
+use Rattle.journal.proofs.Written.{entry_written}
 use Rattle.journal.proofs.writer.put_numbered.Goals as goal
 
 pub returns : goal.returns

@@ -22,23 +22,23 @@ pub returns-then-tag-eq3 : goal.returns-then-tag-eq3
 returns-then-tag-eq3 c = tag_clock _ _ _ c.if-s-eq0.false refl c.if-tag-eq3.true c.clock.ensures
 
 pub returns-then-tag-eq4 : goal.returns-then-tag-eq4
-returns-then-tag-eq4 c =    tag_answer _ _ _ c.if-s-eq0.false refl c.if-tag-eq4.true c.answer.ensures
+returns-then-tag-eq4 c = tag_answer _ _ _ c.if-s-eq0.false refl c.if-tag-eq4.true c.answer.ensures
 
 pub returns-then-tag-eq5 : goal.returns-then-tag-eq5
-returns-then-tag-eq5 c =    tag_status _ _ _ c.if-s-eq0.false refl c.if-tag-eq5.true c.status.ensures
+returns-then-tag-eq5 c = tag_status _ _ _ c.if-s-eq0.false refl c.if-tag-eq5.true c.status.ensures
 
 pub returns-then-tag-eq6 : goal.returns-then-tag-eq6
-returns-then-tag-eq6 c =    tag_off _ _ _ c.if-s-eq0.false refl c.if-tag-eq6.true c.watch_off.ensures
+returns-then-tag-eq6 c = tag_off _ _ _ c.if-s-eq0.false refl c.if-tag-eq6.true c.watch_off.ensures
 
 pub returns-then-tag-eq7 : goal.returns-then-tag-eq7
-returns-then-tag-eq7 c =    tag_above _ _ _ c.if-s-eq0.false refl c.if-tag-eq7.true c.watch_above.ensures
+returns-then-tag-eq7 c = tag_above _ _ _ c.if-s-eq0.false refl c.if-tag-eq7.true c.watch_above.ensures
 
 pub returns-then-tag-eq8 : goal.returns-then-tag-eq8
-returns-then-tag-eq8 c =    tag_outside _ _ _ c.if-s-eq0.false refl
+returns-then-tag-eq8 c = tag_outside _ _ _ c.if-s-eq0.false refl
     c.if-tag-eq8.true c.watch_outside.ensures
 
 pub returns : goal.returns
-returns c =    tag_patterns _ _ _ c.if-s-eq0.false refl
+returns c = tag_patterns _ _ _ c.if-s-eq0.false refl
     (nine _ c.if-tag-gt-LAST_TAG.false
     c.if-tag-eq0.false
     c.if-tag-eq1.false c.if-tag-eq2.false

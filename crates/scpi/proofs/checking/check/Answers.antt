@@ -3,7 +3,7 @@ use mathlib.Core.Path.{sym, ◌∙◌}
 use borrow.Author.Rules.{rules}
 use lib.Seq.{length-take-le}
 use Rattle.scpi.specs.declared.Checked.TheVariants.{Good, Bad}
-use Rattle.scpi.specs.Verdicts.{check_short, check_long}
+use Rattle.scpi.proofs.Verdicts.{check_short, check_long}
 use Rattle.scpi.proofs.checking.check.Goals as goal
 
 pub slice_bounds-whole-end : goal.slice_bounds-whole-end

@@ -7,7 +7,7 @@ use Rattle.wire.specs.Splice.{splice, take_splice}
 use Rattle.journal.specs.Journal.{choose, entry, entries, closing, last_offset, Fine, AllFine, forward, reach}
 use Rattle.journal.specs.Bytes.{yes_is}
 use Rattle.journal.specs.Entry.{length_closing, short}
-use Rattle.journal.specs.Forward.{forward_exact, stopped_in_entry, stopped_in_closing}
+use Rattle.journal.proofs.Forward.{forward_exact, stopped_in_entry, stopped_in_closing}
 use Rattle.journal.specs.Backward.{entries_last, fine_append}
 use Rattle.journal.specs.Holds.{words_of, Holds, appended, fits_then}
 use Rattle.journal.specs.Prefix.{within}

@@ -1,0 +1,10 @@
+pub mod Backward
+pub mod Entry
+pub mod Example
+pub mod Forward
+pub mod Holds
+pub mod Prefix
+pub mod Run
+pub mod Stops
+pub mod Torn
+pub mod Written

@@ -1,0 +1,5 @@
+pub mod Examples
+pub mod FramingLaws
+pub mod Pieces
+pub mod StandingLaws
+pub mod VerdictLaws
