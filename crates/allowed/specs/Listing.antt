@@ -1,6 +1,6 @@
 -- The text of the allowed commands in the lent bytes: what it allows, and a list laid in the place of another. Assumes nothing.
-use Rattle.std.specs.Prelude.{◌≡◌, refl, ◌⊎◌, ◌↔◌, Bool, true, false, not, ℕ, ◌+◌, ◌*◌, ◌-◌, ◌%◌, ◌^◌, ◌≤◌, ◌<◌, min, eqb, set, drop}
-use Rattle.std.proofs.Common.{sym, subst, ◌∙◌, inl, inr, ⊎_elim, true≢false, lit<, length-set, eq-eqb, ne_eqb}
+use Rattle.std.specs.Prelude.{◌≡◌, refl, ◌↔◌, Bool, true, false, not, ℕ, ◌+◌, ◌*◌, ◌-◌, ◌%◌, ◌^◌, ◌≤◌, ◌<◌, min, eqb, set, drop}
+use Rattle.std.proofs.Common.{sym, subst, ◌∙◌, inl, inr, ⊎_elim, true≢false, length-set, eq-eqb, ne_eqb}
 use Rattle.std.proofs.Math.Path.{ap, ap₂}
 use Rattle.std.proofs.Math.Bool.{cond}
 use mathlib.Core.List.{List, ◌∷◌}
@@ -14,9 +14,9 @@ use Rattle.model.specs.State.{Allowed, Allowed.any_command, Allowed.only, Rest, 
 use Rattle.model.specs.Allowing.{admits}
 use Rattle.state.specs.Table.{below}
 use Rattle.state.specs.Grid.{part}
-use Rattle.state.specs.Layout.{LOCKS, CLOCK, HOLDER, SHARERS, KEY, COUNT, ENTRIES, ENTRY, ORDERS, ORDER, EXCHANGES, EXCHANGE, CONNECTIONS, CONNECTION, HOME}
+use Rattle.state.specs.Layout.{CLOCK, HOLDER, SHARERS, KEY, COUNT, ENTRIES, ENTRY, ORDERS, ORDER, EXCHANGES, EXCHANGE, CONNECTIONS, CONNECTION, HOME}
 use Rattle.state.specs.Layout.{SENSINGS, SENSING, LISTED, REQUESTS, REQUEST, QUEUE, WORDS, LIST, STRINGS}
-use Rattle.state.specs.View.{memory, word, home_at, key_of, entries_of, waiting_of, locks_of, rest_of, allowed_from, allowed_of, view}
+use Rattle.state.specs.View.{memory, word, home_at, key_of, entries_of, waiting_of, locks_of, allowed_from, allowed_of, view}
 use Rattle.state.specs.Change.{on_rest, off, here, locks_off, rest_words}
 use Rattle.queue.specs.OneMemory.{is_set}
 use Rattle.queue.specs.Requests.{take_here, waiting_strings}

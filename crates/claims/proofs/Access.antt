@@ -12,8 +12,7 @@ use Rattle.wire.specs.Message.{header, prologue}
 use Rattle.wire.specs.Class.{one_of, asynchronous, class_of}
 use Rattle.model.specs.Sizes.{payload_limit, no_connection}
 use Rattle.model.specs.MessageTypes.{commands}
-use Rattle.model.specs.Lists.{all}
-use Rattle.model.specs.State.{Entry, at, live, Server, exchange_at, connection_at}
+use Rattle.model.specs.State.{Entry, live, Server, exchange_at, connection_at}
 use Rattle.model.specs.Interface.{Event.delivery, Outcome.held, Outcome.acted, Reply.took}
 use Rattle.model.specs.Scan.{Scan, Scan.empty, Scan.few, Scan.wrong, Scan.skipping, Scan.long, Scan.part, Scan.whole, sorted, fresh_scan, scan, size}
 use Rattle.model.specs.Place.{slot_of, entry_of, Role, Role.r_none, Role.r_half_open, Role.r_synchronous, Role.r_asynchronous, role_by, role_of}

@@ -1,10 +1,9 @@
 -- Allowed commands, proved: the rule of the list read both ways, and what else a call sends is no Error.
-use mathlib.Core.Path.{◌≡◌, refl, sym, ap, ap₂, subst, ◌∙◌}
+use mathlib.Core.Path.{◌≡◌, refl, sym, ap, ap₂, ◌∙◌}
 use mathlib.Core.Bool.{Bool, true, false, not, ◌&&◌, cond, true≢false, false≢true}
 use mathlib.Core.List.{List, [], ◌∷◌, ◌++◌, map}
-use mathlib.Core.Logic.{◌⊎◌, inl, inr}
+use mathlib.Core.Logic.{inl, inr}
 use Prim.Native.Nat.{ℕ, zero, suc, ◌+◌}
-use native.Mathlib.Omega.{arith}
 use lib.Dec.{eqb, ltb}
 use lib.ListN.{set, drop}
 use borrow.Author.Tests.{eqb-true, eq-eqb, ltb-false, le-leb, le-ltb}
@@ -12,7 +11,6 @@ use Rattle.wire.specs.declared.Header.{Header}
 use Rattle.wire.specs.Message.{header, payload_of}
 use Rattle.wire.specs.Class.{one_of, class_of}
 use Rattle.wire.specs.Frame.{Frame, frame_of}
-use Rattle.wire.specs.MessageId.{next}
 use Rattle.model.specs.MessageTypes.{FatalError, Error, DataEND, commands}
 use Rattle.model.specs.Lists.{all}
 use Rattle.model.specs.State.{Server, Entry, Exchange, Connection, at, slot_of_number, exchange_at, connection_at, sensing_at}
@@ -31,7 +29,7 @@ use Rattle.model.specs.Refusals.{refusal}
 use Rattle.model.specs.Step.{Result, answer_type, withholds, counted, effect, received, plan, answered, finish, step, lock_frame, channels}
 use Rattle.model.specs.Access.{Command, access_of}
 use Rattle.model.specs.Permitted.{permits, command_forms}
-use Rattle.model.specs.AllowedOnly.{PassesBefore, AdmittedBy, answered_128, is_error128, sends128, AllowedOnly, Refused128, Only128}
+use Rattle.model.specs.AllowedOnly.{PassesBefore, AdmittedBy, answered_128, sends128, AllowedOnly, Refused128, Only128}
 use Rattle.model.proofs.Basics.{and_l, and_r, not_of, not_off, isn't}
 use Rattle.claims.proofs.FirstRule.{never, before, applies}
 use Rattle.claims.proofs.Scanning.{whole_scan}

@@ -1,6 +1,5 @@
 -- P, proved: by the invariant of the run.
 use mathlib.Core.List.{List}
-use Prim.Native.Nat.{ℕ}
 use native.Mathlib.Omega.{arith}
 use Rattle.model.specs.State.{fresh, Making}
 use Rattle.model.specs.Interface.{Event}

@@ -9,12 +9,12 @@ use lib.Dec.{eqb, leb, ltb}
 use lib.ListN.{length}
 use borrow.Author.Tests.{eqb-true, eqb-false, eq-eqb, ne_eqb}
 use Rattle.wire.specs.Message.{header, message_of}
-use Rattle.wire.specs.Class.{one_of, class_of, synchronous}
+use Rattle.wire.specs.Class.{one_of, class_of}
 use Rattle.model.specs.Sizes.{no_connection, string_limit}
 use Rattle.model.specs.MessageTypes.{AsyncLock}
 use Rattle.model.specs.Lists.{all, keep}
 use Rattle.model.specs.State.{Server, Locks, Entry, Waiting, Standing, Standing.no_release, Standing.release_of, Kind.exclusive_lock, Kind.shared_lock, at, live, blank, slot_of_number, fresh, Making}
-use Rattle.model.specs.Interface.{Event, Event.delivery, Event.clock, Outcome.acted, Reply, Reply.took}
+use Rattle.model.specs.Interface.{Event, Event.delivery, Outcome.acted, Reply, Reply.took}
 use Rattle.model.specs.Place.{is_on_connection, slot_in, slot_of, entry_of, Role.r_asynchronous, role_of}
 use Rattle.model.specs.Locks.{Answer, LockEvent.request, elsewhere, no_place, holds, may_grant, stands, ruling, respond, change}
 use Rattle.model.specs.Step.{Result, finish, lock_frame, step, final, log}

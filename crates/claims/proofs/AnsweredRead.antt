@@ -2,7 +2,7 @@
 -- waiting requests, since the host knows whether a release of the session stands; and the calls after the request was answered.
 use mathlib.Core.Path.{◌≡◌, refl, sym, ap, ap₂, subst, ◌∙◌}
 use mathlib.Core.Bool.{Bool, true, false, not, ◌&&◌, ◌||◌, cond, true≢false}
-use mathlib.Core.List.{List, [], ◌∷◌, ◌++◌, map, append-nil}
+use mathlib.Core.List.{List, [], ◌∷◌, ◌++◌, map}
 use Prim.Native.Nat.{ℕ}
 use native.Mathlib.Omega.{arith}
 use lib.Dec.{eqb, ltb}
@@ -24,9 +24,9 @@ use Rattle.model.specs.LocalityRows.{kind_of, slot_acted, in_slot, number_row, s
 use Rattle.model.specs.LocalityReplies.{said_to, waiting_answer}
 use Rattle.model.specs.Locality.{at_call, Local}
 use Rattle.model.specs.AnsweredOnce.{lock_only, codes_to, Release, Release.none_stands, Release.stands_for, is_standing, waits_for, asks_lock, clears_all}
-use Rattle.model.specs.AnsweredOnce.{ends_release, release_after, less_release, less_own, begins_to_wait, takes_connection, less_any, NoneWaits, NoneWaits.last}
-use Rattle.model.specs.AnsweredOnce.{NoneWaits.own_request, NoneWaits.still, NoMore, NoMore.ended, NoMore.anew, NoMore.taken_over, NoMore.silent}
-use Rattle.model.proofs.Basics.{and_l, and_r, both, or_of, or_r, or→}
+use Rattle.model.specs.AnsweredOnce.{ends_release, release_after, less_release, less_own, begins_to_wait, takes_connection, less_any, NoneWaits}
+use Rattle.model.specs.AnsweredOnce.{NoMore}
+use Rattle.model.proofs.Basics.{and_l, and_r, both, or_of, or_r}
 use Rattle.claims.proofs.Invariant.{Inv}
 use Rattle.model.proofs.Place.{place_unique}
 use Rattle.claims.proofs.Fits.{inv_call}

@@ -1,18 +1,18 @@
 -- A host that sleeps until the deadline told, proved: by one walk over those that wait, with the earliest deadline so far.
-use mathlib.Core.Path.{◌≡◌, refl, ap, ◌∙◌}
+use mathlib.Core.Path.{◌≡◌, refl}
 use mathlib.Core.Logic.{◌⊎◌, inl, inr, ⊎_elim}
 use mathlib.Core.Bool.{Bool, true, false, not, cond}
-use mathlib.Core.List.{List, [], ◌∷◌, ◌++◌, map}
-use Prim.Native.Nat.{ℕ, zero, suc, ◌+◌, ◌≤◌, ◌<◌, min}
+use mathlib.Core.List.{List, [], ◌∷◌}
+use Prim.Native.Nat.{ℕ, zero, suc, ◌≤◌, ◌<◌, min}
 use native.Mathlib.Omega.{arith}
 use lib.Dec.{leb}
 use lib.ListN.{length, length-append, length-map}
-use borrow.Author.Tests.{lt-leb, leb-true, leb-false}
+use borrow.Author.Tests.{lt-leb, leb-false}
 use Rattle.model.specs.State.{Server, Entry, Waiting}
-use Rattle.model.specs.Interface.{Event.clock, Reply.refused, Reply.done}
+use Rattle.model.specs.Interface.{Event.clock, Reply.done}
 use Rattle.model.specs.Refusals.{refusal}
 use Rattle.model.specs.Locks.{Answer, tell, refuse, unexpired, change}
-use Rattle.model.specs.Step.{step, answered, finish, plan, lock_frame}
+use Rattle.model.specs.Step.{step, answered, finish, plan}
 use Rattle.model.specs.Asking.{earliest_of, earliest, Wakes}
 
 module _ (es : List Entry) (t : ℕ) where

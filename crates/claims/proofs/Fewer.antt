@@ -6,17 +6,17 @@ use mathlib.Core.List.{List, [], ◌∷◌, ◌++◌, map, append-nil}
 use mathlib.Core.Logic.{◌⊎◌, inl, inr, ⊎_elim}
 use Prim.Native.Nat.{ℕ, zero, suc, ◌+◌}
 use native.Mathlib.Omega.{arith}
-use lib.Dec.{eqb, leb}
-use lib.ListN.{set, drop, length}
+use lib.Dec.{eqb}
+use lib.ListN.{set, drop}
 use Rattle.wire.specs.declared.Header.{Header}
 use Rattle.wire.specs.Message.{header}
 use Rattle.wire.specs.Class.{one_of, class_of, synchronous}
-use Rattle.model.specs.Sizes.{string_limit, no_connection}
+use Rattle.model.specs.Sizes.{no_connection}
 use Rattle.model.specs.MessageTypes.{AsyncLock, commands}
 use Rattle.model.specs.Lists.{all, any}
 use Rattle.model.specs.State.{Locks, Entry, Waiting, at, live, blank, Server, Rest, connection_at, exchange_at, fresh_exchange, with_connections, with_exchange, with_sensing, fresh_sensing}
 use Rattle.model.specs.Interface.{Event, Event.delivery, Outcome.held, Outcome.closed, Outcome.acted, Reply.took}
-use Rattle.model.specs.Scan.{Scan, Scan.whole, scan}
+use Rattle.model.specs.Scan.{Scan, scan}
 use Rattle.model.specs.Place.{is_on_connection, slot_of, entry_of, Role, Role.r_none, Role.r_half_open, Role.r_synchronous, Role.r_asynchronous, role_in, role_of}
 use Rattle.model.specs.Locks
 use Rattle.model.specs.Locks.{no_exclusive, no_shared, may_grant, access, holds, elsewhere, change, no_place}

@@ -21,10 +21,10 @@ use Rattle.model.specs.Happening.{Heard.silence, Action, Happening, Happening.un
 use Rattle.model.specs.Happening.{Happening.errored, Happening.message_acted, Happening.clock_read, Happening.status_set, Happening.setting_made}
 use Rattle.model.specs.Happening.{Happening.answer_sent, Happening.answer_withheld}
 use Rattle.model.specs.LocalityRows.{kind_of, slot_acted, in_slot, is_code, code_where, obtains, waits, number_row, asynchronous_row, more_granted, granted_row}
-use Rattle.model.specs.LocalityRows.{requests_of, requests_left, looks_after, singly, clock_row}
+use Rattle.model.specs.LocalityRows.{requests_of, requests_left, looks_after}
 use Rattle.model.specs.LocalityReplies.{waiting_answer}
 use Rattle.model.specs.Locality.{at_call, given_grants, Local}
-use Rattle.model.specs.GrantsSeen.{to_waiting, Grants, none_yet, own_grants, after_own, answers_to, grants_by, grants_of, grants_of_session, at_most, last_reading, GrantsSeen}
+use Rattle.model.specs.GrantsSeen.{Grants, none_yet, own_grants, after_own, answers_to, grants_by, grants_of, grants_of_session, at_most, last_reading, GrantsSeen}
 use Rattle.model.proofs.Basics.{and_l, and_r, both, not_of, all_keep, inside, same?}
 use Rattle.claims.proofs.Invariant.{Inv, Good}
 use Rattle.claims.proofs.Events.{inv_fresh, blank_at}

@@ -4,7 +4,7 @@ use mathlib.Core.Bool.{Bool, true, false, not, ◌&&◌, ◌||◌, cond, true≢
 use mathlib.Core.List.{List, [], ◌∷◌}
 use Prim.Native.Nat.{ℕ, suc, ◌<◌, ◌≤◌}
 use native.Mathlib.Omega.{arith}
-use lib.Dec.{eqb, ltb}
+use lib.Dec.{ltb}
 use borrow.Author.Tests.{ltb-true, ltb-false, eq-eqb}
 use Rattle.model.specs.Lists.{all, tally}
 use Rattle.model.specs.State.{Entry, at, live, fresh, Making}
@@ -16,7 +16,7 @@ use Rattle.model.specs.LockModel.{Session, not_shared}
 use Rattle.model.specs.Agreement.{as_session, as_sessions}
 use Rattle.model.specs.Holders.{HolderRow, row_of, put_by, session_of, holders_of, Above, Ascending, holds_lock, HoldersShown}
 use Rattle.model.proofs.Basics.{and_l, and_r, both, all_at}
-use Rattle.claims.proofs.Invariant.{clean, numbered, Firm}
+use Rattle.claims.proofs.Invariant.{clean, Firm}
 use Rattle.claims.proofs.Fits.{inv_run}
 use Rattle.claims.proofs.Agreement.{agreement}
 

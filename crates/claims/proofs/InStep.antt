@@ -12,9 +12,9 @@ use Rattle.wire.specs.Message.{header, payload_of}
 use Rattle.wire.specs.MessageId.{next, nth, nth_first, nth_next}
 use Rattle.wire.specs.Class.{one_of, class_of}
 use Rattle.model.specs.Sizes.{no_connection}
-use Rattle.model.specs.MessageTypes.{Error, Trigger, commands}
+use Rattle.model.specs.MessageTypes.{Trigger, commands}
 use Rattle.model.specs.Lists.{all}
-use Rattle.model.specs.State.{Server, Exchange, Connection, at, exchange_at, connection_at, fresh_exchange, closed_connection, fresh, Making}
+use Rattle.model.specs.State.{Server, Exchange, Connection, exchange_at, connection_at, fresh_exchange, closed_connection, fresh, Making}
 use Rattle.model.specs.Interface.{Event, Event.delivery, Outcome.error_sent, Reply, Reply.took}
 use Rattle.model.specs.Scan.{Scan, Scan.empty, Scan.few, Scan.wrong, Scan.skipping, Scan.long, Scan.part, Scan.whole, scan}
 use Rattle.model.specs.Place.{slot_of, entry_of, Role, Role.r_none, Role.r_half_open, Role.r_synchronous, Role.r_asynchronous, role_of}

@@ -1,8 +1,8 @@
 -- A list that the host sets: what is refused, and what is set after any list of calls.
 use mathlib.Core.Path.{◌≡◌, refl, sym, ap, subst, ◌∙◌}
-use mathlib.Core.Bool.{Bool, true, false, cond}
+use mathlib.Core.Bool.{cond}
 use mathlib.Core.List.{List, [], ◌∷◌}
-use Prim.Native.Nat.{ℕ, zero, suc, ◌≤◌, ◌<◌}
+use Prim.Native.Nat.{ℕ, ◌≤◌, ◌<◌}
 use native.Mathlib.Omega.{arith}
 use lib.ListN.{length}
 use Rattle.wire.specs.Frame.{Frame}
@@ -13,16 +13,16 @@ use Rattle.commands.specs.Lists.{lines_of, Listed, FirstBad, Ruling}
 use Rattle.commands.specs.Rulings.{judged, judged_is}
 use Rattle.model.specs.State.{Server, Making, Allowed, Allowed.any_command, Allowed.only, fresh, with_allowed}
 use Rattle.model.specs.Allowing.{Admits, is_bad, is_too_many}
-use Rattle.model.specs.Interface.{Event, Event.opening, Event.delivery, Event.cut, Event.clock, Event.answer, Event.status, Event.setting, Setting}
+use Rattle.model.specs.Interface.{Event, Event.opening, Event.delivery, Event.cut, Event.clock, Event.answer, Event.status, Event.setting}
 use Rattle.model.specs.Interface.{Setting.watch, Setting.patterns, Outcome, Outcome.more_needed, Outcome.skipped, Outcome.held, Outcome.ignored}
 use Rattle.model.specs.Interface.{Outcome.error_sent, Outcome.closed, Outcome.acted, Reply, Reply.refused, Reply.done, Reply.withheld, Reply.took, bad_pattern}
 use Rattle.model.specs.Interface.{too_many_patterns}
 use Rattle.model.specs.Locks.{change}
-use Rattle.model.specs.Refusals.{Cause, first_cause, causes, refusal}
+use Rattle.model.specs.Refusals.{causes, refusal}
 use Rattle.model.specs.Sensing.{setting_sensings}
-use Rattle.model.specs.Step.{Result, Line, plan, answered, finish, step, final, log}
+use Rattle.model.specs.Step.{Result, plan, answered, finish, step, final, log}
 use Rattle.model.specs.Happening.{happened}
-use Rattle.model.specs.LocalityRows.{singly, allowed_row, list_by}
+use Rattle.model.specs.LocalityRows.{singly, allowed_row}
 use Rattle.model.specs.AllowedOnly.{set_on, list_after, list_read, list_set, GoodList, AllowedRun}
 use Rattle.model.specs.Listing.{pattern_of, place_of, turned_away, TellsBad}
 use Rattle.claims.proofs.Locality.{local_call}

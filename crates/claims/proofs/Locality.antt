@@ -18,7 +18,6 @@ use Rattle.model.specs.Interface.{Event, Event.opening, Event.delivery, Event.cu
 use Rattle.model.specs.Interface.{Outcome.closed, Reply, Reply.done, Reply.withheld, Reply.took}
 use Rattle.model.specs.Scan.{Scan, Scan.empty, Scan.few, Scan.wrong, Scan.skipping, Scan.long, Scan.part, Scan.whole, scan, size}
 use Rattle.model.specs.Place.{slot_in, slot_of, role_of, role_by, is_on_connection, entry_of, Role, Role.r_none, Role.r_half_open, Role.r_synchronous, Role.r_asynchronous}
-use Rattle.model.specs.Locks
 use Rattle.model.specs.Locks.{LockEvent, change, grant_pass, pass_over}
 use Rattle.model.specs.Exchange.{with_number, answer_number_in, answer_number, number_asked, answered_with, interrupted}
 use Rattle.model.specs.Checks

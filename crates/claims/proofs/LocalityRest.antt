@@ -3,7 +3,7 @@ use mathlib.Core.Path.{◌≡◌, refl, sym, ap, ◌∙◌}
 use mathlib.Core.Bool.{Bool, true, false, not, ◌&&◌, ◌||◌, cond, true≢false}
 use mathlib.Core.List.{List, [], ◌∷◌}
 use mathlib.Core.Logic.{◌⊎◌, inl, inr}
-use Prim.Native.Nat.{ℕ, zero, suc, ◌+◌, ◌-◌, ◌<◌, ◌≤◌}
+use Prim.Native.Nat.{ℕ, zero, suc, ◌+◌, ◌<◌, ◌≤◌}
 use native.Mathlib.Omega.{arith}
 use lib.Dec.{eqb, ltb}
 use lib.ListN.{get_or, set, length, length-set}
@@ -20,7 +20,7 @@ use Rattle.model.specs.State.{Server, Entry, Exchange, Connection, RemoteLocal, 
 use Rattle.model.specs.State.{exchange_at, connection_at, slot_of_number, with_connection, with_exchange, with_remote_local, with_session, with_status, Sensing}
 use Rattle.model.specs.State.{fresh_sensing, sensing_at, with_sensing}
 use Rattle.model.specs.Place.{slot_of, entry_of, is_on_connection}
-use Rattle.model.specs.Scan.{Scan, Scan.skipping, sorted, fresh_scan, scan, size, leftover}
+use Rattle.model.specs.Scan.{Scan, sorted, fresh_scan, scan, size, leftover}
 use Rattle.model.specs.Exchange
 use Rattle.model.specs.Exchange.{controlled}
 use Rattle.model.specs.Step.{channels, shut_all, closing}

@@ -5,7 +5,7 @@ use mathlib.Core.List.{List, [], ◌∷◌, ◌++◌, map}
 use Prim.Native.Nat.{ℕ, suc, ◌<◌}
 use native.Mathlib.Omega.{arith}
 use lib.ListN.{get_or, length}
-use Rattle.model.specs.State.{Server, Entry, Waiting, at, blank, fresh_exchange, closed_connection, fresh_sensing}
+use Rattle.model.specs.State.{Server, Entry, Waiting, blank, fresh_exchange, closed_connection, fresh_sensing}
 use Rattle.model.specs.Locks.{may_grant, after, pass_over}
 use Rattle.model.specs.Step.{Result}
 use Rattle.model.specs.Closing.{OldestFirst, OldestFirst.pass_end, OldestFirst.pass_grant, OldestFirst.pass_wait}

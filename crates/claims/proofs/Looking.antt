@@ -1,11 +1,11 @@
 -- The grant pass of the server against the lock model's look, and one whole event with its pass.
-use mathlib.Core.Path.{◌≡◌, refl, sym, ap, ap₂, ◌∙◌}
+use mathlib.Core.Path.{◌≡◌, refl, sym, ap₂, ◌∙◌}
 use mathlib.Core.Bool.{Bool, true, false}
 use mathlib.Core.List.{List, [], ◌∷◌, ◌++◌, map}
 use Prim.Native.Nat.{ℕ}
 use lib.ListN.{set}
 use Rattle.model.specs.State.{Entry, Waiting, at, live}
-use Rattle.model.specs.Locks.{LockResult, Answer, Passed, give_at, grant, may_grant, after, put, pass_over, grant_pass}
+use Rattle.model.specs.Locks.{LockResult, Passed, give_at, grant, may_grant, after, put, pass_over, grant_pass}
 use Rattle.model.specs.LockModel
 use Rattle.model.specs.LockModel.{Session, Request, Told, ModelResult, Looked, look, looked, given, noted}
 use Rattle.model.specs.Agreement.{as_request, Agrees}

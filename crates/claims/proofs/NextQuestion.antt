@@ -1,7 +1,7 @@
 -- No answer after the next question: of every call, by what it sends (the table of locality) and by the tie.
 use mathlib.Core.Path.{◌≡◌, refl, sym, ap, ap₂, ◌∙◌}
 use mathlib.Core.Bool.{Bool, true, false, not, ◌&&◌, ◌||◌, cond, false≢true}
-use mathlib.Core.List.{List, [], ◌∷◌, ◌++◌, map}
+use mathlib.Core.List.{List, [], ◌∷◌, ◌++◌}
 use Prim.Native.Nat.{ℕ, zero, suc}
 use lib.Dec.{eqb}
 use lib.ListN.{get_or, set}
@@ -10,8 +10,8 @@ use Rattle.wire.specs.Message.{header}
 use Rattle.wire.specs.Frame.{Frame, frame_of}
 use Rattle.wire.specs.Class.{one_of}
 use Rattle.model.specs.Sizes.{no_connection}
-use Rattle.model.specs.Lists.{all, any, keep}
-use Rattle.model.specs.State.{Server, Entry, Waiting, Connection, at, live, slot_of_number, exchange_at, connection_at, closed_connection, fresh, Making}
+use Rattle.model.specs.Lists.{all, any}
+use Rattle.model.specs.State.{Server, Entry, Connection, at, live, slot_of_number, exchange_at, connection_at, closed_connection, fresh, Making}
 use Rattle.model.specs.Interface.{Event, Event.opening, Event.delivery, Event.cut, Event.clock, Event.answer, Event.status, Event.setting, Outcome.more_needed}
 use Rattle.model.specs.Interface.{Outcome.skipped, Outcome.held, Outcome.ignored, Outcome.error_sent, Outcome.closed, Outcome.acted, Reply, Reply.refused}
 use Rattle.model.specs.Interface.{Reply.done, Reply.withheld, Reply.took}
@@ -30,16 +30,12 @@ use Rattle.model.specs.LockModel.{Session, own, second_connection}
 use Rattle.model.specs.Agreement.{as_session}
 use Rattle.model.specs.Deciding.{model_after}
 use Rattle.model.specs.Tie.{Track, said}
-use Rattle.model.specs.Happening.{Heard, Heard.silence, Heard.with_code, Action, Happening, Happening.unmoved, Happening.connected, Happening.disconnected}
-use Rattle.model.specs.Happening.{Happening.skipped_over, Happening.errored, Happening.message_acted, Happening.clock_read, Happening.status_set}
-use Rattle.model.specs.Happening.{Happening.setting_made, Happening.answer_sent, Happening.answer_withheld, seen_delivery, happened}
-use Rattle.model.specs.LocalityRows.{kind_of, slot_acted, ended_with, interrupted_by, requests_of, reached_by}
-use Rattle.model.specs.LocalityReplies.{plain_to, ReplyTo, reply_in, replies, said_to, fatal_to, pair_to, said_first, direct, answered_first, waiting_answer}
+use Rattle.model.specs.Happening.{seen_delivery, happened}
 use Rattle.model.specs.Locality.{at_call}
 use Rattle.model.specs.NextQuestion.{is_answer, question_unread, first_connection, synchronous_of, asynchronous_of, owes, Answered, NextQuestion}
 use Rattle.model.specs.Sensing.{service_after}
 use Rattle.model.specs.MessageTypes.{Data, DataEND}
-use Rattle.model.proofs.Basics.{and_l, and_r, both, not_of, not_off, not_not, all_set}
+use Rattle.model.proofs.Basics.{and_l, and_r, not_of, not_off, not_not, all_set}
 use Rattle.claims.proofs.Fits.{uncaused, inv_run}
 use Rattle.claims.proofs.Numbers.{live_found}
 use Rattle.claims.proofs.Seen.{own_seen, channel_seen}

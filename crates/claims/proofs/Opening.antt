@@ -2,10 +2,10 @@
 use mathlib.Core.Path.{◌≡◌, refl, sym, ap, subst, ◌∙◌}
 use mathlib.Core.Bool.{Bool, true, false, cond, true≢false}
 use mathlib.Core.List.{List, [], ◌∷◌}
-use Prim.Native.Nat.{ℕ, zero, suc, ◌+◌, ◌*◌, ◌/◌, min}
+use Prim.Native.Nat.{ℕ, ◌+◌, ◌*◌, ◌/◌, min}
 use native.Mathlib.Omega.{arith}
 use lib.Dec.{eqb}
-use lib.ListN.{length, get_or, set}
+use lib.ListN.{length}
 use lib.Seq.{get_or-set_same, get_or-set_other}
 use borrow.Author.Tests.{eq-eqb}
 use Rattle.wire.specs.declared.Header.{Header}
@@ -14,16 +14,14 @@ use Rattle.wire.specs.Frame.{frame_of}
 use Rattle.wire.specs.Class.{class_of, synchronous, asynchronous}
 use Rattle.model.specs.Sizes.{session_limit, protocol_version, no_connection}
 use Rattle.model.specs.MessageTypes.{Initialize, InitializeResponse, AsyncInitialize, AsyncInitializeResponse}
-use Rattle.model.specs.State.{Exchange, blank, live, slot_of_number, Server, Rest, fresh_exchange, open_exchange, fresh, Making}
-use Rattle.model.specs.Interface.{Event, Event.opening, Event.delivery, Event.cut, Event.clock, Event.answer, Event.status, Event.setting, Outcome.acted, Reply.took}
-use Rattle.model.specs.Scan.{Scan, Scan.empty, Scan.few, Scan.wrong, Scan.skipping, Scan.long, Scan.part, Scan.whole, scan}
+use Rattle.model.specs.State.{blank, live, slot_of_number, Server, fresh_exchange, open_exchange, fresh, Making}
+use Rattle.model.specs.Interface.{Event, Event.delivery, Outcome.acted, Reply.took}
 use Rattle.model.specs.Place.{slot_of, Role, Role.r_none, Role.r_half_open, Role.r_synchronous, Role.r_asynchronous, role_of}
 use Rattle.model.specs.Locks.{issued, change}
-use Rattle.model.specs.Checks.{Verdict, Verdict.v_more, Verdict.v_skipped, Verdict.v_held, Verdict.v_ignored, Verdict.v_closed, Verdict.v_acts}
-use Rattle.model.specs.Checks.{Verdict.v_error, Verdict.v_fatal, is_unrecognised, judged}
+use Rattle.model.specs.Checks.{Verdict.v_acts}
+use Rattle.model.specs.Checks.{is_unrecognised, judged}
 use Rattle.model.specs.Acts
-use Rattle.model.specs.Refusals.{refusal}
-use Rattle.model.specs.Step.{Result, effect, received, plan, answered, finish, step, final}
+use Rattle.model.specs.Step.{Result, finish, step, final}
 use Rattle.model.specs.Opening.{Opened, Joined, Opening}
 use Rattle.model.proofs.Basics.{both, inside}
 use Rattle.claims.proofs.Invariant.{Inv}

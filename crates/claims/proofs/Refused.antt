@@ -1,5 +1,5 @@
 -- A call is refused for its cause only, and a refusal changes nothing. A delivery that is not refused is answered with an outcome.
-use mathlib.Core.Path.{◌≡◌, refl, sym, ap, subst, ◌∙◌}
+use mathlib.Core.Path.{◌≡◌, ap, subst}
 use mathlib.Core.Bool.{Bool, true, false, cond}
 use mathlib.Core.Logic.{◌↔◌}
 use mathlib.Core.List.{List, []}
@@ -13,7 +13,7 @@ use Rattle.model.specs.Place.{Role, Role.r_none, Role.r_half_open, Role.r_synchr
 use Rattle.model.specs.Checks.{Verdict, Verdict.v_more, Verdict.v_skipped, Verdict.v_held, Verdict.v_ignored, Verdict.v_closed, Verdict.v_acts, Verdict.v_error, Verdict.v_fatal, verdict}
 use Rattle.model.specs.Acts.{acts, opens}
 use Rattle.model.specs.Refusals.{refusal}
-use Rattle.model.specs.Step.{Result, withholds, answered, effect, finish, plan, received, step}
+use Rattle.model.specs.Step.{withholds, answered, effect, finish, plan, received, step}
 
 -- a delivery that is not refused is answered with an outcome
 abbrev pub Took : Reply → Type 0

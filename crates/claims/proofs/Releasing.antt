@@ -1,19 +1,19 @@
 -- What a release, a command and a device clear store: at the session's slot an entry with no lock that it did not have.
-use mathlib.Core.Path.{◌≡◌, refl, sym, ap, ◌∙◌}
+use mathlib.Core.Path.{◌≡◌, refl, sym, ap}
 use mathlib.Core.Bool.{Bool, true, false, not, cond}
-use mathlib.Core.List.{List, [], ◌∷◌}
+use mathlib.Core.List.{[], ◌∷◌}
 use mathlib.Core.Logic.{inl, inr}
-use Prim.Native.Nat.{ℕ, zero, suc, ◌≤◌}
+use Prim.Native.Nat.{ℕ, ◌≤◌}
 use native.Mathlib.Omega.{arith}
 use lib.Dec.{eqb}
 use lib.ListN.{set, length}
 use lib.Seq.{set-get_or}
-use Rattle.model.specs.State.{Entry, Waiting, Locks, Kind, Kind.exclusive_lock, Kind.shared_lock, Standing, Standing.no_release, Standing.release_of, blank, at, live}
+use Rattle.model.specs.State.{Entry, Locks, Kind, Kind.exclusive_lock, Kind.shared_lock, Standing, Standing.no_release, Standing.release_of, blank, at, live}
 use Rattle.model.specs.Locks
 use Rattle.model.specs.Locks.{LockResult, Releasing, Releasing.r_invalid, Releasing.r_now, Releasing.r_stands, Due, Due.not_due, Due.due_now, stands}
 use Rattle.model.specs.Locks.{releasing, releasing_of, released, completed, without, with_order, with_entries, no_shared, due_at, due_any}
 use Rattle.model.proofs.Basics.{not_of}
-use Rattle.claims.proofs.Invariant.{Good, Firm, Sound, Lesser, backing, backed, backed_at, firm_lesser, ready_lesser, good_weaker}
+use Rattle.claims.proofs.Invariant.{Good, Firm, Sound, Lesser, backing, backed_at, firm_lesser, ready_lesser, good_weaker}
 
 pub record Stores (l : Locks) (i : ℕ) (x : LockResult) : Type 0 where
   pub entry : Entry

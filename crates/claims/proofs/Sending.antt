@@ -1,10 +1,10 @@
 -- What each message that acted sends: by its type, which tells its channel.
 use Rattle.wire.specs.MessageId.{next}
 use mathlib.Core.Path.{◌≡◌, refl, sym, ap, ap₂, ◌∙◌}
-use mathlib.Core.Bool.{Bool, true, false, not, ◌&&◌, ◌||◌, cond, true≢false}
+use mathlib.Core.Bool.{Bool, true, false, not, ◌&&◌, cond, true≢false}
 use mathlib.Core.List.{List, [], ◌∷◌, ◌++◌, map, append_assoc, append-nil}
 use mathlib.Core.Logic.{◌⊎◌, inl, inr}
-use Prim.Native.Nat.{ℕ, ◌+◌}
+use Prim.Native.Nat.{ℕ}
 use native.Mathlib.Omega.{arith}
 use lib.Dec.{eqb}
 use borrow.Author.Tests.{eqb-true}
@@ -14,7 +14,7 @@ use Rattle.wire.specs.Message.{header, payload_of}
 use Rattle.wire.specs.Class.{one_of, class_of, synchronous, asynchronous}
 use Rattle.wire.specs.Frame.{Frame, frame_of}
 use Rattle.model.specs.Sizes.{before_first}
-use Rattle.model.specs.MessageTypes.{DeviceClearComplete, AsyncDeviceClear, AsyncDeviceClearAcknowledge, commands}
+use Rattle.model.specs.MessageTypes.{AsyncDeviceClear, AsyncDeviceClearAcknowledge, commands}
 use Rattle.model.specs.Lists.{all, any, keep}
 use Rattle.model.specs.State.{Entry, Waiting, Kind.exclusive_lock, Kind.shared_lock, Standing, Standing.no_release, Standing.release_of, at, live, Server, fresh, Making, Exchange, exchange_at}
 use Rattle.model.specs.Interface.{Event, Event.delivery, Outcome.acted, Reply.took}
@@ -30,7 +30,7 @@ use Rattle.model.specs.LockModel.{Model, ModelResult, ends_exclusive, ends_share
 use Rattle.model.specs.Agreement.{Agrees, as_pending, told_frame}
 use Rattle.model.specs.Deciding.{lock_answer, model_after, ended_codes, grants_after}
 use Rattle.model.specs.Sending.{available_told, interrupted_told, Sends, Sending}
-use Rattle.model.proofs.Basics.{and_l, and_r, not_off, not_not}
+use Rattle.model.proofs.Basics.{not_off}
 use Rattle.claims.proofs.Invariant.{Inv, Good}
 use Rattle.claims.proofs.Events.{Fit, change_sound, always_settled}
 use Rattle.claims.proofs.Seen.{own_seen, channel_seen}

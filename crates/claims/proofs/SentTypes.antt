@@ -1,11 +1,10 @@
 -- What a call sends by which no answer was sent: messages of a few types, by the table of locality. One law for every test of types that
 -- none of these passes.
 use mathlib.Core.Path.{◌≡◌, refl, ap, ◌∙◌}
-use mathlib.Core.Bool.{Bool, true, false, not, ◌&&◌, ◌||◌, cond, false≢true}
+use mathlib.Core.Bool.{Bool, true, false, not, cond, false≢true}
 use mathlib.Core.List.{List, [], ◌∷◌, ◌++◌, map}
 use Prim.Native.Nat.{ℕ}
 use lib.Dec.{eqb}
-use borrow.Author.Tests.{eqb-true}
 use Rattle.wire.specs.Class.{one_of}
 use Rattle.wire.specs.Frame.{Frame}
 use Rattle.model.specs.Lists.{all, keep}
@@ -17,7 +16,7 @@ use Rattle.model.specs.Happening.{Happening.setting_made, Happening.answer_sent,
 use Rattle.model.specs.LocalityRows.{kind_of, slot_acted, ended_with, interrupted_by, requests_of, reached_by}
 use Rattle.model.specs.LocalityReplies.{plain_to, ReplyTo, reply_in, replies, said_to, fatal_to, pair_to, said_first, direct, answered_first, waiting_answer}
 use Rattle.model.specs.Locality.{Local}
-use Rattle.model.proofs.Basics.{and_l, and_r, both, not_off}
+use Rattle.model.proofs.Basics.{and_l, and_r, both}
 use Rattle.claims.proofs.ReadOff.{Each, each_of}
 
 -- what no answer was sent by

@@ -15,7 +15,7 @@ use Rattle.wire.specs.Class.{one_of, asynchronous}
 use Rattle.model.specs.Sizes.{session_limit, last_session_id, protocol_version}
 use Rattle.model.specs.MessageTypes.{Initialize, InitializeResponse}
 use Rattle.model.specs.Lists.{all}
-use Rattle.model.specs.State.{Entry, at, live, slot_of_number, Server, connection_at, fresh, Making, Rest}
+use Rattle.model.specs.State.{Entry, live, slot_of_number, Server, connection_at, fresh, Making, Rest}
 use Rattle.model.specs.Interface.{Event, Event.opening, Event.delivery, Event.cut, Event.clock, Event.answer, Event.status, Event.setting, Outcome.more_needed}
 use Rattle.model.specs.Interface.{Outcome.skipped, Outcome.held, Outcome.ignored, Outcome.error_sent, Outcome.closed, Outcome.acted, Reply, Reply.refused}
 use Rattle.model.specs.Interface.{Reply.done, Reply.withheld, Reply.took}

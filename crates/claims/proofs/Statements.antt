@@ -1,5 +1,5 @@
 -- Every statement of model/specs/Statements.antt, proved: each by the theorem of its own file.
-use Rattle.model.specs.Statements.{Demand1, Demand2, Demand3Parts, Beyond, Statements}
+use Rattle.model.specs.Statements.{Statements}
 use Rattle.claims.proofs.Refused.{for_its_cause, changes_nothing_lem}
 use Rattle.claims.proofs.Bound.{output_fits}
 use Rattle.claims.proofs.Reader.{one_reader}

@@ -1,6 +1,6 @@
 -- F, proved, from call to call and over any list from the fresh server.
 use mathlib.Core.Path.{subst, ◌≡◌, refl, sym, ap, ◌∙◌}
-use mathlib.Core.Bool.{Bool, true, false, ◌&&◌, cond, false≢true}
+use mathlib.Core.Bool.{Bool, true, false, cond, false≢true}
 use mathlib.Core.List.{List, [], ◌∷◌, ◌++◌, append-nil}
 use Prim.Native.Nat.{ℕ, zero, suc, ◌<◌}
 use native.Mathlib.Omega.{arith}
@@ -11,7 +11,7 @@ use Rattle.wire.specs.Message.{header}
 use Rattle.wire.specs.Frame.{Frame, frame_of}
 use Rattle.wire.specs.Class.{synchronous, asynchronous}
 use Rattle.model.specs.Sizes.{no_connection, session_limit}
-use Rattle.model.specs.State.{open_exchange, Entry, at, live, slot_of_number, Server, Rest, Exchange, Asked, Asked.none, exchange_at, fresh_exchange, connection_at}
+use Rattle.model.specs.State.{open_exchange, Entry, at, live, slot_of_number, Server, Rest, Exchange, exchange_at, fresh_exchange, connection_at}
 use Rattle.model.specs.State.{with_exchange, with_session, fresh, Making, sensing_at, with_sensings}
 use Rattle.model.specs.Interface.{Event, Event.opening, Event.delivery, Event.cut, Event.clock, Event.answer, Event.status, Event.setting, Reply}
 use Rattle.model.specs.Scan.{Scan, Scan.empty, Scan.few, Scan.wrong, Scan.skipping, Scan.long, Scan.part, Scan.whole, scan}

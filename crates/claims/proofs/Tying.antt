@@ -13,7 +13,7 @@ use Rattle.wire.specs.declared.Header.{Header}
 use Rattle.wire.specs.Class.{one_of}
 use Rattle.model.specs.Sizes.{before_first}
 use Rattle.model.specs.Lists.{all, keep}
-use Rattle.model.specs.State.{Locks, Entry, blank, at, live, Rest, Exchange, Asked, Asked.none, Asked.some, exchange_at, fresh_exchange, with_exchange}
+use Rattle.model.specs.State.{Locks, Entry, blank, at, live, Rest, Exchange, Asked.none, Asked.some, exchange_at, fresh_exchange, with_exchange}
 use Rattle.model.specs.Locks
 use Rattle.model.specs.Locks.{LockEvent, may_grant, grant_pass, change, settle, frees}
 use Rattle.model.specs.Exchange

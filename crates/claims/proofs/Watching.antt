@@ -1,6 +1,6 @@
 -- What the server keeps of a live session's readings is what the log says; and the requests for service of each call: kept from call to call, by
 -- the table of locality.
-use mathlib.Core.Path.{◌≡◌, refl, sym, ap, subst, ◌∙◌}
+use mathlib.Core.Path.{◌≡◌, refl, sym, ap, ◌∙◌}
 use mathlib.Core.Bool.{Bool, true, false, not, ◌&&◌, cond, false≢true, true≢false}
 use mathlib.Core.List.{List, [], ◌∷◌, ◌++◌, map, append-nil}
 use mathlib.Core.Logic.{◌⊎◌, inl, inr}
@@ -8,13 +8,13 @@ use Prim.Native.Nat.{ℕ, zero, suc, ◌<◌}
 use native.Mathlib.Omega.{arith}
 use lib.Dec.{eqb}
 use lib.ListN.{length, replicate, get_or}
-use borrow.Author.Tests.{eqb-true, eqb-false, eq-eqb, ne_eqb}
+use borrow.Author.Tests.{eqb-true, eq-eqb, ne_eqb}
 use Rattle.wire.specs.Frame.{Frame, frame_of}
 use Rattle.readings.specs.Request.{request_code}
 use Rattle.model.specs.Sizes.{session_limit}
-use Rattle.model.specs.Lists.{all, keep}
+use Rattle.model.specs.Lists.{keep}
 use Rattle.model.specs.State.{Server, Entry, Sensing, at, live, slot_of_number, fresh_sensing, sensing_at, exchange_at, fresh, Making}
-use Rattle.model.specs.Interface.{Event, Event.opening, Event.delivery, Event.cut, Event.clock, Event.answer, Event.status, Event.setting, Setting}
+use Rattle.model.specs.Interface.{Event, Event.opening, Event.delivery, Event.cut, Event.clock, Event.answer, Event.status, Event.setting}
 use Rattle.model.specs.Interface.{Setting.watch, Setting.patterns, Outcome, Outcome.more_needed, Outcome.skipped, Outcome.held, Outcome.ignored}
 use Rattle.model.specs.Interface.{Outcome.error_sent, Outcome.closed, Outcome.acted, Reply, Reply.refused, Reply.done, Reply.withheld, Reply.took}
 use Rattle.model.specs.Place.{slot_in}
@@ -23,14 +23,14 @@ use Rattle.model.specs.Step.{Result, answered, step, final, log}
 use Rattle.model.specs.Happening.{Action, Happening, Happening.unmoved, Happening.connected, Happening.disconnected, Happening.skipped_over, Happening.errored}
 use Rattle.model.specs.Happening.{Happening.message_acted, Happening.clock_read, Happening.status_set, Happening.setting_made, Happening.answer_sent}
 use Rattle.model.specs.Happening.{Happening.answer_withheld, happened}
-use Rattle.model.specs.LocalityRows.{kind_of, slot_acted, in_slot, number_row, sensing_row, trips_by, looks_after}
+use Rattle.model.specs.LocalityRows.{kind_of, slot_acted, in_slot, number_row, sensing_row, trips_by}
 use Rattle.model.specs.LocalityReplies.{number_sent, plain_to, service_from, service_to, waiting_answer}
 use Rattle.model.specs.Locality.{at_call, Local}
 use Rattle.model.specs.NextQuestion.{asynchronous_of}
-use Rattle.model.specs.Watching.{opens_session, set_for, told_by, senses, sensing_in, sensing_of, status_of, is_service, served_by, Watches}
+use Rattle.model.specs.Watching.{told_by, senses, sensing_in, sensing_of, status_of, is_service, served_by, Watches}
 use Rattle.model.proofs.Basics.{both, not_off, inside, same?}
 use Rattle.claims.proofs.Invariant.{Inv}
-use Rattle.claims.proofs.Events.{Enters, inv_fresh, blank_at}
+use Rattle.claims.proofs.Events.{Enters, inv_fresh}
 use Rattle.claims.proofs.Fits.{uncaused, inv_call}
 use Rattle.claims.proofs.Numbers.{live_found}
 use Rattle.claims.proofs.Locality.{local_call, local_run}

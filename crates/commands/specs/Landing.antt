@@ -1,8 +1,8 @@
 -- Where a spelling of bytes begins and ends in a command, and where the spellings from a set of places end. Assumes nothing.
 use Rattle.std.specs.Prelude.{◌≡◌, refl, ◌⊎◌, ◌↔◌, Bool, true, false, cond, List, [], ◌∷◌, ◌++◌, ℕ, ◌+◌, ◌-◌, ◌≤◌, ◌<◌, eqb, length, take, drop}
-use Rattle.std.proofs.Common.{sym, ap, subst, ◌∙◌, inl, inr, ⊎_elim, arith, length-drop, drop-drop, take-add, ne_eqb}
+use Rattle.std.proofs.Common.{sym, ap, ◌∙◌, inl, inr, ⊎_elim, arith, length-drop, drop-drop, take-add, ne_eqb}
 use Rattle.scpi.specs.Bytes.{between, upper}
-use Rattle.scpi.specs.Words.{between_true, between_no, starts, part, length_part, Begins, begins_starts, starts_begins, like_length}
+use Rattle.scpi.specs.Words.{between_true, between_no, starts, part, length_part, begins_starts, starts_begins, like_length}
 use Rattle.commands.specs.Places.{none, none_on, origin, origin_with}
 use Rattle.commands.specs.Sets.{On, Lands}
 

@@ -1,6 +1,6 @@
 -- Sets of places of a command, as the bits of three words, and what a row makes of one: the places where a spelling that began in it can end. Assumes nothing.
 use Rattle.std.specs.Prelude.{◌≡◌, refl, ◌⊎◌, ◌↔◌, Bool, true, false, cond, ◌&&◌, List, [], ◌∷◌, ◌++◌, ℕ, ◌+◌, ◌-◌, ◌≤◌, ◌<◌, leb, length, get_or}
-use Rattle.std.proofs.Common.{sym, ap, subst, ◌∙◌, inl, inr, ⊎_elim, arith, leb-true}
+use Rattle.std.proofs.Common.{ap, subst, inl, inr, ⊎_elim, arith, leb-true}
 use Rattle.scpi.specs.Bytes.{colon_sign, upper, caseless}
 use Rattle.scpi.specs.Grammar.{Word, short, long, Row, Row.r_none, Row.r_word, Row.r_bracket}
 use Rattle.commands.specs.Spelling.{SpellsWord, SpellsWord.in_short, SpellsWord.in_long, SpellsRow, SpellsRow.s_none, SpellsRow.s_word, SpellsRow.s_kept, SpellsRow.s_dropped}

@@ -1,5 +1,5 @@
 -- What a message that acts has passed, as the functions that carry it out require it; and roles by their numbers. Assumes nothing.
-use Rattle.std.specs.Prelude.{◌≡◌, refl, List, [], ◌∷◌, ℕ, zero, suc, ◌+◌, ◌≤◌, ◌<◌, eqb, ltb, length}
+use Rattle.std.specs.Prelude.{◌≡◌, refl, List, [], ◌∷◌, ℕ, suc, ◌+◌, ◌≤◌, ◌<◌, eqb, ltb, length}
 use Rattle.std.proofs.Common.{sym, ap, subst, ◌∙◌, ⊎_elim, arith, eq-eqb, ne_eqb, eqb-true, ltb-true, ltb-false}
 use mathlib.Core.Bool.{Bool, true, false, not, ◌&&◌, ◌||◌, true≢false}
 use Rattle.std.proofs.Math.ListN.{get_or-eq_default}
@@ -11,8 +11,8 @@ use Rattle.model.specs.Lists.{all, position}
 use Rattle.model.specs.MessageTypes.{Initialize, AsyncInitialize, AsyncMaximumMessageSize}
 use Rattle.model.specs.State.{Entry, Server, at, blank, live, half_open, slot_of_number}
 use Rattle.model.specs.Place.{Role, Role.r_none, Role.r_half_open, Role.r_synchronous, Role.r_asynchronous, role_by, role_of, slot_in, place_of, role_in, is_on_connection}
-use Rattle.model.specs.Checks.{Verdict.v_acts, Rule, first, either, opening_rules, asynchronous_rules}
-use Rattle.claims.proofs.Fits.{Passes, opening_passed, async_passed}
+use Rattle.model.specs.Checks.{Verdict.v_acts, first, either, opening_rules, asynchronous_rules}
+use Rattle.claims.proofs.Fits.{opening_passed, async_passed}
 use Rattle.model.proofs.Place.{place_role, place_sound}
 use Rattle.checks.specs.Opening.{all_live}
 use Rattle.state.specs.Search.{role_number, past_none}

@@ -3,8 +3,7 @@
 use Rattle.std.specs.Prelude.{◌≡◌, refl, Bool, true, false, List, ℕ, eqb}
 use Rattle.std.proofs.Common.{sym, ap, ◌∙◌, true≢false}
 use Rattle.wire.specs.declared.Header.{Header}
-use Rattle.wire.specs.Class.{one_of}
-use Rattle.model.specs.MessageTypes.{Error, commands}
+use Rattle.model.specs.MessageTypes.{Error}
 use Rattle.model.specs.State.{Server, Rest, Exchange, open_connection, with_connection}
 use Rattle.model.specs.Interface.{Reply.took, Outcome.error_sent}
 use Rattle.model.specs.Exchange.{carries}

@@ -1,5 +1,5 @@
 -- What the bytes of a delivery show, from the tests of the code; and what is done where there is no whole message. Assumes nothing.
-use Rattle.std.specs.Prelude.{◌≡◌, Bool, not, ◌||◌, cond, List, [], ◌∷◌, ℕ, zero, suc, ◌+◌, ◌-◌, ◌≤◌, ◌<◌, min, ltb, length}
+use Rattle.std.specs.Prelude.{◌≡◌, Bool, cond, List, [], ◌∷◌, ℕ, zero, suc, ◌+◌, ◌-◌, ◌≤◌, ◌<◌, min, ltb, length}
 use Rattle.std.proofs.Math.Path.{refl, ap, ap₂, subst}
 use Rattle.std.proofs.Common.{sym, ◌∙◌, not-suc-le-zero, arith, lt-ltb, le-ltb}
 use Rattle.std.proofs.Math.Bool.{true, false}
@@ -16,7 +16,7 @@ use Rattle.model.specs.MessageTypes.{Initialize, AsyncInitialize}
 use Rattle.model.specs.Place.{Role, Role.r_none, Role.r_half_open, Role.r_synchronous, Role.r_asynchronous, role_of, slot_of}
 use Rattle.model.specs.Checks.{Verdict, Verdict.v_more, Verdict.v_fatal, either, verdict, judged, partly, too_long}
 use Rattle.model.specs.Step.{finish, effect, idle, channels, received}
-use Rattle.state.specs.View.{Memory, view}
+use Rattle.state.specs.View.{Memory}
 use Rattle.checks.specs.Numbers.{Numbered, verdict_number, verdict_of}
 use Rattle.sessions.specs.declared.Delivery.{Delivery}
 use Rattle.sessions.specs.Did.{Did, DidWith}

@@ -13,7 +13,7 @@ use Rattle.model.specs.Lists.{all, tally}
 use Rattle.model.specs.Acts.{holder, AsynchronousKind.k_remote_local, AsynchronousKind.k_maximum_size, AsynchronousKind.k_lock_info, asynchronous_rest, asynchronous_said, asynchronous_event}
 use Rattle.state.specs.Change.{on_rest, on_exchange, exchange_with, entry_with, single_with}
 use Rattle.state.specs.Tidy.{Tidy}
-use Rattle.state.specs.View.{flag, memory, view, rest_of, locks_of}
+use Rattle.state.specs.View.{flag, memory, view, locks_of}
 use Rattle.sessions.specs.declared.Delivery.{Delivery}
 use Rattle.sessions.specs.Asynchronous.{DidKind, delivered, did_one}
 use Rattle.sessions.specs.Synchronous.{slot_changed}

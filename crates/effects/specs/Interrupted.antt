@@ -1,5 +1,5 @@
 -- 02, Q-5: a command that is tested just before it acts: what it notes, and what is done by it with its lock event. Assumes nothing.
-use Rattle.std.specs.Prelude.{◌≡◌, true, false, cond, length}
+use Rattle.std.specs.Prelude.{◌≡◌, cond, length}
 use Rattle.std.proofs.Math.Path.{refl}
 use Rattle.std.proofs.Common.{sym, ap, ap₂, subst, ◌∙◌, true≢false, zero-add}
 use mathlib.Core.List.{List, [], ◌∷◌, ◌++◌, map, map-append}

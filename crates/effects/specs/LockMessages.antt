@@ -1,5 +1,5 @@
 -- Device clear and the lock messages: the answers of the lock event, what is said, and the answers of the grant pass. Assumes nothing.
-use Rattle.std.specs.Prelude.{◌≡◌, refl, Bool, cond, ℕ, ◌+◌, ◌≤◌, length}
+use Rattle.std.specs.Prelude.{◌≡◌, refl, Bool, ℕ, ◌+◌, ◌≤◌, length}
 use Rattle.std.proofs.Math.Path.{sym, ap, subst}
 use Rattle.std.proofs.Common.{ap₂, ◌∙◌, arith, zero-add, length-append, eq-eqb, ne_eqb}
 use Rattle.std.proofs.Math.Bool.{true, false}
@@ -16,7 +16,7 @@ use Rattle.model.specs.Step.{Result, finish, lock_frame}
 use Rattle.state.specs.Grid.{upd_upd}
 use Rattle.state.specs.Change.{on_exchange, exchange_with, entry_with}
 use Rattle.state.specs.Tidy.{Tidy}
-use Rattle.state.specs.View.{Memory, memory, view, rest_of, locks_of}
+use Rattle.state.specs.View.{Memory, memory, view, locks_of}
 use Rattle.sessions.specs.Did.{Did}
 use Rattle.sessions.specs.declared.Delivery.{Delivery}
 use Rattle.sessions.specs.Asynchronous.{DidKind, delivered, plan_with, did_with, one_length}

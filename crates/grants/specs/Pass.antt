@@ -1,6 +1,6 @@
 -- The grant pass, walked in the lent memory: those that go on waiting stand at the front of the queue, those still to be looked at from
 -- place j on, and the pass over these ends where the whole pass does. Assumes nothing.
-use Rattle.std.specs.Prelude.{◌≡◌, Bool, length, get_or, set, take, drop}
+use Rattle.std.specs.Prelude.{◌≡◌, Bool, length, get_or, take, drop}
 use Rattle.std.proofs.Common.{sym, ap₂, ◌∙◌, arith, drop_of_length-le, take_all}
 use Rattle.std.proofs.Math.Path.{ap}
 use Rattle.std.proofs.Math.Bool.{true, false}

@@ -1,6 +1,6 @@
 -- The earliest deadline, by a walk over the queue: what is looked at already is one number. Assumes nothing.
 use Rattle.std.specs.Prelude.{◌≡◌, refl, List, [], ◌∷◌, ℕ, ◌+◌, ◌≤◌, ◌<◌, min, length, get_or, drop}
-use Rattle.std.proofs.Common.{ap, ◌∙◌, arith, drop_of_length-le}
+use Rattle.std.proofs.Common.{ap, arith, drop_of_length-le}
 use Rattle.model.specs.State.{Waiting}
 use Rattle.model.specs.Asking.{earliest_of, earliest}
 use Rattle.queue.specs.Queue.{no_request}

@@ -8,7 +8,7 @@ use Rattle.model.specs.State.{Entry, Locks, Server}
 use Rattle.model.specs.Locks.{Answer, LockResult, tell}
 use Rattle.model.specs.Step.{lock_frame}
 use Rattle.state.specs.Tidy.{Tidy}
-use Rattle.state.specs.View.{Memory, memory, view}
+use Rattle.state.specs.View.{Memory, view}
 
 -- x is the model's answer, m and m' the memory before and after, r the place behind the frames that were written from `at` on
 pub record Met (x : LockResult) (m m' : Memory) (out out' : List ℕ) (at r : ℕ) : Type 0 where

@@ -2,7 +2,7 @@
 use Rattle.std.specs.Prelude.{◌≡◌, refl, Bool, true, false, not, cond, ℕ, ◌+◌, ◌-◌, ◌%◌, ◌^◌, ◌≤◌, ◌<◌, eqb, ltb}
 use Rattle.std.proofs.Common.{sym, ap, ◌∙◌, mod-eq_of_lt, arith, lt-ltb, le-ltb, eq-eqb, ne_eqb}
 use Rattle.model.specs.State.{Entry, Kind, Kind.exclusive_lock, Kind.shared_lock, Standing, Standing.no_release, Standing.release_of}
-use Rattle.model.specs.Locks.{release_code, stands}
+use Rattle.model.specs.Locks.{stands}
 use Rattle.state.specs.Change.{order_with}
 use Rattle.state.specs.View.{standing_of}
 

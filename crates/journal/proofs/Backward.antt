@@ -1,5 +1,5 @@
 -- Laws of what specs/Backward.antt defines. Assumes nothing.
-use Rattle.std.specs.Prelude.{◌≡◌, ℕ, zero, suc, ◌+◌, ◌-◌, ◌≤◌, true, List, [], ◌∷◌, ◌++◌, reverse, length, take, drop, refl}
+use Rattle.std.specs.Prelude.{◌≡◌, ℕ, zero, suc, ◌+◌, ◌-◌, ◌≤◌, true, List, [], ◌∷◌, ◌++◌, reverse, length, take, drop, refl, ◌<◌, false, ◌==◌}
 use Rattle.std.proofs.Common.{sym, ap₂, ◌∙◌, arith, drop_at, le-leb, eq-eqb}
 use Rattle.std.proofs.Math.Path.{ap}
 use mathlib.Core.List.{append_assoc, append-nil, reverse-cons, reverse-reverse}
@@ -8,14 +8,20 @@ use Rattle.std.proofs.lemmas.List.{length-reverse}
 use Rattle.std.proofs.Math.Seq.{take_at}
 use Rattle.wire.specs.Field.{field, number_at}
 use Rattle.crc.specs.Crc.{crc_of}
-use Rattle.journal.specs.Journal.{body_limit, headed, entry, entries, closing, closed_journal, last_offset, Fine, AllFine, length_of, body_of, whole}
-use Rattle.journal.specs.Journal.{distance_of, start_of, ends, backward_on, backward, forward}
-use Rattle.journal.specs.Bytes.{yes_is, and_is}
+use Rattle.journal.specs.Journal.{body_limit, headed, entry, entries, closing, closed_journal, last_offset, Fine, AllFine, length_of, body_of, whole, distance_of, start_of, ends, backward_on, backward, forward}
+use Rattle.journal.specs.Bytes.{yes_is, and_is, and_not}
 use Rattle.journal.specs.Entry.{length_entry, number_at_lem, headed_length}
 use Rattle.journal.proofs.Entry.{says_length, holds_body, whole_entry}
 use Rattle.journal.specs.Forward.{count_entries}
 use Rattle.journal.proofs.Forward.{forward_closed}
-use Rattle.journal.specs.Backward.{too_few, backward_ends, entries_last, fine_reverse, journal_length, journal_closed}
+use Rattle.journal.specs.Backward.{backward_ends, entries_last, fine_reverse, journal_length, journal_closed}
+use Rattle.std.proofs.lemmas.Bool.{lt-leb}
+
+pub too_few : (s : List ℕ) → length s < distance_of s + 8 → ends s ≡ false
+unfolding ends
+too_few s h =
+    and_not (length_of (drop (start_of s) s) + 4 == distance_of s)
+    (and_not (whole (drop (start_of s) s)) (lt-leb (distance_of s + 8) (length s) h))
 
 -- bytes that end with an entry
 module _ (p b : List ℕ) (f : Fine b) where

@@ -1,17 +1,17 @@
 -- Laws of what specs/Entry.antt defines. Assumes nothing.
 use Rattle.std.specs.Prelude.{◌≡◌, ℕ, ◌+◌, ◌<◌, ◌≤◌, true, false, List, [], ◌++◌, length, take, drop}
-use Rattle.std.proofs.Math.Path.{refl, sym, ap}
-use Rattle.std.proofs.Common.{◌∙◌, ⊎_elim, length-take, drop_at, take-take, le-leb, eq-eqb}
+use Rattle.std.proofs.Math.Path.{refl, sym, ap, ap₂}
+use Rattle.std.proofs.Common.{◌∙◌, ⊎_elim, length-take, drop_at, take-take, le-leb, eq-eqb, take-add}
 use mathlib.Core.List.{append_assoc, append-nil}
 use native.Mathlib.Omega.{arith}
 use Rattle.std.proofs.Math.ListN.{length-append}
 use Rattle.std.proofs.Math.Seq.{take_at}
-use Rattle.wire.specs.Field.{field, number, number_at, length_field}
+use Rattle.wire.specs.Field.{field, number, number_at, length_field, Bytes}
 use Rattle.crc.specs.Crc.{crc_of}
 use Rattle.crc.specs.Feed.{crc_lt}
 use Rattle.journal.specs.Journal.{body_limit, headed, entry, Fine, length_of, body_of, whole}
-use Rattle.journal.specs.Bytes.{below, and_is, append_bytes, field_bytes}
-use Rattle.journal.specs.Entry.{length_entry, number_at_lem, headed_length, short}
+use Rattle.journal.specs.Bytes.{below, and_is, append_bytes, field_bytes, field_at}
+use Rattle.journal.specs.Entry.{length_entry, number_at_lem, headed_length, short, Whole, four_parts, body_length}
 
 -- an entry with what follows, cut at each of its fields
 module _ (b rest : List ℕ) where
@@ -88,3 +88,24 @@ part_not_whole b k w h =
     ap number (take-take 4 k (entry b) (omega arith)) ∙ ap (λ (x : List ℕ). length_of x) (sym (append-nil (entry b))) ∙ says_length b [] w in
     short s (omega arith))
     (below k 12)
+
+-- what is read was written: there is one encoding of a body
+module _ (s : List ℕ) (bytes : Bytes s) (w : Whole s) where
+  head_again : headed (body_of s) ≡ take (length_of s + 4) s
+  unfolding length_of
+  head_again =
+      let e : 4 + length_of s ≡ length_of s + 4 = omega arith in
+      ap (λ (n : ℕ). field 4 n ++ body_of s) (body_length s bytes w)
+      ∙ ap (λ (l : List ℕ). l ++ body_of s) (field_at s 0 4 (omega arith) bytes)
+      ∙ sym (take-add 4 (length_of s) s)
+      ∙ ap (λ (n : ℕ). take n s) e
+
+  pub entry_again : entry (body_of s) ++ drop (length_of s + 12) s ≡ s
+  unfolding entry
+  entry_again =
+      let n : ℕ = length_of s in
+      ap (λ (l : List ℕ). l ++ field 4 (length (body_of s) + 4) ++ field 4 (crc_of l) ++ drop (n + 12) s) head_again
+      ∙ ap (λ (k : ℕ). take (n + 4) s ++ field 4 (k + 4) ++ field 4 (crc_of (take (n + 4) s)) ++ drop (n + 12) s) (body_length s bytes w)
+      ∙ ap₂ (λ (x y : ℕ). take (n + 4) s ++ field 4 x ++ field 4 y ++ drop (n + 12) s) (sym w.distance) (sym w.summed)
+      ∙ ap₂ (λ (x y : List ℕ). take (n + 4) s ++ x ++ y ++ drop (n + 12) s) (field_at s (n + 4) 4 (omega arith) bytes) (field_at s (n + 8) 4 (omega arith) bytes)
+      ∙ four_parts s n

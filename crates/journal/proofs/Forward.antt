@@ -4,8 +4,8 @@ use Rattle.std.proofs.Common.{sym, ap, ap₂, ◌∙◌, append_assoc, append-ni
 use Rattle.wire.specs.Field.{Bytes}
 use Rattle.journal.specs.Journal.{choose, entry, entries, closing, closed_journal, last_offset, Fine, AllFine, length_of, body_of, whole, forward_on, forward}
 use Rattle.journal.specs.Bytes.{yes_is, drop_bytes}
-use Rattle.journal.specs.Entry.{Whole, passed, short, entry_again, read_fine, closing_not_whole, closing_part_not_whole}
-use Rattle.journal.proofs.Entry.{holds_body, behind, whole_entry, part_not_whole}
+use Rattle.journal.specs.Entry.{Whole, passed, short, read_fine, closing_not_whole, closing_part_not_whole}
+use Rattle.journal.proofs.Entry.{entry_again, holds_body, behind, whole_entry, part_not_whole}
 use Rattle.journal.specs.Forward.{forward_ends, count_entries, rest_on, Read}
 
 forward_entries : (bs : List (List ℕ)) (rest : List ℕ) (k : ℕ) → AllFine bs → whole rest ≡ false → length bs ≤ k → forward_on k (entries bs ++ rest) ≡ bs

@@ -8,3 +8,5 @@ pub mod Run
 pub mod Stops
 pub mod Torn
 pub mod Written
+pub mod Steps
+pub mod Walks

@@ -11,7 +11,8 @@ use Rattle.journal.specs.Holds.{stays_closed, IsClosed, close_closes}
 use Rattle.journal.specs.Places.{forward_at, backward_at}
 use Rattle.journal.proofs.Prefix.{stopped}
 use Rattle.journal.specs.Trailer.{says_last, says_count}
-use Rattle.journal.specs.Walks.{walk, forward_all, backward_all, used_short}
+use Rattle.journal.specs.Walks.{walk, forward_all, used_short}
+use Rattle.journal.proofs.Walks.{backward_all}
 use Rattle.journal.specs.Writer.{Done, place, shut, left, new_of, close_of, offered, kept, bytes_written}
 use Rattle.journal.specs.Run.{open_run, Journaled}
 

@@ -1,13 +1,28 @@
 -- Laws of what specs/Stops.antt defines. Assumes nothing.
-use Rattle.std.specs.Prelude.{◌≡◌, ℕ, zero, suc, ◌+◌, ◌-◌, ◌≤◌, Bool, true, false, List, [], ◌∷◌, ◌++◌, reverse, length, take, drop, refl}
-use Rattle.std.proofs.Common.{sym, ap, subst, ◌∙◌, arith, length-take, length-drop, take-append-drop, drop_of_length-le}
+use Rattle.std.specs.Prelude.{◌≡◌, ℕ, zero, suc, ◌+◌, ◌-◌, ◌≤◌, Bool, true, false, List, [], ◌∷◌, ◌++◌, reverse, length, take, drop, refl, ◌&&◌, nat_eq, nat_le}
+use Rattle.std.proofs.Common.{sym, ap, subst, ◌∙◌, arith, length-take, length-drop, take-append-drop, drop_of_length-le, leb-true, eqb-true}
 use mathlib.Core.List.{append_assoc, append-nil, reverse-cons}
 use Rattle.wire.specs.Field.{Bytes}
-use Rattle.journal.specs.Journal.{choose, entry, entries, AllFine, length_of, body_of, distance_of, start_of, ends, backward_on, closed, backward}
-use Rattle.journal.specs.Bytes.{yes_is, take_bytes, drop_bytes}
-use Rattle.journal.specs.Entry.{passed, entry_again, read_fine}
-use Rattle.journal.specs.Backward.{too_few, entries_last}
-use Rattle.journal.specs.Stops.{Ended, ended, rest_back, ReadBack}
+use Rattle.journal.specs.Journal.{choose, entry, entries, AllFine, length_of, body_of, distance_of, start_of, ends, backward_on, closed, backward, whole}
+use Rattle.journal.specs.Bytes.{yes_is, take_bytes, drop_bytes, and_left, and_right}
+use Rattle.journal.specs.Entry.{passed, read_fine}
+use Rattle.journal.proofs.Entry.{entry_again}
+use Rattle.journal.specs.Backward.{entries_last}
+use Rattle.journal.proofs.Backward.{too_few}
+use Rattle.journal.specs.Stops.{Ended, rest_back, ReadBack}
+
+pub ended : (s : List ℕ) → ends s ≡ true → Ended s
+unfolding ends
+ended s e =
+    let p : Bool = nat_le (distance_of s + 8) (length s) in
+    let q : Bool = whole (drop (start_of s) s) in
+    let r : Bool = nat_eq (length_of (drop (start_of s) s) + 4) (distance_of s) in
+    let two : (p && q) ≡ true = and_left (p && q) r e in
+    record {
+      far = leb-true (distance_of s + 8) (length s) (and_left p q two);
+      last = and_right p q two;
+      same = eqb-true (length_of (drop (start_of s) s) + 4) (distance_of s) (and_right (p && q) r e);
+    }
 
 -- the last entry, written again, ends the bytes
 last_again : (s : List ℕ) → Bytes s → Ended s → take (start_of s) s ++ entry (body_of (drop (start_of s) s)) ≡ s

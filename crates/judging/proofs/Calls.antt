@@ -1,26 +1,26 @@
 -- From calls to right entries, and back: what a recorded event replays is the call that was recorded.
 use mathlib.Core.Path.{◌≡◌, refl, sym, ap, subst, ◌∙◌}
 use mathlib.Core.Bool.{Bool, true, false, not, ◌||◌, cond, true≢false}
-use mathlib.Core.List.{List, [], ◌∷◌, ◌++◌}
-use Prim.Native.Nat.{ℕ, zero, suc, ◌^◌, ◌≤◌, ◌<◌}
+use mathlib.Core.List.{List, [], ◌∷◌}
+use Prim.Native.Nat.{ℕ, zero, suc, ◌≤◌, ◌<◌}
 use native.Mathlib.Omega.{arith}
 use lib.Dec.{eqb, ltb}
 use lib.ListN.{length}
 use borrow.Author.Tests.{ltb-false}
 use Rattle.wire.specs.Frame.{bytes_of}
-use Rattle.journal.specs.Journal.{body_limit, Fine, AllFine}
+use Rattle.journal.specs.Journal.{AllFine}
 use Rattle.record.specs.Layout.{Event as Recorded, opening as r-opening, delivery as r-delivery, cut as r-cut, clock as r-clock, answer as r-answer}
-use Rattle.record.specs.Layout.{status as r-status, watch_off, watch_above, watch_outside, patterns as r-patterns, Row, Fits, body_bytes}
-use Rattle.verifier.specs.Judge.{Deed, refused, gave}
+use Rattle.record.specs.Layout.{status as r-status, watch_off, watch_above, watch_outside, patterns as r-patterns, Fits, body_bytes}
+use Rattle.verifier.specs.Judge.{gave}
 use Rattle.verifier.specs.Right.{Yields, Right, none, more}
 use Rattle.model.specs.Sizes.{output_minimum, payload_limit, list_limit}
 use Rattle.commands.proofs.Lines.{listed_room}
-use Rattle.readings.specs.Watch.{Limits, Limits.off, Limits.above, Limits.outside}
+use Rattle.readings.specs.Watch.{Limits.off, Limits.above, Limits.outside}
 use Rattle.model.specs.State.{Server}
 use Rattle.model.specs.Interface.{Event, Event.opening, Event.delivery, Event.cut, Event.clock, Event.answer, Event.status, Event.setting, Setting}
 use Rattle.model.specs.Interface.{Setting.watch, Setting.patterns, Reply, Reply.refused as turned_away_lem, Reply.done, Reply.withheld, Reply.took}
 use Rattle.model.specs.Refusals.{causes, refusal}
-use Rattle.model.specs.Step.{Result, Line, answered, finish, plan, step, final, log}
+use Rattle.model.specs.Step.{Result, answered, finish, plan, step, final, log}
 use Rattle.claims.proofs.Fits.{uncaused}
 use Rattle.claims.proofs.Listing.{tells_bad}
 use Rattle.claims.proofs.Refused.{changes_nothing_lem}

@@ -2,11 +2,11 @@
 use mathlib.Core.Path.{◌≡◌, refl, sym, ap, subst, ◌∙◌}
 use mathlib.Core.Bool.{Bool, true, false, cond}
 use mathlib.Core.List.{List, [], ◌∷◌, ◌++◌}
-use Prim.Native.Nat.{ℕ, zero, suc, ◌+◌, ◌^◌, ◌≤◌, ◌<◌}
+use Prim.Native.Nat.{ℕ, zero, suc, ◌^◌, ◌≤◌, ◌<◌}
 use native.Mathlib.Omega.{arith}
-use lib.ListN.{length, get_or}
+use lib.ListN.{length}
 use Rattle.wire.specs.Field.{Bytes, field}
-use Rattle.wire.specs.Frame.{Frame, bytes_of}
+use Rattle.wire.specs.Frame.{bytes_of}
 use Rattle.wire.specs.ReadFrames.{AllFit}
 use Rattle.wire.proofs.ReadFrames.{rows_read}
 use Rattle.journal.specs.Journal.{Fine, AllFine}
@@ -14,15 +14,15 @@ use Rattle.journal.specs.Bytes.{append_bytes, field_bytes}
 use Rattle.record.specs.Layout.{Event as Recorded, opening as r-opening, delivery as r-delivery, cut as r-cut, clock as r-clock, answer as r-answer}
 use Rattle.record.specs.Layout.{status as r-status, watch_off, watch_above, watch_outside, patterns as r-patterns, Row, row, Fits, encode, body_bytes}
 use Rattle.record.specs.RoundTrip.{most_frames, Taken, longest_body}
-use Rattle.model.specs.Sizes.{output_minimum, session_limit}
+use Rattle.model.specs.Sizes.{output_minimum}
 use Rattle.model.specs.State.{Server, Making, fresh}
-use Rattle.model.specs.Interface.{Event, Event.opening, Event.delivery, Event.cut, Event.clock, Event.answer, Event.status, Event.setting, Setting, Setting.watch, Setting.patterns, Reply}
-use Rattle.readings.specs.Watch.{Limits, Limits.off, Limits.above, Limits.outside}
+use Rattle.model.specs.Interface.{Event, Event.opening, Event.delivery, Event.cut, Event.clock, Event.answer, Event.status, Event.setting, Setting, Setting.watch, Setting.patterns}
+use Rattle.readings.specs.Watch.{Limits.off, Limits.above, Limits.outside}
 use Rattle.model.specs.Possible.{Possible, AllPossible}
 use Rattle.model.specs.Locks.{change}
 use Rattle.model.specs.Refusals.{refusal}
 use Rattle.model.specs.SentFits.{LinesFit}
-use Rattle.model.specs.Step.{Result, Line, finish, plan, step, final, log}
+use Rattle.model.specs.Step.{Result, finish, plan, step, final, log}
 use Rattle.claims.proofs.Bound.{bound_run}
 use Rattle.claims.proofs.SentFits.{sent_fits}
 use Rattle.judging.specs.Kept.{recorded_setting, recorded, Keepable, AllKeepable, is_refused, bodies_of}

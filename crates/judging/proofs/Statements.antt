@@ -1,41 +1,35 @@
 -- Every statement of specs/Statements.antt, proved.
 use mathlib.Core.Path.{◌≡◌, refl, sym, ap, subst, ◌∙◌}
-use mathlib.Core.Bool.{Bool, true, false, cond}
-use mathlib.Core.Logic.{◌↔◌}
 use mathlib.Core.List.{List, [], ◌∷◌, ◌++◌, append_assoc, append-nil}
-use Prim.Native.Nat.{ℕ, zero, suc, ◌+◌, ◌-◌, ◌^◌, ◌≤◌, ◌<◌, min}
+use Prim.Native.Nat.{ℕ, suc, ◌+◌, ◌-◌, ◌^◌, ◌≤◌, ◌<◌, min}
 use native.Mathlib.Omega.{arith}
-use lib.Dec.{leb}
 use lib.ListN.{length, length-append}
 use borrow.Author.Tests.{le-leb}
 use Rattle.wire.specs.Field.{Bytes}
 use Rattle.wire.specs.Frame.{bytes_of}
-use Rattle.journal.specs.Journal.{choose, entry, entries, closed_journal, last_offset, last_from, closing, reach, AllFine}
+use Rattle.journal.specs.Journal.{entry, entries, closed_journal, last_offset, closing, reach, AllFine}
 use Rattle.journal.specs.Bytes.{yes_is}
 use Rattle.journal.specs.Entry.{length_closing}
 use Rattle.journal.specs.Backward.{entries_append, entries_last}
-use Rattle.journal.specs.Writer.{Done, new_of, close_of, left, offered, kept, bytes_written}
+use Rattle.journal.specs.Writer.{Done, new_of, close_of, offered, kept, bytes_written}
 use Rattle.journal.specs.Holds.{Holds}
 use Rattle.journal.specs.Run.{open_run}
 use Rattle.record.specs.Layout.{body_bytes}
-use Rattle.verifier.specs.Judge.{Fault, Verdict, accepted, wrong, first, stops, place_of, judge}
-use Rattle.verifier.specs.Feed.{reading, feed_pieces, finish, joined}
+use Rattle.verifier.specs.Judge.{accepted, wrong, judge}
 use Rattle.verifier.proofs.Pieces.{pieces_judge}
-use Rattle.verifier.specs.Right.{Right}
-use Rattle.verifier.specs.Naming.{after, Named}
-use Rattle.verifier.specs.Verdict.{Accepted, accepted_is}
-use Rattle.verifier.proofs.VerdictLaws.{closed_accepted, writer_accepted, wrong_is, stopped_is}
+use Rattle.verifier.specs.Naming.{after}
+use Rattle.verifier.proofs.VerdictLaws.{accepted_is, closed_accepted, writer_accepted, wrong_is, stopped_is}
 use Rattle.model.specs.State.{Making, Server, fresh}
-use Rattle.model.specs.Interface.{Event, Event.answer, Reply.done}
-use Rattle.model.specs.Step.{Line, step, final, log}
+use Rattle.model.specs.Interface.{Event}
+use Rattle.model.specs.Step.{step, final, log}
 use Rattle.claims.proofs.Agreement.{agreement}
 use Rattle.claims.proofs.Isolation.{isolated}
 use Rattle.claims.proofs.IsolationRun.{isolation_run}
 use Rattle.claims.proofs.Tied.{tie}
 use Rattle.judging.specs.Replay.{deed, verdict}
-use Rattle.judging.specs.Kept.{recorded, AllKeepable, is_refused, body_of, bodies_of, NoneRefused, Good}
-use Rattle.judging.specs.Statements.{Entry, Vouched, Stranger, Statements}
-use Rattle.judging.proofs.Calls.{rights, Replayed, replayed}
+use Rattle.judging.specs.Kept.{recorded, AllKeepable, body_of, bodies_of, NoneRefused, Good}
+use Rattle.judging.specs.Statements.{Vouched, Statements}
+use Rattle.judging.proofs.Calls.{rights, replayed}
 use Rattle.judging.proofs.Fine.{kept_fine}
 
 -- as many entries as calls, where none was refused

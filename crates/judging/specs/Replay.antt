@@ -6,12 +6,11 @@ use Rattle.record.specs.Layout.{Event as Recorded, opening as r-opening, deliver
 use Rattle.record.specs.Layout.{status as r-status, watch_off, watch_above, watch_outside, patterns as r-patterns}
 use Rattle.readings.specs.Watch.{Limits.off, Limits.above, Limits.outside}
 use Rattle.verifier.specs.Judge.{Verdict, Deed, refused, gave, judge}
-use Rattle.verifier.specs.Feed.{Reading}
 use Rattle.model.specs.Sizes.{output_minimum}
 use Rattle.model.specs.State.{Server, Making, fresh}
 use Rattle.model.specs.Interface.{Event, Event.opening, Event.delivery, Event.cut, Event.clock, Event.answer, Event.status, Event.setting, Setting.watch}
 use Rattle.model.specs.Interface.{Setting.patterns, Reply, Reply.refused as turned_away_lem, Reply.done, Reply.withheld, Reply.took}
-use Rattle.model.specs.Step.{Result, step}
+use Rattle.model.specs.Step.{step}
 
 -- a recorded event's call: with the least output buffer that is not refused; bytes shown as they were recorded
 abbrev pub call_of : Recorded → Event

@@ -1,17 +1,17 @@
 -- Every statement about judging a journal, fully quantified, in 02's order (Q-8). The bytes of a book are any bytes, its maker and its host
 -- anybody; proofs/Statements.antt proves all of it. Assumes nothing.
-use Rattle.std.specs.Prelude.{◌≡◌, Bool, true, cond, ◌↔◌, List, [], ◌∷◌, ◌++◌, ℕ, ◌^◌, ◌≤◌, ◌<◌, min, length}
+use Rattle.std.specs.Prelude.{◌≡◌, Bool, ◌↔◌, List, [], ◌∷◌, ◌++◌, ℕ, ◌^◌, ◌≤◌, ◌<◌, min, length}
 use Rattle.wire.specs.Field.{Bytes}
-use Rattle.wire.specs.Frame.{frame_bytes, frame_of, bytes_of}
+use Rattle.wire.specs.Frame.{bytes_of}
 use Rattle.journal.specs.Journal.{closed_journal, reach}
 use Rattle.journal.specs.Writer.{new_of, close_of, offered, bytes_written}
 use Rattle.record.specs.Layout.{body_bytes}
 use Rattle.verifier.specs.Judge.{Fault, accepted, wrong, first}
 use Rattle.verifier.specs.Feed.{reading, feed_pieces, finish, joined}
 use Rattle.verifier.specs.Naming.{Named}
-use Rattle.model.specs.State.{Making, fresh, at, slot_of_number}
+use Rattle.model.specs.State.{Making, fresh}
 use Rattle.model.specs.Interface.{Event, Event.answer, Reply.done}
-use Rattle.model.specs.Step.{step, final, log, answer_type}
+use Rattle.model.specs.Step.{step, final, log}
 use Rattle.model.specs.LockModel.{fresh_model}
 use Rattle.model.specs.Agreement.{Agreement}
 use Rattle.model.specs.Isolation.{Isolated}

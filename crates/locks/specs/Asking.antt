@@ -1,7 +1,7 @@
 -- A lock request by the tests of the code. Assumes nothing.
 use Rattle.std.specs.Prelude.{◌≡◌, Bool, not, ◌&&◌, ◌||◌, List, [], ◌∷◌, ◌++◌, ℕ, ◌+◌, ◌<◌, ◌≤◌, eqb, leb, ltb, length, get_or, drop}
 use Rattle.std.proofs.Math.Path.{refl, ap}
-use Rattle.std.proofs.Common.{sym, ap₂, ◌∙◌, true≢false, arith, drop_of_length-le}
+use Rattle.std.proofs.Common.{sym, ◌∙◌, true≢false, arith, drop_of_length-le}
 use Rattle.std.proofs.Math.Bool.{true, false}
 use borrow.Author.Tests.{lt-ltb, le-ltb, eq-eqb, ne_eqb, ltb-false, leb-false}
 use Rattle.model.specs.Sizes.{session_limit, string_limit}
@@ -13,7 +13,7 @@ use Rattle.state.specs.Grid.{upd, upd_set}
 use Rattle.queue.specs.Queue.{no_request, on_waiting, count_is}
 use Rattle.queue.specs.Requests.{count_of}
 use Rattle.state.specs.Tidy.{Tidy}
-use Rattle.state.specs.View.{Memory, memory, locks_of, view}
+use Rattle.state.specs.View.{Memory, locks_of, view}
 use Rattle.holding.specs.Outcome.{Met, ends, ends_nil, met, told}
 use Rattle.holding.specs.Waiting.{next}
 

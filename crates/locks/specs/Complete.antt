@@ -1,6 +1,6 @@
 -- A release that stands takes effect (02, Q-3): with the message that it names, or with a device clear. Assumes nothing.
-use Rattle.std.specs.Prelude.{◌≡◌, refl, Bool, true, false, cond, List, ℕ, ◌-◌, ◌%◌, ◌^◌, ◌≤◌, ◌<◌, eqb, length}
-use Rattle.std.proofs.Common.{sym, subst, ◌∙◌, true≢false, mod-eq_of_lt, eq-eqb, ne_eqb}
+use Rattle.std.specs.Prelude.{◌≡◌, refl, false, List, ℕ, ◌-◌, ◌%◌, ◌^◌, ◌≤◌, ◌<◌, length}
+use Rattle.std.proofs.Common.{subst, ◌∙◌, true≢false, mod-eq_of_lt, eq-eqb, ne_eqb}
 use Rattle.std.proofs.Math.Path.{ap}
 use Rattle.model.specs.Sizes.{before_first}
 use Rattle.model.specs.State.{Entry, Locks, Server, Kind, Standing, Standing.no_release, Standing.release_of, at, blank}

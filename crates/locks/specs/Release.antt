@@ -1,6 +1,6 @@
 -- A release (02, Q-3): 3, at once, or it stands. Assumes nothing.
 use Rattle.std.specs.Prelude.{◌≡◌, refl, Bool, true, false, not, cond, List, ℕ, eqb}
-use Rattle.std.proofs.Common.{sym, ◌∙◌, eq-eqb, ne_eqb}
+use Rattle.std.proofs.Common.{◌∙◌, eq-eqb, ne_eqb}
 use Rattle.std.proofs.Math.Path.{ap}
 use Rattle.model.specs.State.{Entry, Locks, Server, Kind, Kind.exclusive_lock, Kind.shared_lock, Standing, Standing.release_of, at, blank}
 use Rattle.model.specs.Locks.{LockEvent.release, Releasing, Releasing.r_invalid, Releasing.r_now, Releasing.r_stands, tell, no_shared, without, with_order}

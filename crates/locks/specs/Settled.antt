@@ -4,7 +4,7 @@ use Rattle.std.proofs.Common.{sym, ap, ap₂, subst, ◌∙◌, arith, length-ap
 use Rattle.std.proofs.lemmas.List.{map-append}
 use Rattle.wire.specs.Frame.{bytes_of}
 use Rattle.wire.specs.Splice.{splice, splice_splice}
-use Rattle.model.specs.State.{Locks, Server}
+use Rattle.model.specs.State.{Locks}
 use Rattle.model.specs.Locks.{Answer, LockEvent, LockResult, change, grant_pass, frees, settle}
 use Rattle.model.specs.Step.{lock_frame}
 use Rattle.state.specs.View.{Memory, view}

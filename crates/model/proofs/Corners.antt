@@ -13,7 +13,7 @@ use Rattle.readings.specs.Payload.{watched, readings_in}
 use Rattle.readings.specs.Block.{block_of}
 use Rattle.model.specs.Sizes.{session_limit}
 use Rattle.model.specs.State.{Making, Server, RemoteLocal, fresh, with_session}
-use Rattle.model.specs.Interface.{Event, Event.opening, Event.delivery, Event.cut, Event.clock, Event.answer, Event.status, Event.setting}
+use Rattle.model.specs.Interface.{Event, Event.opening, Event.delivery, Event.cut, Event.clock, Event.answer, Event.status}
 use Rattle.model.specs.Interface.{Outcome.more_needed, Outcome.skipped, Outcome.held, Outcome.ignored, Outcome.error_sent, Outcome.closed, Outcome.acted}
 use Rattle.model.specs.Interface.{Reply.refused, Reply.done, Reply.withheld, Reply.took, outcome_number, delivery_answer, done_answer, answered_answer}
 use Rattle.model.specs.Scan.{fresh_scan, scan}

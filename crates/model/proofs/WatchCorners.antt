@@ -15,7 +15,7 @@ use Rattle.readings.specs.Record as Record
 use Rattle.readings.specs.Block as Block
 use Rattle.readings.specs.Payload as Payload
 use Rattle.readings.specs.Request.{with_value}
-use Rattle.model.specs.Interface.{Event, Event.cut, Event.opening, Event.answer, Event.status, Event.setting, Setting.watch, Reply.refused, Reply.done, Reply.withheld}
+use Rattle.model.specs.Interface.{Event, Event.cut, Event.opening, Event.answer, Event.status, Event.setting, Setting.watch, Reply.refused, Reply.done}
 use Rattle.model.specs.Scan.{fresh_scan, scan}
 use Rattle.model.specs.Place.{place_of}
 use Rattle.model.specs.Locks.{may_grant, access, pass_over, grant_pass, change}

@@ -1,6 +1,6 @@
 -- 02, Q-9: "the clock reading of its last grant and the number of locks granted to it, as answers sent since it opened (once at 2^62 it stays
 -- there)", over what the host saw: a reader of the log alone notes the clock at each answer 1 to a request of a session. Assumes nothing.
-use Rattle.std.specs.Prelude.{◌≡◌, Bool, true, ◌&&◌, cond, List, [], ◌∷◌, ℕ, eqb, ltb, length, drop}
+use Rattle.std.specs.Prelude.{◌≡◌, true, ◌&&◌, cond, List, [], ◌∷◌, ℕ, eqb, ltb, length, drop}
 use Rattle.wire.specs.Class.{one_of}
 use Rattle.wire.specs.Frame.{Frame}
 use Rattle.model.specs.Sizes.{no_connection, grants_limit}

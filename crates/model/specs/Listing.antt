@@ -1,6 +1,6 @@
 -- 02, Q-12: "The first bad pattern is refused as 11 with the place of the first byte that no pattern could have there": which one and where.
 -- Nothing that is kept depends on it: it is read off the call beside the reply. Assumes nothing.
-use Rattle.std.specs.Prelude.{◌≡◌, ◌↔◌, List, [], ℕ, ◌≤◌, ◌<◌, length}
+use Rattle.std.specs.Prelude.{◌≡◌, List, [], ℕ, ◌≤◌, ◌<◌, length}
 use Rattle.commands.specs.declared.Judged.{Judged}
 use Rattle.commands.specs.declared.Judged.TheVariants.{Taken, BadPattern, TooMany}
 use Rattle.commands.specs.Lists.{lines_of, Listed, FirstBad}

@@ -1,6 +1,6 @@
 -- 02, Q-4: "With "more needed" the answer tells how many bytes are missing". Nothing that is taken depends on it: it is read off the call
 -- beside the reply. Assumes nothing.
-use Rattle.std.specs.Prelude.{List, [], ◌++◌, ◌≡◌, ℕ, zero, suc, ◌+◌, ◌-◌, ◌<◌, ◌≤◌, length}
+use Rattle.std.specs.Prelude.{List, ◌++◌, ◌≡◌, ℕ, zero, suc, ◌+◌, ◌-◌, ◌<◌, ◌≤◌, length}
 use Rattle.wire.specs.Message.{header}
 use Rattle.model.specs.State.{Server, connection_at}
 use Rattle.model.specs.Interface.{Event, Event.opening, Event.delivery, Event.cut, Event.clock, Event.answer, Event.status, Event.setting}

@@ -1,6 +1,6 @@
 -- The host can read back what it saw: the output of each call, read as a row of frames, is the frames of that call; and the lock answers
 -- in those bytes are just the lock model's.
-use Rattle.std.specs.Prelude.{◌≡◌, List, [], ◌∷◌, ◌++◌, map, ℕ, ◌^◌, ◌<◌}
+use Rattle.std.specs.Prelude.{◌≡◌, List, [], ◌∷◌, ◌++◌, map, ◌^◌, ◌<◌}
 use Rattle.wire.specs.Frame.{Frame}
 use Rattle.wire.specs.ReadFrames.{read_frames}
 use Rattle.model.specs.Lists.{keep}

@@ -10,7 +10,7 @@ use Rattle.model.specs.MessageTypes.{Interrupted, AsyncInterrupted, DeviceClearC
 use Rattle.model.specs.MessageTypes.{AsyncRemoteLocalResponse, AsyncMaximumMessageSize, AsyncMaximumMessageSizeResponse, AsyncDeviceClear}
 use Rattle.model.specs.MessageTypes.{AsyncStatusQuery, AsyncStatusResponse, AsyncDeviceClearAcknowledge, commands}
 use Rattle.model.specs.Lists.{any}
-use Rattle.model.specs.State.{Server, Entry, at, Exchange, exchange_at, fresh, Making}
+use Rattle.model.specs.State.{Server, Entry, Exchange, exchange_at, fresh, Making}
 use Rattle.model.specs.Interface.{Event, Event.delivery, Outcome.acted, Reply.took}
 use Rattle.model.specs.Place.{slot_of, entry_of}
 use Rattle.model.specs.Exchange.{status_byte}

@@ -1,6 +1,6 @@
 -- Every frame that is sent fits its places in the output: the connection is one byte, and so are type and code; the parameter is four
 -- bytes, the payload is bytes and its length fits eight.
-use Rattle.std.specs.Prelude.{List, [], ◌∷◌, ℕ, ◌^◌, ◌<◌}
+use Rattle.std.specs.Prelude.{List, [], ◌∷◌, ◌^◌, ◌<◌}
 use Rattle.wire.specs.ReadFrames.{AllFit}
 use Rattle.model.specs.State.{fresh, Making}
 use Rattle.model.specs.Interface.{Event}

@@ -1,13 +1,13 @@
 -- 02, Q-11, over whole lists: each session's watch, its trip and its record, read off what the host set and saw; and which calls send a request
 -- for service. Assumes nothing.
 use Rattle.std.specs.Prelude.{◌≡◌, Bool, false, ◌&&◌, ◌||◌, cond, true, List, [], ◌∷◌, ℕ, eqb}
-use Rattle.wire.specs.Frame.{Frame, frame_of}
+use Rattle.wire.specs.Frame.{Frame}
 use Rattle.readings.specs.Payload.{readings_of}
 use Rattle.model.specs.MessageTypes.{AsyncServiceRequest}
 use Rattle.model.specs.Lists.{keep}
-use Rattle.model.specs.State.{Server, Sensing, at, live, fresh_sensing, sensing_at, fresh, Making}
-use Rattle.model.specs.Interface.{Event, Event.answer, Setting, Setting.watch, Setting.patterns, Reply.done}
-use Rattle.model.specs.Step.{Line, step, final, log, answer_type}
+use Rattle.model.specs.State.{Sensing, at, live, fresh_sensing, sensing_at, fresh, Making}
+use Rattle.model.specs.Interface.{Event, Setting, Setting.watch, Setting.patterns}
+use Rattle.model.specs.Step.{Line, step, final, log}
 use Rattle.model.specs.Happening.{Action, Happening, Happening.unmoved, Happening.connected, Happening.disconnected, Happening.skipped_over}
 use Rattle.model.specs.Happening.{Happening.errored, Happening.message_acted, Happening.clock_read, Happening.status_set, Happening.setting_made}
 use Rattle.model.specs.Happening.{Happening.answer_sent, Happening.answer_withheld, happened}

@@ -1,6 +1,6 @@
 -- Requests that come and leave, in memory in order: one is put at the end of the queue; two change places; the queue is cut short, and of
 -- those that left the places, the rows and the strings are wiped. Assumes nothing.
-use Rattle.std.specs.Prelude.{◌≡◌, refl, ◌⊎◌, Bool, true, false, List, [], ◌∷◌, ◌++◌, ℕ, zero, suc, ◌+◌, ◌*◌, ◌-◌, ◌%◌, ◌^◌, ◌≤◌, ◌<◌, min, eqb, length, get_or, set}
+use Rattle.std.specs.Prelude.{◌≡◌, refl, ◌⊎◌, Bool, true, false, List, [], ◌∷◌, ◌++◌, ℕ, ◌+◌, ◌*◌, ◌%◌, ◌^◌, ◌≤◌, ◌<◌, min, eqb, length, get_or, set}
 use Rattle.std.proofs.Common.{sym, subst, ◌∙◌, inl, inr, ⊎_elim, lit<, length-set, eqb-true}
 use Rattle.std.proofs.Math.Path.{ap}
 use Rattle.std.proofs.Math.Nat.{mod-eq_of_lt}
@@ -10,7 +10,7 @@ use Rattle.wire.specs.Splice.{splice, length_splice}
 use Rattle.model.specs.Sizes.{session_limit, connection_limit, string_limit}
 use Rattle.model.specs.State.{Waiting, Server}
 use Rattle.state.specs.Table.{apart, below}
-use Rattle.state.specs.Grid.{part, word_of}
+use Rattle.state.specs.Grid.{word_of}
 use Rattle.bits.specs.Bits.{bit}
 use Rattle.state.specs.Bits.{with_bit, with_same, with_other, empty_bits}
 use Rattle.state.specs.Layout.{EXCHANGES, EXCHANGE, CONNECTIONS, CONNECTION, HOME, LISTED, CLOCK, HOLDER, SHARERS, KEY, COUNT, ENTRIES, ENTRY, ORDERS, ORDER}
@@ -19,9 +19,9 @@ use Rattle.state.specs.View.{memory, word, home_at, slot_at, view}
 use Rattle.state.specs.Change.{off, here}
 use Rattle.queue.specs.Requests.{count_of, Idle, part_behind, part_before, slot_small, laid_view, laid_string}
 use Rattle.queue.specs.Queue.{slot_off, past_count, on_waiting, queued}
-use Rattle.state.specs.Tidy.{Tidy, TidyOver, Counted, Away, ExchangeRange, ConnectionRange, OrderRange, TidyRequest, TidyQueue, TidyKey, SensingRange}
+use Rattle.state.specs.Tidy.{Tidy, TidyOver, Counted, Away, ExchangeRange, ConnectionRange, OrderRange, TidyRequest, TidyQueue, SensingRange}
 use Rattle.state.specs.Keeping.{kept_values, kept_range, kept_singles, kept_rows, kept_homes, kept_request, kept_queue, kept_key, kept_list}
-use Rattle.queue.specs.Wiping.{Wiped, undated, emptied, request_wiped}
+use Rattle.queue.specs.Wiping.{Wiped, request_wiped}
 
 -- memory that agrees with w, s in order in all but the queue, the count and the requests
 module _ (In In' : ℕ → Type 0) (w w' s s' : List ℕ) (t : TidyOver In (memory w s)) (long : length w' ≡ WORDS) (room : length s' ≡ length s)

@@ -1,5 +1,5 @@
 -- Memory in order that shows one server is one memory: word for word and byte for byte. Assumes nothing.
-use Rattle.std.specs.Prelude.{◌≡◌, refl, ◌⊎◌, Bool, false, List, [], ◌∷◌, ltb, take}
+use Rattle.std.specs.Prelude.{◌≡◌, refl, ◌⊎◌, Bool, false, List, [], ltb, take}
 use Rattle.std.proofs.Math.Path.{sym, ap}
 use Rattle.std.proofs.Common.{ap₂, ◌∙◌, inl, inr, true≢false, mod-eq_of_lt, arith, lit<, length-take, ext_get_or, get_or-take}
 use Rattle.std.proofs.Math.Logic.{⊎_elim}
@@ -9,19 +9,19 @@ use Rattle.std.proofs.Math.Dec.{eqb}
 use Rattle.std.proofs.Math.ListN.{length, get_or}
 use borrow.Author.Tests.{eq-eqb, ne_eqb, eqb-true, eqb-false, ltb-true, ltb-false}
 use Rattle.model.specs.Sizes.{session_limit, connection_limit, string_limit, list_limit}
-use Rattle.model.specs.State.{Entry, Waiting, Locks, Kind, Kind.exclusive_lock, Kind.shared_lock, Standing, Standing.no_release, Standing.release_of, Asked}
+use Rattle.model.specs.State.{Entry, Waiting, Locks, Kind.exclusive_lock, Kind.shared_lock, Standing, Standing.no_release, Standing.release_of}
 use Rattle.model.specs.State.{Asked.none, Asked.some, Exchange, Connection, Allowed, Allowed.any_command, Allowed.only, Rest, Server, with_allowed, at}
 use Rattle.model.specs.State.{fresh_exchange, closed_connection, Sensing, sensing_at}
 use Rattle.model.specs.Exchange.{is_asked, number_asked}
 use Rattle.model.specs.Locks.{stands}
 use Rattle.state.specs.Table.{below}
-use Rattle.state.specs.Grid.{part, word_of, length_part, grid, get_d_grid}
+use Rattle.state.specs.Grid.{part, word_of, length_part, get_d_grid}
 use Rattle.bits.specs.Bits.{bit}
 use Rattle.state.specs.Bits.{low_bits, Member, member}
 use Rattle.state.specs.Layout.{LOCKS, VENDOR, PREFERENCE, STATUS, LAST, ENABLE, LOCKOUT, REMOTE, EXCHANGES, EXCHANGE, CONNECTIONS, CONNECTION, HOME, LISTED}
 use Rattle.state.specs.Layout.{CLOCK, HOLDER, SHARERS, KEY, COUNT, ENTRIES, ENTRY, ORDERS, ORDER, REQUESTS, REQUEST, QUEUE, WORDS, LIST, STRINGS, SENSINGS}
 use Rattle.state.specs.Layout.{SENSING}
-use Rattle.state.specs.View.{Memory, memory, word, key_of, row_word, home_in, home_of, field_of, standing_of, entry_at, slot_at, request_at, locks_of, asked_of}
+use Rattle.state.specs.View.{Memory, memory, word, key_of, row_word, home_of, field_of, standing_of, entry_at, slot_at, request_at, locks_of, asked_of}
 use Rattle.state.specs.View.{exchange_of, connection_of, rest_of, allowed_from, allowed_of, view, numeral, sensing_from}
 use Rattle.state.specs.Change.{entry_at_lem, sensing_word, sensing_at_lem}
 use Rattle.queue.specs.Requests.{count_of, Idle, string_at}

@@ -4,15 +4,15 @@ use Rattle.std.proofs.Math.Path.{refl, ap, ap₂}
 use Rattle.std.proofs.Common.{sym, ◌∙◌, zero-add, mod-eq_of_lt, lit<, length-set}
 use Rattle.std.proofs.Math.Logic.{inl, inr, ⊎_elim}
 use mathlib.Core.List.{List, [], ◌∷◌, ◌++◌}
-use Prim.Native.Nat.{ℕ, zero, suc, ◌+◌, ◌*◌, ◌-◌, ◌%◌, ◌^◌, ◌≤◌, ◌<◌, min}
+use Prim.Native.Nat.{ℕ, zero, suc, ◌+◌, ◌*◌, ◌%◌, ◌^◌, ◌≤◌, ◌<◌, min}
 use native.Mathlib.Omega.{arith}
 use Rattle.std.proofs.Math.ListN.{set, take}
 use Rattle.model.specs.Sizes.{session_limit, string_limit}
 use Rattle.state.specs.Grid.{part}
-use Rattle.model.specs.State.{Waiting, Locks, Server}
+use Rattle.model.specs.State.{Waiting, Server}
 use Rattle.state.specs.Table.{tab, tab_same, tab_set, tab_more, get_d_tab, length_tab}
 use Rattle.state.specs.Layout.{LOCKS, CLOCK, HOLDER, SHARERS, KEY, COUNT, ENTRIES, REQUESTS, REQUEST, QUEUE, WORDS}
-use Rattle.state.specs.View.{Memory, memory, word, key_of, entries_of, slot_at, request_at, waiting_of, locks_of, view}
+use Rattle.state.specs.View.{memory, word, key_of, entries_of, slot_at, request_at, waiting_of, locks_of, view}
 use Rattle.state.specs.Change.{off, here, key_off, past_homes, entries_off, rest_off}
 use Rattle.queue.specs.Requests.{count_of, Idle, string_at, slot_small, unseen}
 

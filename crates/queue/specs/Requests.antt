@@ -1,10 +1,10 @@
 -- Requests: each slot has a row for one (deadline, length) and a place for its string; the queue lists the slots that wait, oldest
 -- first. A request that does not wait is not seen. Assumes nothing.
-use Rattle.std.specs.Prelude.{◌≡◌, refl, ◌⊎◌, Bool, true, false, not, cond, eqb, set}
+use Rattle.std.specs.Prelude.{◌≡◌, refl, true, not, eqb, set}
 use Rattle.std.proofs.Math.Path.{sym, ap, ap₂}
-use Rattle.std.proofs.Common.{◌∙◌, inl, inr, zero-add, mod-eq_of_lt, mul-le-mul_right, lit<, length-drop, length-append, take-append-drop, take_at, drop-drop, eq-eqb, ne_eqb}
+use Rattle.std.proofs.Common.{◌∙◌, inr, zero-add, lit<, length-drop, take-append-drop, ne_eqb}
 use Rattle.std.proofs.Math.Logic.{⊎_elim}
-use mathlib.Core.List.{List, [], ◌∷◌, ◌++◌, append_assoc}
+use mathlib.Core.List.{List, ◌∷◌, ◌++◌, append_assoc}
 use Prim.Native.Nat.{ℕ, zero, suc, ◌+◌, ◌*◌, ◌-◌, ◌%◌, ◌^◌, ◌≤◌, ◌<◌, min}
 use native.Mathlib.Omega.{arith}
 use Rattle.std.proofs.Math.ListN.{length, get_or, take, drop, length-take}
@@ -14,12 +14,11 @@ use Rattle.std.proofs.lemmas.Bool.{eqb-false, not-true}
 use Rattle.wire.specs.Splice.{splice, drop_splice}
 use Rattle.model.specs.Sizes.{session_limit, string_limit, list_limit}
 use Rattle.model.specs.Lists.{all}
-use Rattle.model.specs.State.{Entry, Waiting}
 use Rattle.model.specs.Locks.{elsewhere}
-use Rattle.state.specs.Table.{tab, tab_same, tab_more, all_tab_row, apart}
+use Rattle.state.specs.Table.{tab, tab_same, all_tab_row, apart}
 use Rattle.state.specs.Grid.{part, word_of}
-use Rattle.state.specs.Layout.{LOCKS, CLOCK, HOLDER, SHARERS, KEY, COUNT, ENTRIES, REQUESTS, REQUEST, QUEUE, WORDS, LIST, STRINGS}
-use Rattle.state.specs.View.{Memory, memory, word, key_of, entries_of, slot_at, request_at, waiting_of, locks_of, view}
+use Rattle.state.specs.Layout.{CLOCK, KEY, COUNT, REQUESTS, REQUEST, QUEUE, WORDS, LIST, STRINGS}
+use Rattle.state.specs.View.{memory, word, key_of, entries_of, slot_at, request_at, waiting_of, locks_of, view}
 use Rattle.state.specs.Change.{off, here, key_off, past_homes, entries_off, rest_off}
 
 -- how many wait

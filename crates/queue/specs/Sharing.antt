@@ -1,6 +1,6 @@
 -- The string of the shared lock: laid while nobody shares, it is seen by nobody; a session that joins those that share has it. Assumes nothing.
-use Rattle.std.specs.Prelude.{◌≡◌, refl, Bool, true, false, not, cond, List, [], ◌∷◌, ℕ, ◌+◌, ◌*◌, ◌-◌, ◌%◌, ◌^◌, ◌≤◌, ◌<◌, min, eqb, length, set, take}
-use Rattle.std.proofs.Common.{sym, ap, ◌∙◌, inl, true≢false, arith, take-take, ne_eqb, eqb-true}
+use Rattle.std.specs.Prelude.{◌≡◌, Bool, true, false, cond, List, [], ℕ, ◌+◌, ◌*◌, ◌-◌, ◌%◌, ◌^◌, ◌≤◌, ◌<◌, min, eqb, length, set, take}
+use Rattle.std.proofs.Common.{sym, ap, ◌∙◌, inl, arith, take-take, ne_eqb, eqb-true}
 use Rattle.std.proofs.lemmas.Bool.{eqb-false}
 use Rattle.wire.specs.Splice.{splice, length_splice}
 use Rattle.model.specs.Sizes.{session_limit, string_limit, list_limit}
@@ -10,8 +10,8 @@ use Rattle.model.specs.State.{Server}
 use Rattle.state.specs.Table.{tab_same}
 use Rattle.bits.specs.Bits.{bit}
 use Rattle.state.specs.Bits.{empty_bits}
-use Rattle.state.specs.Layout.{CLOCK, HOLDER, SHARERS, KEY, ENTRIES, ENTRY, WORDS, LIST, STRINGS}
-use Rattle.state.specs.View.{Memory, memory, word, key_of, field_of, order_word, entry_from, entry_at, entries_of, waiting_of, locks_of, view}
+use Rattle.state.specs.Layout.{CLOCK, HOLDER, SHARERS, KEY, WORDS, LIST, STRINGS}
+use Rattle.state.specs.View.{Memory, memory, word, key_of, field_of, order_word, entry_from, entry_at, entries_of, locks_of, view}
 use Rattle.state.specs.Change.{on_entry, off, here, past_homes, entries_off, waiting_off, rest_off}
 use Rattle.state.specs.Holders.{sharers_test, fits_some}
 use Rattle.queue.specs.Requests.{part_behind, take_here, waiting_strings}

@@ -1,6 +1,6 @@
 -- Strings in the lent bytes: the shared one and each slot's, as parts of the bytes, and comparing two. Assumes nothing.
-use Rattle.std.specs.Prelude.{◌≡◌, refl, Bool, true, false, ◌&&◌, List, [], ◌∷◌, ◌++◌, ℕ, zero, suc, ◌+◌, ◌*◌, ◌-◌, ◌%◌, ◌^◌, ◌≤◌, ◌<◌, min, eqb, length, get_or, take, drop}
-use Rattle.std.proofs.Common.{sym, ap, ap₂, ◌∙◌, true≢false, not-suc-le-zero, add-one, arith, lit<, length-take, length-drop, drop_of_length-le, drop-cons, eq-eqb, ne_eqb, eqb-true}
+use Rattle.std.specs.Prelude.{◌≡◌, refl, Bool, true, false, ◌&&◌, List, [], ◌∷◌, ℕ, zero, suc, ◌+◌, ◌*◌, ◌-◌, ◌≤◌, ◌<◌, min, eqb, length, get_or, take, drop}
+use Rattle.std.proofs.Common.{sym, ap, ◌∙◌, true≢false, not-suc-le-zero, add-one, arith, length-take, length-drop, drop_of_length-le, drop-cons, eq-eqb, ne_eqb, eqb-true}
 use Rattle.model.specs.Sizes.{session_limit, string_limit}
 use Rattle.wire.specs.Both.{and_left, and_right}
 use Rattle.model.specs.Lists.{same}

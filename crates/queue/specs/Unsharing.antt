@@ -1,11 +1,10 @@
 -- The shared string in memory in order: it comes with the first that shares, and goes with the last. Assumes nothing.
-use Rattle.std.specs.Prelude.{◌≡◌, refl, ◌⊎◌, List, ℕ, zero, suc, ◌+◌, ◌*◌, ◌-◌, ◌%◌, ◌^◌, ◌≤◌, ◌<◌, min, length, set}
-use Rattle.std.proofs.Common.{sym, ap, subst, ◌∙◌, inl, inr, ⊎_elim, mod-eq_of_lt, arith, lit<, length-set}
+use Rattle.std.specs.Prelude.{◌≡◌, List, ℕ, ◌+◌, ◌*◌, ◌-◌, ◌%◌, ◌^◌, ◌≤◌, ◌<◌, min, length, set}
+use Rattle.std.proofs.Common.{sym, ap, subst, ◌∙◌, inr, ⊎_elim, mod-eq_of_lt, arith, lit<, length-set}
 use Rattle.std.proofs.Math.Nat.{one-le-pow}
 use Rattle.wire.specs.Splice.{splice, length_splice}
 use Rattle.model.specs.Sizes.{session_limit, connection_limit, string_limit}
 use Rattle.state.specs.Table.{below}
-use Rattle.bits.specs.Bits.{bit}
 use Rattle.state.specs.Bits.{without}
 use Rattle.state.specs.Layout.{EXCHANGES, EXCHANGE, CONNECTIONS, CONNECTION, HOME, LISTED, CLOCK, HOLDER, SHARERS, KEY, COUNT, ENTRIES, ENTRY, ORDERS, ORDER}
 use Rattle.state.specs.Layout.{REQUESTS, REQUEST, QUEUE, WORDS, LIST, STRINGS, SENSINGS, SENSING}

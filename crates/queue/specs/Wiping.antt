@@ -1,18 +1,17 @@
 -- Bytes that are wiped, and the words that go with them: the request of a slot that does not wait, the shared string where nobody shares.
 -- Nobody sees it. Assumes nothing.
-use Rattle.std.specs.Prelude.{◌≡◌, refl, ◌⊎◌, Bool, true, false, ℕ, zero, suc, ◌+◌, ◌*◌, ◌-◌, ◌%◌, ◌^◌, ◌≤◌, ◌<◌, min, eqb, length, set}
-use Rattle.std.proofs.Common.{sym, ap, ◌∙◌, inl, inr, ⊎_elim, arith, lit<, length-set, ext_get_or, eqb-true}
+use Rattle.std.specs.Prelude.{◌≡◌, refl, ◌⊎◌, ℕ, ◌+◌, ◌*◌, ◌-◌, ◌%◌, ◌^◌, ◌≤◌, ◌<◌, length, set}
+use Rattle.std.proofs.Common.{sym, ap, ◌∙◌, inl, inr, ⊎_elim, arith, lit<, length-set, ext_get_or}
 use Rattle.std.proofs.Math.Path.{ap₂}
 use mathlib.Core.List.{List, ◌∷◌}
 use Rattle.std.proofs.Math.ListN.{take}
-use Rattle.std.proofs.lemmas.Bool.{eqb-false}
 use Rattle.model.specs.Sizes.{session_limit, string_limit, list_limit}
 use Rattle.state.specs.Table.{apart, below}
 use Rattle.state.specs.Grid.{part, word_of, length_part}
-use Rattle.state.specs.Layout.{CLOCK, HOLDER, SHARERS, KEY, COUNT, ENTRIES, REQUESTS, REQUEST, QUEUE, WORDS, LIST, STRINGS}
-use Rattle.state.specs.View.{memory, word, key_of, slot_at, waiting_of, entries_of, locks_of, view}
+use Rattle.state.specs.Layout.{CLOCK, SHARERS, KEY, COUNT, REQUESTS, REQUEST, WORDS, LIST, STRINGS}
+use Rattle.state.specs.View.{memory, word, key_of, locks_of, view}
 use Rattle.state.specs.Change.{off, here, past_homes, entries_off, waiting_off, rest_off}
-use Rattle.queue.specs.Requests.{count_of, Idle, unseen, waiting_strings}
+use Rattle.queue.specs.Requests.{Idle, unseen, waiting_strings}
 use Rattle.queue.specs.Queue.{slot_off}
 use Rattle.queue.specs.Sharing.{unshared_entries}
 

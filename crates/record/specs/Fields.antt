@@ -1,11 +1,11 @@
 -- Numbers and rows of bytes: what was written is read again, and what is read was written. Assumes nothing.
-use Rattle.std.specs.Prelude.{◌≡◌, Bool, ◌&&◌, List, [], ◌∷◌, ◌++◌, ℕ, ◌+◌, ◌^◌, ◌≤◌, ◌<◌, eqb, leb, length, take, drop}
+use Rattle.std.specs.Prelude.{◌≡◌, Bool, ◌&&◌, List, ◌++◌, ℕ, ◌+◌, ◌^◌, ◌≤◌, ◌<◌, leb, length, take, drop}
 use Rattle.std.proofs.Math.Path.{refl}
 use Rattle.std.proofs.Common.{sym, ap, ap₂, subst, ◌∙◌, append_assoc, arith, length-append, length-take, take-append-drop, take_at, drop_at, le-leb, leb-true}
 use Rattle.std.proofs.Math.Bool.{true, false}
 use Rattle.wire.specs.Field.{field, number, Bytes, length_field, number_field, field_number, number_bound}
-use Rattle.journal.specs.Journal.{choose, body_limit}
-use Rattle.journal.specs.Bytes.{yes_is, no_is, and_is, and_left, and_right, take_bytes, drop_bytes}
+use Rattle.journal.specs.Journal.{choose}
+use Rattle.journal.specs.Bytes.{yes_is, and_is, and_left, and_right, take_bytes, drop_bytes}
 use Rattle.record.specs.Layout.{row, Row, Read, found, none, and_then, get_number, get_row}
 
 pub then_is : {A B : Type 0} {r : Read A} {a : A} {s : List ℕ} (f : A → List ℕ → Read B) → r ≡ found a s → and_then r f ≡ f a s

@@ -16,7 +16,7 @@
 -- The layout says shape only: what the server would refuse (33 patterns, a payload above 1,024 bytes, connection 200) has a layout as
 -- long as it fits a body. The two limits of bytes shown keep one encoding for each event: bytes beyond them count for nothing.
 -- Assumes nothing.
-use Rattle.std.specs.Prelude.{Bool, true, false, ◌&&◌, List, [], ◌∷◌, ◌++◌, ℕ, ◌+◌, ◌^◌, ◌≤◌, ◌<◌, eqb, leb, length, take, drop}
+use Rattle.std.specs.Prelude.{◌&&◌, List, [], ◌∷◌, ◌++◌, ℕ, ◌^◌, ◌≤◌, ◌<◌, eqb, leb, length, take, drop}
 use Rattle.wire.specs.Field.{field, number, Bytes}
 use Rattle.journal.specs.Journal.{choose, body_limit}
 

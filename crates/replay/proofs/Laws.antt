@@ -16,7 +16,7 @@ use Rattle.journal.specs.Journal.{choose, body_limit}
 use Rattle.journal.specs.Bytes.{yes_is, no_is}
 use Rattle.record.specs.Layout.{Event as Recorded, opening as r-opening, delivery as r-delivery, cut as r-cut, clock as r-clock, answer as r-answer}
 use Rattle.record.specs.Layout.{status as r-status, watch_off, watch_above, watch_outside, patterns as r-patterns, Read, found, none, Fits, decode}
-use Rattle.record.specs.RoundTrip.{read_written}
+use Rattle.record.proofs.RoundTrip.{read_written}
 use Rattle.record.specs.Parts.{seen, Reads, nine}
 use Rattle.record.specs.declared.parts.Parts.{Parts}
 use Rattle.verifier.specs.Judge.{Fault, in_layout, in_parcels, Deed, refused, gave, Went, on, fault, same, by_deed, by_event}

@@ -2,7 +2,6 @@
 -- function's `Reads.Post`, at its arguments a, its result r and what it lent back s). A contract that says less is refused here.
 use mathlib.Core.List.{List, [], ◌∷◌}
 use mathlib.Core.Bool.{not}
-use Prim.Native.Nat.{ℕ}
 use lib.Dec.{eqb}
 use lib.ListN.{length, take}
 use contract.Lifetimes.{Lfts}

@@ -7,11 +7,11 @@ use Rattle.wire.specs.Frame.{Frame, bytes_of, frame_bytes, frame_of}
 use Rattle.wire.specs.Message.{encode, header_bytes}
 use Rattle.model.specs.MessageTypes.{Error}
 use Rattle.model.specs.State.{Server}
-use Rattle.model.specs.Interface.{Event, Event.opening, Event.delivery, Event.cut, Event.clock, Event.answer, Event.status, Event.setting, Outcome}
+use Rattle.model.specs.Interface.{Event, Event.opening, Event.delivery, Event.cut, Event.clock, Event.answer, Event.status, Event.setting}
 use Rattle.model.specs.Interface.{Outcome.more_needed, Outcome.skipped, Outcome.held, Outcome.ignored, Outcome.error_sent, Outcome.closed, Outcome.acted}
 use Rattle.model.specs.Interface.{Reply, Reply.refused, Reply.done, Reply.withheld, Reply.took}
 use Rattle.model.specs.Step.{Line, log, step}
-use Rattle.model.specs.Demand3.{Seen, seen}
+use Rattle.model.specs.Demand3.{seen}
 use Rattle.model.specs.Happening.{happened}
 use Rattle.model.specs.InStep.{Numbering, numbering_after, noted_line, numbering_of, count_up, error_0, Counts, NeverOut}
 use Rattle.claims.proofs.Replies.{Erring, erring}

@@ -6,32 +6,28 @@ use mathlib.Core.List.{List, [], ◌∷◌, map, ◌++◌}
 use Prim.Native.Nat.{ℕ, zero, suc, ◌+◌, ◌<◌, ◌^◌}
 use lib.Dec.{eqb}
 use native.Mathlib.Omega.{arith}
-use lib.ListN.{get_or, length, take}
+use lib.ListN.{get_or, length}
 use lib.Seq.{take-nil}
-use Rattle.wire.specs.declared.Header.{Header}
 use Rattle.wire.specs.Class.{one_of}
 use Rattle.wire.specs.Message.{header, payload_of, encode, header_bytes}
 use Rattle.wire.specs.Frame.{bytes_of, bytes_one, frame_bytes, frame_of, Frame}
 use Rattle.model.specs.Sizes.{no_connection}
-use Rattle.model.specs.State.{Making, Allowed, Allowed.any_command, Server, at, exchange_at, fresh, live, slot_of_number, Entry, Rest, fresh_sensing, sensing_at}
+use Rattle.model.specs.State.{Making, Allowed, Allowed.any_command, Server, at, exchange_at, fresh, live, slot_of_number, fresh_sensing, sensing_at}
 use Rattle.wire.proofs.ReadFrames.{read_frames_lem}
 use Rattle.model.specs.Lists.{any, tally, keep}
 use Rattle.model.specs.Interface.{Event, Event.opening, Event.delivery, Event.cut, Event.clock, Event.answer, Event.status, Event.setting, Setting.patterns}
 use Rattle.model.specs.Interface.{Outcome, Outcome.more_needed, Outcome.skipped, Outcome.held, Outcome.ignored, Outcome.error_sent, Outcome.closed}
 use Rattle.model.specs.Interface.{Outcome.acted, Reply, Reply.refused, Reply.done, Reply.withheld, Reply.took, outcome_number, DeliveryAnswer, delivery_answer}
 use Rattle.model.specs.Interface.{DoneAnswer, done_answer, AnsweredAnswer, answered_answer, Setting.watch}
-use Rattle.model.specs.Scan.{Scan, Scan.empty, Scan.few, Scan.wrong, Scan.skipping, Scan.long, Scan.part, Scan.whole}
-use Rattle.model.specs.Place.{slot_of, Role, Role.r_none, Role.r_half_open, Role.r_synchronous, Role.r_asynchronous}
-use Rattle.model.specs.Checks.{Verdict, Verdict.v_more, Verdict.v_skipped, Verdict.v_held, Verdict.v_ignored, Verdict.v_closed, Verdict.v_acts, Verdict.v_error, Verdict.v_fatal}
-use Rattle.model.specs.Acts.{acts, opens}
+use Rattle.model.specs.Place.{slot_of}
 use Rattle.model.specs.Refusals.{refusal}
-use Rattle.model.specs.Step.{Line, Result, answer_type, answered, withholds, effect, final, finish, log, plan, received, step}
+use Rattle.model.specs.Step.{Line, Result, answer_type, answered, withholds, final, finish, log, plan, received, step}
 use Rattle.model.specs.Post.{Post}
 use Rattle.model.specs.Demand3.{Seen, seen, seen_events, Calls, Calls.none as no_call, Calls.call}
 use Rattle.model.specs.Tie.{Track, nothing_yet, track, track_of_log, said}
 use Rattle.model.specs.IsolationRun as Log
 use Rattle.model.specs.IsolationRun.{Undisturbed}
-use Rattle.claims.proofs.Demand3.{demand3, made, one}
+use Rattle.claims.proofs.Demand3.{demand3, made}
 use Rattle.claims.proofs.Refused.{Took, effect_took}
 use Rattle.model.specs.SessionId.{last_in_log}
 use Rattle.model.specs.Permitted.{ActsExactly}
@@ -90,7 +86,7 @@ use Rattle.server.specs.declared.Done.{Done}
 use Rattle.server.specs.declared.listing.Listed.{Listed}
 use Rattle.server.specs.Calls.{Delivered}
 use Rattle.server.specs.Events.{Called, Fresh, Replied, done_numbers, answered_numbers}
-use Rattle.server.specs.Listing.{SetsList, listed_numbers}
+use Rattle.server.specs.Listing.{listed_numbers}
 use Rattle.server.specs.Program.{outcome_of, refused_or, delivery_reply, done_reply, answered_reply, listed_reply, list_in, list_shown, Run, Run.stop}
 use Rattle.server.specs.Program.{Run.hislip_patterns, Run.hislip_open, Run.hislip_deliver, Run.hislip_cut, Run.hislip_clock, Run.hislip_answer}
 use Rattle.server.specs.Program.{Run.hislip_status, track_in, shown_of, Tied, taken_of, CountsIn, NeverOutIn, OnlyOf, Program, NoWorseSeen, line_seen}

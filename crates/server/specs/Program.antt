@@ -50,7 +50,7 @@ use Rattle.server.specs.declared.Answered.{Answered}
 use Rattle.server.specs.declared.Done.{Done}
 use Rattle.server.specs.declared.listing.Listed.{Listed}
 use Rattle.server.specs.Calls.{Delivered}
-use Rattle.server.specs.Events.{Called, Fresh, Replied}
+use Rattle.server.specs.Events.{Called, Replied}
 use Rattle.server.specs.Listing.{SetsList}
 
 -- the reply that a returned struct tells: a refusal, else the outcome by its number, the bytes taken and the session

@@ -1,6 +1,6 @@
 -- What the functions of the asynchronous lane ensure, and how a plan of that lane is met. Assumes nothing.
 use Rattle.std.specs.Prelude.{◌≡◌, List, [], ◌∷◌, ℕ, ◌+◌, length}
-use Rattle.std.proofs.Common.{sym, ap, ◌∙◌, true≢false, append-nil, ne_eqb}
+use Rattle.std.proofs.Common.{sym, ap, ◌∙◌, true≢false, ne_eqb}
 use Rattle.wire.specs.declared.Header.{Header}
 use Rattle.wire.specs.Frame.{Frame, frame_bytes, bytes_of, bytes_one, written, length_frame}
 use Rattle.wire.specs.Splice.{splice}

@@ -1,5 +1,5 @@
 -- Closing a connection and, if it has one, its session: what the code's stores do, and that this is the model's closing. Assumes nothing.
-use Rattle.std.specs.Prelude.{◌≡◌, refl, Bool, true, false, not, ◌||◌, cond, ℕ, zero, suc, ◌+◌, ◌≤◌, ◌<◌, get_or, set}
+use Rattle.std.specs.Prelude.{◌≡◌, refl, Bool, true, false, not, ◌||◌, cond, ℕ, suc, ◌+◌, ◌≤◌, ◌<◌, get_or, set}
 use Rattle.std.proofs.Common.{sym, ap, ap₂, ◌∙◌, not-suc-le-zero, le_of_suc-le-suc, arith, eq-eqb, ne_eqb}
 use mathlib.Core.List.{List, [], ◌∷◌, map}
 use Rattle.std.proofs.Math.Dec.{eqb}
@@ -7,21 +7,21 @@ use Rattle.std.proofs.Math.ListN.{length, get_or-eq_default}
 use Rattle.std.proofs.Math.Seq.{set_out}
 use Rattle.model.specs.Sizes.{session_limit, connection_limit, no_connection}
 use Rattle.model.specs.Lists.{all, position, keep}
-use Rattle.model.specs.State.{Entry, Waiting, Locks, Exchange, Connection, Rest, Server, at, blank, live, fresh_exchange, open_exchange, closed_connection}
-use Rattle.model.specs.State.{exchange_at, with_connections, with_exchange, fresh_sensing, with_sensing}
+use Rattle.model.specs.State.{Entry, Locks, Exchange, Connection, Rest, Server, at, blank, live, fresh_exchange, open_exchange, closed_connection}
+use Rattle.model.specs.State.{with_connections, with_exchange, fresh_sensing, with_sensing}
 use Rattle.wire.specs.Both.{and_left, and_right}
 use Rattle.wire.specs.MessageId.{start}
 use Rattle.model.specs.Exchange.{with_count}
-use Rattle.model.specs.Place.{is_on_connection, place_of, slot_in, slot_of}
-use Rattle.model.specs.Locks.{LockResult, LockEvent.close, elsewhere, change, grant_pass}
+use Rattle.model.specs.Place.{is_on_connection, place_of, slot_in}
+use Rattle.model.specs.Locks.{LockEvent.close, elsewhere, change, grant_pass}
 use Rattle.model.specs.Step.{channels, shut_all, closing, lock_frame}
 use Rattle.wire.specs.Frame.{bytes_of}
 use Rattle.wire.specs.Splice.{splice}
 use Rattle.holding.specs.Outcome.{Met}
 use Rattle.state.specs.Table.{tab, all_tab}
-use Rattle.state.specs.Grid.{upd, upd_upd, upd_set, grid}
+use Rattle.state.specs.Grid.{upd_upd, upd_set, grid}
 use Rattle.state.specs.Change.{sessions_held, on_rest, on_connection as onRow, connection_with, on_exchange, exchange_with}
-use Rattle.state.specs.View.{Memory, memory, view, request_at, slot_at, waiting_of, locks_of, rest_of, connection_of}
+use Rattle.state.specs.View.{Memory, memory, view, request_at, slot_at, waiting_of, locks_of, rest_of}
 use Rattle.queue.specs.Requests.{count_of, slot_small}
 
 -- how many connections the memory has

@@ -1,12 +1,12 @@
 -- What a function of a delivery ensures that does what the model says: the numbers it returns, the server in memory, every byte of the
 -- lent buffer; and that a delivery which takes nothing and closes nothing leaves every lent byte alone; memory in order
 -- stays so. Assumes nothing.
-use Rattle.std.specs.Prelude.{◌≡◌, refl, Bool, true, false, List, [], ◌∷◌, ◌++◌, map, ℕ, ◌+◌, length}
+use Rattle.std.specs.Prelude.{◌≡◌, refl, true, false, List, [], ◌++◌, ℕ, length}
 use Rattle.std.proofs.Common.{sym, ap, ◌∙◌, true≢false, append-nil}
 use Rattle.wire.specs.Frame.{Frame, bytes_of, written}
-use Rattle.wire.specs.Splice.{splice, splice_nil}
+use Rattle.wire.specs.Splice.{splice_nil}
 use Rattle.model.specs.State.{Server, Rest}
-use Rattle.model.specs.Interface.{Reply, Reply.took, DeliveryAnswer, delivery_answer, Outcome.more_needed, Outcome.held}
+use Rattle.model.specs.Interface.{Reply, DeliveryAnswer, delivery_answer}
 use Rattle.model.specs.Canonical.{omits}
 use Rattle.model.specs.Locks.{LockEvent.nothing, change}
 use Rattle.model.specs.Acts.{Plan}

@@ -1,7 +1,7 @@
 -- Error and FatalError as the model plans them, and their frames in the buffer. Assumes nothing.
-use Rattle.std.specs.Prelude.{◌≡◌, refl, Bool, true, false, cond, ℕ, ◌+◌, ◌-◌, ◌%◌, ◌≤◌, min, eqb, set}
+use Rattle.std.specs.Prelude.{◌≡◌, refl, ℕ, ◌+◌, ◌-◌, ◌%◌, ◌≤◌}
 use Rattle.std.proofs.Math.Path.{sym, ap, ap₂}
-use Rattle.std.proofs.Common.{◌∙◌, true≢false, add-zero, zero-add, arith}
+use Rattle.std.proofs.Common.{◌∙◌, true≢false, zero-add, arith}
 use mathlib.Core.List.{List, [], ◌∷◌, ◌++◌, map, append-nil}
 use Rattle.std.proofs.Math.ListN.{length, length-append, get_or-eq_default}
 use Rattle.wire.specs.Frame.{Frame, frame_of, frame_bytes, bytes_of, bytes_one, written, length_frame}
@@ -9,15 +9,14 @@ use Rattle.wire.specs.Splice.{splice, splice_nil, splice_then, splice_splice}
 use Rattle.model.specs.Sizes.{session_limit}
 use Rattle.model.specs.MessageTypes.{FatalError, Error}
 use Rattle.model.specs.State.{Server, Rest, Entry, Connection, at, blank, open_connection, connection_at, with_connection}
-use Rattle.model.specs.Interface.{Reply, Reply.took, DeliveryAnswer, delivery_answer, Outcome.skipped, Outcome.ignored, Outcome.error_sent, Outcome.closed}
-use Rattle.model.specs.Canonical.{omits}
+use Rattle.model.specs.Interface.{Reply.took, delivery_answer, Outcome.skipped, Outcome.ignored, Outcome.error_sent, Outcome.closed}
 use Rattle.model.specs.Locks.{LockEvent.close, change, grant_pass}
 use Rattle.model.specs.Acts.{Plan, say}
-use Rattle.model.specs.Step.{Result, finish, closing, channels, lock_frame}
-use Rattle.state.specs.Grid.{upd, upd_upd, upd_set}
+use Rattle.model.specs.Step.{finish, closing, lock_frame}
+use Rattle.state.specs.Grid.{upd_upd, upd_set}
 use Rattle.state.specs.Change.{on_rest, on_connection, connection_with}
 use Rattle.state.specs.Tidy.{Tidy}
-use Rattle.state.specs.View.{Memory, memory, view, flag, locks_of}
+use Rattle.state.specs.View.{Memory, flag, locks_of}
 use Rattle.sessions.specs.declared.Delivery.{Delivery}
 use Rattle.sessions.specs.Did.{Did, numbers_of, plainly}
 use Rattle.state.specs.Change.{sessions_held}

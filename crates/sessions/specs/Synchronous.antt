@@ -1,8 +1,8 @@
 -- Messages that act on the synchronous channel: what their stores do to the session's exchange, and the model's plan by kind.
 -- Assumes nothing.
-use Rattle.std.specs.Prelude.{◌≡◌, Bool, not, ◌&&◌, ◌||◌, cond, ◌⊎◌, List, [], ◌∷◌, ℕ, ◌+◌, ◌*◌, ◌-◌, ◌%◌, ◌^◌, ◌<◌, ◌≤◌, eqb, length}
+use Rattle.std.specs.Prelude.{◌≡◌, Bool, not, ◌&&◌, ◌||◌, cond, List, [], ℕ, ◌+◌, ◌*◌, ◌-◌, ◌%◌, ◌^◌, ◌<◌, ◌≤◌, eqb}
 use Rattle.std.proofs.Math.Path.{refl}
-use Rattle.std.proofs.Common.{sym, ap, ap₂, subst, ◌∙◌, true≢false, inl, inr, ⊎_elim, mod-eq_of_lt, arith, eq-eqb, ne_eqb}
+use Rattle.std.proofs.Common.{sym, ap, subst, ◌∙◌, true≢false, mod-eq_of_lt, arith, eq-eqb, ne_eqb}
 use Rattle.std.proofs.Math.Bool.{true, false}
 use Rattle.wire.specs.Frame.{Frame}
 use Rattle.wire.specs.declared.Header.{Header}
@@ -13,11 +13,11 @@ use Rattle.model.specs.Exchange.{after_rmt, with_answering, note_rmt, ask, bit0,
 use Rattle.model.specs.Place.{Role.r_synchronous}
 use Rattle.model.specs.Locks.{LockEvent.nothing, LockEvent.command}
 use Rattle.model.specs.Acts.{Plan, say, SynchronousKind, SynchronousKind.k_data, SynchronousKind.k_data_end, SynchronousKind.k_trigger}
-use Rattle.model.specs.Acts.{SynchronousKind.k_clear_complete, synchronous_kind, synchronous_exchange, interruptions, synchronous_first, synchronous_said}
+use Rattle.model.specs.Acts.{SynchronousKind.k_clear_complete, synchronous_exchange, interruptions, synchronous_first, synchronous_said}
 use Rattle.model.specs.Acts.{synchronous_event, acts}
-use Rattle.state.specs.Grid.{upd, upd_upd, upd_set}
+use Rattle.state.specs.Grid.{upd_upd, upd_set}
 use Rattle.state.specs.Change.{on_rest, on_exchange, exchange_with}
-use Rattle.state.specs.View.{Memory, view, asked_of}
+use Rattle.state.specs.View.{Memory, asked_of}
 use Rattle.model.specs.Step.{finish}
 use Rattle.sessions.specs.declared.Delivery.{Delivery}
 use Rattle.sessions.specs.Asynchronous.{plan_with, plan_first}

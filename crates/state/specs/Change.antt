@@ -1,6 +1,6 @@
 -- What a store into one field does to the server: a change of one row of a table, or of one single value. A field is named by its place
 -- in the row, and one law over the place serves every field. Assumes nothing.
-use Rattle.std.specs.Prelude.{◌≡◌, ◌⊎◌, Bool, true, false, List, [], ◌∷◌, length, get_or, set}
+use Rattle.std.specs.Prelude.{◌≡◌, ◌⊎◌, Bool, true, false, List, [], ◌∷◌, length, set}
 use Rattle.std.proofs.Math.Path.{refl, sym, ap, ap₂}
 use Rattle.std.proofs.Common.{◌∙◌, inl, inr, zero-add, arith, lit<, get_or-set_same, get_or-set_other, eqb-true}
 use Rattle.std.proofs.Math.Logic.{⊎_elim}
@@ -11,7 +11,7 @@ use Rattle.std.proofs.Math.Dec.{eqb}
 use Rattle.std.proofs.Math.ListN.{take}
 use Rattle.std.proofs.lemmas.Bool.{eqb-false}
 use Rattle.model.specs.Sizes.{session_limit, connection_limit, string_limit, list_limit}
-use Rattle.model.specs.State.{Entry, Waiting, Locks, Exchange, Connection, RemoteLocal, Allowed, Allowed.any_command, Rest, Server, with_allowed, blank, at}
+use Rattle.model.specs.State.{Entry, Exchange, Connection, RemoteLocal, Allowed, Allowed.any_command, Rest, Server, with_allowed, blank, at}
 use Rattle.model.specs.State.{fresh_exchange, closed_connection, exchange_at, connection_at, Sensing, fresh_sensing, sensing_at}
 use Rattle.readings.specs.Record.{Recorded}
 use Rattle.model.specs.Exchange.{with_answering, with_clear, with_client_size, with_mode, with_count, with_expectation, with_number}
@@ -22,7 +22,7 @@ use Rattle.bits.specs.Bits.{bit}
 use Rattle.state.specs.Layout.{LOCKS, CLOCK, VENDOR, PREFERENCE, STATUS, LAST, ENABLE, LOCKOUT, REMOTE, HOLDER, SHARERS, KEY, COUNT, ENTRIES, ENTRY}
 use Rattle.state.specs.Layout.{ORDERS, ORDER, EXCHANGES, EXCHANGE, CONNECTIONS, CONNECTION, HOME, LISTED, REQUESTS, REQUEST, QUEUE, WORDS, LIST}
 use Rattle.state.specs.Layout.{SENSINGS, SENSING}
-use Rattle.state.specs.View.{Memory, memory, standing_of, word, flag, key_of, row_word, home_at, home_of, field_of, order_word, entry_from, entry_at, entries_of}
+use Rattle.state.specs.View.{memory, standing_of, word, flag, key_of, home_at, field_of, order_word, entry_from, entry_at, entries_of}
 use Rattle.state.specs.View.{slot_at, request_at, waiting_of, locks_of, asked_of, exchange_from, exchange_of, connection_from, connection_of, rest_from, rest_of}
 use Rattle.state.specs.View.{allowed_from, allowed_of, view, watch_of, numeral, sensing_from, sensing_of}
 use Rattle.state.specs.Confirmed.{field_same, field_small}

@@ -1,5 +1,5 @@
 -- Which session has a connection: what opening, joining and closing do to the table of sessions, and what one look finds. Assumes nothing.
-use Rattle.std.specs.Prelude.{◌≡◌, refl, ◌⊎◌, Bool, true, false, ◌&&◌, ◌||◌, length, set}
+use Rattle.std.specs.Prelude.{◌≡◌, refl, Bool, true, false, length, set}
 use Rattle.std.proofs.Math.Path.{sym, ap}
 use Rattle.std.proofs.Common.{subst, ◌∙◌, inl, inr, ⊎_elim, lit<, length-set, eqb-true}
 use Rattle.std.proofs.Math.Bool.{cond}
@@ -9,10 +9,10 @@ use native.Mathlib.Omega.{arith}
 use Rattle.std.proofs.Math.Dec.{eqb}
 use Rattle.std.proofs.lemmas.Bool.{eqb-false}
 use Rattle.model.specs.Sizes.{session_limit, connection_limit, no_connection}
-use Rattle.model.specs.State.{Entry, Locks, Connection, Allowed.any_command, Server, with_allowed}
+use Rattle.model.specs.State.{Entry, Connection, Allowed.any_command, Server, with_allowed}
 use Rattle.model.specs.Locks.{with_row, joined}
 use Rattle.state.specs.Table.{tab_same}
-use Rattle.state.specs.Grid.{upd, upd_same, grid, grid_set, grid_off}
+use Rattle.state.specs.Grid.{upd_same, grid, grid_set, grid_off}
 use Rattle.bits.specs.Bits.{bit}
 use Rattle.state.specs.Layout.{CLOCK, VENDOR, PREFERENCE, STATUS, LAST, ENABLE, LOCKOUT, REMOTE, HOLDER, SHARERS, ENTRIES, ENTRY, ORDERS, ORDER}
 use Rattle.state.specs.Layout.{EXCHANGES, EXCHANGE, CONNECTIONS, CONNECTION, HOME, WORDS, SENSINGS, SENSING}

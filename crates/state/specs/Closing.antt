@@ -3,7 +3,7 @@ use Rattle.std.specs.Prelude.{◌≡◌, refl, ◌⊎◌, Bool, true, false, con
 use Rattle.std.proofs.Common.{sym, ap, subst, ◌∙◌, inl, inr, ⊎_elim, arith, lit<, length-set, eqb-true, eq-eqb}
 use Rattle.std.proofs.lemmas.Bool.{eqb-false}
 use Rattle.model.specs.Sizes.{session_limit, connection_limit}
-use Rattle.state.specs.Layout.{CONNECTIONS, CONNECTION, HOME, ENTRIES, ENTRY, ORDERS, WORDS}
+use Rattle.state.specs.Layout.{ENTRIES, ENTRY, ORDERS, WORDS}
 use Rattle.state.specs.View.{memory, word, row_word, home_in, home_at, home_of, field_of}
 use Rattle.state.specs.Confirmed.{field_number, field_same, field_kept, Shows, shows}
 use Rattle.state.specs.Change.{off, here}

@@ -4,7 +4,7 @@ use Rattle.std.proofs.Common.{sym, ap, ap₂, ◌∙◌, mod-eq_of_lt, zero-add,
 use Rattle.wire.specs.MessageId.{start}
 use Rattle.readings.specs.Bits.{not_number}
 use Rattle.model.specs.Sizes.{session_limit, connection_limit, payload_limit, before_first}
-use Rattle.model.specs.State.{Making, Allowed.any_command, Server, Rest, fresh}
+use Rattle.model.specs.State.{Making, Allowed.any_command, Rest, fresh}
 use Rattle.state.specs.Table.{tab, get_d_tab}
 use Rattle.state.specs.Grid.{grid}
 use Rattle.state.specs.Layout.{EXCHANGES, EXCHANGE, CONNECTIONS, CONNECTION, ENTRY, ORDERS, ORDER, REQUESTS, REQUEST, WORDS, STRINGS, SENSING}

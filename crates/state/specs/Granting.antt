@@ -1,19 +1,19 @@
 -- What granting and freeing a lock does to the words of the holders, and so to the table of sessions. Assumes nothing.
-use Rattle.std.specs.Prelude.{◌≡◌, ◌⊎◌, Bool, true, not, List, [], ◌∷◌, ◌++◌, ℕ, zero, suc, ◌+◌, ◌*◌, ◌-◌, ◌%◌, ◌^◌, ◌≤◌, ◌<◌, length, get_or, set}
+use Rattle.std.specs.Prelude.{◌≡◌, Bool, true, List, [], ◌∷◌, ℕ, ◌+◌, ◌*◌, ◌%◌, ◌^◌, ◌<◌, length, set}
 use Rattle.std.proofs.Math.Path.{refl, ap₂}
-use Rattle.std.proofs.Common.{sym, ap, ◌∙◌, inl, inr, ⊎_elim, zero-add}
+use Rattle.std.proofs.Common.{sym, ap, ◌∙◌}
 use Rattle.std.proofs.Math.Bool.{false, cond}
 use native.Mathlib.Omega.{arith}
 use Rattle.std.proofs.Math.Dec.{eqb}
 use borrow.Author.Tests.{eq-eqb, ne_eqb}
 use Rattle.model.specs.Sizes.{session_limit}
-use Rattle.model.specs.State.{Entry, at}
+use Rattle.model.specs.State.{Entry}
 use Rattle.model.specs.Locks.{give, without_exclusive, without_shared}
 use Rattle.state.specs.Grid.{upd}
 use Rattle.bits.specs.Bits.{bit}
 use Rattle.state.specs.Bits.{without, with_bit, without_same, without_other, with_same, with_other, with_first}
-use Rattle.state.specs.Layout.{LOCKS, CLOCK, HOLDER, SHARERS, KEY, ENTRIES, ENTRY, ORDERS, ORDER, WORDS}
-use Rattle.state.specs.View.{Memory, memory, word, key_of, home_at, field_of, order_word, entry_from, entry_at, entries_of, waiting_of, locks_of, view}
+use Rattle.state.specs.Layout.{CLOCK, HOLDER, SHARERS, KEY, ENTRIES, ENTRY, ORDERS, ORDER, WORDS}
+use Rattle.state.specs.View.{memory, word, key_of, home_at, field_of, order_word, entry_from, entry_at, entries_of, waiting_of, locks_of, view}
 use Rattle.state.specs.Confirmed.{field_same}
 use Rattle.state.specs.Change.{on_entry, off, here, entry_same, key_off, waiting_off, rest_off, entries_change}
 

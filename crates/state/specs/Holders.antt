@@ -1,20 +1,19 @@
 -- Who holds which lock, read off two words in one look: the exclusive holder, and the set of those that share. Assumes nothing.
-use Rattle.std.specs.Prelude.{◌≡◌, ◌⊎◌, Bool, not, ◌||◌, List, [], ◌∷◌, ℕ, zero, suc, ◌+◌, ◌*◌, ◌-◌, ◌%◌, ◌^◌, ◌≤◌, ◌<◌, eqb, ltb, length, get_or, set}
+use Rattle.std.specs.Prelude.{◌≡◌, Bool, not, ◌||◌, List, [], ℕ, ◌+◌, ◌-◌, ◌%◌, ◌^◌, ◌≤◌, ◌<◌, eqb, ltb}
 use Rattle.std.proofs.Math.Path.{refl, sym, ap}
-use Rattle.std.proofs.Common.{◌∙◌, inl, inr, ⊎_elim, true≢false, zero-add, arith, eq-eqb, ne_eqb, eqb-true, ltb-true, ltb-false}
+use Rattle.std.proofs.Common.{◌∙◌, true≢false, zero-add, arith, eq-eqb, ne_eqb, eqb-true, ltb-true, ltb-false}
 use Rattle.std.proofs.Math.Bool.{true, false, cond}
 use Rattle.std.proofs.lemmas.Bool.{eqb-false}
 use Rattle.model.specs.Sizes.{session_limit}
 use Rattle.model.specs.Lists.{is_nil, same, all, all_but}
-use Rattle.model.specs.State.{Entry, at, blank}
-use Rattle.model.specs.Locks.{no_exclusive, no_shared, fits, give, without_exclusive, without_shared}
-use Rattle.state.specs.Table.{tab, tab_set, get_d_tab, all_tab, not_all_tab, all_but_tab, not_all_but_tab}
-use Rattle.state.specs.Grid.{upd, upd_set}
+use Rattle.model.specs.State.{Entry, at}
+use Rattle.model.specs.Locks.{no_exclusive, no_shared, fits}
+use Rattle.state.specs.Table.{tab, all_tab, not_all_tab, all_but_tab, not_all_but_tab}
 use Rattle.bits.specs.Bits.{bit}
-use Rattle.state.specs.Bits.{without, without_same, without_other, empty_bits, Member, member}
-use Rattle.state.specs.Layout.{HOLDER, SHARERS, ENTRIES, ENTRY, WORDS}
+use Rattle.state.specs.Bits.{empty_bits, member}
+use Rattle.state.specs.Layout.{HOLDER, SHARERS}
 use Rattle.state.specs.View.{word, key_of, entry_at, entries_of, locks_of}
-use Rattle.state.specs.Change.{entry_at_lem, off, here}
+use Rattle.state.specs.Change.{entry_at_lem}
 
 module _ (w s : List ℕ) where
   key_first : List ℕ

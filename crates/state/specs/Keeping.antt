@@ -1,12 +1,12 @@
 -- What leaves memory in order: each part of it stays where the words and bytes that it is read from stay; and so a store of a word within
 -- its range leaves all of it. Assumes nothing.
-use Rattle.std.specs.Prelude.{◌≡◌, refl, ◌⊎◌, Bool, true, false, cond, List, ℕ, zero, suc, ◌+◌, ◌*◌, ◌%◌, ◌^◌, ◌≤◌, ◌<◌, eqb, length, set}
+use Rattle.std.specs.Prelude.{◌≡◌, refl, ◌⊎◌, Bool, true, false, cond, List, ℕ, ◌+◌, ◌*◌, ◌%◌, ◌^◌, ◌≤◌, ◌<◌, eqb, length, set}
 use Rattle.std.proofs.Common.{sym, ap, ap₂, subst, ◌∙◌, inl, inr, ⊎_elim, arith, lit<, length-set, eqb-true, ne_eqb}
 use Rattle.std.proofs.lemmas.Bool.{eqb-false}
 use Rattle.model.specs.Sizes.{session_limit, connection_limit, string_limit, list_limit}
 use Rattle.state.specs.Bits.{with_bit, with_small, with_some}
-use Rattle.state.specs.Layout.{EXCHANGES, EXCHANGE, CONNECTIONS, CONNECTION, HOME, LISTED, LOCKS, CLOCK, HOLDER, SHARERS, KEY, COUNT, ENTRIES, ENTRY}
-use Rattle.state.specs.Layout.{ORDERS, ORDER, REQUESTS, REQUEST, QUEUE, WORDS, LIST, STRINGS, SENSINGS, SENSING}
+use Rattle.state.specs.Layout.{EXCHANGES, EXCHANGE, CONNECTIONS, CONNECTION, HOME, LISTED, CLOCK, HOLDER, SHARERS, KEY, COUNT, ENTRIES, ENTRY}
+use Rattle.state.specs.Layout.{ORDERS, ORDER, REQUESTS, REQUEST, QUEUE, WORDS, LIST, SENSINGS, SENSING}
 use Rattle.state.specs.View.{memory, word, row_word, home_at, home_of, field_of, slot_at}
 use Rattle.state.specs.Confirmed.{field_same}
 use Rattle.state.specs.Change.{off, here}

@@ -1,17 +1,17 @@
 -- Q-2: one look finds the session of a connection. Whatever the memory holds, no two slots show one connection, so where its home is
 -- confirmed there is its session, the one that a search of all slots finds; else it has none. Assumes nothing.
-use Rattle.std.specs.Prelude.{◌≡◌, refl, ◌⊎◌, ◌↔◌, Bool, true, false, not, ◌||◌, List, ℕ, zero, suc, ◌+◌, ◌*◌, ◌≤◌, ◌<◌, eqb, length}
-use Rattle.std.proofs.Common.{sym, ◌∙◌, inl, inr, ⊎_elim, true≢false, arith, lit<, eqb-true, ne_eqb, eq-eqb}
+use Rattle.std.specs.Prelude.{◌≡◌, refl, ◌⊎◌, ◌↔◌, Bool, true, false, not, ◌||◌, List, ℕ, zero, suc, ◌*◌, ◌<◌, eqb, length}
+use Rattle.std.proofs.Common.{sym, ◌∙◌, inl, inr, ⊎_elim, true≢false, arith, lit<, eqb-true, eq-eqb}
 use Rattle.std.proofs.Math.Path.{ap}
 use Rattle.std.proofs.lemmas.Bool.{eqb-false}
 use Rattle.model.specs.Sizes.{session_limit, connection_limit, no_connection}
 use Rattle.model.specs.State.{Entry, at, live, half_open, slot_of_number}
-use Rattle.model.specs.Place.{Role, Role.r_none, Role.r_half_open, Role.r_synchronous, Role.r_asynchronous, role_in, is_on_connection, place_of, slot_in, role_of}
+use Rattle.model.specs.Place.{Role, Role.r_none, Role.r_half_open, Role.r_synchronous, Role.r_asynchronous, role_in, is_on_connection, slot_in, role_of}
 use Rattle.model.proofs.Basics.{and_l, and_r, inside, pos_passes, pos_past, Sole}
 use Rattle.model.proofs.Place.{place_unique, place_role as role-is, no_role}
 use Rattle.state.specs.Table.{length_tab}
 use Rattle.state.specs.View.{row_word, home_in, home_of, key_of, field_of, entry_at, entries_of, locks_of}
-use Rattle.state.specs.Confirmed.{field_number, Shows, shows}
+use Rattle.state.specs.Confirmed.{field_number, shows}
 use Rattle.state.specs.Change.{entry_at_lem}
 use Rattle.state.specs.Channels.{Unshown}
 use Rattle.state.specs.Search.{role_number, place_slot, on_synchronous, on_asynchronous, role_half_open, role_synchronous, role_asynchronous, past_none}

@@ -1,14 +1,14 @@
 -- Searching the table of sessions for a number; and a session's connections and roles, test by test. Assumes nothing.
-use Rattle.std.specs.Prelude.{◌≡◌, Bool, true, false, cond, List, [], ◌∷◌, ℕ, zero, suc, ◌+◌, ◌-◌, ◌%◌, ◌≤◌, ◌<◌, eqb, length}
+use Rattle.std.specs.Prelude.{◌≡◌, Bool, true, false, List, ℕ, suc, ◌+◌, ◌-◌, ◌%◌, ◌≤◌, ◌<◌, eqb, length}
 use Rattle.std.proofs.Math.Path.{refl, sym}
 use Rattle.std.proofs.Common.{ap, ◌∙◌, zero-add, arith, eq-eqb, ne_eqb}
 use Rattle.std.proofs.Math.ListN.{get_or-eq_default}
 use Rattle.model.specs.Sizes.{session_limit, no_connection}
 use Rattle.model.specs.Lists.{position}
-use Rattle.model.specs.State.{Entry, at, blank, live, slot_of_number}
-use Rattle.model.specs.Place.{Role, Role.r_none, Role.r_half_open, Role.r_synchronous, Role.r_asynchronous, role_by, role_in, is_on_connection, Place, place_of}
+use Rattle.model.specs.State.{Entry, at, blank}
+use Rattle.model.specs.Place.{Role, Role.r_none, Role.r_half_open, Role.r_synchronous, Role.r_asynchronous, role_in, is_on_connection, place_of}
 use Rattle.state.specs.Table.{tab, length_tab}
-use Rattle.state.specs.View.{word, key_of, entry_at, entries_of, locks_of}
+use Rattle.state.specs.View.{key_of, entry_at, entries_of, locks_of}
 use Rattle.state.specs.Change.{entry_with, entry_at_lem}
 
 -- the number of each role

@@ -1,9 +1,9 @@
 -- The server that stands in the lent memory. Whatever bits the memory holds, it shows a server: each word is read within its range.
 -- Every later answer depends on the memory through this view alone. Assumes nothing.
-use Rattle.std.specs.Prelude.{Bool, true, false, not, ◌&&◌, cond, List, [], ◌∷◌, ℕ, zero, suc, ◌+◌, ◌*◌, ◌-◌, ◌%◌, ◌^◌, min, ◌/◌, eqb, ltb, get_or, take}
+use Rattle.std.specs.Prelude.{Bool, not, ◌&&◌, cond, List, [], ◌∷◌, ℕ, zero, suc, ◌+◌, ◌*◌, ◌-◌, ◌%◌, ◌^◌, min, ◌/◌, eqb, ltb, get_or, take}
 use Rattle.model.specs.Sizes.{session_limit, connection_limit, string_limit, list_limit, no_connection}
 use Rattle.model.specs.State.{Entry, Kind.exclusive_lock, Kind.shared_lock, Standing, Standing.no_release, Standing.release_of, Waiting, Locks, Asked}
-use Rattle.model.specs.State.{Asked.none, Asked.some, Exchange, Connection, RemoteLocal, Allowed, Allowed.any_command, Allowed.only, Rest, Server, with_allowed}
+use Rattle.model.specs.State.{Asked.none, Asked.some, Exchange, Connection, Allowed, Allowed.any_command, Allowed.only, Rest, Server, with_allowed}
 use Rattle.model.specs.State.{Sensing}
 use Rattle.state.specs.Table.{tab}
 use Rattle.state.specs.Grid.{part, grid}

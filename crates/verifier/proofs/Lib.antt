@@ -3,3 +3,4 @@ pub mod FramingLaws
 pub mod Pieces
 pub mod StandingLaws
 pub mod VerdictLaws
+pub mod Places

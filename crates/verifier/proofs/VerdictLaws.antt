@@ -7,26 +7,109 @@ use mathlib.Core.List.{List, [], ◌∷◌, ◌++◌, append_assoc, append-nil}
 use Prim.Native.Nat.{ℕ, zero, suc, ◌+◌, ◌^◌, ◌≤◌, ◌<◌, min}
 use native.Mathlib.Omega.{arith}
 use Rattle.std.proofs.Math.Dec.{eqb}
-use Rattle.std.proofs.Math.ListN.{length, take, length-append}
+use Rattle.std.proofs.Math.ListN.{length, take, length-append, drop, length-drop}
 use borrow.Author.Tests.{le-leb, leb-true, leb-false, eq-eqb, ne_eqb}
 use Rattle.wire.specs.Field.{field, number, number_at, Bytes, length_field}
 use Rattle.crc.specs.Crc.{crc_of}
 use Rattle.journal.specs.Journal.{choose, body_limit, mark, entry, entries, closing, last_from, last_offset, closed_journal, Fine, length_of, body_of, reach}
-use Rattle.journal.specs.Bytes.{yes_is, no_is, and_is, not_and}
+use Rattle.journal.specs.Bytes.{yes_is, no_is, and_is, not_and, drop_bytes}
 use Rattle.journal.specs.Entry.{length_entry, length_closing, number_at_lem, Whole, passed}
 use Rattle.journal.proofs.Entry.{says_length, holds_body, whole_entry}
 use Rattle.journal.specs.Forward.{count_entries}
 use Rattle.journal.specs.Writer.{place, close_of}
 use Rattle.journal.specs.Holds.{Holds, close_closes}
 use Rattle.record.specs.Layout.{Event, decode}
-use Rattle.verifier.specs.Judge.{Fault, in_trailer, Verdict, accepted, wrong, Deed, Went, on, fault, Place, Next, goes}
-use Rattle.verifier.specs.Judge.{stops, is_back, enough, by_step, trailer_of, first, by_event, entry_of, place_of, judge_on, judge}
+use Rattle.verifier.specs.Judge.{Fault, in_trailer, Verdict, accepted, wrong, Deed, Went, on, fault, Place, Next, goes, stops, is_back, enough, by_step, trailer_of, first, by_event, entry_of, place_of, judge_on, judge}
 use Rattle.verifier.specs.Feed.{Reading, reading, done, by_next, settle, feed_byte, feed}
 use Rattle.verifier.specs.Pieces.{enough_is, at_stop, at_goes, place_entry, place_back}
 use Rattle.verifier.specs.Right.{Yields, Right, none, more}
 use Rattle.verifier.specs.Naming.{after, Named}
 use Rattle.verifier.specs.Places.{yields_step, moved}
-use Rattle.verifier.specs.Verdict.{after_none, after_more, Judged, judge_says, Small, number_of, Numbered}
+use Rattle.verifier.specs.Verdict.{after_none, after_more, Small, number_of, Numbered, accepting}
+use Rattle.verifier.proofs.Places.{Gone, place_gone}
+
+module _ {S : Type 0} (deed : S → Event → Deed S) where
+  -- What a verdict says: right entries from the start on, and then a place where the verdict was given.
+  pub record Judged (p : Place S) (s : List ℕ) (v : Verdict) : Type 0 where
+    pub bodies : List (List ℕ)
+    pub rest : List ℕ
+    pub server : S
+    pub all : entries bodies ++ rest ≡ s
+    pub right : Right deed p.server bodies server
+    pub stopped : place_of deed (after p bodies server) rest ≡ stops v
+    pub bytes : Bytes rest
+
+  one_further : (p : Place S) (s : List ℕ) (q : Place S) (v : Verdict) → Gone deed p s q → Judged q (drop (length_of s + 12) s) v → Judged p s v
+  unfolding entries
+  one_further p s q v g j = record {
+    bodies = g.body ∷ j.bodies;
+    rest = j.rest;
+    server = j.server;
+    all = append_assoc (entry g.body) (entries j.bodies) j.rest ∙ ap (λ (x : List ℕ). entry g.body ++ x) j.all ∙ g.all;
+    right = more g.fine g.yields j.right;
+    stopped =
+        ap (λ (x : Place S). place_of deed x j.rest)
+        (sym (ap (λ (x : Place S). after x j.bodies j.server) g.moves ∙ (after_more {S = S} deed) p g.body j.bodies q.server j.server))
+        ∙ j.stopped;
+    bytes = j.bytes;
+  }
+
+  by_next_lem : (k : ℕ) (p : Place S) (s : List ℕ) → Bytes s → length s < suc k
+      → ((q : Place S) (t : List ℕ) → Bytes t → length t < k → Judged q t (judge_on deed k q t))
+      → (x : Next S) → place_of deed p s ≡ x → Judged p s (judge_on deed (suc k) p s)
+  unfolding entries
+  by_next_lem k p s y h ih (stops v) e =
+      subst (Judged p s) (sym (at_stop deed k p s v e))
+      (record {
+        bodies = [];
+        rest = s;
+        server = p.server;
+        all = refl;
+        right = none;
+        stopped = ap (λ (x : Place S). place_of deed x s) (after_none {S = S} deed p) ∙ e;
+        bytes = y;
+      })
+  by_next_lem k p s y h ih (goes q) e =
+      let g = place_gone deed p s q y e in
+      let t : List ℕ = drop (length_of s + 12) s in
+      let l : length t < k = simp length-drop (omega arith) in
+      subst (Judged p s) (sym (at_goes deed k p s q e)) (one_further p s q (judge_on deed k q t) g (ih q t (drop_bytes (length_of s + 12) s y) l))
+
+  judged : (k : ℕ) (p : Place S) (s : List ℕ) → Bytes s → length s < k → Judged p s (judge_on deed k p s)
+  judged zero p s y h = absurd (omega arith)
+  judged (suc k) p s y h = by_next_lem k p s y h (judged k) (place_of deed p s) refl
+
+  -- Any bytes: the entries before the verdict's number are right, each in turn, and the verdict is that of the place behind them.
+  pub judge_says : (d : S) (book : List ℕ) → Bytes book → Judged (first d) book (judge deed d book)
+  unfolding judge
+  judge_says d book y = judged (suc (length book)) (first d) book y (omega arith)
+
+  -- an accepted book: the closed book of bodies that are right, each in turn from a fresh server
+  pub record Accepted (d : S) (book : List ℕ) (n : ℕ) : Type 0 where
+    pub bodies : List (List ℕ)
+    pub server : S
+    pub is : book ≡ closed_journal bodies
+    pub right : Right deed d bodies server
+    pub count : n ≡ length bodies
+    pub near : last_offset bodies < 256 ^ 4
+    pub few : length bodies < 256 ^ 4
+
+  pub accepted_is : (d : S) (book : List ℕ) (n : ℕ) → Bytes book → judge deed d book ≡ accepted n → Accepted d book n
+  unfolding closed_journal
+  accepted_is d book n y e =
+      let j = subst (Judged (first d) book) e (judge_says d book y) in
+      let q : Place S = after (first d) j.bodies j.server in
+      let t = (accepting {S = S} deed) q j.rest n j.bytes j.stopped (is_back j.rest) refl in
+      let c : 0 + length j.bodies ≡ length j.bodies = omega arith in
+      record {
+        bodies = j.bodies;
+        server = j.server;
+        is = sym j.all ∙ ap (λ (x : List ℕ). entries j.bodies ++ x) (t.is ∙ ap (closing (last_offset j.bodies)) c);
+        right = j.right;
+        count = t.count ∙ c;
+        near = t.near;
+        few = subst (λ (k : ℕ). k < 256 ^ 4) c t.few;
+      }
 
 module _ {S : Type 0} (deed : S → Event → Deed S) where
   -- the other way: right entries are passed

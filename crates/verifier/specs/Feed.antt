@@ -1,8 +1,8 @@
 -- The verifier byte by byte: a place, and the bytes had from there on, at most one entry's. Assumes nothing.
-use Rattle.std.specs.Prelude.{Bool, true, false, ◌&&◌, List, [], ◌∷◌, ◌++◌, ℕ, zero, suc, ◌+◌, ◌≤◌, ◌<◌, eqb, leb, length}
+use Rattle.std.specs.Prelude.{List, [], ◌∷◌, ◌++◌, ℕ, ◌+◌, leb, length}
 use Rattle.journal.specs.Journal.{choose, body_limit, length_of}
 use Rattle.record.specs.Layout.{Event}
-use Rattle.verifier.specs.Judge.{Verdict, accepted, wrong, in_length, in_trailer, Deed, Place, Next, goes, stops, is_back, trailer_of, first, entry_of}
+use Rattle.verifier.specs.Judge.{Verdict, wrong, in_length, in_trailer, Deed, Place, Next, goes, stops, is_back, trailer_of, entry_of}
 
 pub data Reading (S : Type 0) : Type 0 where
   reading : Place S → List ℕ → Reading S

@@ -1,6 +1,6 @@
 -- The verifier (02: judge): the verdict over a whole closed book. The server is any machine that answers an event by refusing it or by
 -- frames and its next state. Assumes nothing.
-use Rattle.std.specs.Prelude.{Bool, true, false, ◌&&◌, List, [], ◌∷◌, ◌++◌, ℕ, zero, suc, ◌+◌, ◌≤◌, ◌<◌, eqb, leb, length, take, drop}
+use Rattle.std.specs.Prelude.{Bool, ◌&&◌, List, ℕ, zero, suc, ◌+◌, eqb, leb, length, take, drop}
 use Rattle.wire.specs.Field.{number, number_at}
 pub use Rattle.wire.specs.Same.{same}
 use Rattle.crc.specs.Crc.{crc_of}

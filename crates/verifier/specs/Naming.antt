@@ -2,7 +2,7 @@
 use Rattle.std.specs.Prelude.{◌≡◌, List, ◌++◌, ℕ, ◌+◌, length}
 use Rattle.journal.specs.Journal.{entries, last_from}
 use Rattle.record.specs.Layout.{Event}
-use Rattle.verifier.specs.Judge.{Fault, Verdict, wrong, Deed, Place, Next, stops, first, place_of}
+use Rattle.verifier.specs.Judge.{Fault, wrong, Deed, Place, stops, first, place_of}
 use Rattle.verifier.specs.Right.{Right}
 
 module _ {S : Type 0} where

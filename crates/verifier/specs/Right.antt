@@ -2,7 +2,7 @@
 use Rattle.std.specs.Prelude.{◌≡◌, List, [], ◌∷◌, ℕ}
 use Rattle.journal.specs.Journal.{Fine}
 use Rattle.record.specs.Layout.{Event, Fits, body_bytes}
-use Rattle.verifier.specs.Judge.{Deed, refused, gave}
+use Rattle.verifier.specs.Judge.{Deed, gave}
 
 module _ {S : Type 0} (deed : S → Event → Deed S) where
   -- a body is an event that the server does not refuse, and the very frames that it gives

@@ -15,7 +15,7 @@ use Rattle.crc.specs.Crc.{crc_of}
 use Rattle.journal.specs.Journal.{choose, body_limit, mark, length_of}
 use Rattle.journal.specs.Bytes.{yes_is, no_is, and_is, not_and, below}
 use Rattle.record.specs.Layout.{Event}
-use Rattle.verifier.specs.Judge.{wrong, Deed, fault, Place, is_back, first}
+use Rattle.verifier.specs.Judge.{wrong, Deed, Place, is_back, first}
 use Rattle.verifier.specs.Feed.{Reading, reading, done, finish, feed_byte, feed}
 use Rattle.verifier.specs.Pieces.{length_front, back_front}
 use Rattle.verifier.specs.Places.{chosen}

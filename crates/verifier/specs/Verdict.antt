@@ -3,8 +3,8 @@ use Rattle.std.proofs.Math.Path.{◌≡◌, refl, sym, ap, subst}
 use Rattle.std.proofs.Common.{◌∙◌, length-take, drop_of_length-le}
 use Rattle.std.proofs.Math.Bool.{Bool, true, false}
 use Rattle.std.specs.Prelude.{◌&&◌, leb}
-use mathlib.Core.List.{List, [], ◌∷◌, ◌++◌, append_assoc, append-nil}
-use Prim.Native.Nat.{ℕ, zero, suc, ◌+◌, ◌^◌, ◌≤◌, ◌<◌}
+use mathlib.Core.List.{List, [], ◌∷◌, ◌++◌, append-nil}
+use Prim.Native.Nat.{ℕ, suc, ◌+◌, ◌^◌, ◌≤◌, ◌<◌}
 use Rattle.std.proofs.Math.Nat.{add-zero}
 use native.Mathlib.Omega.{arith}
 use Rattle.std.proofs.Math.Dec.{eqb}
@@ -12,17 +12,15 @@ use Rattle.std.proofs.Math.ListN.{length, take, drop, length-append, length-drop
 use borrow.Author.Tests.{eqb-true}
 use Rattle.wire.specs.Field.{field, number, number_at, Bytes, number_bound}
 use Rattle.crc.specs.Crc.{crc_of}
-use Rattle.journal.specs.Journal.{body_limit, mark, entry, entries, closing, last_from, last_offset, closed_journal, length_of, body_of}
+use Rattle.journal.specs.Journal.{body_limit, mark, entry, entries, closing, last_from, length_of, body_of}
 use Rattle.journal.specs.Bytes.{yes_is, no_is, and_left, and_right, take_bytes, drop_bytes, field_at}
 use Rattle.journal.specs.Entry.{four_parts}
 use Rattle.record.specs.Layout.{Event, decode}
 use Rattle.verifier.specs.Judge.{Fault, in_length, in_distance, in_sum, in_trailer, Verdict, accepted, wrong, Deed, Went, on, fault, Place, Next, goes}
-use Rattle.verifier.specs.Judge.{stops, is_back, enough, by_step, trailer_of, first, by_event, entry_of, place_of, judge_on, judge}
+use Rattle.verifier.specs.Judge.{stops, is_back, enough, by_step, trailer_of, by_event, entry_of, place_of}
 use Rattle.verifier.specs.Feed.{Reading, reading, done}
-use Rattle.verifier.specs.Pieces.{at_stop, at_goes}
-use Rattle.verifier.specs.Right.{Right, none, more}
 use Rattle.verifier.specs.Naming.{after}
-use Rattle.verifier.specs.Places.{chosen, moved, Gone, place_gone}
+use Rattle.verifier.specs.Places.{chosen, moved}
 
 module _ {S : Type 0} (deed : S → Event → Deed S) where
   pub after_none : (p : Place S) → after p [] p.server ≡ p
@@ -35,61 +33,6 @@ module _ {S : Type 0} (deed : S → Event → Deed S) where
       let x : p.count + 1 + length bs ≡ p.count + suc (length bs) = omega arith in
       let y : p.at + length (entry b) + length (entries bs) ≡ p.at + length (entry b ++ entries bs) = omega (arith, length-append (entry b) (entries bs)) in
       λ i. record { count = x i; at = y i; last = last_from (p.at + length (entry b)) p.at bs; server = e }
-
-  -- What a verdict says: right entries from the start on, and then a place where the verdict was given.
-  pub record Judged (p : Place S) (s : List ℕ) (v : Verdict) : Type 0 where
-    pub bodies : List (List ℕ)
-    pub rest : List ℕ
-    pub server : S
-    pub all : entries bodies ++ rest ≡ s
-    pub right : Right deed p.server bodies server
-    pub stopped : place_of deed (after p bodies server) rest ≡ stops v
-    pub bytes : Bytes rest
-
-  one_further : (p : Place S) (s : List ℕ) (q : Place S) (v : Verdict) → Gone deed p s q → Judged q (drop (length_of s + 12) s) v → Judged p s v
-  unfolding entries
-  one_further p s q v g j = record {
-    bodies = g.body ∷ j.bodies;
-    rest = j.rest;
-    server = j.server;
-    all = append_assoc (entry g.body) (entries j.bodies) j.rest ∙ ap (λ (x : List ℕ). entry g.body ++ x) j.all ∙ g.all;
-    right = more g.fine g.yields j.right;
-    stopped =
-        ap (λ (x : Place S). place_of deed x j.rest)
-        (sym (ap (λ (x : Place S). after x j.bodies j.server) g.moves ∙ after_more p g.body j.bodies q.server j.server))
-        ∙ j.stopped;
-    bytes = j.bytes;
-  }
-
-  by_next_lem : (k : ℕ) (p : Place S) (s : List ℕ) → Bytes s → length s < suc k
-      → ((q : Place S) (t : List ℕ) → Bytes t → length t < k → Judged q t (judge_on deed k q t))
-      → (x : Next S) → place_of deed p s ≡ x → Judged p s (judge_on deed (suc k) p s)
-  unfolding entries
-  by_next_lem k p s y h ih (stops v) e =
-      subst (Judged p s) (sym (at_stop deed k p s v e))
-      (record {
-        bodies = [];
-        rest = s;
-        server = p.server;
-        all = refl;
-        right = none;
-        stopped = ap (λ (x : Place S). place_of deed x s) (after_none p) ∙ e;
-        bytes = y;
-      })
-  by_next_lem k p s y h ih (goes q) e =
-      let g = place_gone deed p s q y e in
-      let t : List ℕ = drop (length_of s + 12) s in
-      let l : length t < k = simp length-drop (omega arith) in
-      subst (Judged p s) (sym (at_goes deed k p s q e)) (one_further p s q (judge_on deed k q t) g (ih q t (drop_bytes (length_of s + 12) s y) l))
-
-  judged : (k : ℕ) (p : Place S) (s : List ℕ) → Bytes s → length s < k → Judged p s (judge_on deed k p s)
-  judged zero p s y h = absurd (omega arith)
-  judged (suc k) p s y h = by_next_lem k p s y h (judged k) (place_of deed p s) refl
-
-  -- Any bytes: the entries before the verdict's number are right, each in turn, and the verdict is that of the place behind them.
-  pub judge_says : (d : S) (book : List ℕ) → Bytes book → Judged (first d) book (judge deed d book)
-  unfolding judge
-  judge_says d book y = judged (suc (length book)) (first d) book y (omega arith)
 
   -- a place where a verdict of "accepted" is given
   never_accepts : (p : Place S) (n : ℕ) (w : Went S) (m : ℕ) → by_step p n w ≡ stops (accepted m) → ⊥
@@ -159,7 +102,7 @@ module _ {S : Type 0} (deed : S → Event → Deed S) where
         few = four_bytes s 8 p.count y (omega arith) (eqb-true (number_at s 8 4) p.count (and_right (t₁ && t₂) t₃ c.0));
       }
 
-  accepting : (p : Place S) (s : List ℕ) (n : ℕ) → Bytes s → place_of deed p s ≡ stops (accepted n) → (c : Bool) → is_back s ≡ c → Trailer p s n
+  pub accepting : (p : Place S) (s : List ℕ) (n : ℕ) → Bytes s → place_of deed p s ≡ stops (accepted n) → (c : Bool) → is_back s ≡ c → Trailer p s n
   unfolding place_of
   accepting p s n y e true b =
       let o : ◌≡◌ {A = Next S} (stops (trailer_of p s)) (stops (accepted n)) = sym (yes_is _ _ b) ∙ e in
@@ -167,33 +110,6 @@ module _ {S : Type 0} (deed : S → Event → Deed S) where
   accepting p s n y e false b =
       let c = chosen (enough s) (entry_of deed p (take (length_of s + 12) s)) (stops (wrong p.count in_length)) (stops (accepted n)) (sym (no_is _ _ b) ∙ e) (not_accepted _ _ n) in
       absurd (entry_never p (take (length_of s + 12) s) n c.1)
-
-  -- an accepted book: the closed book of bodies that are right, each in turn from a fresh server
-  pub record Accepted (d : S) (book : List ℕ) (n : ℕ) : Type 0 where
-    pub bodies : List (List ℕ)
-    pub server : S
-    pub is : book ≡ closed_journal bodies
-    pub right : Right deed d bodies server
-    pub count : n ≡ length bodies
-    pub near : last_offset bodies < 256 ^ 4
-    pub few : length bodies < 256 ^ 4
-
-  pub accepted_is : (d : S) (book : List ℕ) (n : ℕ) → Bytes book → judge deed d book ≡ accepted n → Accepted d book n
-  unfolding closed_journal
-  accepted_is d book n y e =
-      let j = subst (Judged (first d) book) e (judge_says d book y) in
-      let q : Place S = after (first d) j.bodies j.server in
-      let t = accepting q j.rest n j.bytes j.stopped (is_back j.rest) refl in
-      let c : 0 + length j.bodies ≡ length j.bodies = omega arith in
-      record {
-        bodies = j.bodies;
-        server = j.server;
-        is = sym j.all ∙ ap (λ (x : List ℕ). entries j.bodies ++ x) (t.is ∙ ap (closing (last_offset j.bodies)) c);
-        right = j.right;
-        count = t.count ∙ c;
-        near = t.near;
-        few = subst (λ (k : ℕ). k < 256 ^ 4) c t.few;
-      }
 
   -- The bytes had are fewer than one entry's greatest length, whatever is fed.
   abbrev pub Small : Reading S → Type 0

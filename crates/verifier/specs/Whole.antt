@@ -1,13 +1,8 @@
 -- What the program knows when `frame` answers 7: the body lies where its length says, and the bytes had are just one entry. Assumes nothing.
-use Rattle.std.specs.Prelude.{◌≡◌, refl, Bool, true, false, ◌&&◌, List, [], ◌∷◌, ◌++◌, ℕ, zero, suc, ◌+◌, ◌≤◌, ◌<◌, eqb, leb, length, take}
-use Rattle.std.proofs.Common.{sym, ap, ◌∙◌, arith, leb-true, leb-false}
-use Rattle.wire.specs.Field.{number_at}
-use Rattle.crc.specs.Crc.{crc_of}
+use Rattle.std.specs.Prelude.{◌≡◌, refl, Bool, true, false, List, ℕ, ◌+◌, ◌≤◌, leb, length}
+use Rattle.std.proofs.Common.{arith, leb-true}
 use Rattle.journal.specs.Journal.{choose, body_limit, length_of}
-use Rattle.record.specs.Layout.{Event}
-use Rattle.verifier.specs.Judge.{Verdict, Deed, Place, Next, goes, stops, is_back, entry_of}
-use Rattle.verifier.specs.Feed.{Reading, reading, done, by_next, settle, feed_byte, feed}
-use Rattle.verifier.specs.Pieces.{Unsettled, few_not_back, grown}
+use Rattle.verifier.specs.Judge.{is_back}
 use Rattle.verifier.specs.Places.{chosen}
 use Rattle.verifier.specs.Framing.{framing_of}
 

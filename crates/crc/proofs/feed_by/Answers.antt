@@ -1,6 +1,5 @@
 -- `crc::feed_by` meets its contract. The invariant: what is left, fed to the register as it is, gives what the whole gives.
 use mathlib.Core.Path.{refl, sym, ap, ◌∙◌}
-use Prim.Native.Nat.{◌-◌}
 use native.Mathlib.Omega.{arith}
 use Rattle.crc.specs.Crc.{feed_of}
 use Rattle.crc.specs.Feed.{feed_eight, up_to_end, left_over}

@@ -1,6 +1,5 @@
 -- `crc::feed_ones` meets its contract. The invariant: what is left, fed to the register as it is, gives what the whole gives.
 use mathlib.Core.Path.{refl, sym, ◌∙◌}
-use Prim.Native.Nat.{◌-◌}
 use native.Mathlib.Omega.{arith}
 use Rattle.crc.specs.Feed.{feed_next, feed_last}
 use borrow.Author.Rules.{rules}

@@ -8,7 +8,7 @@ pub append_numbered-told-requires : goal.append_numbered-told-requires
 append_numbered-told-requires c = c.requires c.if-refusal-eq0.true
 
 pub returns-then-refusal-eq0 : goal.returns-then-refusal-eq0
-returns-then-refusal-eq0 c =    then_kept _ _ _ _ (eq-eqb c.args.refusal 0
+returns-then-refusal-eq0 c = then_kept _ _ _ _ (eq-eqb c.args.refusal 0
     c.if-refusal-eq0.true) (met c.append_numbered-told.ensures c.kept_number.ensures)
 
 pub returns : goal.returns

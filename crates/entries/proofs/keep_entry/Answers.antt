@@ -8,8 +8,8 @@ pub returns-then-refusal-ne0 : goal.returns-then-refusal-ne0
 returns-then-refusal-ne0 c = not_kept _ _ _ _ (ne_eqb c.args.refusal 0 c.if-refusal-ne0.true) refl
 
 pub append-kept-requires : goal.append-kept-requires
-append-kept-requires c =    c.requires c.if-refusal-ne0.false
+append-kept-requires c = c.requires c.if-refusal-ne0.false
 
 pub returns : goal.returns
-returns c =    then_kept _ _ _ _ (eq-eqb c.args.refusal 0
+returns c = then_kept _ _ _ _ (eq-eqb c.args.refusal 0
     c.if-refusal-ne0.false) (met c.append-kept.ensures c.kept_number.ensures)

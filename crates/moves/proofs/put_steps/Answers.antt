@@ -1,7 +1,7 @@
 -- `put_steps` meets its contract: the bytes before i are in place.
 use mathlib.Core.Path.{refl, ap, ◌∙◌}
 use mathlib.Core.List.{List}
-use Prim.Native.Nat.{ℕ, ◌+◌, ◌-◌}
+use Prim.Native.Nat.{ℕ, ◌+◌}
 use native.Mathlib.Omega.{arith}
 use Rattle.moves.specs.Moves.{moved, moved_moved, none_left, some_left}
 use borrow.Author.Rules.{rules}

@@ -1,5 +1,4 @@
 -- `verifier::equal` meets its contract. Assumes nothing.
-use Prim.Native.Nat.{◌-◌}
 use native.Mathlib.Omega.{arith}
 use Rattle.verifier.specs.Framing.{same_start, same_not_long, same_next, same_differs, same_end}
 use Rattle.verifier.proofs.equal.Goals as goal

@@ -16,16 +16,16 @@ pub returns-then-p-ne115 : goal.returns-then-p-ne115
 returns-then-p-ne115 c = differ c.args.p.now hislip0 2 c.if-p-ne115.true
 
 pub returns-then-p-ne108 : goal.returns-then-p-ne108
-returns-then-p-ne108 c =    differ c.args.p.now hislip0 3 c.if-p-ne108.true
+returns-then-p-ne108 c = differ c.args.p.now hislip0 3 c.if-p-ne108.true
 
 pub returns-then-p-ne105-2 : goal.returns-then-p-ne105-2
-returns-then-p-ne105-2 c =    differ c.args.p.now hislip0 4 c.if-p-ne105-2.true
+returns-then-p-ne105-2 c = differ c.args.p.now hislip0 4 c.if-p-ne105-2.true
 
 pub returns-then-p-ne112 : goal.returns-then-p-ne112
-returns-then-p-ne112 c =    differ c.args.p.now hislip0 5 c.if-p-ne112.true
+returns-then-p-ne112 c = differ c.args.p.now hislip0 5 c.if-p-ne112.true
 
 pub returns : goal.returns
-returns c =    is_hislip0 c.args.p.now
+returns c = is_hislip0 c.args.p.now
     c.if-p-ne7.false
     c.if-p-ne104.false
     c.if-p-ne105.false

@@ -1,9 +1,8 @@
 -- `allowing::any_matches` meets its contract. The invariant: the lines behind the next newline allow what the whole list allows, and a line that may match begins there.
 use mathlib.Core.Path.{refl, sym, ◌∙◌, subst}
-use mathlib.Core.Bool.{true}
 use mathlib.Core.List.{List}
 use mathlib.Core.Logic.Iff
-use Prim.Native.Nat.{ℕ, ◌+◌, ◌-◌}
+use Prim.Native.Nat.{ℕ, ◌+◌}
 use native.Mathlib.Omega.{arith}
 use Rattle.scpi.specs.Answers.{untrue}
 use Rattle.commands.specs.Lists.{Allows}

@@ -1,7 +1,6 @@
 -- `allowing::command_end` meets its contract. The invariant: what was passed, and the command of what is left, are the command.
 use mathlib.Core.Path.{refl, sym, ◌∙◌}
 use mathlib.Core.Logic.{inl, inr, ⊎_elim}
-use Prim.Native.Nat.{◌-◌}
 use borrow.Author.Rules.{rules}
 use Rattle.scpi.specs.Answers.{says_yes, says_no}
 use Rattle.commands.specs.Lines.{command_space, command_line, command_turn, command_stop, command_end}

@@ -1,7 +1,5 @@
 -- `allowing::opening_from` meets its contract. The invariant of the three loops: no place that was passed opens a line.
 use mathlib.Core.Path.{sym, ◌∙◌}
-use mathlib.Core.Bool.{true}
-use Prim.Native.Nat.{◌-◌}
 use Rattle.commands.specs.Refusing.{shut_nothing, shut_one, shut_join}
 use borrow.Author.Rules.{rules}
 use Rattle.commands.proofs.allowing.opening_from.Goals as goal

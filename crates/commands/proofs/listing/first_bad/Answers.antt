@@ -1,6 +1,6 @@
 -- `listing::first_bad` meets its contract. The invariant: the patterns that are left, counted on from k, are judged as the whole list is.
 use mathlib.Core.Path.{refl, ◌∙◌}
-use Prim.Native.Nat.{◌+◌, ◌-◌}
+use Prim.Native.Nat.{◌+◌}
 use lib.ListN.{drop}
 use borrow.Author.Rules.{rules}
 use Rattle.scpi.specs.Words.{part}

@@ -1,6 +1,5 @@
 -- `listing::line_end` meets its contract. The invariant of both loops: what is left of the line, from i on, ends where the whole line does.
 use mathlib.Core.Path.{refl, sym, ◌∙◌}
-use Prim.Native.Nat.{◌-◌}
 use borrow.Author.Rules.{rules}
 use Rattle.commands.specs.Lines.{line_stop, line_more, line_out}
 use Rattle.commands.proofs.listing.line_end.Goals as goal

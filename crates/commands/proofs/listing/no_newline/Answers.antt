@@ -1,7 +1,6 @@
 -- `listing::no_newline` meets its contract. The invariant: where nothing was found, the line goes on behind the places that were asked.
 use mathlib.Core.Path.{◌≡◌, ap, subst}
-use mathlib.Core.Bool.{false}
-use Prim.Native.Nat.{ℕ, ◌+◌, ◌-◌}
+use Prim.Native.Nat.{ℕ, ◌+◌}
 use native.Mathlib.Omega.{arith}
 use lib.ListN.{drop}
 use borrow.Author.Tests.{not-true}

@@ -8,8 +8,7 @@ use lib.ListN.{length}
 use borrow.Author.Rules.{rules}
 use Rattle.scpi.specs.Answers.{says_yes, says_no}
 use Rattle.scpi.specs.Scans.{shallower, outer, not_deep}
-use Rattle.commands.specs.Walks.{ItemAt, Leads, leads_word, leads_bracket, leads_end, item_open, bracket_close, bracket_open}
-use Rattle.commands.proofs.matching.+match_bracket_match_path.Lts-match_path as match-path-lts
+use Rattle.commands.specs.Walks.{ItemAt, leads_word, leads_bracket, leads_end, item_open, bracket_close, bracket_open}
 use Rattle.commands.proofs.matching.+match_bracket_match_path.Goals as goal
 
 pub match_bracket-returns-then-not-closes : goal.match_bracket-returns-then-not-closes

@@ -1,7 +1,6 @@
 -- `matching::match_star` meets its contract.
 use mathlib.Core.Path.{sym, ◌∙◌}
 use mathlib.Core.Bool.{true, false}
-use borrow.Author.Tests.{not-true, not-false}
 use Rattle.scpi.specs.declared.Checked.TheVariants.{Good}
 use Rattle.scpi.specs.Answers.{says_yes, says_no, good_or_bad}
 use Rattle.scpi.specs.Words.{like_length}

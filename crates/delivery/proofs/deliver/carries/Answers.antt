@@ -34,9 +34,9 @@ is_expected-requires c = c.requires c.if-role-ne-ON_SYNCHRONOUS.false
 
 pub returns : goal.returns
 returns c = let a = c.args in (
-      λ z. c.requires c.if-role-ne-ON_SYNCHRONOUS.false,
-      λ ro m l e. by_number (message a.kind m a.param l)
-          (exchange_at (rest_of a.w.now) a.i) ro (e ∙ c.if-role-ne-ON_SYNCHRONOUS.false)
-          (c.in_clear.ensures ∙ c.if-in_clear.false)
-          (c.is_command.ensures ∙ c.if-not-is_command.false) _ c.is_expected.ensures,
-    )
+  λ z. c.requires c.if-role-ne-ON_SYNCHRONOUS.false,
+  λ ro m l e. by_number (message a.kind m a.param l)
+      (exchange_at (rest_of a.w.now) a.i) ro (e ∙ c.if-role-ne-ON_SYNCHRONOUS.false)
+      (c.in_clear.ensures ∙ c.if-in_clear.false)
+      (c.is_command.ensures ∙ c.if-not-is_command.false) _ c.is_expected.ensures,
+)

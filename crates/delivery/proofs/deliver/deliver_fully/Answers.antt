@@ -32,7 +32,7 @@ returns-then-v-eq-HELD c = let a = c.args in
     (held_done d a.c a.i x r_synchronous _ _ _ _ _ v.result c.if-v-eq-HELD.true (did_nothing 0 (took held 0 0) _ _ _ (ap numbers_of c.quiet.ensures)))
 
 pub carries-moves-requires : goal.carries-moves-requires
-carries-moves-requires c =    λ e. c.requires.5
+carries-moves-requires c = λ e. c.requires.5
 
 pub returns : goal.returns
 returns c = let a = c.args in

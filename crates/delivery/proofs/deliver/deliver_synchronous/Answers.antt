@@ -14,18 +14,18 @@ returns-then-stands c = c.deliver_kind-told.ensures r_synchronous refl
 
 pub deliver_plain-requires : goal.deliver_plain-requires
 deliver_plain-requires c = let q = c.requires in (
-      search rules,
-      search rules,
-      q.2,
-      search rules,
-      q.4,
-      q.5,
-      (c.is_plain.ensures
-          c.if-is_plain.true).0,
-      λ z. (c.is_plain.ensures c.if-is_plain.true).1 _ _
-          z,
-      λ s. c.stands.ensures s ∙ c.if-stands.false,
-    )
+  search rules,
+  search rules,
+  q.2,
+  search rules,
+  q.4,
+  q.5,
+  (c.is_plain.ensures
+      c.if-is_plain.true).0,
+  λ z. (c.is_plain.ensures c.if-is_plain.true).1 _ _
+      z,
+  λ s. c.stands.ensures s ∙ c.if-stands.false,
+)
 
 pub returns-then-is_plain : goal.returns-then-is_plain
 returns-then-is_plain c = c.deliver_plain.ensures

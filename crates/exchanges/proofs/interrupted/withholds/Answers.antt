@@ -1,9 +1,6 @@
 -- `interrupted::withholds` meets its contract: END, the mode, the bytes shown.
-use mathlib.Core.Bool.{not}
-use mathlib.Core.Path.{ap}
 use mathlib.Core.Path.{◌∙◌}
 use Prim.Native.Nat.{◌%◌}
-use borrow.Author.Tests.{not-false, not-true}
 use Rattle.model.specs.State.{at}
 use Rattle.exchanges.specs.Interrupted.{sent_in_overlap, sent_without_end, withheld_by}
 use Rattle.state.specs.Search.{synchronous_read}

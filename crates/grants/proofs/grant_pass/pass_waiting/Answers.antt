@@ -4,7 +4,7 @@ use Rattle.holding.specs.Waiting.{count_moved, slot_is}
 use Rattle.queue.specs.Queue.{count_is}
 use mathlib.Core.Path.{refl, sym, ap, ◌∙◌}
 use mathlib.Core.List.{[]}
-use Prim.Native.Nat.{◌-◌, ◌<◌}
+use Prim.Native.Nat.{◌<◌}
 use native.Mathlib.Omega.{arith}
 use lib.ListN.{length}
 use Rattle.state.specs.View.{locks_of, memory, request_at, view}
@@ -25,30 +25,30 @@ loop-j-preserved c = let l = c.loop-j in
     let q = request_at l.w l.strings x.result in
     let h : l.j < length (locks_of l.w l.strings).waiting = omega (arith, count_is l.w l.strings) in
     elim c.if-may_grant.branch [
-      then-may_grant y ↦ (
-      omega arith,
-      omega arith,
-      rw y.w-is (count_granted _ _ _ _ _ _ _ _ _ y.grant_and_answer-at.ensures ∙ l.invariant.2),
-      omega (arith, ap length y.out-is),
-      omega (arith, ap length y.out-is),
-      l.invariant.5
-          ∙ rw (y.w-is, y.strings-is, y.out-is, y.at-is, y.k-is, y.grant_and_answer-at.ensures.place, y.grant_and_answer-at.ensures.buffer)
-          (pass_grant d l.j l.k q x.result l.out l.at h (x.ensures.1 l.strings) (slot_is l.w l.strings x.result) _
-          y.grant_and_answer-at.ensures.server (c.may_grant.ensures ∙ y.if-may_grant.true) (omega arith)),
-      λ t. rw (y.w-is, y.strings-is) (y.grant_and_answer-at.ensures.tidy (l.invariant.6 t)),
-    )
+      | then-may_grant y ↦ (
+        omega arith,
+        omega arith,
+        rw y.w-is (count_granted _ _ _ _ _ _ _ _ _ y.grant_and_answer-at.ensures ∙ l.invariant.2),
+        omega (arith, ap length y.out-is),
+        omega (arith, ap length y.out-is),
+        l.invariant.5
+            ∙ rw (y.w-is, y.strings-is, y.out-is, y.at-is, y.k-is, y.grant_and_answer-at.ensures.place, y.grant_and_answer-at.ensures.buffer)
+            (pass_grant d l.j l.k q x.result l.out l.at h (x.ensures.1 l.strings) (slot_is l.w l.strings x.result) _
+            y.grant_and_answer-at.ensures.server (c.may_grant.ensures ∙ y.if-may_grant.true) (omega arith)),
+        λ t. rw (y.w-is, y.strings-is) (y.grant_and_answer-at.ensures.tidy (l.invariant.6 t)),
+      )
       | else-may_grant y ↦ (
-      omega arith,
-      omega arith,
-      rw y.w-is (count_moved l.w _ l.j l.k (y.swap_waiting.ensures.0 []) ∙ l.invariant.2),
-      omega (arith, ap length y.out-is),
-      omega (arith, ap length y.out-is),
-      l.invariant.5
-          ∙ rw (y.w-is, y.strings-is, y.out-is, y.at-is, y.k-is)
-          (pass_keep d l.j l.k q x.result l.out l.at h (x.ensures.1 l.strings) (slot_is l.w l.strings x.result) _
-          (y.swap_waiting.ensures.0 l.strings) l.invariant.0 (c.may_grant.ensures ∙ y.if-may_grant.false)),
-      λ t. rw (y.w-is, y.strings-is) (y.swap_waiting.ensures.1 l.strings (l.invariant.6 t)),
-    )
+        omega arith,
+        omega arith,
+        rw y.w-is (count_moved l.w _ l.j l.k (y.swap_waiting.ensures.0 []) ∙ l.invariant.2),
+        omega (arith, ap length y.out-is),
+        omega (arith, ap length y.out-is),
+        l.invariant.5
+            ∙ rw (y.w-is, y.strings-is, y.out-is, y.at-is, y.k-is)
+            (pass_keep d l.j l.k q x.result l.out l.at h (x.ensures.1 l.strings) (slot_is l.w l.strings x.result) _
+            (y.swap_waiting.ensures.0 l.strings) l.invariant.0 (c.may_grant.ensures ∙ y.if-may_grant.false)),
+        λ t. rw (y.w-is, y.strings-is) (y.swap_waiting.ensures.1 l.strings (l.invariant.6 t)),
+      )
     ]
 
 pub returns : goal.returns

@@ -1,7 +1,7 @@
 -- `deadline::earliest_deadline` meets its contract. The invariant: with the earliest so far, those from place j on give the earliest of all.
 use mathlib.Core.Path.{sym, ap, ◌∙◌}
 use mathlib.Core.List.{List}
-use Prim.Native.Nat.{ℕ, ◌+◌, ◌-◌, ◌<◌, min}
+use Prim.Native.Nat.{ℕ, ◌+◌, ◌<◌, min}
 use native.Mathlib.Omega.{arith}
 use lib.ListN.{length, drop}
 use Rattle.model.specs.Asking.{earliest_of}

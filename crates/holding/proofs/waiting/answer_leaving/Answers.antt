@@ -1,6 +1,5 @@
 -- `waiting::answer_leaving` meets its contract. The invariant: answering those from place j on ends where answering all does.
-use Prim.Native.Nat.{ℕ, ◌-◌, ◌<◌}
-use borrow.Author.Tests.{not-false, not-true}
+use Prim.Native.Nat.{ℕ, ◌<◌}
 use Rattle.model.specs.Locks.{Answer}
 use Rattle.holding.specs.Outcome.{ends, ends_nil}
 use Rattle.holding.specs.Waiting.{answer_leave, refuse_end, refuse_stay, slot_is, stays}
@@ -8,7 +7,7 @@ use Rattle.queue.specs.Queue.{count_is}
 use Rattle.state.specs.View.{locks_of, request_at}
 use mathlib.Core.Path.{refl, ap, ◌∙◌}
 use mathlib.Core.List.{List}
-use Prim.Native.Nat.{ℕ, ◌-◌}
+use Prim.Native.Nat.{ℕ}
 use native.Mathlib.Omega.{arith}
 use lib.ListN.{length}
 use Rattle.holding.specs.Outcome.{ends}
@@ -27,28 +26,28 @@ loop-j-preserved c = let a = c.args in
     let x = c.waiting_slot-x in
     let h : (s : List ℕ) → l.j < length (locks_of a.w.now s).waiting = (λ s. omega (arith, count_is a.w.now s)) in
     elim c.if-not-may_stay.branch [
-      then-not-may_stay y ↦ (
-      omega arith,
-      omega (arith, ap length y.out-is),
-      omega (arith, ap length y.out-is),
-      λ s.
-          l.invariant.3 s
-          ∙ rw (y.out-is, y.at-is, y.put_answer-at.ensures.0, y.put_answer-at.ensures.1 s)
-          (answer_leave (locks_of a.w.now s).entries (stays a.i a.t) (locks_of a.w.now s).waiting l.j (request_at a.w.now s x.result)
-          (h s) (x.ensures.1 s) x.result l.out l.at (slot_is a.w.now s x.result)
-          (c.may_stay.ensures s ∙ y.if-not-may_stay.true) (omega arith)),
-    )
+      | then-not-may_stay y ↦ (
+        omega arith,
+        omega (arith, ap length y.out-is),
+        omega (arith, ap length y.out-is),
+        λ s.
+            l.invariant.3 s
+            ∙ rw (y.out-is, y.at-is, y.put_answer-at.ensures.0, y.put_answer-at.ensures.1 s)
+            (answer_leave (locks_of a.w.now s).entries (stays a.i a.t) (locks_of a.w.now s).waiting l.j (request_at a.w.now s x.result)
+            (h s) (x.ensures.1 s) x.result l.out l.at (slot_is a.w.now s x.result)
+            (c.may_stay.ensures s ∙ y.if-not-may_stay.true) (omega arith)),
+      )
       | else-not-may_stay y ↦ (
-      omega arith,
-      omega (arith, ap length y.out-is),
-      omega (arith, ap length y.out-is),
-      λ s.
-          l.invariant.3 s
-          ∙ rw (y.out-is, y.at-is)
-          (ap (λ (xs : List Answer). ends xs l.out l.at)
-          (refuse_stay (locks_of a.w.now s).entries (stays a.i a.t) (locks_of a.w.now s).waiting l.j (request_at a.w.now s x.result)
-          (h s) (x.ensures.1 s) (c.may_stay.ensures s ∙ y.if-not-may_stay.false))),
-    )
+        omega arith,
+        omega (arith, ap length y.out-is),
+        omega (arith, ap length y.out-is),
+        λ s.
+            l.invariant.3 s
+            ∙ rw (y.out-is, y.at-is)
+            (ap (λ (xs : List Answer). ends xs l.out l.at)
+            (refuse_stay (locks_of a.w.now s).entries (stays a.i a.t) (locks_of a.w.now s).waiting l.j (request_at a.w.now s x.result)
+            (h s) (x.ensures.1 s) (c.may_stay.ensures s ∙ y.if-not-may_stay.false))),
+      )
     ]
 
 pub returns : goal.returns

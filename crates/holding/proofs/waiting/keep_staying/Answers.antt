@@ -1,11 +1,10 @@
 -- `waiting::keep_staying` meets its contract. The invariant: those kept so far and those that stay from place j on are all that stay.
 use mathlib.Core.List.{[]}
-use Prim.Native.Nat.{◌-◌, ◌<◌}
+use Prim.Native.Nat.{◌<◌}
 use Rattle.holding.specs.Waiting.{count_moved, halfway_end, halfway_leave, halfway_stay, stays}
 use Rattle.queue.specs.Queue.{count_is}
 use Rattle.state.specs.View.{locks_of, memory, request_at, view}
 use mathlib.Core.Path.{refl, sym, ◌∙◌}
-use Prim.Native.Nat.{◌-◌}
 use native.Mathlib.Omega.{arith}
 use lib.ListN.{length}
 use Rattle.holding.specs.Waiting.{stays}
@@ -24,25 +23,25 @@ loop-j-preserved c = let a = c.args in
     let s = a.strings.now in
     let h : l.j < length (locks_of l.w s).waiting = omega (arith, count_is l.w s) in
     elim c.if-may_stay.branch [
-      then-may_stay y ↦ (
-      omega arith,
-      omega arith,
-      rw y.w-is (count_moved l.w _ l.j l.k (y.swap_waiting.ensures.0 []) ∙ l.invariant.2),
-      l.invariant.3
-          ∙ rw (y.w-is, y.k-is)
-          (sym (halfway_stay (stays a.i a.t) (view (memory l.w s)) l.j l.k (request_at l.w s x.result) h (x.ensures.1 s) _
-          (y.swap_waiting.ensures.0 s) l.invariant.0 (c.may_stay.ensures s ∙ y.if-may_stay.true))),
-      λ t. rw y.w-is (y.swap_waiting.ensures.1 s (l.invariant.4 t)),
-    )
+      | then-may_stay y ↦ (
+        omega arith,
+        omega arith,
+        rw y.w-is (count_moved l.w _ l.j l.k (y.swap_waiting.ensures.0 []) ∙ l.invariant.2),
+        l.invariant.3
+            ∙ rw (y.w-is, y.k-is)
+            (sym (halfway_stay (stays a.i a.t) (view (memory l.w s)) l.j l.k (request_at l.w s x.result) h (x.ensures.1 s) _
+            (y.swap_waiting.ensures.0 s) l.invariant.0 (c.may_stay.ensures s ∙ y.if-may_stay.true))),
+        λ t. rw y.w-is (y.swap_waiting.ensures.1 s (l.invariant.4 t)),
+      )
       | else-may_stay y ↦ (
-      omega arith,
-      omega arith,
-      rw y.w-is l.invariant.2,
-      l.invariant.3
-          ∙ rw (y.w-is, y.k-is)
-          (sym (halfway_leave (stays a.i a.t) (view (memory l.w s)) l.j l.k (request_at l.w s x.result) h (x.ensures.1 s) (c.may_stay.ensures s ∙ y.if-may_stay.false))),
-      λ t. rw y.w-is (l.invariant.4 t),
-    )
+        omega arith,
+        omega arith,
+        rw y.w-is l.invariant.2,
+        l.invariant.3
+            ∙ rw (y.w-is, y.k-is)
+            (sym (halfway_leave (stays a.i a.t) (view (memory l.w s)) l.j l.k (request_at l.w s x.result) h (x.ensures.1 s) (c.may_stay.ensures s ∙ y.if-may_stay.false))),
+        λ t. rw y.w-is (l.invariant.4 t),
+      )
     ]
 
 pub returns : goal.returns

@@ -1,7 +1,7 @@
 -- `reader::ending` meets its contract: a law for each way out.
 use Rattle.std.proofs.Common.{sym, ◌∙◌}
 use Rattle.journal.specs.Journal.{distance_of}
-use Rattle.journal.specs.Steps.{ending_short, ending_far, ending_broken, ending_other, ending_found}
+use Rattle.journal.proofs.Steps.{ending_short, ending_far, ending_broken, ending_other, ending_found}
 use Rattle.journal.proofs.reader.ending.Goals as goal
 
 pub returns-then-e-lt8 : goal.returns-then-e-lt8

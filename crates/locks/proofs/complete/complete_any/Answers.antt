@@ -26,14 +26,14 @@ returns-then-word-eq0 c = let a = c.args in (
 
 pub returns : goal.returns
 returns c = let a = c.args in (
-      omega (arith, c.complete.ensures.0),
-      let s = a.strings.now in
-          let e = at (locks_of a.w.now s).entries a.i in
-          met_is _ _ _ _ _ _ _ _
-          (ap (λ (x : Due). completed x (locks_of a.w.now s) a.i before_first)
-          (sym (due_any_lem e.standing c.order-word.result 0
-          (standing_read e c.order-word.result
-          (c.order-word.ensures.0 s)) (kind_of c.kind_in.result)
-          c.kind_in.ensures.1)))
-          c.complete.ensures.1,
-    )
+  omega (arith, c.complete.ensures.0),
+  let s = a.strings.now in
+      let e = at (locks_of a.w.now s).entries a.i in
+      met_is _ _ _ _ _ _ _ _
+      (ap (λ (x : Due). completed x (locks_of a.w.now s) a.i before_first)
+      (sym (due_any_lem e.standing c.order-word.result 0
+      (standing_read e c.order-word.result
+      (c.order-word.ensures.0 s)) (kind_of c.kind_in.result)
+      c.kind_in.ensures.1)))
+      c.complete.ensures.1,
+)

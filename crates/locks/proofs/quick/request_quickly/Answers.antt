@@ -13,7 +13,7 @@ use borrow.Author.Rules.{rules}
 use Rattle.locks.proofs.quick.request_quickly.Goals as goal
 
 pub put_answer_to-r-requires : goal.put_answer_to-r-requires
-put_answer_to-r-requires c =    (search rules, c.requires.2)
+put_answer_to-r-requires c = (search rules, c.requires.2)
 
 pub give_exclusive-requires : goal.give_exclusive-requires
 give_exclusive-requires c = let a = c.args in

@@ -1,6 +1,5 @@
 -- `request::is_idle` meets its contract. The invariant: none among those from place j on is none at all.
 use mathlib.Core.Path.{◌≡◌, refl, sym, ◌∙◌}
-use Prim.Native.Nat.{◌-◌}
 use native.Mathlib.Omega.{arith}
 use borrow.Author.Tests.{eqb-true}
 use Rattle.locks.specs.Asking.{idle_end, idle_on, idle_stop}

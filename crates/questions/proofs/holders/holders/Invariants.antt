@@ -1,7 +1,7 @@
 -- `holders::holders` meets its contract. The invariant: the panel has the rows of the slots from i on.
 use mathlib.Core.Path.{◌≡◌}
 use mathlib.Core.List.{List}
-use Prim.Native.Nat.{ℕ, ◌≤◌, ◌+◌, ◌-◌}
+use Prim.Native.Nat.{ℕ, ◌≤◌, ◌+◌}
 use lib.ListN.{length}
 use Rattle.state.specs.View.{locks_of}
 use Rattle.questions.specs.Holders.{listed, rows_from}

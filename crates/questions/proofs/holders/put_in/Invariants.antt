@@ -1,7 +1,7 @@
 -- `holders::put_in` meets its contract. The invariant: the first i rows, and what is carried put into the others, are the whole.
 use mathlib.Core.Path.{◌≡◌}
 use mathlib.Core.List.{◌++◌}
-use Prim.Native.Nat.{◌≤◌, ◌-◌, ◌+◌}
+use Prim.Native.Nat.{◌≤◌, ◌-◌}
 use lib.ListN.{length, take, drop}
 use Rattle.model.specs.Holders.{put_by}
 use Rattle.questions.specs.Holders.{row_key}

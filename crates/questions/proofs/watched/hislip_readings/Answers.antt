@@ -1,7 +1,6 @@
 -- `watched::hislip_readings` meets its contract: no such slot, a free one, a session's, seen or not.
 use borrow.Author.Tests.{not-true, not-false}
 use mathlib.Core.Path.{refl}
-use mathlib.Core.Bool.{true}
 use Rattle.readings.specs.Record.{recorded}
 use Rattle.model.specs.State.{at}
 use Rattle.state.specs.View.{memory, view, locks_of}

@@ -1,6 +1,6 @@
 -- `same::same_from` meets its contract. The invariant: d is 0 as long as the window up to k is the same.
 use mathlib.Core.Path.{◌≡◌, refl, sym, ap, ◌∙◌}
-use Prim.Native.Nat.{ℕ, ◌-◌}
+use Prim.Native.Nat.{ℕ}
 use native.Mathlib.Omega.{arith}
 use lib.Dec.{eqb}
 use Rattle.queue.specs.Windows.{wider}

@@ -1,6 +1,5 @@
 -- `same::same_short` meets its contract. The invariant: comparing what is left is comparing the whole.
 use mathlib.Core.Path.{refl, ◌∙◌}
-use Prim.Native.Nat.{◌-◌}
 use native.Mathlib.Omega.{arith}
 use Rattle.queue.specs.Strings.{same_end, same_step, same_stop}
 use borrow.Author.Rules.{rules}

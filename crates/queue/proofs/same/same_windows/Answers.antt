@@ -1,6 +1,5 @@
 -- `same::same_windows` meets its contract. The invariant: the last window is the same, and so is all up to i.
 use mathlib.Core.Path.{refl, ◌∙◌}
-use mathlib.Core.Bool.{true, false}
 use Prim.Native.Nat.{◌-◌}
 use native.Mathlib.Omega.{arith}
 use lib.ListN.{length}
@@ -14,14 +13,14 @@ returns-then-not-same_from c = let a = c.args in
 
 pub loop-i-init : goal.loop-i-init
 loop-i-init c = let a = c.args in (
-      search rules,
-      search rules,
-      search rules,
-      refl,
-      omega arith,
-      refl,
-      last_window a.a.now a.b.now (length a.a.now) a.v (search rules) (search rules) refl (c.same_from.ensures ∙ c.if-not-same_from.false),
-    )
+  search rules,
+  search rules,
+  search rules,
+  refl,
+  omega arith,
+  refl,
+  last_window a.a.now a.b.now (length a.a.now) a.v (search rules) (search rules) refl (c.same_from.ensures ∙ c.if-not-same_from.false),
+)
 
 pub returns-then-not-same_from-2 : goal.returns-then-not-same_from-2
 returns-then-not-same_from-2 c = let a = c.args in

@@ -1,6 +1,5 @@
 -- `bytes::goes_on` meets its contract. The invariant: comparing what is left, from k and j on, says what the whole comparison says, and the command has as many bytes left.
 use mathlib.Core.Path.{refl, sym, ◌∙◌}
-use Prim.Native.Nat.{◌-◌}
 use lib.ListN.{drop}
 use borrow.Author.Rules.{rules}
 use borrow.Author.Tests.{eqb-true}

@@ -1,6 +1,5 @@
 -- `bytes::run_end` meets its contract. The invariant: what is left of the run, from i on, ends where the whole run does.
 use mathlib.Core.Path.{refl, sym, ◌∙◌}
-use Prim.Native.Nat.{◌-◌}
 use borrow.Author.Rules.{rules}
 use Rattle.scpi.specs.Words.{leading_more, leading_stop, leading_end}
 use Rattle.scpi.proofs.bytes.run_end.Goals as goal

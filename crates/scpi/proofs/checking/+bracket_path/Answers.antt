@@ -9,8 +9,6 @@ use Rattle.scpi.specs.Answers.{says_yes, says_no}
 use Rattle.scpi.specs.declared.Found.TheVariants.{On}
 use Rattle.scpi.specs.Scans.{WordRead, PathRead, BracketRead, path_end, path_stay, path_deep, word_then, word_bad, bracket_then, bracket_bad, opened_out}
 use Rattle.scpi.specs.Scans.{row_none, row_bad, row_out, row_closed, row_open, shallower, outer, not_deep}
-use borrow.Fn.PlainCycle.{is}
-use Rattle.scpi.proofs.checking.path.Reads as path
 use Rattle.scpi.proofs.checking.+bracket_path.Goals as goal
 
 pub bracket-returns-then-at-p : goal.bracket-returns-then-at-p

@@ -24,14 +24,14 @@ returns-then-y-eq-NO_CONNECTION c = let a = c.args in (
 
 pub returns : goal.returns
 returns c = let a = c.args in (
-      λ s. let e : Entry = at (locks_of a.w.now s).entries a.i in
-          let d : Server = view (memory a.w.now s) in
-          let x = c.entry-x.result % 256 in
-          let y = c.entry-y.result % 256 in
-          let p = synchronous_read e c.entry-x.result (c.entry-x.ensures.0 s) in
-          let q = asynchronous_read e c.entry-y.result (c.entry-y.ensures.0 s) in
-          shut_both d _ _ x y (c.shut_connection.ensures.0 s) (c.shut_connection-2.ensures.0 s)
-          ∙ ap (λ (l : List ℕ). on_rest d (λ (r : Rest). with_connections r (shut_all r.connections l)))
-          (sym (two_channels e x y p q c.if-y-eq-NO_CONNECTION.false)),
-      λ s t. c.shut_connection-2.ensures.1 s (c.shut_connection.ensures.1 s t),
-    )
+  λ s. let e : Entry = at (locks_of a.w.now s).entries a.i in
+      let d : Server = view (memory a.w.now s) in
+      let x = c.entry-x.result % 256 in
+      let y = c.entry-y.result % 256 in
+      let p = synchronous_read e c.entry-x.result (c.entry-x.ensures.0 s) in
+      let q = asynchronous_read e c.entry-y.result (c.entry-y.ensures.0 s) in
+      shut_both d _ _ x y (c.shut_connection.ensures.0 s) (c.shut_connection-2.ensures.0 s)
+      ∙ ap (λ (l : List ℕ). on_rest d (λ (r : Rest). with_connections r (shut_all r.connections l)))
+      (sym (two_channels e x y p q c.if-y-eq-NO_CONNECTION.false)),
+  λ s t. c.shut_connection-2.ensures.1 s (c.shut_connection.ensures.1 s t),
+)

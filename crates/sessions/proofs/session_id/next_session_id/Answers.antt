@@ -1,7 +1,7 @@
 -- `session_id::next_session_id` meets its contract. The invariant: the tries that are left give the whole.
 use mathlib.Core.Path.{◌∙◌}
 use mathlib.Core.List.{List}
-use Prim.Native.Nat.{ℕ, ◌-◌, ◌%◌}
+use Prim.Native.Nat.{ℕ, ◌%◌}
 use native.Mathlib.Omega.{arith}
 use Rattle.model.specs.State.{Entry}
 use Rattle.state.specs.View.{locks_of, rest_of}

@@ -1,6 +1,5 @@
 -- `leaving::leave_places` meets its contract. The invariant: the places from n to p are wiped, and nobody sees it.
 use mathlib.Core.Path.{◌≡◌, refl, ◌∙◌}
-use Prim.Native.Nat.{◌-◌}
 use native.Mathlib.Omega.{arith}
 use Rattle.queue.specs.Leaving.{members_left, over_tidy}
 use Rattle.queue.specs.Requests.{count_of}

@@ -1,6 +1,6 @@
 -- `leaving::waiting_set` meets its contract. The invariant: the set has the slots of the first j places.
 use mathlib.Core.Path.{◌≡◌, subst, sym}
-use Prim.Native.Nat.{◌+◌, ◌-◌}
+use Prim.Native.Nat.{◌+◌}
 use native.Mathlib.Omega.{arith}
 use Rattle.queue.specs.Leaving.{Members, members_more, no_members}
 use Rattle.state.specs.View.{slot_at}

@@ -21,10 +21,10 @@ lay_key-requires c = let a = c.args in (
 
 pub first_sharer-requires : goal.first_sharer-requires
 first_sharer-requires c = let a = c.args in (
-      search rules,
-      no_sharers _ _ (ap (λ (d : Server). all no_shared d.locks.entries) c.lay_key.ensures.0
-          ∙ c.nobody_shares.ensures a.strings.now ∙ c.if-nobody_shares.true),
-    )
+  search rules,
+  no_sharers _ _ (ap (λ (d : Server). all no_shared d.locks.entries) c.lay_key.ensures.0
+      ∙ c.nobody_shares.ensures a.strings.now ∙ c.if-nobody_shares.true),
+)
 
 pub returns-then-nobody_shares : goal.returns-then-nobody_shares
 returns-then-nobody_shares c = let a = c.args in

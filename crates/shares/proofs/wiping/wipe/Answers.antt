@@ -1,6 +1,5 @@
 -- `wiping::wipe` meets its contract. The invariant: the first i bytes from the place on are 0.
 use mathlib.Core.Path.{◌≡◌}
-use Prim.Native.Nat.{◌-◌}
 use native.Mathlib.Omega.{arith}
 use lib.ListN.{length-set}
 use Rattle.queue.specs.Wiping.{wiped_more, wiped_none}

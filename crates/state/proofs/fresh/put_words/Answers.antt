@@ -1,6 +1,5 @@
 -- `fresh::put_words` meets its contract. The invariant: the first i words are those of a fresh server.
 use mathlib.Core.Path.{refl, sym, ◌∙◌}
-use Prim.Native.Nat.{◌-◌}
 use native.Mathlib.Omega.{arith}
 use lib.ListN.{length-set}
 use Rattle.state.specs.Fresh.{fresh_words, unmade, fresh_at, copy_turn, copy_done}

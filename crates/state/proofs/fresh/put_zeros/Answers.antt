@@ -1,6 +1,5 @@
 -- `fresh::put_zeros` meets its contract. The invariant: the first i bytes are 0.
 use mathlib.Core.Path.{refl}
-use Prim.Native.Nat.{◌-◌}
 use native.Mathlib.Omega.{arith}
 use lib.ListN.{length, replicate, length-set, length-replicate, get_or-replicate}
 use Rattle.state.specs.Fresh.{copy_turn, copy_done}

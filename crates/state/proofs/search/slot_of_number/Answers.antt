@@ -1,6 +1,6 @@
 -- `search::slot_of_number` meets its contract. The invariant: what the search finds from slot i on is what it finds.
 use mathlib.Core.Path.{ap, ◌∙◌}
-use Prim.Native.Nat.{ℕ, ◌-◌}
+use Prim.Native.Nat.{ℕ}
 use native.Mathlib.Omega.{arith}
 use lib.Dec.{eqb}
 use Rattle.model.specs.State.{at}

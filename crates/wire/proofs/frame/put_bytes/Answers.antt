@@ -1,5 +1,5 @@
 -- `frame::put_bytes` meets its contract. The invariant: `out` is what it was, with the first i bytes of `src` put in at `at`.
-use Rattle.std.proofs.Common.{◌-◌, ◌∙◌, add-one, arith, length-set, rules}
+use Rattle.std.proofs.Common.{◌∙◌, add-one, arith, length-set, rules}
 use lib.Seq.{paste-zero, paste-suc}
 use Rattle.wire.specs.Splice.{paste_splice}
 use Rattle.wire.proofs.frame.put_bytes.Goals as goal
