@@ -3,6 +3,8 @@
 
 #![tactic(auto)]
 
+use std::io;
+
 fn sum_in_parts(bytes: &[u8]) -> u32 {
     let e = bytes.len();
     let m = e / 3;
@@ -10,30 +12,35 @@ fn sum_in_parts(bytes: &[u8]) -> u32 {
     crc::finish(crc::feed(c, &bytes[m..e]))
 }
 
-fn show(name: &[u8], bytes: &[u8]) {
-    io::print_hex(1, crc::crc32(bytes) as u64, 8);
-    io::write_all(1, b" ");
-    io::print_hex(1, sum_in_parts(bytes) as u64, 8);
-    io::write_all(1, b" ");
-    io::write_all(1, name);
-    io::write_all(1, b"\n");
+fn show(rt: &impl Print, name: &[u8], bytes: &[u8]) -> io::Result<()> {
+    let whole = crc::crc32(bytes);
+    let parts = sum_in_parts(bytes);
+    print!(rt; "{whole:08x} {parts:08x} ")?;
+    rt.write_all(name)?;
+    rt.write_all(b"\n")
 }
 
-fn show_text(text: &[u8]) {
-    show(text, text);
+fn show_text(rt: &impl Print, text: &[u8]) -> io::Result<()> {
+    show(rt, text, text)
 }
 
-fn main() {
-    io::write_all(1, b"CRC-32: at once, in two parts, of what\n");
-    show_text(b"123456789");
-    show(b"(no bytes)", b"");
-    show_text(b"a");
-    show_text(b"abc");
-    show_text(b"message digest");
-    show_text(b"abcdefghijklmnopqrstuvwxyz");
-    show_text(b"ABCDEFGHIJKLMNOPQRSTUVWXYZabcdefghijklmnopqrstuvwxyz0123456789");
-    show_text(b"12345678901234567890123456789012345678901234567890123456789012345678901234567890");
-    show_text(b"The quick brown fox jumps over the lazy dog");
-    show(b"(32 bytes 00)", &[0; 32]);
-    show(b"(32 bytes ff)", &[255; 32]);
+fn main(rt: HostRuntime) -> io::Result<()> {
+    rt.write_all(b"CRC-32: at once, in two parts, of what\n")?;
+    show_text(&rt, b"123456789")?;
+    show(&rt, b"(no bytes)", b"")?;
+    show_text(&rt, b"a")?;
+    show_text(&rt, b"abc")?;
+    show_text(&rt, b"message digest")?;
+    show_text(&rt, b"abcdefghijklmnopqrstuvwxyz")?;
+    show_text(
+        &rt,
+        b"ABCDEFGHIJKLMNOPQRSTUVWXYZabcdefghijklmnopqrstuvwxyz0123456789",
+    )?;
+    show_text(
+        &rt,
+        b"12345678901234567890123456789012345678901234567890123456789012345678901234567890",
+    )?;
+    show_text(&rt, b"The quick brown fox jumps over the lazy dog")?;
+    show(&rt, b"(32 bytes 00)", &[0; 32])?;
+    show(&rt, b"(32 bytes ff)", &[255; 32])
 }

@@ -6,19 +6,20 @@ mod calls;
 mod text;
 
 use state::sizes;
+use std::io;
 
-fn main() {
+fn main(rt: HostRuntime) -> io::Result<()> {
     let mut words = [0; sizes::WORDS];
     let mut strings = [0; sizes::STRINGS];
-    text::say(b"Bench examples, vendor \"AA\"\n");
-    bench::initialize(&mut words, &mut strings);
-    bench::async_initialize(&mut words, &mut strings);
-    bench::short_header(&mut words, &mut strings);
-    bench::wrong_prologue(&mut words, &mut strings);
-    bench::lengths(&mut words, &mut strings);
-    bench::exclusive(&mut words, &mut strings);
-    bench::shared(&mut words, &mut strings);
-    bench::deadline(&mut words, &mut strings);
-    bench::status(&mut words, &mut strings);
-    bench::other_types(&mut words, &mut strings);
+    text::say(&rt, b"Bench examples, vendor \"AA\"\n")?;
+    bench::initialize(&rt, &mut words, &mut strings)?;
+    bench::async_initialize(&rt, &mut words, &mut strings)?;
+    bench::short_header(&rt, &mut words, &mut strings)?;
+    bench::wrong_prologue(&rt, &mut words, &mut strings)?;
+    bench::lengths(&rt, &mut words, &mut strings)?;
+    bench::exclusive(&rt, &mut words, &mut strings)?;
+    bench::shared(&rt, &mut words, &mut strings)?;
+    bench::deadline(&rt, &mut words, &mut strings)?;
+    bench::status(&rt, &mut words, &mut strings)?;
+    bench::other_types(&rt, &mut words, &mut strings)
 }

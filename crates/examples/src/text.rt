@@ -1,43 +1,42 @@
 // What a person reads: words, numbers, bytes in hex, the frames of an output.
 ghost use Rattle.std.specs.Prelude.{◌<◌, ◌≤◌, length};
 
+use std::io;
 use wire::number::wide;
 
-pub fn say(s: &[u8]) {
-    io::write_all(1, s);
+pub fn say(rt: &impl Print, s: &[u8]) -> io::Result<()> {
+    rt.write_all(s)
 }
 
 // Words, then a number.
-pub fn say_number(s: &[u8], n: u64) {
-    say(s);
-    io::print_decimal(1, n);
+pub fn say_number(rt: &impl Print, s: &[u8], n: u64) -> io::Result<()> {
+    say(rt, s)?;
+    print!(rt; "{n}")
 }
 
 // Words, then a byte in hex.
-pub fn say_byte(s: &[u8], b: u8) {
-    say(s);
-    io::print_hex(1, b as u64, 2);
+pub fn say_byte(rt: &impl Print, s: &[u8], b: u8) -> io::Result<()> {
+    say(rt, s)?;
+    print!(rt; "{b:02x}")
 }
 
-fn first(s: &[u8], n: usize)
+fn first(rt: &impl Print, s: &[u8], n: usize) -> io::Result<()>
     requires { n ≤ length s.now }
 {
-    let mut i = 0;
-    while i < n {
-        say_byte(b" ", s[i]);
-        i += 1;
+    for b in &s[..n] {
+        say_byte(rt, b" ", *b)?;
     }
+    Ok(())
 }
 
 // Bytes, each after a space; of a long row the first sixteen, and how many follow.
-pub fn bytes(s: &[u8]) {
+pub fn bytes(rt: &impl Print, s: &[u8]) -> io::Result<()> {
     if s.len() <= 32 {
-        first(s, s.len());
-        return;
+        return first(rt, s, s.len());
     }
-    first(s, 16);
-    say_number(b" and ", (s.len() - 16) as u64);
-    say(b" more");
+    first(rt, s, 16)?;
+    say_number(rt, b" and ", (s.len() - 16) as u64)?;
+    say(rt, b" more")
 }
 
 // Where the frame that begins at a place ends: a byte of connection number, sixteen of header, the payload. At the latest, at the output's end.
@@ -55,26 +54,26 @@ fn frame_end(out: &[u8], at: usize, end: usize) -> usize
     at + 17 + payload as usize
 }
 
-fn frame(out: &[u8], at: usize, end: usize)
+fn frame(rt: &impl Print, out: &[u8], at: usize, end: usize) -> io::Result<()>
     requires { (at < end) × (end ≤ length out.now) }
 {
-    say_number(b"    to ", wide(out[at]));
-    say(b":");
-    bytes(&out[at + 1..end]);
-    say(b"\n");
+    say_number(rt, b"    to ", wide(out[at]))?;
+    say(rt, b":")?;
+    bytes(rt, &out[at + 1..end])?;
+    say(rt, b"\n")
 }
 
 // The frames in the first bytes of the output, one to a line.
-pub fn frames(out: &[u8], count: u64) {
+pub fn frames(rt: &impl Print, out: &[u8], count: u64) -> io::Result<()> {
     if count > out.len() as u64 {
-        say(b"    output beyond the buffer\n");
-        return;
+        return say(rt, b"    output beyond the buffer\n");
     }
     let end = count as usize;
     let mut at = 0;
     while at < end {
         let next = frame_end(out, at, end);
-        frame(out, at, next);
+        frame(rt, out, at, next)?;
         at = next;
     }
+    Ok(())
 }

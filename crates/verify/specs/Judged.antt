@@ -1,6 +1,6 @@
--- What is judged: of bytes that were read, the reading is the definition's. Which bytes a call of C reads no contract can say, so they are
--- just some. Assumes nothing.
-use Rattle.std.specs.Prelude.{◌≡◌, refl, List, [], ◌++◌, ℕ, ◌+◌, ◌-◌, ◌*◌, ◌^◌, ◌≤◌, ◌<◌, length, take}
+-- What is judged: of bytes that were read, the reading is the definition's. Which bytes a file gives no contract can say, so they are just
+-- some. Assumes nothing.
+use Rattle.std.specs.Prelude.{◌≡◌, List, [], ◌++◌, ℕ, ◌+◌, ◌-◌, ◌*◌, ◌^◌, ◌≤◌, ◌<◌, length, take}
 use Rattle.std.proofs.Common.{sym, ap, subst, ◌∙◌, arith, length-take}
 use Rattle.journal.specs.Journal.{body_limit}
 use Rattle.verifier.specs.Judge.{first}

@@ -1,5 +1,7 @@
 // The arguments behind the file's name.
-ghost use Rattle.std.specs.Prelude.{◌≤◌};
+ghost use Rattle.std.specs.Prelude.{◌≡◌, ◌≤◌, length};
+
+use std::env::{Env, FillError};
 
 // an argument of more bytes is none of ours
 const LONGEST: usize = 16;
@@ -47,12 +49,25 @@ fn vendor_of(s: &[u8]) -> u64
     ((a * 16 + b) * 16 + c) * 16 + d
 }
 
+// Whether there is an argument of that number.
+pub fn is_given(rt: &impl Env, number: usize) -> bool {
+    let mut first = [0u8; 1];
+    !matches!(rt.arg(number, &mut first), Err(FillError::NotPresent))
+}
+
+// How many of the bytes lent an argument takes. One that is missing or longer takes none.
+fn argument(rt: &impl Env, number: usize, word: &mut [u8]) -> usize
+    ensures { result ≤ length word.new }
+{
+    rt.arg(number, word).unwrap_or(0)
+}
+
 // VENDOR: four hex digits.
-pub fn vendor() -> u64
+pub fn vendor(rt: &impl Env) -> u64
     ensures { result ≤ 65536 }
 {
     let mut word = [0u8; LONGEST];
-    let n = os::arg(2, &mut word);
+    let n = argument(rt, 2, &mut word);
     vendor_of(&word[..n])
 }
 
@@ -69,10 +84,10 @@ fn mode_of(s: &[u8]) -> u64
 }
 
 // MODE: 1 for overlap.
-pub fn mode() -> u64
+pub fn mode(rt: &impl Env) -> u64
     ensures { result ≤ 2 }
 {
     let mut word = [0u8; LONGEST];
-    let n = os::arg(3, &mut word);
+    let n = argument(rt, 3, &mut word);
     mode_of(&word[..n])
 }

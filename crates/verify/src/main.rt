@@ -13,12 +13,17 @@ ghost use Rattle.verify.specs.Judged.{Judged, entry_limit, piece_limit};
 use arguments::{BAD_MODE, BAD_VENDOR};
 use state::sizes;
 use state::sizes::{Strings, Words};
+use std::io::Read;
+use std::rt::{Env, Files};
+use std::{fs, io, str};
 use verifier::Standing;
 
 // the buffers: with words, strings, output and path below 64 KiB (docs/DECISIONS.md has the sum)
 const PIECE: usize = 16384;
 
 const OUTPUT: usize = 2048;
+
+const LONGEST_PATH: usize = 4096;
 
 // A proved loop has to end, and nothing says that a file does: at most so many pieces, 2^61 bytes, are read.
 const TURNS: u64 = 140737488355328;
@@ -40,7 +45,8 @@ fn unread(r: Standing) -> Standing
 
 // Reads piece after piece, up to the end or to the first fault.
 fn judge(
-    fd: i32,
+    errors: &impl Print,
+    file: &mut impl Read,
     path: &[u8],
     buf: &mut [u8],
     words: &mut Words,
@@ -52,14 +58,14 @@ fn judge(
     ensures { Judged result buf.new (memory words.old strings.old) (memory words.new strings.new) }
 {
     let mut r = verifier::begin();
-    let mut turns = TURNS;
-    while turns > 0 {
-        let got = libc::read(fd, piece);
-        if got < 0 {
-            os::fail(path);
-            return unread(r);
-        }
-        let n = io::count(got, piece);
+    for _ in 0..TURNS {
+        let n = match file.read(piece) {
+            Ok(n) => n,
+            Err(e) => {
+                say::unreadable(errors, path, &e);
+                return unread(r);
+            }
+        };
         if n == 0 {
             return r;
         }
@@ -67,18 +73,33 @@ fn judge(
         if r.fault != 0 {
             return r;
         }
-        turns -= 1;
     }
-    say::endless();
+    say::endless(errors);
     unread(r)
 }
 
-fn judge_file(path: &[u8], vendor: u16, overlap: u8) {
-    let fd = os::open_read(path);
-    if fd < 0 {
-        os::fail(path);
-        return;
+// A path that is not UTF-8 opens nothing.
+fn open<R: Files>(files: &R, path: &[u8]) -> io::Result<R::File> {
+    match str::from_utf8(path) {
+        Ok(text) => fs::open(files, text),
+        Err(_) => Err(io::Error::from(io::ErrorKind::InvalidFilename)),
     }
+}
+
+fn judge_file<R: Files + Print>(
+    rt: &R,
+    errors: &impl Print,
+    path: &[u8],
+    vendor: u16,
+    overlap: u8,
+) -> io::Result<()> {
+    let mut file = match open(rt, path) {
+        Ok(file) => file,
+        Err(e) => {
+            say::unreadable(errors, path, &e);
+            return Ok(());
+        }
+    };
     let mut words = [0; sizes::WORDS];
     let mut strings = [0; sizes::STRINGS];
     let mut buf = [0; verifier::ENTRY_LIMIT];
@@ -86,7 +107,8 @@ fn judge_file(path: &[u8], vendor: u16, overlap: u8) {
     let mut piece = [0; PIECE];
     server::hislip_new(&mut words, &mut strings, vendor, overlap);
     let r = judge(
-        fd,
+        errors,
+        &mut file,
         path,
         &mut buf,
         &mut words,
@@ -94,39 +116,36 @@ fn judge_file(path: &[u8], vendor: u16, overlap: u8) {
         &mut out,
         &mut piece,
     );
-    libc::close(fd);
     if r.fault == UNREAD {
-        return;
+        return Ok(());
     }
     if r.fault != 0 {
-        say::verdict(r.count, r.fault);
-        return;
+        return say::verdict(rt, r.count, r.fault);
     }
     let k = verifier::verdict(r, &buf);
-    say::verdict(r.count, k);
+    say::verdict(rt, r.count, k)
 }
 
-fn main() {
-    let mut path = io::buffer();
-    let length = os::arg(1, &mut path);
-    let is_whole = os::errno() == 0;
-    if os::arg_count() != 4 {
-        say::usage(b"usage: verify FILE VENDOR MODE\n");
-        return;
+fn main(rt: HostRuntime) -> io::Result<()> {
+    let errors = rt.stderr();
+    if !arguments::is_given(&rt, 3) || arguments::is_given(&rt, 4) {
+        say::usage(&errors, b"usage: verify FILE VENDOR MODE\n");
+        return Ok(());
     }
-    if !is_whole {
-        say::usage(b"FILE is a path of at most 4096 bytes\n");
-        return;
-    }
-    let vendor = arguments::vendor();
+    let mut path = [0u8; LONGEST_PATH];
+    let Ok(length) = rt.arg(1, &mut path) else {
+        say::usage(&errors, b"FILE is a path of at most 4096 bytes\n");
+        return Ok(());
+    };
+    let vendor = arguments::vendor(&rt);
     if vendor == BAD_VENDOR {
-        say::usage(b"VENDOR is four hex digits\n");
-        return;
+        say::usage(&errors, b"VENDOR is four hex digits\n");
+        return Ok(());
     }
-    let overlap = arguments::mode();
+    let overlap = arguments::mode(&rt);
     if overlap == BAD_MODE {
-        say::usage(b"MODE is synchronized or overlap\n");
-        return;
+        say::usage(&errors, b"MODE is synchronized or overlap\n");
+        return Ok(());
     }
-    judge_file(&path[..length], vendor as u16, overlap as u8);
+    judge_file(&rt, &errors, &path[..length], vendor as u16, overlap as u8)
 }

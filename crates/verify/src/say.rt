@@ -1,47 +1,55 @@
-// What is printed.
-use libc::{STDERR_FILENO, STDOUT_FILENO};
+// What is printed. Where the standard error takes nothing, there is no place left to say so.
+use std::io::{Cursor, Write};
+use std::{io, str};
 
-pub fn usage(text: &[u8]) {
-    io::write_all(STDERR_FILENO, text);
+pub fn usage(errors: &impl Print, text: &[u8]) {
+    let _ = errors.write_all(text);
 }
 
-pub fn endless() {
-    io::write_all(STDERR_FILENO, b"verify: the file does not end\n");
+pub fn endless(errors: &impl Print) {
+    let _ = errors.write_all(b"verify: the file does not end\n");
 }
 
-fn fault(k: u64) {
+// An error as it is printed, without the number behind that std adds to the system's words.
+fn reason(errors: &impl Print, error: &io::Error) -> io::Result<()> {
+    let mut text = Cursor::new([0u8; 128]);
+    let _ = write!(text, "{error}");
+    let end = (text.position() as usize).min(128);
+    let printed = str::from_utf8(&text.get_ref()[..end]).unwrap_or("");
+    match printed.split_once(" (os error ") {
+        Some((words, _)) => errors.print(words),
+        None => errors.print(printed),
+    }
+}
+
+fn failure(errors: &impl Print, path: &[u8], error: &io::Error) -> io::Result<()> {
+    errors.write_all(path)?;
+    errors.write_all(b": ")?;
+    reason(errors, error)?;
+    errors.write_all(b"\n")
+}
+
+// The file could not be opened or read.
+pub fn unreadable(errors: &impl Print, path: &[u8], error: &io::Error) {
+    let _ = failure(errors, path, error);
+}
+
+fn fault(rt: &impl Print, k: u64) -> io::Result<()> {
     match k {
-        1 => {
-            io::write_all(STDOUT_FILENO, b"length\n");
-        }
-        2 => {
-            io::write_all(STDOUT_FILENO, b"distance\n");
-        }
-        3 => {
-            io::write_all(STDOUT_FILENO, b"sum\n");
-        }
-        4 => {
-            io::write_all(STDOUT_FILENO, b"layout\n");
-        }
-        5 => {
-            io::write_all(STDOUT_FILENO, b"parcels\n");
-        }
-        _ => {
-            io::write_all(STDOUT_FILENO, b"closing trailer\n");
-        }
+        1 => rt.write_all(b"length\n"),
+        2 => rt.write_all(b"distance\n"),
+        3 => rt.write_all(b"sum\n"),
+        4 => rt.write_all(b"layout\n"),
+        5 => rt.write_all(b"parcels\n"),
+        _ => rt.write_all(b"closing trailer\n"),
     }
 }
 
 // The one line: accepted, or the first wrong entry and its kind of fault.
-pub fn verdict(count: u64, k: u64) {
+pub fn verdict(rt: &impl Print, count: u64, k: u64) -> io::Result<()> {
     if k == verifier::ACCEPTED {
-        io::write_all(STDOUT_FILENO, b"accepted: ");
-        io::print_decimal(STDOUT_FILENO, count);
-        io::write_all(STDOUT_FILENO, b" entries\n");
-        return;
+        return print!(rt; "accepted: {count} entries\n");
     }
-    io::write_all(STDOUT_FILENO, b"entry ");
-    io::print_decimal(STDOUT_FILENO, count);
-    io::write_all(STDOUT_FILENO, b": ");
-    fault(k);
+    print!(rt; "entry {count}: ")?;
+    fault(rt, k)
 }
