@@ -1,32 +1,32 @@
 -- Laws for the code: what a call gave beside the frames recorded; what a body that was read says; a turn.
-use mathlib.Core.Path.{◌≡◌, refl, sym, ap, ap₂, subst, ◌∙◌}
+use mathlib.Core.Path.{◌≡◌, refl, sym, ap, subst, ◌∙◌}
 use mathlib.Core.Bool.{Bool, true, false, not, ◌||◌, cond, true≢false}
-use mathlib.Core.List.{List, [], ◌∷◌, ◌++◌}
+use mathlib.Core.List.{List, [], ◌∷◌}
 use Prim.Native.Nat.{ℕ, zero, suc, ◌+◌, ◌-◌, ◌%◌, ◌^◌, ◌≤◌, ◌<◌}
 use native.Mathlib.Nat.{mod-eq_of_lt}
 use native.Mathlib.Omega.{arith}
-use lib.Dec.{eqb, leb}
+use lib.Dec.{eqb}
 use lib.ListN.{length, take, drop, length-append, length-drop}
 use lib.Seq.{take-length}
-use borrow.Author.Tests.{le-leb, lt-leb, eq-eqb, ne_eqb, eqb-true}
+use borrow.Author.Tests.{le-leb, lt-leb, eq-eqb, ne_eqb}
 use Rattle.wire.specs.Field.{Bytes}
-use Rattle.wire.specs.Frame.{Frame, bytes_of, written}
+use Rattle.wire.specs.Frame.{bytes_of}
 use Rattle.wire.specs.Splice.{splice, take_front}
-use Rattle.journal.specs.Journal.{choose, body_limit}
+use Rattle.journal.specs.Journal.{choose}
 use Rattle.journal.specs.Bytes.{yes_is, no_is}
 use Rattle.record.specs.Layout.{Event as Recorded, opening as r-opening, delivery as r-delivery, cut as r-cut, clock as r-clock, answer as r-answer}
-use Rattle.record.specs.Layout.{status as r-status, watch_off, watch_above, watch_outside, patterns as r-patterns, Read, found, none, Fits, decode}
+use Rattle.record.specs.Layout.{status as r-status, watch_off, watch_above, watch_outside, patterns as r-patterns, found, none, Fits, decode}
 use Rattle.record.proofs.RoundTrip.{read_written}
 use Rattle.record.specs.Parts.{seen, Reads, nine}
 use Rattle.record.specs.declared.parts.Parts.{Parts}
-use Rattle.verifier.specs.Judge.{Fault, in_layout, in_parcels, Deed, refused, gave, Went, on, fault, same, by_deed, by_event}
+use Rattle.verifier.specs.Judge.{in_layout, in_parcels, gave, on, fault, same, by_deed, by_event}
 use Rattle.verifier.specs.Framing.{fault_of}
 use Rattle.model.specs.Sizes.{output_minimum}
 use Rattle.readings.specs.Bits.{not_number, below}
 use Rattle.readings.specs.Watch as Watch
 use Rattle.readings.specs.Watch.{Limits, Limits.off, Limits.above, Limits.outside}
 use Rattle.model.specs.State.{Server, at, live, slot_of_number, connection_at}
-use Rattle.model.specs.Interface.{Event, Event.opening, Event.delivery, Event.cut, Event.clock, Event.answer, Event.status, Event.setting, Setting}
+use Rattle.model.specs.Interface.{Event, Event.opening, Event.delivery, Event.cut, Event.clock, Event.answer, Event.status, Event.setting}
 use Rattle.model.specs.Interface.{Setting.watch, Setting.patterns, Reply, Reply.refused as turned_away_lem, Reply.done, Reply.withheld, Reply.took, DoneAnswer}
 use Rattle.model.specs.Interface.{done_answer, DeliveryAnswer, delivery_answer, AnsweredAnswer, answered_answer}
 use Rattle.commands.specs.declared.Judged.{Judged}
@@ -40,13 +40,12 @@ use Rattle.model.specs.Step.{answered, effect, finish, plan, received, step, wit
 use Rattle.claims.proofs.Refused.{Took, effect_took}
 use Rattle.state.specs.View.{Memory, view, numeral}
 use Rattle.sessions.specs.declared.Delivery.{Delivery}
-use Rattle.sessions.specs.Did.{numbers_of}
 use Rattle.server.specs.declared.Answered.{Answered}
 use Rattle.server.specs.declared.Done.{Done}
 use Rattle.server.specs.declared.listing.Listed.{Listed}
 use Rattle.server.specs.Calls.{Delivered}
 use Rattle.server.specs.Listing.{SetsList}
-use Rattle.server.specs.Events.{Called, Replied, done_numbers, answered_numbers}
+use Rattle.server.specs.Events.{Called, Replied}
 use Rattle.judging.specs.Replay.{by_reply, by_call, deed}
 use Rattle.replay.specs.Replays.{went_of, compared_of, Replays, Judges, Later}
 

@@ -1,18 +1,14 @@
 -- Laws of a turn and of the loop over a piece.
-use mathlib.Core.Path.{◌≡◌, refl, sym, ap, ap₂, subst, ◌∙◌}
-use mathlib.Core.Bool.{Bool, true, false}
+use mathlib.Core.Path.{◌≡◌, refl, sym, ap, subst, ◌∙◌}
 use mathlib.Core.List.{List, [], ◌∷◌, ◌++◌}
-use Prim.Native.Nat.{ℕ, zero, suc, ◌+◌, ◌-◌, ◌^◌, ◌≤◌, ◌<◌, min}
+use Prim.Native.Nat.{ℕ, ◌+◌, ◌-◌, ◌^◌, ◌≤◌, ◌<◌, min}
 use native.Mathlib.Omega.{arith}
-use lib.Dec.{eqb}
 use lib.ListN.{length, take, drop, length-take, length-drop, take-append-drop}
 use lib.Seq.{take_all, take-take}
 use borrow.Author.Tests.{eq-eqb, ne_eqb}
-use Rattle.journal.specs.Journal.{choose, body_limit}
 use Rattle.journal.specs.Bytes.{yes_is, no_is}
 use Rattle.journal.specs.Steps.{drop_take}
-use Rattle.record.specs.Layout.{decode}
-use Rattle.verifier.specs.Judge.{Went, on, fault, by_event}
+use Rattle.verifier.specs.Judge.{on, fault}
 use Rattle.verifier.specs.Feed.{Reading, feed}
 use Rattle.verifier.specs.Pieces.{feed_append}
 use Rattle.verifier.specs.Framing.{fault_of, Fed}

@@ -1,7 +1,6 @@
 -- `replay::feed` meets its contract.
 use mathlib.Core.Path.{refl, ◌∙◌}
 use native.Mathlib.Omega.{arith}
-use Prim.Native.Nat.{◌-◌}
 use Rattle.state.specs.View.{memory}
 use Rattle.replay.proofs.Turns.{none_fed, may_ask, fed_stays, all_fed, further, turn_ready, fed_more}
 use Rattle.replay.proofs.feed.Goals as goal
