@@ -9,14 +9,13 @@ use lib.ListN.{length, take}
 use contract.Lifetimes.{Lfts}
 use borrow.Fn.Kinds.{Dens, res_t, ended_of}
 use denote.Triple.Clauses.{AtExit}
-use Rattle.model.specs.Interface.{Event, Event.opening, Event.delivery, Event.cut, Event.clock, Event.answer, Event.status, Event.setting, Setting.watch, Setting.patterns, Reply.done}
+use Rattle.model.specs.Interface.{Event.opening, Event.delivery, Event.cut, Event.clock, Event.answer, Event.status, Event.setting, Setting.watch, Setting.patterns, Reply.done}
 use Rattle.readings.specs.Bits.{bits}
 use Rattle.readings.specs.Watch.{Limits.off, Limits.above, Limits.outside}
 use Rattle.model.specs.State.{Making}
-use Rattle.model.specs.Demand3.{Seen}
 use Rattle.state.specs.View.{Memory, memory}
 use Rattle.server.specs.Events.{Fresh}
-use Rattle.server.specs.Program.{delivery_reply, done_reply, answered_reply, listed_reply, Run, Run.hislip_open as Ran-open, Run.hislip_deliver as ran-deliver}
+use Rattle.server.specs.Program.{delivery_reply, done_reply, answered_reply, listed_reply, Run.hislip_open as Ran-open, Run.hislip_deliver as ran-deliver}
 use Rattle.server.specs.Program.{Run.hislip_cut as ran-cut, Run.hislip_clock as ran-clock, Run.hislip_answer as ran-answer, Run.hislip_status as ran-status}
 use Rattle.server.specs.Program.{Run.hislip_watch as ran-watch, Run.hislip_patterns as ran-patterns}
 use Rattle.server.proofs.hislip_new.Reads as new-says

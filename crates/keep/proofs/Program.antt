@@ -2,7 +2,7 @@
 use mathlib.Core.Path.{◌≡◌, refl, sym, ap, ap₂, subst, ◌∙◌}
 use mathlib.Core.Bool.{Bool, true, false, true≢false, ◌&&◌, not, cond}
 use mathlib.Core.List.{List, [], ◌∷◌, ◌++◌, map, append_assoc, append-nil}
-use Prim.Native.Nat.{ℕ, zero, suc, ◌+◌, ◌^◌, ◌≤◌, ◌<◌}
+use Prim.Native.Nat.{ℕ, ◌+◌, ◌^◌, ◌≤◌, ◌<◌}
 use native.Mathlib.Omega.{arith}
 use lib.Dec.{eqb, leb}
 use lib.ListN.{length, take, length-take}
@@ -28,7 +28,7 @@ use Rattle.state.specs.View.{Memory, view}
 use Rattle.server.specs.Events.{Fresh}
 use Rattle.server.specs.Program.{Run, Run.stop as no_more}
 use Rattle.server.proofs.Program.{program}
-use Rattle.journal.specs.Journal.{body_limit, choose, entry, entries, closed_journal, Fine, forward, backward}
+use Rattle.journal.specs.Journal.{body_limit, entry, closed_journal, Fine, forward, backward}
 use Rattle.journal.specs.Bytes.{yes_is, no_is, append_bytes, field_bytes}
 use Rattle.journal.proofs.Forward.{forward_closed}
 use Rattle.journal.proofs.Backward.{backward_closed}
@@ -50,7 +50,7 @@ use Rattle.judging.proofs.Calls.{step_taken, no_cause, rights}
 use Rattle.judging.proofs.Fine.{all_possible, kept_fine}
 use Rattle.keep.specs.Keeping.{looked, refused_by, entry_unless, keeping, Keeps}
 use Rattle.keep.specs.Parts.{refused_by_lem, body_within, payload_within}
-use Rattle.keep.specs.Program.{Told, seens, body, accepted, entry_of, bodies, accepted_of, AllWritten, Typed, AllTyped, EachRead, PlainCall, Begun}
+use Rattle.keep.specs.Program.{Told, seens, body, accepted, entry_of, bodies, accepted_of, AllWritten, Typed, AllTyped, EachRead, Begun}
 use Rattle.keep.specs.Program.{Begun.begun, KeptRun, KeptRun.stop, KeptRun.call, ClosedAs, KeptProgram}
 
 plainly : {m m' : Memory} {w b w' b' : List ℕ} {ts : List Told} → KeptRun m w b ts m' w' b' → Run m (seens ts) m'

@@ -1,8 +1,8 @@
 -- The parts of a body, as the code hands them to the writer, and what the plain call's answer tells of them. Assumes nothing.
-use Rattle.std.specs.Prelude.{◌≡◌, ◌⊎◌, Bool, true, false, ◌||◌, List, ◌∷◌, ◌++◌, eqb, take}
+use Rattle.std.specs.Prelude.{◌≡◌, Bool, true, false, ◌||◌, List, ◌∷◌, ◌++◌, eqb, take}
 use Rattle.std.proofs.Math.Path.{refl, sym}
 use Rattle.std.proofs.Common.{ap, subst, ◌∙◌, ⊎_elim, true≢false, append_assoc, arith, length-take, length-append, take_all, ltb-false, ne_eqb}
-use Prim.Native.Nat.{ℕ, zero, suc, ◌+◌, ◌≤◌, ◌<◌, min}
+use Prim.Native.Nat.{ℕ, zero, suc, ◌≤◌, ◌<◌, min}
 use Rattle.std.proofs.Math.ListN.{length}
 use Rattle.wire.specs.Field.{field, length_field}
 use Rattle.wire.specs.Frame.{bytes_of, written}

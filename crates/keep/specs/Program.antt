@@ -11,7 +11,7 @@ use Rattle.state.specs.View.{Memory, view}
 use Rattle.server.specs.Program.{Run}
 use Rattle.journal.specs.Journal.{closed_journal, forward, backward}
 use Rattle.journal.specs.Prefix.{within}
-use Rattle.journal.specs.Writer.{place, new_of, close_of}
+use Rattle.journal.specs.Writer.{place, new_of}
 use Rattle.record.specs.Layout.{body_bytes, decode, found}
 use Rattle.verifier.specs.Judge.{accepted as passed}
 use Rattle.judging.specs.Kept.{recorded, AllKeepable}

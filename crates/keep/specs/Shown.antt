@@ -1,10 +1,9 @@
 -- 02, Q-7: "Of bytes shown with a meter answer only the first 16 count": the plain call on these is the plain call on all. Assumes nothing.
-use Rattle.std.specs.Prelude.{◌≡◌, ◌⊎◌, List, Bool, leb, length, take}
+use Rattle.std.specs.Prelude.{◌≡◌, List, Bool, leb, length, take}
 use Rattle.std.proofs.Math.Path.{refl}
 use Rattle.std.proofs.Common.{sym, ap, ◌∙◌, ⊎_elim, arith, length-take, take_all, le-leb}
 use Prim.Native.Nat.{ℕ, zero, suc, ◌≤◌, ◌<◌}
 use Rattle.std.proofs.Math.Seq.{get_or-take}
-use Rattle.wire.specs.Message.{header}
 use Rattle.model.specs.State.{Server}
 use Rattle.model.specs.Interface.{Event.answer}
 use Rattle.model.specs.Refusals.{causes, refusal}

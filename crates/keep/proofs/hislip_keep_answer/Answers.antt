@@ -23,11 +23,11 @@ pub overflow_add-e : goal.overflow_add-e
 overflow_add-e c = omega (arith, c.least-n.ensures)
 
 pub slice_bounds-row-end : goal.slice_bounds-row-end
-slice_bounds-row-end c =    omega (
-      arith,
-      c.least-n.ensures,
-      c.row-row.ensures.0,
-    )
+slice_bounds-row-end c = omega (
+  arith,
+  c.least-n.ensures,
+  c.row-row.ensures.0,
+)
 
 pub slice_bounds-keep_entry-end-2 : goal.slice_bounds-keep_entry-end-2
 slice_bounds-keep_entry-end-2 c = simp length-take (omega (
