@@ -1,19 +1,19 @@
-# `make` alone lists the targets. `rt` is the prover; RT=.. names another command for it.
+# `make` alone lists the targets. `rt` is the prover; RT=.. names another command for it, on the PATH or by its whole path.
 RT      ?= rt
 ARCHIVE ?= target/libhislip.a
-# the crates whose exported functions are the interface
-EXPORTS  = server questions keep
+# the crate whose exported functions are the interface
+EXPORTS  = hislip_c
 
 # the program that judges a journal, and where the prover leaves it
 VERIFY  ?= target/verify
-JUDGE   ?= target/bin/verify
+JUDGE   ?= crates/verify/out/verify
 
 .PHONY: help test library verify
 
 help:
 	@echo 'make gateway        build the proved library and serve it on 127.0.0.1:4880 (PORT=5000 for another port)'
 	@echo "make query          a small HiSLIP client to try it with: make query ARGS='\"*IDN?\"'"
-	@echo 'make test           the gate: prove every crate from nothing, try every must-fail edit, run every test'
+	@echo 'make test           the gate: prove every crate, try every must-fail edit, run every test'
 	@echo 'make library        the archive that a host links: $(ARCHIVE), with the headers of include/'
 	@echo "make verify         the program that judges a journal: $(VERIFY) FILE VENDOR MODE"
 	@echo 'make install        headers, archive and pkg-config file to PREFIX (/usr/local)'
@@ -35,8 +35,10 @@ test:
 library:
 	@bash host/build_archive.sh $(ARCHIVE) $(RT) $(EXPORTS)
 
+# The prover builds a program by running it: on a book that is accepted.
 verify:
-	$(RT) check verify
+	cd crates/verify && $(RT) run -- data/book 4141 synchronized
+	@mkdir -p $(dir $(VERIFY))
 	install -m 755 $(JUDGE) $(VERIFY)
 
 include include/install.mk

@@ -27,7 +27,7 @@ believe:
 # One page of what was built, proved, run and measured, and what was not: target/evidence.md. The
 # archive is built a second time from a copy of the sources; FRESH=1 proves that copy from nothing.
 evidence:
-	$(RT) check
+	bash $(HOST)/prove.sh $(RT)
 	$(MAKE) --no-print-directory bench
 	RT=$(RT) bash $(HOST)/second_build.sh $(ARCHIVE) target/second.a $(FRESH)
 	$(CARGO) run $(HOST_FLAGS) --release -q -p evidence -- --second target/second.a --write target/evidence.md

@@ -1,5 +1,5 @@
-//! The crates as the prover left them, from its logs: `NAME.out` has the last verdict, `NAME.say` what
-//! was said when the crate was last proved.
+//! The crates as the prover found them, from the logs of `host/prove.sh`: `NAME.out` has the verdict,
+//! `NAME.say` all that was said.
 
 use std::fs;
 use std::path::Path;
@@ -13,9 +13,9 @@ const TITLE: &str = "Crates";
 struct Proved {
     functions: usize,
     axioms: usize,
-    /// The C functions that are taken as they are, if any.
+    /// The functions that are taken as they are, by their libraries, if any.
     assumed: String,
-    /// How long it took, or that nothing has changed since.
+    /// How long it took, and whether some of it was kept from before.
     when: String,
 }
 
@@ -24,7 +24,7 @@ fn names(list: &str) -> Vec<&str> {
     let lines = list.lines().filter(|line| !line.starts_with('#'));
     lines
         .filter_map(|line| line.split_once(':'))
-        .map(|(name, _)| name.trim())
+        .filter_map(|(words, _)| words.split_whitespace().next())
         .collect()
 }
 
@@ -40,11 +40,14 @@ fn proved(name: &str, out: &str, say: &str) -> Option<Proved> {
     let when = out.lines().find_map(|line| line.strip_prefix(&begin))?;
     let verdict = say.lines().find(|line| line.starts_with("logic=proved"))?;
     let number = |what| value(verdict, what).map_or(Some(0), |number| number.parse().ok());
-    let assumed = say.lines().find_map(|line| line.strip_prefix("axioms "));
+    let assumed = say.lines().filter_map(|line| line.strip_prefix("axioms "));
+    let assumed: Vec<_> = assumed
+        .filter(|told| !told.contains(": none reached"))
+        .collect();
     Some(Proved {
         functions: number("functions")?,
         axioms: number("axioms")?,
-        assumed: assumed.unwrap_or_default().to_owned(),
+        assumed: assumed.join("; "),
         when: when.trim_end_matches(')').to_owned(),
     })
 }
@@ -106,6 +109,7 @@ mod tests {
             names("# one line each\nwire:\nmodel: wire\n"),
             ["wire", "model"]
         );
+        assert_eq!(names("low:\nffi staticlib: low\n"), ["low", "ffi"]);
     }
 
     #[test]
@@ -120,6 +124,8 @@ mod tests {
         assert_eq!(told, expected);
         let none = proved("examples", OUT, &SAY.replace("axioms=1 ", ""));
         assert_eq!(none.map(|told| told.axioms), Some(0));
+        let unused = format!("axioms io: none reached of the 3 declared\n{SAY}");
+        assert_eq!(proved("examples", OUT, &unused), Some(expected));
     }
 
     #[test]

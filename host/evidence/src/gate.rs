@@ -8,8 +8,7 @@ use record::tree;
 use crate::section::{table, Section, State};
 
 const TITLE: &str = "The gate";
-const HOW: &str =
-    "`make test` proves every crate from nothing, tries every edit and runs the host kit's tests";
+const HOW: &str = "`make test` proves every crate, tries every edit and runs the host kit's tests";
 
 /// How many edits of a crate a gate's log says were refused.
 fn refused(log: &str, name: &str) -> usize {
