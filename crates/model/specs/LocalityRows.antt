@@ -7,7 +7,7 @@ use Rattle.wire.specs.Class.{one_of}
 use Rattle.readings.specs.Watch.{Limits.off, trips}
 use Rattle.readings.specs.Record.{Recorded, nothing, noted}
 use Rattle.readings.specs.Payload.{readings_of}
-use Rattle.readings.specs.Some as Some
+use Rattle.readings.specs.Some as Tests
 use Rattle.model.specs.Sizes.{no_connection}
 use Rattle.model.specs.Lists.{is_nil, keep}
 use Rattle.model.specs.State.{Making, Allowed, Allowed.only, Granted, no_grants, Entry, Waiting, Kind.exclusive_lock, Kind.shared_lock, Standing}
@@ -267,7 +267,7 @@ granted_row now =
 -- READINGS. 02, Q-11: what is set arms the watch, also the same one again, and leaves the record; the readings of an answer that is sent trip it
 -- and go to the record, one after the other; a closing forgets both. Nothing else changes them
 abbrev pub trips_by : List ℕ → Sensing → Bool
-trips_by p s = Some.some (trips s.watch) (readings_of p)
+trips_by p s = Tests.some (trips s.watch) (readings_of p)
 
 abbrev pub noted_all : List ℕ → Recorded → Recorded
 noted_all [] r = r
