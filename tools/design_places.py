@@ -7,7 +7,7 @@ Without a commit it reads the files as they stand. What it counts, by point:
 2 twins: groups of functions whose text is the same but for numbers, types, constants and the names of the functions called, or whose names
   differ only in a number, and pairs `x` and `x_in`.
 3 loops: each `while`.
-4 each function that returns true or false by hand, each minimum, each conversion of one value and each struct copied field by field.
+4 each function that is nothing but tests which return true or false, each minimum, each conversion of one value and each struct copied field by field.
 5 each part of a `requires` that three functions or more have, and each row of three parameters or more that ten functions or more have.
 6 each struct or walk with a buffer and its length beside it.
 7 each function that chooses among three calls or more by comparing one number.
@@ -121,7 +121,7 @@ for f in FUNCTIONS:
     if re.search(NUMBER, f.name):
         named[f.file, re.sub(NUMBER, "", f.name)].append(f)
 for f in FUNCTIONS:
-    twin = [g for g in FUNCTIONS if g.file == f.file and g.name == f.name + "_in"]
+    twin = [g for g in FUNCTIONS if g.file == f.file and g.name == f.name + "_in" and re.fullmatch(rf"\s*{g.name}\([^;]*\);?\s*", f.body)]
     if twin:
         note(2, f.file, f.text, f.at, f"{f.name}, {twin[0].name}")
 for members in list(groups.values()) + list(named.values()):
@@ -135,9 +135,9 @@ for n, t in SOURCES:
 
 # 4
 for f in FUNCTIONS:
-    if re.search(r"-> bool", f.head) and len(re.findall(r"return (?:true|false);", f.body)) >= 1:
-        note(4, f.file, f.text, f.at, f"{f.name}: true or false by hand")
     flat = re.sub(r"\s+", " ", f.body).strip()
+    if re.search(r"-> bool", f.head) and re.search(r"return (?:true|false);", flat) and re.fullmatch(r"(?:if [^{}]* \{ return [^;{}]*; \} )+[^;{}]*", flat):
+        note(4, f.file, f.text, f.at, f"{f.name}: true or false by hand")
     if re.fullmatch(r"if (\w+) <=? .*? \{ return \1(?: as \w+)?; \} \w+(?: as \w+)?", flat):
         note(4, f.file, f.text, f.at, f"{f.name}: a minimum")
     if re.fullmatch(r"\(?\w+(?: as \w+)\)?", flat):

@@ -16,26 +16,16 @@ use state::layout::{LIST, LISTED};
 use state::sizes::{LIST_LIMIT, Strings, Words};
 
 // Is a list set?
+#[tactic(auto, using(crate::specs::Listing::set_read))]
 pub fn is_set(w: &Words) -> bool
     ensures { (s : List ℕ) → is_set (allowed_of w.now s) ≡ result }
 {
-    if w[LISTED] == 0 {
-        return false;
-    }
-    true
+    w[LISTED] != 0
 }
 
-// Does the list that is the n bytes from a place on allow the payload?
-fn part_allows(strings: &[u8], a: usize, n: usize, payload: &[u8]) -> bool
-    requires { a + n ≤ length strings.now }
-    ensures { admits (only (take n (drop a strings.now))) payload.now ≡ result }
-{
-    let e = a + n;
-    allowing::allowed(&strings[a..e], payload)
-}
-
-fn is_allowed_in(w: &Words, strings: &[u8], payload: &[u8]) -> bool
-    requires { length strings.now ≡ STRINGS }
+// Is the payload of a DataEND allowed? While no list is set that is one test.
+#[tactic(auto, using(crate::specs::Listing::none_admits))]
+pub fn is_allowed(w: &Words, strings: &Strings, payload: &[u8]) -> bool
     ensures { admits (allowed_of w.now strings.now) payload.now ≡ result }
 {
     let listed = w[LISTED];
@@ -43,26 +33,7 @@ fn is_allowed_in(w: &Words, strings: &[u8], payload: &[u8]) -> bool
         return true;
     }
     let n = least(listed - 1, LIST_LIMIT);
-    part_allows(strings, LIST, n, payload)
-}
-
-// Is the payload of a DataEND allowed? While no list is set that is one test.
-pub fn is_allowed(w: &Words, strings: &Strings, payload: &[u8]) -> bool
-    ensures { admits (allowed_of w.now strings.now) payload.now ≡ result }
-{
-    is_allowed_in(w, strings, payload)
-}
-
-fn put_list_in(w: &mut [u64], strings: &mut [u8], text: &[u8])
-    requires { (length text.now ≤ list_limit) × (length w.old ≡ WORDS) × (length strings.old ≡ STRINGS) }
-    ensures { (view (memory w.new strings.new) ≡ on_rest (view (memory w.old strings.old))
-        (λ r. with_allowed r (only text.now))) × (Tidy (memory w.old strings.old) →
-        Tidy (memory w.new strings.new)) }
-{
-    let n = least(w[LISTED], LIST_LIMIT);
-    wipe(strings, LIST, n);
-    wire::frame::put_bytes(strings, LIST, text);
-    w[LISTED] = text.len() as u64 + 1;
+    allowing::allowed(&strings[LIST..LIST + n], payload)
 }
 
 // A list in the place of the one before, of which nothing stays.
@@ -72,5 +43,8 @@ pub fn put_list(w: &mut Words, strings: &mut Strings, text: &[u8])
         (λ r. with_allowed r (only text.now))) × (Tidy (memory w.old strings.old) →
         Tidy (memory w.new strings.new)) }
 {
-    put_list_in(w, strings, text);
+    let n = least(w[LISTED], LIST_LIMIT);
+    wipe(strings, LIST, n);
+    wire::frame::put_bytes(strings, LIST, text);
+    w[LISTED] = text.len() as u64 + 1;
 }

@@ -7,7 +7,7 @@ use borrow.Author.Tests.{ne_eqb}
 use Rattle.wire.specs.Class.{class_of, asynchronous, one_of}
 use Rattle.model.specs.MessageTypes.{FatalError, Error, AsyncLock, AsyncRemoteLocalControl, AsyncMaximumMessageSize, AsyncInitialize, AsyncDeviceClear, AsyncStatusQuery, AsyncLockInfo}
 use Rattle.model.specs.Checks.{Verdict, Verdict.v_ignored, Verdict.v_closed, Verdict.v_acts, Verdict.v_error, Verdict.v_fatal, first, either, is_vendor, is_unrecognised, asynchronous_rules}
-use Rattle.checks.specs.Numbers.{message}
+use Rattle.checks.specs.Verdicts.{message}
 
 -- check 10: a code that is not allowed, a payload that does not belong
 unfoldable pub code_wrong : ℕ → ℕ → Bool

@@ -1,6 +1,4 @@
-pub mod Numbers
-pub mod Classes
+pub mod Verdicts
 pub mod Synchronous
 pub mod Asynchronous
 pub mod Opening
-pub mod Roles

@@ -1,6 +1,6 @@
 -- The row of rules of a connection without a role, by the tests of the code: one law for each way out. Assumes nothing.
-use Rattle.std.specs.Prelude.{◌≡◌, refl, Bool, true, false, ◌&&◌, ◌||◌, List, [], ◌∷◌, ℕ, zero, suc, ◌%◌, ◌≤◌, ◌<◌, eqb, length, get_or, drop}
-use Rattle.std.proofs.Common.{sym, ap, ◌∙◌, le_of_suc-le-suc, not-suc-le-zero, arith, drop_of_length-le, drop-cons, eqb-true, eq-eqb, ne_eqb, lt-ltb, le-ltb}
+use Rattle.std.specs.Prelude.{◌≡◌, refl, Bool, true, false, ◌||◌, List, [], ◌∷◌, ℕ, suc, ◌%◌, ◌≤◌, ◌<◌, eqb, length}
+use Rattle.std.proofs.Common.{sym, ap, ◌∙◌, le_of_suc-le-suc, not-suc-le-zero, eqb-true, eq-eqb, ne_eqb, lt-ltb, le-ltb}
 use Rattle.std.proofs.Math.Dec.{eqb-zero-suc, eqb-suc-suc}
 use Rattle.std.proofs.Math.ListN.{get_or-eq_default}
 use Rattle.model.specs.Sizes.{session_limit, no_connection}
@@ -11,62 +11,7 @@ use Rattle.model.specs.Checks.{Verdict, Verdict.v_acts, Verdict.v_fatal, first, 
 use Rattle.state.specs.Change.{sessions_held, entry_with}
 use Rattle.state.specs.Search.{asynchronous_read}
 use Rattle.state.specs.View.{locks_of}
-use Rattle.checks.specs.Numbers.{message}
-
-and_false : (b : Bool) → b && false ≡ false
-and_false true = refl
-and_false false = refl
-
--- strings that differ at a place are not the same
-pub differ : (p q : List ℕ) (k : ℕ) → (get_or p k 0 ≡ get_or q k 0 → ⊥) → same p q ≡ false
-differ [] [] k n = absurd (n refl)
-differ [] (y ∷ ys) k n = refl
-differ (x ∷ xs) [] k n = refl
-differ (x ∷ xs) (y ∷ ys) zero n = rw (ne_eqb x y n)
-differ (x ∷ xs) (y ∷ ys) (suc k) n = rw (differ xs ys k n) (and_false (eqb x y))
-
-longer : (p q : List ℕ) → (length p ≡ length q → ⊥) → same p q ≡ false
-longer [] [] n = absurd (n refl)
-longer [] (y ∷ ys) n = refl
-longer (x ∷ xs) [] n = refl
-longer (x ∷ xs) (y ∷ ys) n = rw (longer xs ys (λ e. n (ap suc e))) (and_false (eqb x y))
-
--- the same so far
-agree : (p : List ℕ) (i y : ℕ) (ys : List ℕ) → i < length p → get_or p i 0 ≡ y → same (drop i p) (y ∷ ys) ≡ same (drop (suc i) p) ys
-agree p i y ys l e = rw (drop-cons p i 0 l, eq-eqb (get_or p i 0) y e)
-
-and_true : (b : Bool) → b && true ≡ b
-and_true true = refl
-and_true false = refl
-
-last : (p : List ℕ) (i y : ℕ) → length p ≡ suc i → same (drop i p) (y ∷ []) ≡ eqb (get_or p i 0) y
-last p i y l =
-    let h : i < length p = omega arith in
-    let z : drop (suc i) p ≡ [] = drop_of_length-le p {i = suc i} (omega arith) in
-    rw (drop-cons p i 0 h, z) (and_true (eqb (get_or p i 0) y))
-
--- the sub-address: the seven bytes "hislip0", or empty
-pub other_length : (p : List ℕ) → (length p ≡ 7 → ⊥) → same p hislip0 ≡ false
-other_length p n = longer p hislip0 n
-
-pub is_hislip0 : (p : List ℕ) → length p ≡ 7 → get_or p 0 0 ≡ 0x68 → get_or p 1 0 ≡ 0x69 → get_or p 2 0 ≡ 0x73 → get_or p 3 0 ≡ 0x6c → get_or p 4 0 ≡ 0x69 → get_or p 5 0 ≡ 0x70
-    → same p hislip0 ≡ eqb (get_or p 6 0) 0x30
-is_hislip0 p l a b c d e f =
-    agree p 0 0x68 _ (omega arith) a
-    ∙ agree p 1 0x69 _ (omega arith) b
-    ∙ agree p 2 0x73 _ (omega arith) c
-    ∙ agree p 3 0x6c _ (omega arith) d
-    ∙ agree p 4 0x69 _ (omega arith) e
-    ∙ agree p 5 0x70 _ (omega arith) f
-    ∙ last p 6 0x30 l
-
-pub address_none : (p : List ℕ) → length p ≡ 0 → (is_nil p || same p hislip0) ≡ true
-address_none [] l = refl
-address_none (x ∷ xs) l = absurd (let z : ⊥ = omega arith in z)
-
-pub address_some : (p : List ℕ) (b : Bool) → (length p ≡ 0 → ⊥) → same p hislip0 ≡ b → (is_nil p || same p hislip0) ≡ b
-address_some [] b n e = absurd (n refl)
-address_some (x ∷ xs) b n e = e
+use Rattle.checks.specs.Verdicts.{message}
 
 -- searching the table of sessions for a number: all slots are taken where number 0 is not found
 pub all_live : (es : List Entry) → all live es ≡ eqb (slot_of_number es 0) (length es)

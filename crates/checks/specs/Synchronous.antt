@@ -3,8 +3,8 @@ use Rattle.std.specs.Prelude.{◌≡◌, refl, Bool, not, ◌&&◌, cond, List, 
 use Rattle.std.proofs.Common.{sym, ap, ◌∙◌, true≢false}
 use Rattle.std.proofs.Math.Bool.{true, false}
 use borrow.Author.Tests.{lt-ltb, le-ltb, eq-eqb, ne_eqb, eqb-true}
-use Rattle.wire.specs.Class.{class_of, synchronous, one_of, acted_on_types}
-use Rattle.model.specs.MessageTypes.{FatalError, Error, DataEND, DeviceClearComplete, Initialize, Trigger, commands}
+use Rattle.wire.specs.Class.{Class.acted_on, Class.vendor, Class.unrecognised, class_of, synchronous, one_of, acted_on_types}
+use Rattle.model.specs.MessageTypes.{FatalError, Error as ErrorType, DataEND, DeviceClearComplete, Initialize, Trigger, commands}
 use Rattle.model.specs.Lists.{all}
 use Rattle.model.specs.State.{Server, Exchange, exchange_at, Allowed.any_command, with_allowed}
 use Rattle.model.specs.Allowing.{admits}
@@ -12,8 +12,9 @@ use Rattle.model.specs.Locks.{access}
 use Rattle.model.specs.Checks.{Verdict, Verdict.v_more, Verdict.v_skipped, Verdict.v_held, Verdict.v_ignored, Verdict.v_closed, Verdict.v_acts}
 use Rattle.model.specs.Checks.{Verdict.v_error, Verdict.v_fatal, Rule, first, is_vendor, is_unrecognised, synchronous_rules}
 use Rattle.state.specs.Change.{exchange_with}
-use Rattle.checks.specs.Numbers.{message}
-use Rattle.checks.specs.Classes.{acts_on}
+use Rattle.checks.specs.declared.verdict.Verdict.{Verdict as Told}
+use Rattle.checks.specs.declared.verdict.Verdict.TheVariants.{More, Held, Ignored, Closed, Acts, Fatal, Error}
+use Rattle.checks.specs.Verdicts.{message, verdict_meant}
 
 -- what the word that was read says
 pub clear_read : (x : Exchange) (r : ℕ) → exchange_with 0 r x ≡ x → x.in_clear ≡ eqb r 1
@@ -35,11 +36,15 @@ module _ (clearing : Bool) (len : ℕ) where
   unfolding completed
   complete_acts l q = rw (le-ltb 0 len l, q)
 
-  pub complete_outside : len ≤ 0 → clearing ≡ false → completed clearing len ≡ v_error 0
+  pub complete_outside : clearing ≡ false → completed clearing len ≡ v_error 0
   unfolding completed
-  complete_outside l q = rw (le-ltb 0 len l, q)
+  complete_outside q = rw q (by (ltb 0 len))
+    where
+      by : (b : Bool) → cond b (v_error 0) (v_error 0) ≡ v_error 0
+      by true = refl
+      by false = refl
 
--- checks 9 and 10 of Data, DataEND and Trigger; 02, Q-10: the number between them
+-- checks 9 and 10 of Data, DataEND and Trigger, and the number between them
 unfoldable pub commanded : Bool → Bool → ℕ → ℕ → ℕ → Verdict
 commanded may expected kind code len =
     cond may
@@ -75,6 +80,12 @@ module _ (may expected : Bool) (kind code len : ℕ) where
           unfolding commanded
           trigger_acts m = rw (a, o, le-ltb 1 code l, e, le-ltb 0 len m)
 
+-- neither vendor nor unrecognised: the type is one of those that the server acts on
+acts_on : (b c : Bool) → is_vendor (cond b vendor (cond c acted_on unrecognised)) ≡ false → is_unrecognised (cond b vendor (cond c acted_on unrecognised)) ≡ false → c ≡ true
+acts_on true c v u = absurd (true≢false v)
+acts_on false true v u = refl
+acts_on false false v u = sym u
+
 and_false : (b : Bool) → (b && false) ≡ false
 and_false true = refl
 and_false false = refl
@@ -86,10 +97,10 @@ module _ (d : Server) (i kind code param len : ℕ) (p : List ℕ) where
   pub sync_closed : kind ≡ FatalError → row ≡ v_closed
   sync_closed e = rw e
 
-  pub sync_error : kind ≡ Error → row ≡ v_ignored
+  pub sync_error : kind ≡ ErrorType → row ≡ v_ignored
   sync_error e = rw e
 
-  module _ (n2 : kind ≡ FatalError → ⊥) (n3 : kind ≡ Error → ⊥) where
+  module _ (n2 : kind ≡ FatalError → ⊥) (n3 : kind ≡ ErrorType → ⊥) where
     pub sync_complete : (b : Bool) → (exchange_at d.rest i).in_clear ≡ b → kind ≡ DeviceClearComplete → row ≡ completed b len
     unfolding completed class_of
     sync_complete true q e = rw (e, q)
@@ -128,7 +139,7 @@ module _ (d : Server) (i kind code param len : ℕ) (p : List ℕ) where
               sync_command true false a o l = rw (is_command_lem, ne_eqb kind 2 n2, ne_eqb kind 3 n3, q, v, u, ne_eqb kind 0 n0, a, o)
               sync_command false m a o l = rw (is_command_lem, ne_eqb kind 2 n2, ne_eqb kind 3 n3, q, v, u, ne_eqb kind 0 n0, a)
 
--- 02, Q-12: the list's rule is the last of the row, so the rest of it may be asked first, as if any command were allowed
+-- the list's rule is the last of the row, so the rest of it may be asked first, as if any command were allowed
 abbrev pub with_any_command : Server → Server
 with_any_command d = record { locks = d.locks; rest = with_allowed d.rest any_command }
 
@@ -141,6 +152,16 @@ is_acts v_ignored = false
 is_acts v_closed = false
 is_acts (v_error k) = false
 is_acts (v_fatal k) = false
+
+-- one verdict of the code means that a message acts
+pub only_acts : (v : Told) → verdict_meant v ≡ v_acts → v ≡ Acts
+only_acts More e = absurd (true≢false (ap is_acts (sym e)))
+only_acts Held e = absurd (true≢false (ap is_acts (sym e)))
+only_acts Ignored e = absurd (true≢false (ap is_acts (sym e)))
+only_acts Closed e = absurd (true≢false (ap is_acts (sym e)))
+only_acts Acts e = refl
+only_acts (Fatal k) e = absurd (true≢false (ap is_acts (sym e)))
+only_acts (Error k) e = absurd (true≢false (ap is_acts (sym e)))
 
 and_behind : (a b : Bool) → (not a && b) ≡ true → (a ≡ false) × (b ≡ true)
 and_behind true b e = absurd (true≢false (sym e))

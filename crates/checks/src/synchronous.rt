@@ -1,6 +1,6 @@
 // The checks of a whole message on a session's synchronous channel.
 ghost use Rattle.std.specs.Prelude.{ℕ, ◌<◌, eqb, List, ◌≡◌};
-ghost use Rattle.checks.specs.Numbers.{Numbered, message};
+ghost use Rattle.checks.specs.Verdicts.{message, verdict_meant};
 ghost use Rattle.checks.specs.Synchronous.{with_any_command, commanded, completed};
 ghost use Rattle.model.specs.Checks.{first, synchronous_rules};
 ghost use Rattle.model.specs.Locks.{access};
@@ -9,14 +9,19 @@ ghost use Rattle.state.specs.View.{allowed_of, locks_of, memory, rest_of, view};
 ghost use Rattle.model.specs.Sizes.{session_limit};
 
 use crate::verdict::{
-    ACTS, CLOSED, ERROR_0, ERROR_1, ERROR_2, ERROR_3, ERROR_128, FATAL_3, HELD, IGNORED,
+    INVALID_INITIALIZATION, NOT_ALLOWED, UNIDENTIFIED, UNRECOGNISED_CODE, UNRECOGNISED_TYPE,
+    UNRECOGNISED_VENDOR_TYPE, Verdict,
 };
 use allowed::listing;
 use holding::access;
 use holding::standing::NUMBERS;
 use state::sizes::{Strings, Words};
 use state::tables;
-use wire::{class, types};
+use wire::class::{self, Class};
+use wire::types;
+
+// The control codes of Data, DataEND and Trigger are 0 and this one.
+const LAST_CODE: u8 = 1;
 
 pub fn in_clear(w: &Words, i: usize) -> bool
     requires { i < session_limit }
@@ -35,52 +40,46 @@ pub fn is_expected(w: &Words, i: usize, param: u32) -> bool
 }
 
 // Check 10 of DeviceClearComplete: no payload, and only in a clear.
-fn complete_verdict(clearing: bool, len: u64) -> u8
-    ensures { Numbered (completed clearing len) result }
+fn complete_verdict(clearing: bool, len: u64) -> Verdict
+    ensures { completed clearing len ≡ verdict_meant result }
 {
-    if len > 0 {
-        return ERROR_0;
+    match (clearing, len) {
+        (true, 0) => Verdict::Acts,
+        _ => Verdict::Error(UNIDENTIFIED),
     }
-    if clearing {
-        return ACTS;
-    }
-    ERROR_0
 }
 
 // Checks 9 and 10 of Data, DataEND and Trigger, and that of the number between them.
-fn command_verdict(w: &Words, i: usize, kind: u8, code: u8, param: u32, len: u64) -> u8
+fn command_verdict(w: &Words, i: usize, kind: u8, code: u8, param: u32, len: u64) -> Verdict
     requires { i < session_limit }
-    ensures { (s : List ℕ) → Numbered (commanded (access (locks_of w.now s).entries i) (eqb param (exchange_at (rest_of w.now) i).number_expected) kind code len) result }
+    ensures { (s : List ℕ) → commanded (access (locks_of w.now s).entries i) (eqb param (exchange_at (rest_of w.now) i).number_expected) kind code len ≡ verdict_meant result }
 {
     if !access::has_access(w, i) {
-        return HELD;
+        return Verdict::Held;
     }
     if !is_expected(w, i, param) {
-        return ERROR_0;
+        return Verdict::Error(UNIDENTIFIED);
     }
-    if code > 1 {
-        return ERROR_2;
+    if code > LAST_CODE {
+        return Verdict::Error(UNRECOGNISED_CODE);
     }
-    if kind != types::TRIGGER {
-        return ACTS;
+    if kind == types::TRIGGER && len > 0 {
+        return Verdict::Error(UNIDENTIFIED);
     }
-    if len > 0 {
-        return ERROR_0;
-    }
-    ACTS
+    Verdict::Acts
 }
 
 // Checks 6 to 10 of a message for the session in slot `i`, as if any command were allowed. What that leaves is a DataEND that would act.
-pub fn synchronous_verdict(w: &Words, i: usize, kind: u8, code: u8, param: u32, len: u64) -> u8
+pub fn synchronous_verdict(w: &Words, i: usize, kind: u8, code: u8, param: u32, len: u64) -> Verdict
     requires { i < session_limit }
-    ensures { (s p : List ℕ) → Numbered (first (synchronous_rules (with_any_command (view (memory w.now s))) i (message kind code param len) p)) result }
+    ensures { (s p : List ℕ) → first (synchronous_rules (with_any_command (view (memory w.now s))) i (message kind code param len) p) ≡ verdict_meant result }
 {
     // check 6
     if kind == types::FATAL_ERROR {
-        return CLOSED;
+        return Verdict::Closed;
     }
     if kind == types::ERROR {
-        return IGNORED;
+        return Verdict::Ignored;
     }
     // check 7: type 8 passes, and is left with check 10
     let clearing = in_clear(w, i);
@@ -88,18 +87,16 @@ pub fn synchronous_verdict(w: &Words, i: usize, kind: u8, code: u8, param: u32, 
         return complete_verdict(clearing, len);
     }
     if clearing {
-        return IGNORED;
+        return Verdict::Ignored;
     }
     // check 8
-    let class = class::class_of(0, kind);
-    if class == 1 {
-        return ERROR_3;
-    }
-    if class == 2 {
-        return ERROR_1;
+    match class::class_of(0, kind) {
+        Class::Vendor => return Verdict::Error(UNRECOGNISED_VENDOR_TYPE),
+        Class::Unrecognised => return Verdict::Error(UNRECOGNISED_TYPE),
+        Class::ActedOn => {}
     }
     if kind == types::INITIALIZE {
-        return FATAL_3;
+        return Verdict::Fatal(INVALID_INITIALIZATION);
     }
     // checks 9 and 10: 6, 7 and 12 are left
     command_verdict(w, i, kind, code, param, len)
@@ -115,20 +112,18 @@ pub fn listed_verdict(
     param: u32,
     len: u64,
     payload: &[u8],
-) -> u8
+) -> Verdict
     requires { i < session_limit }
     ensures { (s : List ℕ) → allowed_of w.now s ≡ allowed_of w.now strings.now →
-        Numbered (first (synchronous_rules (view (memory w.now s)) i (message kind code param len) payload.now)) result }
+        first (synchronous_rules (view (memory w.now s)) i (message kind code param len) payload.now) ≡ verdict_meant result }
 {
-    let v = synchronous_verdict(w, i, kind, code, param, len);
-    if v != ACTS {
-        return v;
+    match synchronous_verdict(w, i, kind, code, param, len) {
+        Verdict::Acts => {
+            if kind == types::DATA_END && !listing::is_allowed(w, strings, payload) {
+                return Verdict::Error(NOT_ALLOWED);
+            }
+            Verdict::Acts
+        }
+        v => v,
     }
-    if kind != types::DATA_END {
-        return v;
-    }
-    if listing::is_allowed(w, strings, payload) {
-        return ACTS;
-    }
-    ERROR_128
 }

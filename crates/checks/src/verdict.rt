@@ -1,31 +1,36 @@
-// The verdicts by number: FatalError k is 16 + k, Error k is 32 + k.
-pub const MORE: u8 = 0;
+// What is to be done with a message: wait for more of it, hold it back, ignore it, close without reply, act, or answer FatalError or Error with
+// a code.
+#[derive(Clone, Copy, Debug, PartialEq, Eq)]
+pub enum Verdict {
+    More,
+    Held,
+    Ignored,
+    Closed,
+    Acts,
+    Fatal(u8),
+    Error(u8),
+}
 
-pub const HELD: u8 = 2;
+// Kept: the codes of FatalError and of Error, below, are the byte that the message carries; a verdict hands it on as it is.
+// The codes of FatalError.
+pub const POORLY_FORMED_HEADER: u8 = 1;
 
-pub const IGNORED: u8 = 3;
+pub const CHANNELS_MISSING: u8 = 2;
 
-pub const CLOSED: u8 = 4;
+pub const INVALID_INITIALIZATION: u8 = 3;
 
-pub const ACTS: u8 = 5;
+pub const TOO_MANY_SESSIONS: u8 = 4;
 
-pub const FATAL_0: u8 = 16;
+// The codes of Error.
+pub const UNIDENTIFIED: u8 = 0;
 
-pub const FATAL_2: u8 = 18;
+pub const UNRECOGNISED_TYPE: u8 = 1;
 
-pub const FATAL_3: u8 = 19;
+pub const UNRECOGNISED_CODE: u8 = 2;
 
-pub const FATAL_4: u8 = 20;
+pub const UNRECOGNISED_VENDOR_TYPE: u8 = 3;
 
-pub const ERROR_0: u8 = 32;
-
-pub const ERROR_1: u8 = 33;
-
-pub const ERROR_2: u8 = 34;
-
-pub const ERROR_3: u8 = 35;
-
-pub const ERROR_4: u8 = 36;
+pub const TOO_LARGE: u8 = 4;
 
 // A command that the list does not allow.
-pub const ERROR_128: u8 = 160;
+pub const NOT_ALLOWED: u8 = 128;

@@ -7,9 +7,9 @@ use native.Mathlib.Omega.{arith}
 use lib.ListN.{length}
 use Rattle.wire.specs.Frame.{Frame}
 use Rattle.wire.specs.Message.{header, payload_of}
-use Rattle.commands.specs.declared.Judged.{Judged}
-use Rattle.commands.specs.declared.Judged.TheVariants.{Taken, BadPattern, TooMany}
-use Rattle.commands.specs.Lists.{lines_of, Listed, FirstBad, Ruling}
+use Rattle.commands.specs.declared.ListFault.TheVariants.{BadPattern, TooMany}
+use Rattle.std.specs.Prelude.{Ok, Err}
+use Rattle.commands.specs.Lists.{Judged, taken, bad_pattern_at, list_too_long, lines_of, Listed, FirstBad, Ruling}
 use Rattle.commands.specs.Rulings.{judged, judged_is}
 use Rattle.model.specs.State.{Server, Making, Allowed, Allowed.any_command, Allowed.only, fresh, with_allowed}
 use Rattle.model.specs.Allowing.{Admits, is_bad, is_too_many}
@@ -50,15 +50,15 @@ module _ (d : Server) (text : List ℕ) where
       let e : j ≡ judged ls = (judged_is ls j).0 r in
       (ap (λ (n : ℕ). answered n d (setting (patterns text))) (refused_as ∙ ap number_of (sym e)), sym e)
 
-  set_now : Does Taken ≡ record { server = record { locks = d.locks; rest = with_allowed d.rest (only text) }; reply = done; frames = [] }
+  set_now : Does taken ≡ record { server = record { locks = d.locks; rest = with_allowed d.rest (only text) }; reply = done; frames = [] }
   unfolding answered finish plan change setting_sensings
   set_now = refl
 
-  away_12 : Does TooMany ≡ turned_away d too_many_patterns
+  away_12 : Does list_too_long ≡ turned_away d too_many_patterns
   unfolding answered
   away_12 = refl
 
-  away_11 : (k i : ℕ) → Does (BadPattern k i) ≡ turned_away d bad_pattern
+  away_11 : (k i : ℕ) → Does (bad_pattern_at k i) ≡ turned_away d bad_pattern
   unfolding answered
   away_11 k i = refl
 
@@ -74,28 +74,28 @@ module _ (d : Server) (text : List ℕ) where
 
   done_only : (j : Judged) → Ruling ls j → (Does j).reply ≡ done → Listed ls
   unfolding answered
-  done_only Taken g e = g
-  done_only (BadPattern k i) g e = absurd (let z : ◌≡◌ {A = ℕ} 0 1 = cc in omega arith)
-  done_only TooMany g e = absurd (let z : ◌≡◌ {A = ℕ} 0 1 = cc in omega arith)
+  done_only (Ok u) g e = g
+  done_only (Err (BadPattern k i)) g e = absurd (let z : ◌≡◌ {A = ℕ} 0 1 = cc in omega arith)
+  done_only (Err TooMany) g e = absurd (let z : ◌≡◌ {A = ℕ} 0 1 = cc in omega arith)
 
   too_many_only : (j : Judged) → Ruling ls j → (Does j).reply ≡ refused too_many_patterns → 32 < length ls
   unfolding answered finish plan
-  too_many_only Taken g e = absurd (let z : ◌≡◌ {A = ℕ} 0 1 = cc in omega arith)
-  too_many_only (BadPattern k i) g e = absurd (let z : ◌≡◌ {A = ℕ} 11 12 = cc in omega arith)
-  too_many_only TooMany g e = g
+  too_many_only (Ok u) g e = absurd (let z : ◌≡◌ {A = ℕ} 0 1 = cc in omega arith)
+  too_many_only (Err (BadPattern k i)) g e = absurd (let z : ◌≡◌ {A = ℕ} 11 12 = cc in omega arith)
+  too_many_only (Err TooMany) g e = g
 
   bad_only : (j : Judged) → Ruling ls j → (Does j).reply ≡ refused bad_pattern → (length ls ≤ 32) × FirstBad ls (pattern_of j) (place_of j)
   unfolding answered finish plan
-  bad_only Taken g e = absurd (let z : ◌≡◌ {A = ℕ} 0 1 = cc in omega arith)
-  bad_only (BadPattern k i) g e = g
-  bad_only TooMany g e = absurd (let z : ◌≡◌ {A = ℕ} 12 11 = cc in omega arith)
+  bad_only (Ok u) g e = absurd (let z : ◌≡◌ {A = ℕ} 0 1 = cc in omega arith)
+  bad_only (Err (BadPattern k i)) g e = g
+  bad_only (Err TooMany) g e = absurd (let z : ◌≡◌ {A = ℕ} 12 11 = cc in omega arith)
 
   pub tells_bad : TellsBad d text
   tells_bad =
       record {
-        taken = λ g. (step_is Taken g).0 ∙ set_now;
-        too_many = λ g. (step_is TooMany g).0 ∙ away_12;
-        bad = λ k i l g. let s = step_is (BadPattern k i) (l, g) in (s.0 ∙ away_11 k i, ap pattern_of s.1, ap place_of s.1);
+        taken = λ g. (step_is taken g).0 ∙ set_now;
+        too_many = λ g. (step_is list_too_long g).0 ∙ away_12;
+        bad = λ k i l g. let s = step_is (bad_pattern_at k i) (l, g) in (s.0 ∙ away_11 k i, ap pattern_of s.1, ap place_of s.1);
         done_only = λ e. done_only (judged ls) ruling (told (judged ls) ruling done e);
         too_many_only = λ e. too_many_only (judged ls) ruling (told (judged ls) ruling (refused too_many_patterns) e);
         bad_only = λ e. bad_only (judged ls) ruling (told (judged ls) ruling (refused bad_pattern) e);

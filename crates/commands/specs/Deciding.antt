@@ -1,8 +1,7 @@
 -- Matching as a function, for definitions that must answer: `matched` and `allows` say exactly what `Matches` and `Allows` say. Assumes nothing.
-use Rattle.std.specs.Prelude.{◌≡◌, refl, ◌⊎◌, ◌↔◌, Bool, true, false, ◌||◌, List, [], ◌∷◌, ◌++◌, ℕ, eqb}
+use Rattle.std.specs.Prelude.{◌≡◌, refl, ◌⊎◌, ◌↔◌, Bool, true, false, ◌||◌, List, [], ◌∷◌, ◌++◌, ℕ, eqb, Ok, Err}
 use Rattle.std.proofs.Common.{sym, ap, ap₂, subst, ◌∙◌, inl, inr, ⊎_elim, arith, eqb-true, eq-eqb}
-use Rattle.scpi.specs.declared.Checked.{Checked}
-use Rattle.scpi.specs.declared.Checked.TheVariants.{Good, Bad}
+use Rattle.scpi.specs.Automaton.{Checked}
 use Rattle.scpi.specs.Bytes.{colon_sign, caseless}
 use Rattle.scpi.specs.Grammar.{Word, short, long, Row, Row.r_none, Row.r_word, Row.r_bracket, mark, Tree, Tree.t_path, Tree.t_star, source, GoodPattern}
 use Rattle.commands.specs.Spelling.{SpellsWord, SpellsWord.in_short, SpellsWord.in_long, SpellsRow, SpellsRow.s_none, SpellsRow.s_word, SpellsRow.s_kept}
@@ -151,8 +150,8 @@ decide : (p c : List ℕ) → Decided (Matches p c)
 decide p c = go (verdict_of p) (verdict_is p)
   where
     go : (r : Checked) → Verdict p r → Decided (Matches p c)
-    go Good g = decide_good p c g
-    go (Bad i) b = inr (λ m. good_not_bad p m.good b)
+    go (Ok u) g = decide_good p c g
+    go (Err e) b = inr (λ m. good_not_bad p m.good b)
 
 answer : {X : Type 0} → Decided X → Bool
 answer (inl x) = true

@@ -1,7 +1,7 @@
--- 02, Q-12: a list of patterns, what is refused, and what it allows. The list is a text, one pattern a line. Assumes nothing.
-use Rattle.std.specs.Prelude.{◌⊎◌, cond, List, [], ◌∷◌, ℕ, zero, suc, ◌≤◌, ◌<◌, eqb, length}
-use Rattle.commands.specs.declared.Judged.{Judged}
-use Rattle.commands.specs.declared.Judged.TheVariants.{Taken, BadPattern, TooMany}
+-- A list of patterns, what is refused, and what it allows. The list is a text, one pattern a line. Assumes nothing.
+use Rattle.std.specs.Prelude.{◌⊎◌, cond, List, [], ◌∷◌, ℕ, zero, suc, ◌≤◌, ◌<◌, eqb, length, Result, Ok, Err}
+use Rattle.commands.specs.declared.ListFault.{ListFault}
+use Rattle.commands.specs.declared.ListFault.TheVariants.{BadPattern, TooMany}
 use Rattle.scpi.specs.Grammar.{GoodPattern, BadAt}
 use Rattle.commands.specs.Spelling.{Matches}
 
@@ -34,17 +34,30 @@ FirstBad [] k i = ⊥
 FirstBad (p ∷ ps) zero i = BadAt p i
 FirstBad (p ∷ ps) (suc k) i = GoodPattern p × FirstBad ps k i
 
+-- what a list is answered: it is taken, or it has a fault
+abbrev pub Judged : Type 0
+Judged = Result (Unit {0}) ListFault
+
+abbrev pub taken : Judged
+taken = Ok tt
+
+abbrev pub bad_pattern_at : ℕ → ℕ → Judged
+bad_pattern_at k i = Err (BadPattern k i)
+
+abbrev pub list_too_long : Judged
+list_too_long = Err TooMany
+
 -- "The first bad pattern is refused as 11 with the place ..; a list above 32 is refused as 12, before that."
 abbrev pub Ruling : List (List ℕ) → Judged → Type 0
-Ruling ps Taken = Listed ps
-Ruling ps (BadPattern k i) = (length ps ≤ 32) × FirstBad ps k i
-Ruling ps TooMany = 32 < length ps
+Ruling ps (Ok u) = Listed ps
+Ruling ps (Err (BadPattern k i)) = (length ps ≤ 32) × FirstBad ps k i
+Ruling ps (Err TooMany) = 32 < length ps
 
--- 02's numbers
+-- the numbers of the refusals
 abbrev pub refusal : Judged → ℕ
-refusal Taken = 0
-refusal (BadPattern k i) = 11
-refusal TooMany = 12
+refusal (Ok u) = 0
+refusal (Err (BadPattern k i)) = 11
+refusal (Err TooMany) = 12
 
 -- a "payload, up to its first space, newline or end"
 unfoldable pub command_of : List ℕ → List ℕ

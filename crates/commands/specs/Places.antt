@@ -1,10 +1,11 @@
 -- The sets of places: one more, one less, two together, a first one, and the smallest sets. Assumes nothing.
-use Rattle.std.specs.Prelude.{◌≡◌, ◌⊎◌, ◌↔◌, List, [], ◌∷◌, ℕ, ◌+◌, ◌-◌, ◌^◌, ◌≤◌, ◌<◌, get_or}
+use Rattle.std.specs.Prelude.{◌≡◌, ◌⊎◌, ◌↔◌, List, [], ◌∷◌, ℕ, ◌+◌, ◌-◌, ◌^◌, ◌≤◌, ◌<◌, ◌*◌, ◌/◌, ◌%◌, get_or, Option, Some, None}
 use Rattle.std.proofs.Common.{sym, ap, ◌∙◌, inl, inr, ⊎_elim, arith}
 use Rattle.std.proofs.Math.Nat.{sub-zero}
 use Rattle.std.specs.Int.Bits.{bit_or}
 use Rattle.std.specs.Int.Count.{count_trailing_zeros}
 use Rattle.bits.specs.Bits.{bit}
+use Rattle.scpi.specs.Answers.{lt_or_ge}
 use Rattle.commands.specs.Bits.{either, power_bit, has_power, lessened, less, no_bits, trailing}
 use Rattle.commands.specs.Sets.{In, On}
 
@@ -163,29 +164,43 @@ origin_on j = (λ h. ⊎_elim (λ (x : On none j). absurd (none_on j x)) (λ (x 
 found : (m : ℕ) → count_trailing_zeros 64 m < 64 → bit m (count_trailing_zeros 64 m) ≡ 1
 found m l = ⊎_elim (λ x. x.1) (λ x. absurd (omega (arith, x.0))) (trailing 64 m)
 
-empty_word : (m b : ℕ) → (count_trailing_zeros 64 m < 64 → ⊥) → (j : ℕ) → In m b j → ⊥
-empty_word m b n j h = ⊎_elim (λ x. n x.0) (λ x. let e : bit m (j - b) ≡ 0 = x.1 (j - b) (omega (arith, h.0, h.1)) in omega (arith, h.2)) (trailing 64 m)
+empty_bit : (m : ℕ) → 64 ≤ count_trailing_zeros 64 m → (i : ℕ) → i < 64 → bit m i ≡ 1 → ⊥
+empty_bit m n i l h = ⊎_elim (λ x. omega (arith, x.0)) (λ x. let e : bit m i ≡ 0 = x.1 i l in omega (arith, h)) (trailing 64 m)
 
--- r is a place of the set, or 192 and more where it has none
-abbrev pub Member : List ℕ → ℕ → Type 0
-Member s r = (r < 192 → On s r) × (192 ≤ r → (j : ℕ) → On s j → ⊥)
+-- which word and which of its bits tell of a place
+pub on_at : (s : List ℕ) (j : ℕ) → j < 192 → (bit (get_or s (j / 64) 0) (j % 64) ≡ 1) ↔ On s j
+on_at s j l = ⊎_elim
+    (λ (x : j < 64). let d : j / 64 ≡ 0 = omega arith in let m : j % 64 ≡ j = omega arith in rw (d, m) (on_low s j x))
+    (λ (x : 64 ≤ j). ⊎_elim
+    (λ (y : j < 128). let d : j / 64 ≡ 1 = omega arith in let m : j % 64 ≡ j - 64 = omega arith in rw (d, m) (on_mid s j x y))
+    (λ (y : 128 ≤ j). let d : j / 64 ≡ 2 = omega arith in let m : j % 64 ≡ j - 128 = omega arith in rw (d, m) (on_high s j y l))
+    (lt_or_ge j 128))
+    (lt_or_ge j 64)
 
-module _ (s : List ℕ) where
-  pub member_low : count_trailing_zeros 64 (get_or s 0 0) < 64 → Member s (count_trailing_zeros 64 (get_or s 0 0))
-  member_low l = (λ h. (on_low s (count_trailing_zeros 64 (get_or s 0 0)) l).0 (found (get_or s 0 0) l), λ g. absurd (omega arith))
+-- a place of the set, if it has one
+abbrev pub Member : List ℕ → Option ℕ → Type 0
+Member s (Some j) = On s j
+Member s None = (j : ℕ) → On s j → ⊥
 
-  pub member_mid : count_trailing_zeros 64 (get_or s 1 0) < 64 → Member s (count_trailing_zeros 64 (get_or s 1 0) + 64)
-  member_mid l =
-      let r : ℕ = count_trailing_zeros 64 (get_or s 1 0) in
-      let e : r + 64 - 64 ≡ r = omega arith in
-      (λ h. (on_mid s (r + 64) (omega arith) (omega arith)).0 (ap (bit (get_or s 1 0)) e ∙ found (get_or s 1 0) l), λ g. absurd (omega arith))
+-- the words below the k-th have no place
+module _ (s : List ℕ) (k : ℕ) (below : (j : ℕ) → On s j → 64 * k ≤ j) where
+  pub member_here : k < 3 → count_trailing_zeros 64 (get_or s k 0) < 64 → On s (64 * k + count_trailing_zeros 64 (get_or s k 0))
+  member_here l h =
+      let r : ℕ = count_trailing_zeros 64 (get_or s k 0) in
+      let d : (64 * k + r) / 64 ≡ k = omega arith in
+      let m : (64 * k + r) % 64 ≡ r = omega arith in
+      (on_at s (64 * k + r) (omega arith)).0 (rw (d, m) (found (get_or s k 0) h))
 
-  pub member_high : (count_trailing_zeros 64 (get_or s 0 0) < 64 → ⊥) → (count_trailing_zeros 64 (get_or s 1 0) < 64 → ⊥) → Member s (count_trailing_zeros 64 (get_or s 2 0) + 128)
-  member_high f g =
-      let r : ℕ = count_trailing_zeros 64 (get_or s 2 0) in
-      let e : r + 128 - 128 ≡ r = omega arith in (
-        λ h. (on_high s (r + 128) (omega arith) h).0 (ap (bit (get_or s 2 0)) e ∙ found (get_or s 2 0) (omega arith)),
-        λ h j o. ⊎_elim (λ (x : In (get_or s 0 0) 0 j). empty_word (get_or s 0 0) 0 f j x)
-            (λ y. ⊎_elim (λ (x : In (get_or s 1 0) 64 j). empty_word (get_or s 1 0) 64 g j x)
-            (λ (x : In (get_or s 2 0) 128 j). empty_word (get_or s 2 0) 128 (λ l. omega arith) j x) y) o,
-      )
+  pub member_behind : 64 ≤ count_trailing_zeros 64 (get_or s k 0) → (j : ℕ) → On s j → 64 * (k + 1) ≤ j
+  member_behind h j o = ⊎_elim
+      (λ (x : j < 64 * (k + 1)).
+      let g : 64 * k ≤ j = below j o in
+      let d : j / 64 ≡ k = omega arith in
+      let b : bit (get_or s k 0) (j % 64) ≡ 1 = rw d at ((on_at s j (on_below s j o)).1 o) in
+      let m : j % 64 < 64 = omega arith in
+      absurd (empty_bit (get_or s k 0) h (j % 64) m b))
+      (λ (x : 64 * (k + 1) ≤ j). x)
+      (lt_or_ge j (64 * (k + 1)))
+
+pub member_none : (s : List ℕ) → ((j : ℕ) → On s j → 64 * 3 ≤ j) → (j : ℕ) → On s j → ⊥
+member_none s below j o = let g : 192 ≤ j = below j o in let l : j < 192 = on_below s j o in omega arith

@@ -1,5 +1,5 @@
 -- What walking along a row of a pattern with a set of places of a command comes to. Assumes nothing.
-use Rattle.std.specs.Prelude.{◌≡◌, refl, ◌⊎◌, ◌↔◌, List, [], ◌∷◌, ◌++◌, ℕ, suc, ◌+◌, ◌-◌, ◌≤◌, ◌<◌, length, get_or, take, drop}
+use Rattle.std.specs.Prelude.{◌≡◌, refl, ◌⊎◌, ◌↔◌, List, [], ◌∷◌, ◌++◌, ℕ, suc, ◌+◌, ◌-◌, ◌≤◌, ◌<◌, length, get_or, take, drop, Option, Some, None}
 use Rattle.std.proofs.Common.{sym, ap, subst, ◌∙◌, inl, inr, ⊎_elim, append_assoc, arith, length-append, drop_of_length-le, drop-cons, drop-drop, take_at}
 use Rattle.std.proofs.Math.Logic.{Iff.trans as iff_trans}
 use Rattle.std.proofs.Math.Seq.{drop-append_seam}
@@ -7,6 +7,7 @@ use Rattle.scpi.specs.Bytes.{colon_sign, query_sign, open_sign, close_sign, Smal
 use Rattle.scpi.specs.Grammar.{Word, short, long, Row, Row.r_none, Row.r_word, Row.r_bracket, text, Filled, Within}
 use Rattle.scpi.specs.Automaton.{scan, State.a_first, State.a_opened, State.a_closed}
 use Rattle.scpi.specs.Scans.{path_stay, path_colon, path_open, row_closed}
+use Rattle.commands.specs.declared.matching.Walk.{Walk}
 use Rattle.commands.specs.Sets.{On, Lands, Reach, reach_none, reach_word, reach_bracket}
 use Rattle.scpi.specs.Answers.{lt_or_ge}
 use Rattle.scpi.specs.Words.{leading, leading_all, part, HeadNot}
@@ -229,6 +230,19 @@ module _ (d : ℕ) (p : List ℕ) (at : ℕ) (c s : List ℕ) (i : ℕ) (t : Lis
           let x = w.row h r (close_sign ∷ rest) n (inr refl) e in
           let y = head_at p i close_sign rest x.1 in
           f (y.0, y.1, λ q. filled r rest k (sym x.1 ∙ ap (λ (m : ℕ). drop m p) q ∙ e))
+
+-- where a walk came to, and with which set: where the pattern is bad it is one behind its end, and the set is the one before
+abbrev pub to_of : List ℕ → Option Walk → ℕ
+to_of p None = length p + 1
+to_of p (Some w) = w.at
+
+abbrev pub set_of : List ℕ → Option Walk → List ℕ
+set_of s None = s
+set_of s (Some w) = w.on
+
+-- where it is bad no set is promised
+pub walked_bad : (d : ℕ) (p : List ℕ) (at : ℕ) (c s t u : List ℕ) → Walked d p at c s (length p + 1) t → Walked d p at c s (length p + 1) u
+walked_bad d p at c s t u w = record { onward = w.onward; inside = w.inside; item = w.item; read = w.read; row = λ l r rest n m e. absurd (omega (arith, (w.row l r rest n m e).0)) }
 
 pub shallower : (l : ℕ) → 8 - l < 8 → l ≤ 8 → 0 < l
 shallower l h k = omega arith

@@ -1,5 +1,5 @@
 -- A whole pattern against a whole command. Assumes nothing.
-use Rattle.std.specs.Prelude.{◌≡◌, refl, ◌⊎◌, ◌↔◌, Bool, true, false, cond, ◌&&◌, List, [], ◌∷◌, ◌++◌, ℕ, suc, ◌+◌, ◌-◌, ◌≤◌, ◌<◌, leb, length, get_or, take, drop}
+use Rattle.std.specs.Prelude.{◌≡◌, refl, ◌⊎◌, ◌↔◌, Bool, true, false, cond, ◌&&◌, List, [], ◌∷◌, ◌++◌, ℕ, suc, ◌+◌, ◌-◌, ◌≤◌, ◌<◌, leb, length, get_or, take, drop, Ok}
 use Rattle.std.proofs.Common.{sym, ap, ap₂, subst, ◌∙◌, inl, inr, ⊎_elim, append_assoc, append-nil, arith, lit<, length-append, length-drop, drop_of_length-le, drop-cons, leb-true}
 use Rattle.std.proofs.Math.Nat.{sub-zero}
 use Rattle.std.proofs.Math.Seq.{drop-append_seam, take-length}
@@ -13,8 +13,7 @@ use Rattle.scpi.specs.Answers.{Says, says_as}
 use Rattle.scpi.specs.Scans.{PathRead, path_end, path_stay, word_on, whole_end, EndRead, end_good, end_asked}
 use Rattle.scpi.specs.Verdicts.{Verdict}
 use Rattle.scpi.proofs.Verdicts.{verdict_short}
-use Rattle.scpi.specs.declared.Checked.TheVariants.{Good}
-use Rattle.scpi.specs.declared.Found.TheVariants.{On as read_on}
+use Rattle.scpi.specs.Automaton.{good}
 use Rattle.scpi.specs.Words.{leading, starts, part, Begins, begins_starts, starts_begins, like_length, between_yes}
 use Rattle.commands.specs.Walks.{Ends, NoLetter, Walked, no_letter, behind_word, part_short, part_long}
 
@@ -345,10 +344,10 @@ module _ (p c : List ℕ) (m e : ℕ) (s t : List ℕ) (to : ℕ) (u : List ℕ)
 
   -- what the walk read up to a good end is a good pattern
   module _ (fits : length p ≤ 128) (some : 0 < m) (n : get_or p 0 0 ≡ star_sign → ⊥) where
-    read_whole : PathRead 0 p e (read_on to) → EndRead p to Good → GoodPattern p
+    read_whole : PathRead 0 p e (Ok to) → EndRead p to good → GoodPattern p
     read_whole x f =
         let l : m ≤ e = omega arith in
-        subst (Verdict p) (whole_end p (omega arith) n e (word_on p 0 m em e some (omega arith) ee le) to x Good f) (verdict_short p fits)
+        subst (Verdict p) (whole_end p (omega arith) n e (word_on p 0 m em e some (omega arith) ee le) to x good f) (verdict_short p fits)
 
     -- the pattern ended with the row
     pub matches_plain : to ≡ length p → (b : Bool) → Says b (On u (length c)) → Says b (Matches p c)

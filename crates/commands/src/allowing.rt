@@ -13,40 +13,36 @@ use scpi::bytes::{is_between, raised};
 fn ends_command(b: u8) -> bool
     ensures { Says result ((b ≡ 32) ⊎ (b ≡ 10)) }
 {
-    if b > 32 {
+    // Kept: tests with returns of their own, for speed: of `b <= b' ' && ..` LLVM drops the first test, and each byte of a command costs 5 instructions in place of 3.
+    if b > b' ' {
         return false;
     }
-    if b == 32 {
+    if b == b' ' {
         return true;
     }
-    if b == 10 {
-        return true;
-    }
-    false
+    b == b'\n'
 }
 
 // Where the payload's first space or newline stands, or where it ends.
 fn command_end(s: &[u8]) -> usize
     ensures { (take result s.now ≡ command_of s.now) × (result ≤ length s.now) }
 {
-    let mut i = 0;
-    while i < s.len() {
+    for i in 0..s.len() {
         if ends_command(s[i]) {
             return i;
         }
-        i += 1;
     }
-    i
+    s.len()
 }
 
 // A byte of the command as its capital, 0 behind its end.
 fn raised_at(c: &[u8], i: usize) -> u8
     ensures { result ≡ upper (get_or c.now i 0) }
 {
-    if i >= c.len() {
-        return 0;
+    match c.get(i) {
+        Some(b) => raised(*b),
+        None => 0,
     }
-    raised(c[i])
 }
 
 // Is there a newline at i, and may a pattern behind it match, by its first two bytes? Without a branch, so that a window of places is asked at once.
@@ -54,7 +50,9 @@ fn opens_here(text: &[u8], i: usize, f: u8, g: u8) -> bool
     requires { i + 2 < length text.now }
     ensures { result ≡ opens text.now i f g }
 {
-    (text[i] == 10) & (text[i + 1] == f) & ((text[i + 2] == g) | !is_between(65, 90, text[i + 2]))
+    (text[i] == b'\n')
+        & (text[i + 1] == f)
+        & ((text[i + 2] == g) | !is_between(b'A', b'Z', text[i + 2]))
 }
 
 // The same with an early way out, and at the end of the text.
@@ -62,19 +60,9 @@ fn opens_at(text: &[u8], i: usize, f: u8, g: u8) -> bool
     requires { i + 1 < length text.now }
     ensures { result ≡ opens text.now i f g }
 {
-    if text[i] != 10 {
-        return false;
-    }
-    if text[i + 1] != f {
-        return false;
-    }
-    if i + 2 >= text.len() {
-        return true;
-    }
-    if text[i + 2] == g {
-        return true;
-    }
-    !is_between(65, 90, text[i + 2])
+    text[i] == b'\n'
+        && text[i + 1] == f
+        && (i + 2 >= text.len() || text[i + 2] == g || !is_between(b'A', b'Z', text[i + 2]))
 }
 
 // Does none of the 16 places from `at` on open a line that may match?
@@ -83,10 +71,8 @@ fn window_is_shut(text: &[u8], at: usize, f: u8, g: u8) -> bool
     ensures { result ≡ true → Shut text.now f g at (at + 16) }
 {
     let mut found = false;
-    let mut k = 0;
-    while k < 16 {
-        found = found | opens_here(text, at + k, f, g);
-        k += 1;
+    for k in 0..16 {
+        found |= opens_here(text, at + k, f, g);
     }
     !found
 }
@@ -96,7 +82,7 @@ fn begins_here(text: &[u8], i: usize, f: u8) -> bool
     requires { i + 1 < length text.now }
     ensures { result ≡ begins text.now i f }
 {
-    (text[i] == 10) & (text[i + 1] == f)
+    (text[i] == b'\n') & (text[i + 1] == f)
 }
 
 // Does no line begin with f behind one of the 32 places from `at` on? Asked first, since it is less to ask.
@@ -105,10 +91,8 @@ fn none_begins(text: &[u8], at: usize, f: u8) -> bool
     ensures { result ≡ true → ((g : ℕ) → Shut text.now f g at (at + 32)) }
 {
     let mut found = false;
-    let mut k = 0;
-    while k < 32 {
-        found = found | begins_here(text, at + k, f);
-        k += 1;
+    for k in 0..32 {
+        found |= begins_here(text, at + k, f);
     }
     !found
 }
@@ -119,19 +103,21 @@ fn opening_from(text: &[u8], at: usize, f: u8, g: u8) -> usize
     ensures { (at ≤ result) × (result ≤ length text.now) × Shut text.now f g at result × (result + 1 < length text.now → opens text.now result f g ≡ true) }
 {
     let mut i = at;
+    // Kept: the place jumps by windows while they are shut, first by 32 and then by 16, and stays for the loop behind: no range says that more plainly.
     while i + 32 < text.len() && none_begins(text, i, f) {
         i += 32;
     }
+    // Kept: the same by 16.
     while i + 17 < text.len() && window_is_shut(text, i, f, g) {
         i += 16;
     }
-    while i + 1 < text.len() {
-        if opens_at(text, i, f, g) {
-            return i;
+    let last = text.len().saturating_sub(1).max(i);
+    for k in i..last {
+        if opens_at(text, k, f, g) {
+            return k;
         }
-        i += 1;
     }
-    i
+    last
 }
 
 // The same, where the next line is often the next that may match.
@@ -139,10 +125,7 @@ fn next_opening(text: &[u8], at: usize, f: u8, g: u8) -> usize
     requires { at ≤ length text.now }
     ensures { (at ≤ result) × (result ≤ length text.now) × Shut text.now f g at result × (result + 1 < length text.now → opens text.now result f g ≡ true) }
 {
-    if at + 1 >= text.len() {
-        return at;
-    }
-    if opens_at(text, at, f, g) {
+    if at + 1 >= text.len() || opens_at(text, at, f, g) {
         return at;
     }
     opening_from(text, at, f, g)
@@ -152,13 +135,7 @@ fn next_opening(text: &[u8], at: usize, f: u8, g: u8) -> usize
 fn second_differs(text: &[u8], g: u8) -> bool
     ensures { result ≡ true → Capital (get_or text.now 1 0) × (get_or text.now 1 0 ≡ g → ⊥) }
 {
-    if text.len() < 2 {
-        return false;
-    }
-    if text[1] == g {
-        return false;
-    }
-    is_between(65, 90, text[1])
+    text.len() >= 2 && text[1] != g && is_between(b'A', b'Z', text[1])
 }
 
 // Does the first line match the command? By its first two bytes most do not: f and g are the command's.
@@ -167,17 +144,10 @@ fn first_matches(text: &[u8], c: &[u8], f: u8, g: u8) -> bool
     ensures { (result ≡ true → Allows (lines_of text.now) c.now)
         × (result ≡ false → Allows (lines_of text.now) c.now ↔ Allows (behind text.now) c.now) }
 {
-    if text.len() == 0 {
-        return false;
-    }
-    if text[0] != f {
-        return false;
-    }
-    if second_differs(text, g) {
-        return false;
-    }
-    let e = line_end(text, 0);
-    matches(&text[..e], c)
+    !text.is_empty()
+        && text[0] == f
+        && !second_differs(text, g)
+        && matches(&text[..line_end(text, 0)], c)
 }
 
 // Does some pattern of the list match the command? Of most lines behind the first two bytes are looked at, no more.
@@ -190,10 +160,10 @@ fn any_matches(text: &[u8], c: &[u8]) -> bool
         return true;
     }
     let mut at = opening_from(text, 0, f, g);
+    // Kept: the place jumps from opening to opening: no range counts it.
     while at + 1 < text.len() {
-        let b = at + 1;
-        let e = line_end(text, b);
-        if matches(&text[b..e], c) {
+        let e = line_end(text, at + 1);
+        if matches(&text[at + 1..e], c) {
             return true;
         }
         at = next_opening(text, e, f, g);
@@ -205,6 +175,5 @@ fn any_matches(text: &[u8], c: &[u8]) -> bool
 pub fn allowed(text: &[u8], payload: &[u8]) -> bool
     ensures { (result ≡ true) ↔ Allows (lines_of text.now) (command_of payload.now) }
 {
-    let e = command_end(payload);
-    any_matches(text, &payload[..e])
+    any_matches(text, &payload[..command_end(payload)])
 }

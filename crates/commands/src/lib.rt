@@ -1,14 +1,13 @@
-// Commands against patterns (02, Q-12): which commands a pattern matches, and lists of patterns: what is refused, what is allowed.
+// Commands against patterns: which commands a pattern matches, and lists of patterns: what is refused, what is allowed.
 #![tactic(auto)]
 
 pub mod allowing;
 pub mod listing;
 pub mod matching;
 
-// A list of patterns is taken, has a first bad pattern (its number from 0, and the place in it), or is too long.
-#[derive(Clone, Copy)]
-pub enum Judged {
-    Taken,
-    BadPattern(usize, usize),
+// Why a list of patterns is refused: its first bad pattern, by its number, and the place where it goes bad, each counted from 0; or it is too long.
+#[derive(Clone, Copy, Debug, PartialEq, Eq)]
+pub enum ListFault {
+    BadPattern { pattern: usize, place: usize },
     TooMany,
 }

@@ -4,9 +4,11 @@ ghost use Rattle.std.specs.Prelude.{◌+◌, ◌≤◌, ◌<◌, drop, length, t
 ghost use Rattle.commands.specs.Lists.{line_length, lines_of};
 ghost use Rattle.commands.specs.Rulings.{Ruled, judged_from};
 
-use super::Judged;
-use scpi::Checked;
+use super::ListFault;
 use scpi::checking::check;
+
+// A list has at most so many patterns.
+const MOST_PATTERNS: usize = 32;
 
 // Is there no newline at the 8 places from `at` on? Without a way out of their middle, so that they are asked at once.
 fn no_newline(s: &[u8], at: usize) -> bool
@@ -14,10 +16,8 @@ fn no_newline(s: &[u8], at: usize) -> bool
     ensures { result ≡ true → at + line_length (drop at s.now) ≡ at + 8 + line_length (drop (at + 8) s.now) }
 {
     let mut found = false;
-    let mut k = 0;
-    while k < 8 {
-        found = found | (s[at + k] == 10);
-        k += 1;
+    for k in 0..8 {
+        found |= s[at + k] == b'\n';
     }
     !found
 }
@@ -28,16 +28,16 @@ pub fn line_end(s: &[u8], at: usize) -> usize
     ensures { (result ≡ at + line_length (drop at s.now)) × (result ≤ length s.now) }
 {
     let mut i = at;
+    // Kept: the place jumps by windows while none has a newline, and stays for the loop behind: no range says both more plainly.
     while i + 7 < s.len() && no_newline(s, i) {
         i += 8;
     }
-    while i < s.len() {
-        if s[i] == 10 {
-            return i;
+    for k in i..s.len() {
+        if s[k] == b'\n' {
+            return k;
         }
-        i += 1;
     }
-    i
+    s.len()
 }
 
 fn line_count(text: &[u8]) -> usize
@@ -45,38 +45,41 @@ fn line_count(text: &[u8]) -> usize
 {
     let mut n = 0;
     let mut at = 0;
+    // Kept: the place jumps from line to line, as far as each is long: no range counts it.
     while at < text.len() {
-        let e = line_end(text, at);
         n += 1;
-        at = e + 1;
+        at = line_end(text, at) + 1;
     }
     n
 }
 
 // The first bad pattern, of however many.
-fn first_bad(text: &[u8]) -> Judged
+fn first_bad(text: &[u8]) -> Result<(), ListFault>
     ensures { result ≡ judged_from 0 (lines_of text.now) }
 {
-    let mut k = 0;
+    let mut pattern = 0;
     let mut at = 0;
+    // Kept: the place jumps from line to line, as far as each is long: no range counts it.
     while at < text.len() {
         let e = line_end(text, at);
-        let r = check(&text[at..e]);
-        if let Checked::Bad(i) = r {
-            return Judged::BadPattern(k, i);
+        if let Err(bad) = check(&text[at..e]) {
+            return Err(ListFault::BadPattern {
+                pattern,
+                place: bad.place,
+            });
         }
-        k += 1;
+        pattern += 1;
         at = e + 1;
     }
-    Judged::Taken
+    Ok(())
 }
 
-// Refused as 12 where it is too long, else as 11 where a pattern is bad, or taken.
-pub fn judge(text: &[u8]) -> Judged
+// Refused where it is too long, else where a pattern is bad: by the first.
+pub fn judge(text: &[u8]) -> Result<(), ListFault>
     ensures { Ruled (lines_of text.now) result }
 {
-    if line_count(text) > 32 {
-        return Judged::TooMany;
+    if line_count(text) > MOST_PATTERNS {
+        return Err(ListFault::TooMany);
     }
     first_bad(text)
 }

@@ -8,15 +8,14 @@ ghost use Rattle.commands.specs.Landing.{Spread};
 ghost use Rattle.commands.specs.Places.{Member, weight};
 ghost use Rattle.commands.specs.Sets.{On, Lands};
 ghost use Rattle.scpi.specs.Answers.{Says};
-ghost use Rattle.commands.specs.Walks.{Bracketed, Closes, ItemAt, Walked, Worded};
+ghost use Rattle.commands.specs.Walks.{Bracketed, Closes, ItemAt, Walked, Worded, to_of, set_of};
 
 use bits::power_of;
-use scpi::Checked;
+use scpi::LONGEST;
 use scpi::bytes::{goes_on, run_end};
 use scpi::checking::check;
 
-// Where a walk came to: a place of the pattern and a set of places of the command, a bit for each. Where the pattern is bad the place is the one
-// behind its end: nobody reads on there, and a bracket or a pattern that should end there is refused.
+// Where a walk came to: a place of the pattern and a set of places of the command, a bit for each. A walk along a bad pattern comes to none.
 #[derive(Clone, Copy)]
 struct Walk {
     at: usize,
@@ -28,23 +27,14 @@ fn has(m: u64, i: usize) -> bool
     requires { i < 64 }
     ensures { Says result (bit m i ≡ 1) }
 {
-    if (m >> i) % 2 == 1 {
-        return true;
-    }
-    false
+    (m >> i) % 2 == 1
 }
 
 fn holds(s: &[u64; 3], j: usize) -> bool
     requires { j < 192 }
     ensures { Says result (On s.now j) }
 {
-    if j < 64 {
-        return has(s[0], j);
-    }
-    if j < 128 {
-        return has(s[1], j - 64);
-    }
-    has(s[2], j - 128)
+    has(s[j / 64], j % 64)
 }
 
 // The set with place j.
@@ -75,19 +65,17 @@ fn without(s: [u64; 3], j: usize) -> [u64; 3]
     [s[0], s[1], s[2] - power_of(j - 128)]
 }
 
-// A place of the set, or 192 where it has none.
-fn member(s: &[u64; 3]) -> usize
+// A place of the set.
+fn member(s: &[u64; 3]) -> Option<usize>
     ensures { Member s.now result }
 {
-    let a = u64::trailing_zeros(s[0]);
-    if a < 64 {
-        return a as usize;
+    for k in 0..3 {
+        let i = s[k].trailing_zeros() as usize;
+        if i < 64 {
+            return Some(64 * k + i);
+        }
     }
-    let b = u64::trailing_zeros(s[1]);
-    if b < 64 {
-        return b as usize + 64;
-    }
-    u64::trailing_zeros(s[2]) as usize + 128
+    None
 }
 
 fn union(a: &[u64; 3], b: &[u64; 3]) -> [u64; 3]
@@ -115,13 +103,7 @@ fn spread_on(t: [u64; 3], p: &[u8], a: usize, m: usize, e: usize, c: &[u8], i: u
 fn differs(x: u8, y: u8) -> bool
     ensures { result ≡ true → eqb (upper x) (upper y) ≡ false }
 {
-    if x >= 65 {
-        return false;
-    }
-    if x == y {
-        return false;
-    }
-    true
+    x < b'A' && x != y
 }
 
 // The same where the short form may be another.
@@ -141,146 +123,83 @@ fn spread(t: [u64; 3], p: &[u8], a: usize, m: usize, e: usize, c: &[u8], i: usiz
     spread_on(t, p, a, m, e, c, i)
 }
 
-// Where a step came to: the places that are left, where spellings from the others end, and the next place.
-#[derive(Clone, Copy)]
-struct Stride {
-    left: [u64; 3],
-    on: [u64; 3],
-    next: usize,
-}
-
-fn from_place(
-    left: [u64; 3],
-    t: [u64; 3],
-    p: &[u8],
-    a: usize,
-    m: usize,
-    e: usize,
-    c: &[u8],
-    i: usize,
-) -> Stride
-    requires { (a < m) × (m ≤ e) × (e ≤ length p.now) × (length c.now ≤ 128) × On left i }
-    ensures { ((k : ℕ) → On left k ↔ (On result.left k ⊎ (k ≡ i))) × (weight result.left < weight left)
-        × Spread (part a m p.now) (part a e p.now) c.now i t result.on × Member result.left result.next }
-{
-    let rest = without(left, i);
-    let on = spread(t, p, a, m, e, c, i);
-    let next = member(&rest);
-    Stride {
-        left: rest,
-        on,
-        next,
-    }
-}
-
 // The set behind these bytes, from all places of a set.
 fn step(s: &[u64; 3], p: &[u8], a: usize, m: usize, e: usize, c: &[u8]) -> [u64; 3]
     requires { (a < m) × (m ≤ e) × (e ≤ length p.now) × (length c.now ≤ 128) }
     ensures { (j : ℕ) → On result j ↔ (Lands (part a m p.now) c.now s.now j ⊎ Lands (part a e p.now) c.now s.now j) }
 {
-    let mut w = Stride {
-        left: [s[0], s[1], s[2]],
-        on: [0u64; 3],
-        next: member(s),
-    };
-    while w.next < 192 {
-        let left = w.left;
-        let t = w.on;
-        let i = w.next;
-        w = from_place(left, t, p, a, m, e, c, i);
+    let mut left = *s;
+    let mut on = [0u64; 3];
+    // Kept: what is walked is a set that shrinks from turn to turn; nothing is counted.
+    while let Some(i) = member(&left) {
+        let rest = without(left, i);
+        let more = spread(on, p, a, m, e, c, i);
+        left = rest;
+        on = more;
     }
-    w.on
+    on
 }
 
 // A colon and a word: bad where no capital is behind the colon.
-fn match_word(p: &[u8], at: usize, c: &[u8], s: [u64; 3]) -> Walk
+fn match_word(p: &[u8], at: usize, c: &[u8], s: [u64; 3]) -> Option<Walk>
     requires { (at < length p.now) × (length p.now ≤ 128) × (length c.now ≤ 128) }
-    ensures { Worded p.now at c.now s result.at result.on }
+    ensures { Worded p.now at c.now s (to_of p.now result) (set_of s result) }
 {
-    let m = run_end(p, at + 1, 65, 90);
+    let m = run_end(p, at + 1, b'A', b'Z');
     if m == at + 1 {
-        return Walk {
-            at: p.len() + 1,
-            on: s,
-        };
+        return None;
     }
-    let end = run_end(p, m, 97, 122);
-    let t = step(&s, p, at, m, end, c);
-    Walk { at: end, on: t }
+    let end = run_end(p, m, b'a', b'z');
+    let on = step(&s, p, at, m, end, c);
+    Some(Walk { at: end, on })
 }
 
 // Does an item of a row begin here? `left` brackets may still be opened.
 fn begins_item(p: &[u8], at: usize, left: usize) -> bool
     ensures { Says result (ItemAt left p.now at) }
 {
-    if at >= p.len() {
-        return false;
-    }
-    if p[at] == 58 {
-        return true;
-    }
-    if p[at] != 91 {
-        return false;
-    }
-    if left == 0 {
-        return false;
-    }
-    true
+    at < p.len() && (p[at] == b':' || (p[at] == b'[' && left > 0))
 }
 
 // A row of colon-and-word and brackets, from `at` on, item by item: so only brackets deepen the stack.
 #[cycle(match_bracket_match_path)]
-fn match_path(p: &[u8], at: usize, left: usize, c: &[u8], s: [u64; 3]) -> Walk
+fn match_path(p: &[u8], at: usize, left: usize, c: &[u8], s: [u64; 3]) -> Option<Walk>
     requires { (left ≤ 8) × (at ≤ length p.now) × (length p.now ≤ 128) × (length c.now ≤ 128) }
-    ensures { Walked (8 - left) p.now at c.now s result.at result.on }
+    ensures { Walked (8 - left) p.now at c.now s (to_of p.now result) (set_of s result) }
 {
     let mut w = Walk { at, on: s };
+    // Kept: each turn goes on where the last one came to; nothing is counted.
     while begins_item(p, w.at, left) {
-        let i = w.at;
-        let t = w.on;
-        if p[i] == 58 {
-            w = match_word(p, i, c, t);
+        if p[w.at] == b':' {
+            w = match_word(p, w.at, c, w.on)?;
         } else {
-            w = match_bracket(p, i + 1, left - 1, c, t);
+            w = match_bracket(p, w.at + 1, left - 1, c, w.on)?;
         }
     }
-    w
+    Some(w)
 }
 
 // Does "]" stand at i, behind a row from `at` on that is not empty?
 fn closes(p: &[u8], at: usize, i: usize) -> bool
     ensures { Says result (Closes p.now at i) }
 {
-    if i >= p.len() {
-        return false;
-    }
-    if p[i] != 93 {
-        return false;
-    }
-    if i == at {
-        return false;
-    }
-    true
+    i < p.len() && p[i] == b']' && i != at
 }
 
 // Behind "[": the row that it holds, kept or dropped, and "]". Bad where one of the two is not there: an empty set would not tell, since what
 // a bracket holds may be dropped.
 #[cycle(match_bracket_match_path)]
-fn match_bracket(p: &[u8], at: usize, left: usize, c: &[u8], s: [u64; 3]) -> Walk
+fn match_bracket(p: &[u8], at: usize, left: usize, c: &[u8], s: [u64; 3]) -> Option<Walk>
     requires { (left < 8) × (at ≤ length p.now) × (length p.now ≤ 128) × (length c.now ≤ 128) }
-    ensures { Bracketed (7 - left) p.now at c.now s result.at result.on }
+    ensures { Bracketed (7 - left) p.now at c.now s (to_of p.now result) (set_of s result) }
 {
-    let w = match_path(p, at, left, c, s);
-    let i = w.at;
-    let t = w.on;
-    if !closes(p, at, i) {
-        return Walk {
-            at: p.len() + 1,
-            on: s,
-        };
+    let w = match_path(p, at, left, c, s)?;
+    if !closes(p, at, w.at) {
+        return None;
     }
-    let u = union(&s, &t);
-    Walk { at: i + 1, on: u }
+    let t = w.on;
+    let on = union(&s, &t);
+    Some(Walk { at: w.at + 1, on })
 }
 
 // Behind the star there is no row to walk along: the bytes are compared, and of the few that are alike `check` tells whether they are a pattern.
@@ -288,18 +207,7 @@ fn match_star(p: &[u8], c: &[u8]) -> bool
     requires { get_or p.now 0 0 ≡ 42 }
     ensures { Says result (Matches p.now c.now) }
 {
-    let n = p.len();
-    if n != c.len() {
-        return false;
-    }
-    if !goes_on(p, 0, n, c, 0) {
-        return false;
-    }
-    let k = check(p);
-    match k {
-        Checked::Good => true,
-        Checked::Bad(_) => false,
-    }
+    p.len() == c.len() && goes_on(p, 0, p.len(), c, 0) && check(p).is_ok()
 }
 
 // Is the command's last byte "?", and the place before it in the set?
@@ -307,15 +215,7 @@ fn asked(u: &[u64; 3], c: &[u8]) -> bool
     requires { length c.now ≤ 128 }
     ensures { Says result ((0 < length c.now) × (get_or c.now (length c.now - 1) 0 ≡ 63) × On u.now (length c.now - 1)) }
 {
-    let n = c.len();
-    if n == 0 {
-        return false;
-    }
-    let k = n - 1;
-    if c[k] != 63 {
-        return false;
-    }
-    holds(u, k)
+    !c.is_empty() && c[c.len() - 1] == b'?' && holds(u, c.len() - 1)
 }
 
 // A word, a row, and perhaps "?": then the end.
@@ -323,16 +223,18 @@ fn match_whole(p: &[u8], c: &[u8]) -> bool
     requires { (length p.now ≤ 128) × (length c.now ≤ 128) × (get_or p.now 0 0 ≡ 42 → ⊥) }
     ensures { Says result (Matches p.now c.now) }
 {
-    let m = run_end(p, 0, 65, 90);
+    let m = run_end(p, 0, b'A', b'Z');
     if m == 0 {
         return false;
     }
     if !goes_on(p, 0, m, c, 0) {
         return false;
     }
-    let e = run_end(p, m, 97, 122);
+    let e = run_end(p, m, b'a', b'z');
     let t = spread_on([0u64; 3], p, 0, m, e, c, 0);
-    let w = match_path(p, e, 8, c, t);
+    let Some(w) = match_path(p, e, 8, c, t) else {
+        return false;
+    };
     let i = w.at;
     let u = w.on;
     if i == p.len() {
@@ -341,7 +243,7 @@ fn match_whole(p: &[u8], c: &[u8]) -> bool
     if i + 1 != p.len() {
         return false;
     }
-    if p[i] != 63 {
+    if p[i] != b'?' {
         return false;
     }
     asked(&u, c)
@@ -351,16 +253,10 @@ fn match_whole(p: &[u8], c: &[u8]) -> bool
 pub fn matches(p: &[u8], c: &[u8]) -> bool
     ensures { (result ≡ true) ↔ Matches p.now c.now }
 {
-    if p.len() > 128 {
+    if p.len() > LONGEST || c.len() > LONGEST || p.is_empty() {
         return false;
     }
-    if c.len() > 128 {
-        return false;
-    }
-    if p.len() == 0 {
-        return false;
-    }
-    if p[0] == 42 {
+    if p[0] == b'*' {
         return match_star(p, c);
     }
     match_whole(p, c)

@@ -1,14 +1,14 @@
 -- What look-ups in the table come to: eight of them are eight bytes, one is a byte. Assumes nothing.
-use Rattle.std.specs.Prelude.{◌≡◌, refl, length}
-use Rattle.std.proofs.Common.{sym, ◌∙◌, arith}
+use Rattle.std.specs.Prelude.{◌≡◌, refl}
+use Rattle.std.proofs.Common.{sym, ◌∙◌, arith, lit<}
 use Rattle.std.proofs.Math.Path.{ap}
-use mathlib.Core.List.{List, [], ◌∷◌, ◌++◌}
-use Prim.Native.Nat.{ℕ, zero, suc, ◌+◌, ◌*◌, ◌/◌, ◌%◌, ◌^◌, ◌≤◌, ◌<◌, min}
+use mathlib.Core.List.{List, [], ◌∷◌}
+use Prim.Native.Nat.{ℕ, zero, suc, ◌+◌, ◌*◌, ◌/◌, ◌%◌, ◌^◌, ◌<◌, min}
 use Rattle.std.specs.Int.Bits.{bit_xor, xor_zero_r}
 use Rattle.std.proofs.lemmas.Nat.{xor_lt}
 use Rattle.std.proofs.Math.ListN.{get_or}
-use Rattle.crc_table.specs.Table.{rows_table, table_rule, look, at_row}
-use Rattle.crc.specs.Crc.{steps, byte_step, crc_table}
+use Rattle.crc_table.specs.Table.{rows_table, look, at_row}
+use Rattle.crc.specs.Crc.{steps, byte_step}
 use Rattle.crc.specs.Steps.{peel, eight_bytes, byte_step_lem}
 use Rattle.crc.specs.Xor.{xor_assoc}
 
@@ -18,29 +18,42 @@ looks_of zero l = 0
 looks_of (suc k) [] = 0
 looks_of (suc k) (x ∷ l) = bit_xor (steps (8 * (k + 1)) (x % 256)) (looks_of k l)
 
--- more numbers than rows change nothing
-more : (k : ℕ) (l m : List ℕ) → k ≤ length l → looks_of k (l ++ m) ≡ looks_of k l
-unfolding looks_of
-more zero l m h = refl
-more (suc k) [] m h = absurd (omega arith)
-more (suc k) (x ∷ l) m h = ap (bit_xor (steps (8 * (k + 1)) (x % 256))) (more k l m (omega arith))
+-- an entry of the table, by its row
+pub entry_is : (k x e : ℕ) → k < 8 → e ≡ get_or rows_table (256 * min k 7 + x % 256) 0 → e ≡ steps (8 * (k + 1)) (x % 256)
+entry_is k x e h g = g ∙ ap (λ (j : ℕ). get_or rows_table (256 * j + x % 256) 0) (at_row k k h refl) ∙ look k (x % 256) h (omega arith)
 
--- a turn of the loop, and its end
-module _ (n k y e t v0 v1 v2 v3 v4 v5 v6 v7 : ℕ) (q : n ≡ suc k) (h : k < 8) where
-  pub turn : e ≡ get_or rows_table (256 * min k 7 + v0 % 256) 0 → bit_xor y (looks_of n (v0 ∷ v1 ∷ v2 ∷ v3 ∷ v4 ∷ v5 ∷ v6 ∷ v7 ∷ [])) ≡ t
-      → bit_xor (bit_xor y e) (looks_of k (v1 ∷ v2 ∷ v3 ∷ v4 ∷ v5 ∷ v6 ∷ v7 ∷ v7 ∷ [])) ≡ t
+-- numbers taken together from the left, as code does it, and from the right
+abbrev from_left : ℕ → List ℕ → ℕ
+from_left y [] = y
+from_left y (x ∷ l) = from_left (bit_xor y x) l
+
+abbrev from_right : List ℕ → ℕ
+from_right [] = 0
+from_right (x ∷ l) = bit_xor x (from_right l)
+
+left_right : (y : ℕ) (l : List ℕ) → from_left y l ≡ bit_xor y (from_right l)
+left_right y [] = sym (xor_zero_r y)
+left_right y (x ∷ l) = left_right (bit_xor y x) l ∙ xor_assoc y x (from_right l)
+
+-- eight look-ups, each in its row
+module _ (x0 x1 x2 x3 x4 x5 x6 x7 y0 y1 y2 y3 y4 y5 y6 y7 : ℕ) where
+  pub looked_up : y0 ≡ get_or rows_table (256 * min 7 7 + x0 % 256) 0 → y1 ≡ get_or rows_table (256 * min 6 7 + x1 % 256) 0
+      → y2 ≡ get_or rows_table (256 * min 5 7 + x2 % 256) 0 → y3 ≡ get_or rows_table (256 * min 4 7 + x3 % 256) 0
+      → y4 ≡ get_or rows_table (256 * min 3 7 + x4 % 256) 0 → y5 ≡ get_or rows_table (256 * min 2 7 + x5 % 256) 0
+      → y6 ≡ get_or rows_table (256 * min 1 7 + x6 % 256) 0 → y7 ≡ get_or rows_table (256 * min 0 7 + x7 % 256) 0
+      → bit_xor (bit_xor (bit_xor (bit_xor (bit_xor (bit_xor (bit_xor y0 y1) y2) y3) y4) y5) y6) y7 ≡ looks_of 8 (x0 ∷ x1 ∷ x2 ∷ x3 ∷ x4 ∷ x5 ∷ x6 ∷ x7 ∷ [])
   unfolding looks_of
-  turn g i =
-      let l : List ℕ = v1 ∷ v2 ∷ v3 ∷ v4 ∷ v5 ∷ v6 ∷ v7 ∷ [] in
-      let f : e ≡ steps (8 * (k + 1)) (v0 % 256) = g ∙ ap (λ (j : ℕ). get_or rows_table (256 * j + v0 % 256) 0) (at_row k k h refl) ∙ look k (v0 % 256) h (omega arith) in
-      xor_assoc y e (looks_of k (l ++ (v7 ∷ [])))
-      ∙ (λ d. bit_xor y (bit_xor (f d) (more k l (v7 ∷ []) (omega arith) d)))
-      ∙ ap (λ (j : ℕ). bit_xor y (looks_of j (v0 ∷ l))) (sym q)
-      ∙ i
-
-pub turned : (n y t : ℕ) (l : List ℕ) → n ≤ 0 → bit_xor y (looks_of n l) ≡ t → y ≡ t
-unfolding looks_of
-turned n y t l h i = let z : n ≡ 0 = omega arith in sym (xor_zero_r y) ∙ ap (λ (j : ℕ). bit_xor y (looks_of j l)) (sym z) ∙ i
+  looked_up e0 e1 e2 e3 e4 e5 e6 e7 =
+      let f0 : y0 ≡ steps 64 (x0 % 256) = entry_is 7 x0 y0 (lit< tt) e0 in
+      let f1 : y1 ≡ steps 56 (x1 % 256) = entry_is 6 x1 y1 (lit< tt) e1 in
+      let f2 : y2 ≡ steps 48 (x2 % 256) = entry_is 5 x2 y2 (lit< tt) e2 in
+      let f3 : y3 ≡ steps 40 (x3 % 256) = entry_is 4 x3 y3 (lit< tt) e3 in
+      let f4 : y4 ≡ steps 32 (x4 % 256) = entry_is 3 x4 y4 (lit< tt) e4 in
+      let f5 : y5 ≡ steps 24 (x5 % 256) = entry_is 2 x5 y5 (lit< tt) e5 in
+      let f6 : y6 ≡ steps 16 (x6 % 256) = entry_is 1 x6 y6 (lit< tt) e6 in
+      let f7 : y7 ≡ steps 8 (x7 % 256) = entry_is 0 x7 y7 (lit< tt) e7 in
+      left_right y0 (y1 ∷ y2 ∷ y3 ∷ y4 ∷ y5 ∷ y6 ∷ y7 ∷ [])
+      ∙ (λ i. bit_xor (f0 i) (from_right (f1 i ∷ f2 i ∷ f3 i ∷ f4 i ∷ f5 i ∷ f6 i ∷ f7 i ∷ [])))
 
 -- a register's four bytes go their own ways
 peel4 : (n x : ℕ) → x < 2 ^ 32
@@ -81,19 +94,18 @@ eight_looks x b4 b5 b6 b7 h h4 h5 h6 h7 =
     (bit_xor (steps 32 (b4 % 256)) (bit_xor (steps 24 (b5 % 256)) (bit_xor (steps 16 (b6 % 256)) (bit_xor (steps 8 (b7 % 256)) 0)))))
 
 -- eight bytes, as the code has them
-module _ (c b0 b1 b2 b3 b4 b5 b6 b7 w w4 w5 w6 w7 r : ℕ) (h : c < 2 ^ 32)
+module _ (c b0 b1 b2 b3 b4 b5 b6 b7 w r : ℕ) (h : c < 2 ^ 32)
     (h0 : b0 < 256) (h1 : b1 < 256) (h2 : b2 < 256) (h3 : b3 < 256) (h4 : b4 < 256) (h5 : b5 < 256) (h6 : b6 < 256) (h7 : b7 < 256)
-    (q : w ≡ b3 * 16777216 + (b2 * 65536 + (b1 * 256 + b0))) (q4 : w4 ≡ b4) (q5 : w5 ≡ b5) (q6 : w6 ≡ b6) (q7 : w7 ≡ b7) where
-  pub eight_by_table : r ≡ looks_of 8 (bit_xor c w ∷ bit_xor c w / 256 ∷ bit_xor c w / 65536 ∷ bit_xor c w / 16777216 ∷ w4 ∷ w5 ∷ w6 ∷ w7 ∷ [])
+    (q : w ≡ b3 * 16777216 + (b2 * 65536 + (b1 * 256 + b0))) where
+  pub eight_by_table : r ≡ looks_of 8 (bit_xor c w ∷ bit_xor c w / 256 ∷ bit_xor c w / 65536 ∷ bit_xor c w / 16777216 ∷ b4 ∷ b5 ∷ b6 ∷ b7 ∷ [])
       → r ≡ byte_step (byte_step (byte_step (byte_step (byte_step (byte_step (byte_step (byte_step c b0) b1) b2) b3) b4) b5) b6) b7
   eight_by_table e =
       let l : w < 2 ^ 32 = omega arith in
       e
-      ∙ (λ i. looks_of 8 (bit_xor c w ∷ bit_xor c w / 256 ∷ bit_xor c w / 65536 ∷ bit_xor c w / 16777216 ∷ q4 i ∷ q5 i ∷ q6 i ∷ q7 i ∷ []))
       ∙ eight_looks (bit_xor c w) b4 b5 b6 b7 (xor_lt 32 c w h l) h4 h5 h6 h7
       ∙ ap (λ (z : ℕ). bit_xor (steps 64 (bit_xor c z)) (steps 32 (b7 * 16777216 + (b6 * 65536 + (b5 * 256 + b4))))) q
       ∙ sym (eight_bytes c b0 b1 b2 b3 b4 b5 b6 b7 h0 h1 h2 h4 h5 h6)
 
 -- one byte, as the code has it
-pub byte_by_table : (c b y : ℕ) → y ≡ get_or crc_table (bit_xor c b % 256) 0 → bit_xor y (bit_xor c b / 256) ≡ byte_step c b
-byte_by_table c b y e = ap (λ (z : ℕ). bit_xor z (bit_xor c b / 256)) (e ∙ table_rule (bit_xor c b % 256) (omega arith)) ∙ sym (byte_step_lem c b)
+pub byte_by_table : (c b y : ℕ) → y ≡ get_or rows_table (256 * min 0 7 + bit_xor c b % 256) 0 → bit_xor y (bit_xor c b / 256) ≡ byte_step c b
+byte_by_table c b y e = ap (λ (z : ℕ). bit_xor z (bit_xor c b / 256)) (entry_is 0 (bit_xor c b) y (lit< tt) e) ∙ sym (byte_step_lem c b)

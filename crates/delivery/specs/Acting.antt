@@ -1,6 +1,6 @@
--- What a message that acts has passed, as the functions that carry it out require it; and roles by their numbers. Assumes nothing.
+-- What a message that acts has passed, as the functions that carry it out require it. Assumes nothing.
 use Rattle.std.specs.Prelude.{◌≡◌, refl, List, [], ◌∷◌, ℕ, suc, ◌+◌, ◌≤◌, ◌<◌, eqb, ltb, length}
-use Rattle.std.proofs.Common.{sym, ap, subst, ◌∙◌, ⊎_elim, arith, eq-eqb, ne_eqb, eqb-true, ltb-true, ltb-false}
+use Rattle.std.proofs.Common.{sym, ap, ◌∙◌, ⊎_elim, arith, eq-eqb, ne_eqb, eqb-true, ltb-true, ltb-false}
 use mathlib.Core.Bool.{Bool, true, false, not, ◌&&◌, ◌||◌, true≢false}
 use Rattle.std.proofs.Math.ListN.{get_or-eq_default}
 use Rattle.std.proofs.lemmas.Bool.{eqb-false}
@@ -9,13 +9,13 @@ use Rattle.wire.specs.declared.Header.{Header}
 use Rattle.model.specs.Sizes.{no_connection, session_limit}
 use Rattle.model.specs.Lists.{all, position}
 use Rattle.model.specs.MessageTypes.{Initialize, AsyncInitialize, AsyncMaximumMessageSize}
-use Rattle.model.specs.State.{Entry, Server, at, blank, live, half_open, slot_of_number}
-use Rattle.model.specs.Place.{Role, Role.r_none, Role.r_half_open, Role.r_synchronous, Role.r_asynchronous, role_by, role_of, slot_in, place_of, role_in, is_on_connection}
+use Rattle.model.specs.State.{Entry, at, blank, live, half_open, slot_of_number}
+use Rattle.model.specs.Place.{Place, Role, Role.r_none, Role.r_half_open, Role.r_synchronous, Role.r_asynchronous, role_by, slot_in, place_of, role_in, is_on_connection}
 use Rattle.model.specs.Checks.{Verdict.v_acts, first, either, opening_rules, asynchronous_rules}
 use Rattle.claims.proofs.Fits.{opening_passed, async_passed}
 use Rattle.model.proofs.Place.{place_role, place_sound}
 use Rattle.checks.specs.Opening.{all_live}
-use Rattle.state.specs.Search.{role_number, past_none}
+use Rattle.state.specs.Search.{seat}
 use Rattle.state.specs.View.{Memory, memory, view, locks_of}
 use Rattle.wire.specs.Frame.{bytes_of}
 use Rattle.model.specs.Acts.{acts}
@@ -26,57 +26,29 @@ use Rattle.sessions.specs.Did.{Did, did_plainly, numbers_of}
 use Rattle.sessions.specs.Replies.{nothing_said}
 use Rattle.state.specs.Change.{sessions_held}
 
--- a role from its number
-pub role_none : (ro : Role) → role_number ro ≡ 0 → ro ≡ r_none
-role_none r_none e = refl
-role_none r_half_open e = absurd (omega arith)
-role_none r_synchronous e = absurd (omega arith)
-role_none r_asynchronous e = absurd (omega arith)
-
-pub role_half : (ro : Role) → (role_number ro ≡ 0 → ⊥) → (role_number ro ≡ 2 → ⊥) → (role_number ro ≡ 3 → ⊥) → ro ≡ r_half_open
-role_half r_none a b c = absurd (a refl)
-role_half r_half_open a b c = refl
-role_half r_synchronous a b c = absurd (b refl)
-role_half r_asynchronous a b c = absurd (c refl)
-
-pub role_sync : (ro : Role) → role_number ro ≡ 2 → ro ≡ r_synchronous
-role_sync r_none e = absurd (omega arith)
-role_sync r_half_open e = absurd (omega arith)
-role_sync r_synchronous e = refl
-role_sync r_asynchronous e = absurd (omega arith)
-
-pub role_async : (ro : Role) → role_number ro ≡ 3 → ro ≡ r_asynchronous
-role_async r_none e = absurd (omega arith)
-role_async r_half_open e = absurd (omega arith)
-role_async r_synchronous e = absurd (omega arith)
-role_async r_asynchronous e = refl
+abbrev is_async : Role → Bool
+is_async r_none = false
+is_async r_half_open = false
+is_async r_synchronous = false
+is_async r_asynchronous = true
 
 -- a connection in the asynchronous role is its session's second
 second_of : (l h b a : Bool) → role_by l h b ≡ r_asynchronous → (l && (b || a)) ≡ true → a ≡ true
 second_of false h b a p q = absurd (true≢false (sym q))
-second_of true true b a p q = let z : role_number r_half_open ≡ role_number r_asynchronous = ap role_number p in absurd (omega arith)
-second_of true false true a p q = let z : role_number r_synchronous ≡ role_number r_asynchronous = ap role_number p in absurd (omega arith)
+second_of true true b a p q = absurd (true≢false (ap is_async (sym p)))
+second_of true false true a p q = absurd (true≢false (ap is_async (sym p)))
 second_of true false false a p q = q
 
-pub second_connection_lem : (w s : List ℕ) (c i : ℕ) → slot_in (locks_of w s).entries c ≡ i → role_number (role_of (locks_of w s).entries c) ≡ 3 → (at (locks_of w s).entries i).asynchronous ≡ c
-second_connection_lem w s c i e r =
+pub second_connection_lem : (w s : List ℕ) (c i : ℕ) → place_of (locks_of w s).entries c ≡ seat i r_asynchronous → (at (locks_of w s).entries i).asynchronous ≡ c
+second_connection_lem w s c i e =
     let es : List Entry = (locks_of w s).entries in
     let x : Entry = at es (slot_in es c) in
-    let p : role_in c x ≡ r_asynchronous = sym (place_role es c) ∙ role_async (role_of es c) r in
-    ap (λ (j : ℕ). (at es j).asynchronous) (sym e)
+    let p : role_in c x ≡ r_asynchronous = sym (place_role es c) ∙ ap (λ (k : Place). k.role) e in
+    ap (λ (k : Place). (at es k.slot).asynchronous) (sym e)
     ∙ ⊎_elim
     (λ (q : is_on_connection c x ≡ true). eqb-true x.asynchronous c (second_of (live x) (eqb x.asynchronous no_connection) (eqb x.synchronous c) (eqb x.asynchronous c) p q))
-    (λ (q : x ≡ blank). let z : role_number (role_in c blank) ≡ role_number r_asynchronous = ap role_number (ap (role_in c) (sym q) ∙ p) in absurd (omega arith))
+    (λ (q : x ≡ blank). absurd (true≢false (ap is_async (sym p ∙ ap (role_in c) q))))
     (place_sound es c)
-
--- a connection with a role has its session in the table
-pub role_slot : (w s : List ℕ) (c i n : ℕ) → slot_in (locks_of w s).entries c ≡ i → role_number (role_of (locks_of w s).entries c) ≡ n → (n ≡ 0 → ⊥) → i < session_limit
-unfolding place_of
-role_slot w s c i n e r o = by (ltb i session_limit) refl
-  where
-    by : (b : Bool) → ltb i session_limit ≡ b → i < session_limit
-    by true q = ltb-true i session_limit q
-    by false q = absurd (o (sym r ∙ ap (λ (j : ℕ). role_number (role_in c (at (locks_of w s).entries j))) e ∙ past_none w s c i (ltb-false i session_limit q)))
 
 and_off : (x y : Bool) → x ≡ true → (x && y) ≡ false → y ≡ false
 and_off true y e f = f
@@ -147,11 +119,6 @@ size_eight h p e k =
     let q = async_passed h p e in
     eqb-true h.len 8 (not_off (eqb h.len 8) (and_off (eqb h.kind AsyncMaximumMessageSize) (not (eqb h.len 8))
     (eq-eqb h.kind AsyncMaximumMessageSize k) q.1.1.1.1.1.1.1.1.1.0))
-
--- acting by one role is acting by the same role
-pub acts_as : (d : Server) (i c : ℕ) (h : Header) (p : List ℕ) (r : Delivery) (m m' : Memory) (out out' : List ℕ) (ro ro' : Role) → ro ≡ ro'
-    → Did (finish d (acts ro' d i c h p)) r m m' out out' → Did (finish d (acts ro d i c h p)) r m m' out out'
-acts_as d i c h p r m m' out out' ro ro' e q = subst (λ (x : Role). Did (finish d (acts x d i c h p)) r m m' out out') (sym e) q
 
 -- the connection of a half-open session never gets here; the definition says this
 pub half_acts : (m : Memory) (i c : ℕ) (h : Header) (p out : List ℕ) (r : Delivery) → r ≡ record { refusal = 0; outcome = 6; session = 0; taken = 16 + h.len; output = 0; missing = 0 }

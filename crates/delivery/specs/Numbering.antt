@@ -1,4 +1,4 @@
--- 02, Q-10: whether a message that is answered Error moves the number expected, from the tests of the code; and what is then done.
+-- Whether a message that is answered Error moves the number expected, from the tests of the code; and what is then done.
 -- Assumes nothing.
 use Rattle.std.specs.Prelude.{◌≡◌, refl, Bool, true, false, List, ℕ, eqb}
 use Rattle.std.proofs.Common.{sym, ap, ◌∙◌, true≢false}
@@ -12,7 +12,6 @@ use Rattle.model.specs.Place.{Role, Role.r_none, Role.r_half_open, Role.r_synchr
 use Rattle.model.specs.Locks.{change}
 use Rattle.model.specs.Acts.{say}
 use Rattle.model.specs.Step.{finish, number_taken}
-use Rattle.state.specs.Search.{role_number}
 use Rattle.state.specs.Tidy.{Tidy}
 use Rattle.state.specs.View.{Memory}
 use Rattle.sessions.specs.declared.Delivery.{Delivery}
@@ -21,7 +20,6 @@ use Rattle.effects.specs.Interrupted.{commands_are}
 use Rattle.effects.specs.Numbering.{moved_by}
 use Rattle.sessions.specs.Replies.{error_plan}
 use Rattle.sessions.specs.Synchronous.{is_command}
-use Rattle.delivery.specs.Acting.{role_sync}
 
 -- only a message on the synchronous channel does
 abbrev pub moves_on : Role → Header → Exchange → Bool
@@ -59,26 +57,16 @@ module _ (h : Header) (x : Exchange) where
   left_part r_synchronous = refl
   left_part r_asynchronous = refl
 
-  -- test by test
-  pub off_channel : (ro : Role) → (role_number ro ≡ 2 → ⊥) → moves_on ro h x ≡ false
-  off_channel r_none o = refl
-  off_channel r_half_open o = refl
-  off_channel r_synchronous o = absurd (o refl)
-  off_channel r_asynchronous o = refl
+  -- test by test, on the synchronous channel
+  pub left_in_clear : x.in_clear ≡ true → moves_on r_synchronous h x ≡ false
+  left_in_clear q = rw q
 
-  module _ (ro : Role) (e : role_number ro ≡ 2) where
-    on_channel : moves_on ro h x ≡ carries h x
-    on_channel = ap (λ (z : Role). moves_on z h x) (role_sync ro e)
+  module _ (q : x.in_clear ≡ false) where
+    pub left_by_kind : is_command h.kind ≡ false → moves_on r_synchronous h x ≡ false
+    left_by_kind k = rw (q, sym (commands_are h.kind) ∙ k)
 
-    pub left_in_clear : x.in_clear ≡ true → moves_on ro h x ≡ false
-    left_in_clear q = on_channel ∙ rw q
-
-    module _ (q : x.in_clear ≡ false) where
-      pub left_by_kind : is_command h.kind ≡ false → moves_on ro h x ≡ false
-      left_by_kind k = on_channel ∙ rw (q, sym (commands_are h.kind) ∙ k)
-
-      pub by_number : is_command h.kind ≡ true → (b : Bool) → eqb h.param x.number_expected ≡ b → moves_on ro h x ≡ b
-      by_number k b n = on_channel ∙ rw (q, sym (commands_are h.kind) ∙ k) n
+    pub by_number : is_command h.kind ≡ true → (b : Bool) → eqb h.param x.number_expected ≡ b → moves_on r_synchronous h x ≡ b
+    by_number k b n = rw (q, sym (commands_are h.kind) ∙ k) n
 
 -- an Error, behind a change of the session's exchange
 pub error_moved : (d d₁ : Server) (q : Rest) (c n k l : ℕ) (r : Delivery) (m m₁ m' : Memory) (out out' : List ℕ) → d₁ ≡ record { locks = d.locks; rest = q }

@@ -1,7 +1,7 @@
 -- What the bytes of a delivery show, from the tests of the code; and what is done where there is no whole message. Assumes nothing.
 use Rattle.std.specs.Prelude.{◌≡◌, Bool, cond, List, [], ◌∷◌, ℕ, zero, suc, ◌+◌, ◌-◌, ◌≤◌, ◌<◌, min, ltb, length}
 use Rattle.std.proofs.Math.Path.{refl, ap, ap₂, subst}
-use Rattle.std.proofs.Common.{sym, ◌∙◌, not-suc-le-zero, arith, lt-ltb, le-ltb}
+use Rattle.std.proofs.Common.{true≢false, sym, ◌∙◌, not-suc-le-zero, arith, lt-ltb, le-ltb}
 use Rattle.std.proofs.Math.Bool.{true, false}
 use Rattle.wire.specs.declared.Header.{Header}
 use Rattle.wire.specs.Field.{number_at}
@@ -13,11 +13,13 @@ use Rattle.model.specs.Interface.{Reply, Reply.refused, Reply.done, Reply.withhe
 use Rattle.model.specs.Scan.{Scan, Scan.empty, Scan.few, Scan.wrong, Scan.skipping, Scan.long, Scan.part, Scan.whole, sorted, fresh_scan, scan}
 use Rattle.model.specs.Missing.{if_more, lacking}
 use Rattle.model.specs.MessageTypes.{Initialize, AsyncInitialize}
-use Rattle.model.specs.Place.{Role, Role.r_none, Role.r_half_open, Role.r_synchronous, Role.r_asynchronous, role_of, slot_of}
-use Rattle.model.specs.Checks.{Verdict, Verdict.v_more, Verdict.v_fatal, either, verdict, judged, partly, too_long}
+use Rattle.model.specs.Place.{Place, Role, Role.r_none, Role.r_half_open, Role.r_synchronous, Role.r_asynchronous, role_of, slot_of}
+use Rattle.model.specs.Checks.{Verdict, Verdict.v_more, Verdict.v_skipped, Verdict.v_held, Verdict.v_ignored, Verdict.v_closed, Verdict.v_acts, Verdict.v_error, Verdict.v_fatal, either, verdict, judged, partly, too_long}
 use Rattle.model.specs.Step.{finish, effect, idle, channels, received}
 use Rattle.state.specs.View.{Memory}
-use Rattle.checks.specs.Numbers.{Numbered, verdict_number, verdict_of}
+use Rattle.checks.specs.declared.verdict.Verdict.{Verdict as Told}
+use Rattle.checks.specs.declared.verdict.Verdict.TheVariants.{More, Held, Ignored, Closed, Acts, Fatal, Error}
+use Rattle.checks.specs.Verdicts.{verdict_meant}
 use Rattle.sessions.specs.declared.Delivery.{Delivery}
 use Rattle.sessions.specs.Did.{Did, DidWith}
 use Rattle.sessions.specs.Replies.{skip_plan, close_plan, fatals}
@@ -119,10 +121,10 @@ module _ (d : Server) (c i : ℕ) (r : Delivery) (m m' : Memory) (out out' : Lis
   unfolding verdict
   whole_done ro h p q = whole_told ro (whole h p) refl q
 
-  -- a header alone: the verdict that was found by number
-  pub long_done : (ro : Role) (h : Header) (v : ℕ) → too_long ro ≡ verdict_of v → Did (finish d (effect (verdict_of v) (long h) ro d i c)) r m m' out out' → DidOn ro (long h)
+  -- a header alone
+  pub long_done : (ro : Role) (h : Header) (v : Verdict) → too_long ro ≡ v → Did (finish d (effect v (long h) ro d i c)) r m m' out out' → DidOn ro (long h)
   unfolding verdict
-  long_done ro h v e q = whole_told ro (long h) refl (by_verdict d c i (long h) ro r m m' out out' (too_long ro) (verdict_of v) e q)
+  long_done ro h v e q = whole_told ro (long h) refl (by_verdict d c i (long h) ro r m m' out out' (too_long ro) v e q)
 
   -- the payload not all here: more needed, or FatalError
   abbrev part_by : (v : Verdict) (h : Header) (ro : Role) → Type 0
@@ -137,20 +139,46 @@ module _ (d : Server) (c i : ℕ) (r : Delivery) (m m' : Memory) (out out' : Lis
   fatal_by v h ro n e q =
       subst (λ (v : Verdict). part_by v h ro) (sym e) (subst (λ (v : Verdict). Did (finish d (effect v (part h) ro d i c)) r m m' out out') e q)
 
-  pub part_done : (ro : Role) (h : Header) (v : ℕ) → Numbered (partly ro h) v → (v ≡ 0 → ⊥) → Did (finish d (effect (verdict_of v) (part h) ro d i c)) r m m' out out' → DidOn ro (part h)
+  pub part_done : (ro : Role) (h : Header) (v : Verdict) → partly ro h ≡ v → (v ≡ v_more → ⊥) → Did (finish d (effect v (part h) ro d i c)) r m m' out out' → DidOn ro (part h)
   unfolding verdict
-  part_done ro h v e o q = go ro e (by_verdict d c i (part h) ro r m m' out out' (partly ro h) (verdict_of v) e.case q)
+  part_done ro h v e o q = go ro (λ z. o (sym e ∙ z)) (by_verdict d c i (part h) ro r m m' out out' (partly ro h) v e q)
     where
-      go : (ro : Role) → Numbered (partly ro h) v → Did (finish d (effect (partly ro h) (part h) ro d i c)) r m m' out out' → part_by (partly ro h) h ro
-      go r_none e q = opening (either Initialize AsyncInitialize h.kind) e.number q
+      go : (ro : Role) → (partly ro h ≡ v_more → ⊥) → Did (finish d (effect (partly ro h) (part h) ro d i c)) r m m' out out' → part_by (partly ro h) h ro
+      go r_none o q = opening (either Initialize AsyncInitialize h.kind) o q
         where
-          opening : (b : Bool) → v ≡ verdict_number (cond b v_more (v_fatal 3)) → Did (finish d (effect (cond b v_more (v_fatal 3)) (part h) r_none d i c)) r m m' out out'
+          opening : (b : Bool) → (cond b v_more (v_fatal 3) ≡ v_more → ⊥) → Did (finish d (effect (cond b v_more (v_fatal 3)) (part h) r_none d i c)) r m m' out out'
               → part_by (cond b v_more (v_fatal 3)) h r_none
-          opening true n q = absurd (o n)
-          opening false n q = fatal_by (v_fatal 3) h r_none 3 refl q
-      go r_half_open e q = fatal_by (v_fatal 2) h r_half_open 2 refl q
-      go r_synchronous e q = absurd (o e.number)
-      go r_asynchronous e q = absurd (o e.number)
+          opening true o q = absurd (o refl)
+          opening false o q = fatal_by (v_fatal 3) h r_none 3 refl q
+      go r_half_open o q = fatal_by (v_fatal 2) h r_half_open 2 refl q
+      go r_synchronous o q = absurd (o refl)
+      go r_asynchronous o q = absurd (o refl)
+
+-- one verdict of the code means that more is needed
+abbrev is_more : Verdict → Bool
+is_more v_more = true
+is_more v_skipped = false
+is_more v_held = false
+is_more v_ignored = false
+is_more v_closed = false
+is_more v_acts = false
+is_more (v_error k) = false
+is_more (v_fatal k) = false
+
+pub only_more : (v : Told) → verdict_meant v ≡ v_more → v ≡ More
+only_more More e = refl
+only_more Held e = absurd (true≢false (ap is_more (sym e)))
+only_more Ignored e = absurd (true≢false (ap is_more (sym e)))
+only_more Closed e = absurd (true≢false (ap is_more (sym e)))
+only_more Acts e = absurd (true≢false (ap is_more (sym e)))
+only_more (Fatal k) e = absurd (true≢false (ap is_more (sym e)))
+only_more (Error k) e = absurd (true≢false (ap is_more (sym e)))
+
+-- some bytes, and some to skip
+pub skipped_on : (d : Server) (c i : ℕ) (r : Delivery) (m m' : Memory) (out out' : List ℕ) (left : ℕ) (bs : List ℕ) (ro : Role) (k : ℕ) → 0 < length bs → 0 < left
+    → Did (finish d (skip_plan d c k)) r m m' out out' → min left (length bs) ≡ k → DidOn d c i r m m' out out' left (length bs) ro (scan left bs)
+skipped_on d c i r m m' out out' left bs ro k h l q e =
+    on_scan d c i r m m' out out' left (length bs) ro (scan left bs) (skipping k) (scan_skips left bs h l ∙ ap skipping e) (skip_done d c i r m m' out out' left (length bs) ro k q)
 
 -- fewer than sixteen bytes and nothing to skip: none, or some
 pub short_done : (d : Server) (c i : ℕ) (r : Delivery) (m m' : Memory) (out out' : List ℕ) (left : ℕ) (bs : List ℕ) (ro : Role) → left ≡ 0 → length bs < 16
@@ -170,10 +198,10 @@ pub skip_none : (d : Server) (c i : ℕ) (r : Delivery) (m m' : Memory) (out out
 skip_none d c i r m m' out out' zero here ro l q = absurd (not-suc-le-zero l)
 skip_none d c i r m m' out out' (suc left) here ro l q = empty_done d c i r m m' out out' (suc left) here ro q
 
--- the slot is the one that was found
-pub at_slot : (d : Server) (c i j : ℕ) (r : Delivery) (m m' : Memory) (out out' : List ℕ) (left here : ℕ) (ro : Role) (s : Scan) → j ≡ i
-    → DidOn d c i r m m' out out' left here ro s → DidOn d c j r m m' out out' left here ro s
-at_slot d c i j r m m' out out' left here ro s e q = subst (λ (k : ℕ). DidOn d c k r m m' out out' left here ro s) (sym e) q
+-- the place is the one that was found
+pub at_place : (d : Server) (c : ℕ) (p q : Place) (r : Delivery) (m m' : Memory) (out out' : List ℕ) (left here : ℕ) (s : Scan) → p ≡ q
+    → DidOn d c q.slot r m m' out out' left here q.role s → DidOn d c p.slot r m m' out out' left here p.role s
+at_place d c p q r m m' out out' left here s e x = subst (λ (k : Place). DidOn d c k.slot r m m' out out' left here k.role s) (sym e) x
 
 -- the place of the connection is the one that was found
 pub received_as : (d : Server) (c i : ℕ) (r : Delivery) (m m' : Memory) (out out' : List ℕ) (left here : ℕ) (s : Scan) → slot_of d c ≡ i

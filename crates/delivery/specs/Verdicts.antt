@@ -1,8 +1,7 @@
--- From the number of a verdict to what is done: the plan of each verdict but "acts", and of a message that acts. Assumes nothing.
+-- From a verdict to what is done: the plan of each verdict but "acts", and of a message that acts. Assumes nothing.
 use Rattle.std.specs.Prelude.{◌≡◌, Bool, List, [], take, drop}
 use Rattle.std.proofs.Common.{sym, subst, arith}
-use Prim.Native.Nat.{ℕ, ◌+◌, ◌-◌, ◌≤◌, ◌<◌}
-use borrow.Author.Tests.{ne_eqb, lt-ltb, le-ltb}
+use Prim.Native.Nat.{ℕ, ◌+◌, ◌-◌}
 use Rattle.wire.specs.declared.Header.{Header}
 use Rattle.wire.specs.Message.{header, payload_of}
 use Rattle.model.specs.MessageTypes.{Error}
@@ -17,7 +16,7 @@ use Rattle.model.specs.Step.{finish, effect, idle, channels, number_taken}
 use Rattle.state.specs.Change.{on_rest}
 use Rattle.state.specs.Tidy.{Tidy}
 use Rattle.state.specs.View.{Memory}
-use Rattle.checks.specs.Numbers.{message, verdict_of}
+use Rattle.checks.specs.Verdicts.{message}
 use Rattle.sessions.specs.declared.Delivery.{Delivery}
 use Rattle.sessions.specs.Did.{Did, plainly}
 use Rattle.effects.specs.Numbering.{moved_by}
@@ -34,41 +33,46 @@ module _ (d : Server) (c i : ℕ) (x : Scan) (ro : Role) (r : Delivery) (m m' : 
   pub by_verdict : (y z : Verdict) → y ≡ z → Done z → Done y
   by_verdict y z e q = subst Done (sym e) q
 
-  module _ (v : ℕ) where
-    pub fatal_done : 16 ≤ v → v < 32 → Did (finish d (close_plan d c i (fatals (v - 16) (channels d c)))) r m m' out out' → Done (verdict_of v)
-    unfolding effect
-    fatal_done l u q = by_verdict (verdict_of v) (v_fatal (v - 16)) (rw (le-ltb v 16 l, lt-ltb v 32 u)) q
+  pub fatal_done : (k : ℕ) → Did (finish d (close_plan d c i (fatals k (channels d c)))) r m m' out out' → Done (v_fatal k)
+  unfolding effect
+  fatal_done k q = q
 
-    -- an Error that takes k bytes, leaves l to skip, and n as the number expected
-    abbrev Erred : ℕ → ℕ → ℕ → Type 0
-    Erred k l n =
-        Did (finish d (plainly (took error_sent k 0) (with_connection (with_exchange d.rest i (with_number n (exchange_at d.rest i))) c (open_connection l)) (say c Error (v - 32) 0))) r m m' out out'
+  -- an Error that takes k bytes, leaves l to skip, and n as the number expected
+  abbrev Erred : ℕ → ℕ → ℕ → ℕ → Type 0
+  Erred v k l n =
+      Did (finish d (plainly (took error_sent k 0) (with_connection (with_exchange d.rest i (with_number n (exchange_at d.rest i))) c (open_connection l)) (say c Error v 0))) r m m' out out'
 
-    pub error_done : 32 ≤ v → (k l : ℕ) → size x ≡ k → leftover x ≡ l → (b : Bool) → number_taken ro x (exchange_at d.rest i) ≡ (moved_by b (exchange_at d.rest i)).number_expected
-        → (d₁ : Server) (m₁ : Memory) → d₁ ≡ on_rest d (with_slot i (moved_by b)) → (Tidy m → Tidy m₁) → Did (finish d₁ (error_plan d₁ c (v - 32) k l)) r m₁ m' out out' → Done (verdict_of v)
-    unfolding effect
-    error_done h k l e f b g d₁ m₁ p t q =
-        let n : ℕ = (moved_by b (exchange_at d.rest i)).number_expected in
-        by_verdict (verdict_of v) (v_error (v - 32)) (rw (le-ltb v 16 (omega arith), le-ltb v 32 h))
-        (subst (λ (a : ℕ). Erred (size x) (leftover x) a) (sym g)
-        (subst (λ (a : ℕ). Erred (size x) a n) (sym f)
-        (subst (λ (a : ℕ). Erred a l n) (sym e) (error_moved d d₁ (with_slot i (moved_by b) d.rest) c (v - 32) k l r m m₁ m' out out' p t q))))
+  pub error_done : (v k l : ℕ) → size x ≡ k → leftover x ≡ l → (b : Bool) → number_taken ro x (exchange_at d.rest i) ≡ (moved_by b (exchange_at d.rest i)).number_expected
+      → (d₁ : Server) (m₁ : Memory) → d₁ ≡ on_rest d (with_slot i (moved_by b)) → (Tidy m → Tidy m₁) → Did (finish d₁ (error_plan d₁ c v k l)) r m₁ m' out out' → Done (v_error v)
+  unfolding effect
+  error_done v k l e f b g d₁ m₁ p t q =
+      let n : ℕ = (moved_by b (exchange_at d.rest i)).number_expected in
+      subst (λ (a : ℕ). Erred v (size x) (leftover x) a) (sym g)
+      (subst (λ (a : ℕ). Erred v (size x) a n) (sym f)
+      (subst (λ (a : ℕ). Erred v a l n) (sym e) (error_moved d d₁ (with_slot i (moved_by b) d.rest) c v k l r m m₁ m' out out' p t q)))
 
-    pub closed_done : v ≡ 4 → Did (finish d (close_plan d c i [])) r m m' out out' → Done (verdict_of v)
-    unfolding effect
-    closed_done e q = by_verdict (verdict_of v) v_closed (rw e) q
+  pub closed_done : Did (finish d (close_plan d c i [])) r m m' out out' → Done v_closed
+  unfolding effect
+  closed_done q = q
 
-    pub ignored_done : v ≡ 3 → (k : ℕ) → size x ≡ k → Did (finish d (ignore_plan d k)) r m m' out out' → Done (verdict_of v)
-    unfolding effect
-    ignored_done e k f q = by_verdict (verdict_of v) v_ignored (rw e) (subst (λ (a : ℕ). Did (finish d (ignore_plan d a)) r m m' out out') (sym f) q)
+  pub ignored_done : (k : ℕ) → size x ≡ k → Did (finish d (ignore_plan d k)) r m m' out out' → Done v_ignored
+  unfolding effect
+  ignored_done k f q = subst (λ (a : ℕ). Did (finish d (ignore_plan d a)) r m m' out out') (sym f) q
 
-    pub held_done : v ≡ 2 → Did (finish d (idle d (took held 0 0))) r m m' out out' → Done (verdict_of v)
-    unfolding effect
-    held_done e q = by_verdict (verdict_of v) v_held (rw e) q
+  pub held_done : Did (finish d (idle d (took held 0 0))) r m m' out out' → Done v_held
+  unfolding effect
+  held_done q = q
 
-    pub more_done : v < 16 → (v ≡ 2 → ⊥) → (v ≡ 3 → ⊥) → (v ≡ 4 → ⊥) → (v ≡ 5 → ⊥) → Did (finish d (idle d (took more_needed 0 0))) r m m' out out' → Done (verdict_of v)
-    unfolding effect
-    more_done h e₂ e₃ e₄ e₅ q = by_verdict (verdict_of v) v_more (rw (lt-ltb v 16 h, ne_eqb v 2 e₂, ne_eqb v 3 e₃, ne_eqb v 4 e₄, ne_eqb v 5 e₅)) q
+  pub more_done : Did (finish d (idle d (took more_needed 0 0))) r m m' out out' → Done v_more
+  unfolding effect
+  more_done q = q
+
+-- where the slot is one that was told
+pub done_at : (d : Server) (c i k : ℕ) (x : Scan) (ro : Role) (r : Delivery) (m m' : Memory) (out out' : List ℕ) (y : Verdict) (b : Bool) → k ≡ i
+    → (number_taken ro x (exchange_at d.rest k) ≡ (moved_by b (exchange_at d.rest k)).number_expected → Done d c k x ro r m m' out out' y)
+    → number_taken ro x (exchange_at d.rest i) ≡ (moved_by b (exchange_at d.rest i)).number_expected → Done d c i x ro r m m' out out' y
+done_at d c i k x ro r m m' out out' y b e =
+    subst (λ (j : ℕ). number_taken ro x (exchange_at d.rest j) ≡ (moved_by b (exchange_at d.rest j)).number_expected → Done d c j x ro r m m' out out' y) e
 
 -- a whole message that acts
 pub acts_done : (d : Server) (c i : ℕ) (h : Header) (p : List ℕ) (ro : Role) (r : Delivery) (m m' : Memory) (out out' : List ℕ) (y : Verdict) → y ≡ v_acts
@@ -82,11 +86,6 @@ pub of_kind : (d : Server) (c i : ℕ) (h : Header) (p : List ℕ) (ro : Role) (
     → Done d c i (whole h p) ro r m m' out out' (judged ro d i h p)
 of_kind d c i h p ro r m m' out out' k e q =
     subst (λ (x : ℕ). Done d c i (whole (message x h.code h.param h.len) p) ro r m m' out out' (judged ro d i (message x h.code h.param h.len) p)) (sym e) q
-
--- and one whose role is told
-pub of_role : (d : Server) (c i : ℕ) (h : Header) (p : List ℕ) (ro qo : Role) (r : Delivery) (m m' : Memory) (out out' : List ℕ) → ro ≡ qo
-    → Done d c i (whole h p) qo r m m' out out' (judged qo d i h p) → Done d c i (whole h p) ro r m m' out out' (judged ro d i h p)
-of_role d c i h p ro qo r m m' out out' e q = subst (λ (x : Role). Done d c i (whole h p) x r m m' out out' (judged x d i h p)) (sym e) q
 
 -- and one whose header was read from its bytes, with the payload cut out behind it
 pub of_bytes : (d : Server) (c i : ℕ) (h : Header) (bs : List ℕ) (ro : Role) (r : Delivery) (m m' : Memory) (out out' : List ℕ) → h ≡ header bs

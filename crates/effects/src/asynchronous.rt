@@ -21,7 +21,7 @@ use exchanges::rmt::same_number;
 use grants::grant_pass;
 use holding::{info, standing};
 use locks::{complete, release, request};
-use remote::{RemoteLocal, commanded};
+use remote::RemoteLocal;
 use sessions::{Delivery, answer, mode};
 use state::fresh::START;
 use state::sizes::{Strings, Words};
@@ -39,10 +39,7 @@ fn unread(w: &Words, i: usize, param: u32) -> u64
     }
     let count = mode::count_of(w, i);
     let behind = MessageId::new(param).next();
-    if behind.number == count.number {
-        return 0;
-    }
-    1
+    u64::from(behind.number != count.number)
 }
 
 // Message available of slot i, as a number.
@@ -125,8 +122,9 @@ fn set_control(w: &mut Words, code: u8)
     ensures { ((s : List ℕ) → view (memory w.new s) ≡ on_rest (view (memory w.old s)) (controlling code))
         × ((s : List ℕ) → Tidy (memory w.old s) → Tidy (memory w.new s)) }
 {
-    let f = flags_of(w);
-    set_flags(w, commanded(f, code));
+    let mut flags = flags_of(w);
+    flags.control(code);
+    set_flags(w, flags);
 }
 
 // AsyncRemoteLocalControl.
@@ -147,7 +145,7 @@ fn note_size(w: &mut Words, out: &mut [u8], c: u64, i: usize, len: u64, payload:
         (memory w.new s) out.old out.new }
 {
     let n = tables::entry(w, i, tables::NUMBER);
-    let size = number::number8(payload, 0);
+    let size = number::number::<8>(payload, 0);
     tables::set_exchange(w, i, tables::CLIENT_SIZE, size);
     let bytes = [0, 0, 0, 0, 0, 0, 4, 0];
     frame::put_message(
@@ -253,20 +251,12 @@ pub fn act_asynchronous(
         (acts r_asynchronous (view (memory w.old strings.old)) i c (heading kind code param len) payload.now)) result
         (memory w.old strings.old) (memory w.new strings.new) out.old out.new }
 {
-    if kind == types::ASYNC_LOCK {
-        return lock(w, strings, out, i, code, param, len, payload);
+    match kind {
+        types::ASYNC_LOCK => lock(w, strings, out, i, code, param, len, payload),
+        types::ASYNC_REMOTE_LOCAL_CONTROL => control(w, out, c, i, code, len),
+        types::ASYNC_MAXIMUM_MESSAGE_SIZE => note_size(w, out, c, i, len, payload),
+        types::ASYNC_DEVICE_CLEAR => clear(w, strings, out, c, i, len),
+        types::ASYNC_STATUS_QUERY => query_status(w, out, c, i, code, param, len),
+        _ => tell_locks(w, out, c, i, len),
     }
-    if kind == types::ASYNC_REMOTE_LOCAL_CONTROL {
-        return control(w, out, c, i, code, len);
-    }
-    if kind == types::ASYNC_MAXIMUM_MESSAGE_SIZE {
-        return note_size(w, out, c, i, len, payload);
-    }
-    if kind == types::ASYNC_DEVICE_CLEAR {
-        return clear(w, strings, out, c, i, len);
-    }
-    if kind == types::ASYNC_STATUS_QUERY {
-        return query_status(w, out, c, i, code, param, len);
-    }
-    tell_locks(w, out, c, i, len)
 }

@@ -1,4 +1,4 @@
-// 02, Q-10: the number that a session's next Data, DataEND or Trigger must carry.
+// The number that a session's next Data, DataEND or Trigger must carry.
 ghost use Rattle.std.specs.Prelude.{ℕ, ◌<◌, true, List, ◌≡◌};
 ghost use Rattle.effects.specs.Numbering.{moved_by};
 ghost use Rattle.sessions.specs.Synchronous.{with_slot};
@@ -30,8 +30,7 @@ pub fn count_refused(w: &mut Words, i: usize, moves: bool)
     ensures { ((s : List ℕ) → view (memory w.new s) ≡ on_rest (view (memory w.old s)) (with_slot i (moved_by moves)))
         × ((s : List ℕ) → Tidy (memory w.old s) → Tidy (memory w.new s)) }
 {
-    if !moves {
-        return;
+    if moves {
+        step_number(w, i);
     }
-    step_number(w, i);
 }

@@ -1,28 +1,34 @@
 -- The laws that the code of this crate cites. Assumes nothing.
-use Rattle.std.specs.Prelude.{◌≡◌, refl, true, false, List, [], ◌++◌, ℕ, ◌+◌, ◌≤◌, eqb, length, take}
+use Rattle.std.specs.Prelude.{◌≡◌, refl, Ok, true, false, List, [], ◌++◌, ℕ, ◌+◌, ◌/◌, ◌%◌, ◌^◌, ◌∷◌, ◌≤◌, eqb, length, take}
 use Rattle.std.proofs.Common.{sym, ap, ◌∙◌, append-nil, arith, length-append}
+use Rattle.std.specs.Int.{w64, to_be_bytes}
 use Rattle.wire.specs.Field.{field, length_field}
 use Rattle.wire.specs.Splice.{splice, take_front, splice_then}
 use Rattle.journal.specs.Bytes.{yes_is, no_is}
-use Rattle.journal.specs.Writer.{Done, Met, append_of, kept_number}
-use Rattle.journal.specs.declared.Kept.{Kept}
-use Rattle.journal.specs.declared.Kept.TheVariants.{Written}
+use Rattle.journal.specs.Writer.{Done, Met, Told, append_of, kept_number}
 use Rattle.entries.specs.Entries.{entry_unless, Keeps}
 
+-- the bytes of a number, highest first, are a field of 8 bytes, whose last ones are the narrower fields
+pub bytes_field : (x : ℕ) → to_be_bytes w64 x ≡ field 8 x
+unfolding field
+bytes_field x =
+    let e : x % 256 ≡ x / 256 ^ 0 % 256 = omega arith in
+    ap (λ (b : ℕ). x / 256 ^ 7 % 256 ∷ x / 256 ^ 6 % 256 ∷ x / 256 ^ 5 % 256 ∷ x / 256 ^ 4 % 256 ∷ x / 256 ^ 3 % 256 ∷ x / 256 ^ 2 % 256 ∷ x / 256 ^ 1 % 256 ∷ b ∷ []) e
+
 -- the writer's answer as its number
-pub met : {D : Done} {r : Kept} {k : ℕ} {words book : List ℕ} → Met D r words book → k ≡ kept_number r → Keeps D k words book
+pub met : {D : Done} {r : Told} {k : ℕ} {words book : List ℕ} → Met D r words book → k ≡ kept_number r → Keeps D k words book
 met h e = record { answer = e ∙ ap kept_number h.answer; words_are = h.words; book_is = h.book }
 
 -- the two ways of an entry
-pub not_kept : (z : ℕ) (words book body : List ℕ) → eqb z 0 ≡ false → {k : ℕ} → k ≡ 0 → Keeps (entry_unless z words book body) k words book
+pub not_kept : (z : ℕ) (words book body : List ℕ) → eqb z 0 ≡ false → Met (entry_unless z words book body) (Ok tt) words book
 unfolding entry_unless
-not_kept z words book body e {k} y = rw (no_is {A = Done} (append_of words book body) (record { answer = Written; words = words; book = book }) e)
-    (record { answer = y; words_are = refl; book_is = refl })
+not_kept z words book body e = rw (no_is {A = Done} (append_of words book body) (record { answer = Ok tt; words = words; book = book }) e)
+    (record { answer = refl; words = refl; book = refl })
 
-pub then_kept : (z : ℕ) (words book body : List ℕ) → eqb z 0 ≡ true → {k : ℕ} {words' book' : List ℕ} → Keeps (append_of words book body) k words' book'
-    → Keeps (entry_unless z words book body) k words' book'
+pub then_kept : (z : ℕ) (words book body : List ℕ) → eqb z 0 ≡ true → {r : Told} {words' book' : List ℕ} → Met (append_of words book body) r words' book'
+    → Met (entry_unless z words book body) r words' book'
 unfolding entry_unless
-then_kept z words book body e h = rw (yes_is {A = Done} (append_of words book body) (record { answer = Written; words = words; book = book }) e) h
+then_kept z words book body e h = rw (yes_is {A = Done} (append_of words book body) (record { answer = Ok tt; words = words; book = book }) e) h
 
 pub two_parts : (head frames : List ℕ) → head ++ [] ++ [] ++ frames ≡ head ++ frames
 two_parts head frames = ap (λ (x : List ℕ). x ++ frames) (append-nil (head ++ []) ∙ append-nil head)

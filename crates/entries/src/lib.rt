@@ -2,18 +2,20 @@
 #![tactic(auto)]
 
 ghost use Rattle.std.specs.Prelude.{◌+◌, ◌≤◌, length, ◌++◌, ◌≡◌};
-ghost use Rattle.entries.specs.Entries.{Keeps, entry_unless};
+ghost use Rattle.entries.specs.Entries.{entry_unless};
 ghost use Rattle.journal.specs.Journal.{body_limit};
 ghost use Rattle.journal.specs.Numbered.{numbered};
+ghost use Rattle.journal.specs.Writer.{Met};
 
 pub mod heads;
 
-use journal::writer;
+use journal::{Unwritten, writer};
 
 // The writer's own four words, lent.
 pub type Writer = [u64; 4];
 
 // The entry of an event, its body in four parts, unless the event was refused. Every kept call ends with this.
+// Kept: the refusal is the number that the plain call answers to C (0: none), and is only passed on.
 pub fn keep_entry(
     journal: &mut Writer,
     book: &mut [u8],
@@ -22,16 +24,16 @@ pub fn keep_entry(
     b: &[u8],
     c: &[u8],
     d: &[u8],
-) -> u64
+) -> Result<(), Unwritten>
     requires { refusal ≡ 0 → length a.now + length b.now + length c.now + length d.now ≤ body_limit }
-    ensures { Keeps (entry_unless refusal journal.old book.old
+    ensures { Met (entry_unless refusal journal.old book.old
         (a.now ++ b.now ++ c.now ++ d.now)) result journal.new book.new }
 {
-    if refusal != 0 {
-        return 0;
+    let refused = refusal != 0;
+    if refused {
+        return Ok(());
     }
-    let kept = writer::append(journal, book, a, b, c, d);
-    journal::kept_number(kept)
+    writer::append(journal, book, a, b, c, d)
 }
 
 // The same of a delivery, whose head goes straight to the book: most events are deliveries.
@@ -42,18 +44,18 @@ pub fn keep_delivery(
     connection: u64,
     shown: &[u8],
     frames: &[u8],
-) -> u64
+) -> Result<(), Unwritten>
     requires { refusal ≡ 0 → 9 + length shown.now + length frames.now ≤ body_limit }
-    ensures { Keeps (entry_unless refusal journal.old book.old
+    ensures { Met (entry_unless refusal journal.old book.old
         (numbered 1 connection (length shown.now) ++ shown.now ++ frames.now)) result journal.new book.new }
 {
-    if refusal == 0 {
-        let n = shown.len() as u64;
-        let tag = heads::DELIVERY;
-        let told = writer::append_numbered(journal, book, tag, connection, n, shown, frames);
-        return journal::kept_number(told);
+    let accepted = refusal == 0;
+    if !accepted {
+        return Ok(());
     }
-    0
+    let tag = u8::from(heads::Tag::Delivery);
+    let n = shown.len() as u64;
+    writer::append_numbered(journal, book, tag, connection, n, shown, frames)
 }
 
 // The same of an event of numbers alone.
@@ -63,9 +65,9 @@ pub fn keep_numbers(
     refusal: u64,
     head: &[u8],
     frames: &[u8],
-) -> u64
+) -> Result<(), Unwritten>
     requires { refusal ≡ 0 → length head.now + length frames.now ≤ body_limit }
-    ensures { Keeps (entry_unless refusal journal.old book.old (head.now ++ frames.now)) result journal.new book.new }
+    ensures { Met (entry_unless refusal journal.old book.old (head.now ++ frames.now)) result journal.new book.new }
 {
-    keep_entry(journal, book, refusal, head, &head[..0], &head[..0], frames)
+    keep_entry(journal, book, refusal, head, &[], &[], frames)
 }

@@ -2,7 +2,6 @@
 ghost use Rattle.std.specs.Prelude.{◌<◌, ◌≤◌, length};
 
 use std::io;
-use wire::number::wide;
 
 pub fn say(rt: &impl Print, s: &[u8]) -> io::Result<()> {
     rt.write_all(s)
@@ -47,7 +46,7 @@ fn frame_end(out: &[u8], at: usize, end: usize) -> usize
     if end - at < 17 {
         return end;
     }
-    let payload = wire::number::number8(out, at + 9);
+    let payload = wire::number::number::<8>(out, at + 9);
     if payload > (end - at - 17) as u64 {
         return end;
     }
@@ -57,7 +56,7 @@ fn frame_end(out: &[u8], at: usize, end: usize) -> usize
 fn frame(rt: &impl Print, out: &[u8], at: usize, end: usize) -> io::Result<()>
     requires { (at < end) × (end ≤ length out.now) }
 {
-    say_number(rt, b"    to ", wide(out[at]))?;
+    say_number(rt, b"    to ", u64::from(out[at]))?;
     say(rt, b":")?;
     bytes(rt, &out[at + 1..end])?;
     say(rt, b"\n")
@@ -70,6 +69,7 @@ pub fn frames(rt: &impl Print, out: &[u8], count: u64) -> io::Result<()> {
     }
     let end = count as usize;
     let mut at = 0;
+    // Kept: each turn goes on behind a frame, however long it is.
     while at < end {
         let next = frame_end(out, at, end);
         frame(rt, out, at, next)?;

@@ -72,10 +72,7 @@ fn note_answer(w: &mut Words, i: usize, end: bool)
 fn answer_kind(end: bool) -> u8
     ensures { answer_type end ≡ result }
 {
-    if end {
-        return types::DATA_END;
-    }
-    types::DATA
+    if end { types::DATA_END } else { types::DATA }
 }
 
 // The instrument's answer to slot i goes to its synchronous connection; how many bytes of the output hold it.
@@ -104,7 +101,7 @@ fn put_request(w: &Words, out: &mut [u8], place: usize, i: usize)
     frame::put_frame(out, place, c, ASYNC_SERVICE_REQUEST, request_code(b), 0);
 }
 
-// The same with its readings (02, Q-11): behind the answer stands the request for service, if it is the first to trip the watch.
+// The same with its readings: behind the answer stands the request for service, if it is the first to trip the watch.
 pub fn send_readings(w: &mut Words, out: &mut [u8], i: usize, end: bool, payload: &[u8]) -> usize
     requires { (i < session_limit) × (length payload.now ≤ payload_limit) × (output_minimum ≤ length out.old) }
     ensures { ((s : List ℕ) → Sends (view (memory w.old s)) i end payload.now (view (memory w.new s)) out.old

@@ -1,4 +1,4 @@
-// 02, Q-5: interrupted queries, in synchronized mode. An answer that ends while the next question is unread is withheld; and each Data,
+// Interrupted queries, in synchronized mode. An answer that ends while the next question is unread is withheld; and each Data,
 // DataEND and Trigger is tested just before it acts: one whose RMT-delivered differs from what is expected interrupts.
 ghost use Rattle.std.specs.Prelude.{ℕ, ◌<◌, ◌≤◌, eqb, length, not, List, ◌≡◌};
 ghost use Rattle.exchanges.specs.Interrupted.{Noted, OutOfTurn, withheld_at};
@@ -19,7 +19,6 @@ use crate::rmt::{is_command, left_by, note_rmt, same_number};
 use sessions::mode::is_overlap;
 use state::sizes::{CONNECTIONS, Words};
 use state::tables;
-use wire::number::wide;
 use wire::{frame, reading, types};
 
 // AsyncInterrupted, then Interrupted, with the number of the interrupting message.
@@ -76,7 +75,7 @@ pub fn in_turn(w: &Words, i: usize, code: u8) -> bool
     ensures { differs (eqb code 1) (exchange_at (rest_of w.now) i).rmt_expected ≡ not result }
 {
     let expected = same_number(tables::exchange(w, i, tables::RMT_EXPECTED), 1);
-    same_number(wide(code), 1) == expected
+    same_number(u64::from(code), 1) == expected
 }
 
 // A status query: RMT-delivered (code 1) clears the expectation and turns message available off.
@@ -104,17 +103,10 @@ fn left_on(w: &Words, c: u64) -> u64
 fn interrupts(left: u64, shown: &[u8]) -> bool
     ensures { Rattle.model.specs.Exchange.interrupts left shown.now ≡ result }
 {
-    if left != 0 {
-        return false;
-    }
-    if shown.len() < 16 {
-        return false;
-    }
-    if !reading::has_prologue(shown) {
-        return false;
-    }
-    let h = reading::header_at(shown);
-    is_command(h.kind)
+    left == 0
+        && shown.len() >= 16
+        && reading::has_prologue(shown)
+        && is_command(reading::header_at(shown).kind)
 }
 
 // Is an answer to slot i withheld: it ends, in synchronized mode, and the next question is unread?

@@ -9,25 +9,22 @@ ghost use Rattle.state.specs.View.{memory, view};
 
 use state::sizes::Words;
 use state::tables;
-use wire::number::wide;
 use wire::types;
 
 // 1 where the two are one number, else 0: a number, so that no branch is made of it.
 pub fn same_number(a: u64, b: u64) -> u64
     ensures { (result ≡ cond (eqb a b) 1 0) × (result ≤ 1) }
 {
-    if a == b {
-        return 1;
-    }
-    0
+    u64::from(a == b)
 }
 
-// The word of message available, or of the expectation, behind a message with this control code: a product, for no processor foresees the code.
+// The word of message available, or of the expectation, behind a message with this control code.
+// Kept: a product and not `&&`, for no processor foresees the code, and so no branch is to be made of it.
 pub fn left_by(word: u64, code: u8) -> u64
     ensures { (eqb result 1 ≡ (not (eqb code 1) && eqb word 1)) × (result ≤ 1) }
 {
     let available = same_number(word, 1);
-    let delivered = same_number(wide(code), 1);
+    let delivered = same_number(u64::from(code), 1);
     available * (1 - delivered)
 }
 
@@ -45,11 +42,5 @@ pub fn note_rmt(w: &mut Words, i: usize, code: u8)
 pub fn is_command(kind: u8) -> bool
     ensures { is_command kind ≡ result }
 {
-    if kind == types::DATA {
-        return true;
-    }
-    if kind == types::DATA_END {
-        return true;
-    }
-    kind == types::TRIGGER
+    matches!(kind, types::DATA | types::DATA_END | types::TRIGGER)
 }

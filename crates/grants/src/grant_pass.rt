@@ -20,8 +20,7 @@ pub fn pass_waiting(w: &mut Words, strings: &mut Strings, out: &mut [u8], start:
     let n = requests::waiting_count(w);
     let mut at = start;
     let mut k = 0;
-    let mut j = 0;
-    while j < n {
+    for j in 0..n {
         let x = requests::waiting_slot(w, j);
         if granting::may_grant(w, strings, x) {
             at = granting::grant_and_answer(w, strings, out, at, x);
@@ -29,7 +28,6 @@ pub fn pass_waiting(w: &mut Words, strings: &mut Strings, out: &mut [u8], start:
             requests::swap_waiting(w, j, k);
             k += 1;
         }
-        j += 1;
     }
     leaving::keep_first(w, strings, k);
     at

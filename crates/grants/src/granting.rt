@@ -1,13 +1,13 @@
 // The granting rule, and a grant.
-ghost use Rattle.std.specs.Prelude.{ℕ, ◌+◌, ◌<◌, ◌≤◌, length, true, List, ◌≡◌};
+ghost use Rattle.std.specs.Prelude.{ℕ, ◌+◌, ◌<◌, ◌≤◌, length, Bool, true, List, ◌≡◌};
 ghost use Rattle.grants.specs.Pass.{Granted};
+ghost use Rattle.model.specs.Lists.{same};
 ghost use Rattle.model.specs.Locks.{give, may_grant, note_grant, one_more};
 ghost use Rattle.state.specs.Change.{on_entry};
 ghost use Rattle.queue.specs.Requests.{string_at};
 ghost use Rattle.state.specs.Tidy.{Tidy};
-ghost use Rattle.state.specs.View.{locks_of, memory, view};
+ghost use Rattle.state.specs.View.{key_of, locks_of, memory, view};
 ghost use Rattle.model.specs.Sizes.{session_limit, string_limit};
-ghost use Rattle.state.specs.Layout.{STRINGS};
 
 use holding::answers::put_answer;
 use queue::requests;
@@ -16,11 +16,29 @@ use state::sizes::{Strings, Words};
 use state::{holders, tables};
 
 // The length of the string of slot i's request; 0 asks for the exclusive lock.
-fn asked_length(w: &Words, strings: &[u8], i: usize) -> usize
-    requires { (i < session_limit) × (length strings.now ≡ STRINGS) }
+fn asked_length(w: &Words, strings: &Strings, i: usize) -> usize
+    requires { i < session_limit }
     ensures { (result ≤ string_limit) × (result ≡ length (string_at w.now strings.now i)) }
 {
     requests::string_length(w, i)
+}
+
+// May slot i be granted what a string of n bytes asks for, which `is_key` says to be the shared one or not? With no string it is the
+// exclusive lock. `is_key` is asked last, and only where somebody shares.
+fn may_by_rule<F: FnOnce() -> bool>(w: &Words, i: usize, n: usize, is_key: F) -> bool
+    requires slot { i < session_limit }
+    requires callable { F.IsAlwaysCallable is_key }
+    ensures { (s k : List ℕ) → length k ≡ n → ((b : Bool) → F.post is_key b → same (key_of w.now s) k ≡ b)
+        → may_grant (locks_of w.now s).entries i k ≡ result }
+{
+    if !holders::no_other_exclusive(w, i) {
+        return false;
+    }
+    if n == 0 {
+        holders::is_sharing(w, i) || holders::nobody_shares(w)
+    } else {
+        holders::nobody_shares(w) || is_key()
+    }
 }
 
 // May the request of slot i be granted?
@@ -28,19 +46,12 @@ pub fn may_grant(w: &Words, strings: &Strings, i: usize) -> bool
     requires { i < session_limit }
     ensures { may_grant (locks_of w.now strings.now).entries i (string_at w.now strings.now i) ≡ result }
 {
+    // Asked before the string's length is read: of those that wait most are told here that another session holds the exclusive lock.
     if !holders::no_other_exclusive(w, i) {
         return false;
     }
-    if asked_length(w, strings, i) == 0 {
-        if holders::is_sharing(w, i) {
-            return true;
-        }
-        return holders::nobody_shares(w);
-    }
-    if holders::nobody_shares(w) {
-        return true;
-    }
-    requests::has_key(w, strings, i)
+    let n = asked_length(w, strings, i);
+    may_by_rule(w, i, n, || requests::has_key(w, strings, i))
 }
 
 // May slot i be granted what a string that is laid nowhere asks for?
@@ -48,19 +59,7 @@ pub fn may_give(w: &Words, strings: &Strings, i: usize, string: &[u8]) -> bool
     requires { i < session_limit }
     ensures { may_grant (locks_of w.now strings.now).entries i string.now ≡ result }
 {
-    if !holders::no_other_exclusive(w, i) {
-        return false;
-    }
-    if string.len() == 0 {
-        if holders::is_sharing(w, i) {
-            return true;
-        }
-        return holders::nobody_shares(w);
-    }
-    if holders::nobody_shares(w) {
-        return true;
-    }
-    requests::is_key(w, strings, string)
+    may_by_rule(w, i, string.len(), || requests::is_key(w, strings, string))
 }
 
 // Slot i gets what the string asks for.
@@ -77,6 +76,7 @@ pub fn give_asked(w: &mut Words, strings: &mut Strings, i: usize, string: &[u8])
 }
 
 // Slot i gets the lock that its request asks for.
+// Kept: `give_asked` cannot stand for it, since the request's string lies in `strings`, which is lent to be changed.
 pub fn grant(w: &mut Words, strings: &mut Strings, i: usize)
     requires { (i < session_limit) × (may_grant (locks_of w.old strings.old).entries i (string_at w.old strings.old i) ≡ true) }
     ensures { (view (memory w.new strings.new) ≡ on_entry (view (memory w.old strings.old)) i
@@ -97,10 +97,7 @@ const GRANTS_LIMIT: u64 = 4611686018427387904;
 fn one_more(n: u64) -> u64
     ensures { result ≡ one_more n }
 {
-    if n < GRANTS_LIMIT {
-        return n + 1;
-    }
-    n
+    if n < GRANTS_LIMIT { n + 1 } else { n }
 }
 
 // A grant to slot i is noted: the clock's reading, and one lock more.

@@ -1,20 +1,23 @@
 -- The release that stands (02, Q-3), as a row of the table of sessions keeps it. Assumes nothing.
-use Rattle.std.specs.Prelude.{◌≡◌, refl, Bool, true, false, not, cond, ℕ, ◌+◌, ◌-◌, ◌%◌, ◌^◌, ◌≤◌, ◌<◌, eqb, ltb}
+use Rattle.std.specs.Prelude.{◌≡◌, refl, Bool, true, false, not, cond, Option, Some, None, ℕ, ◌+◌, ◌-◌, ◌%◌, ◌^◌, ◌≤◌, ◌<◌, eqb, ltb}
 use Rattle.std.proofs.Common.{sym, ap, ◌∙◌, mod-eq_of_lt, arith, lt-ltb, le-ltb, eq-eqb, ne_eqb}
 use Rattle.model.specs.State.{Entry, Kind, Kind.exclusive_lock, Kind.shared_lock, Standing, Standing.no_release, Standing.release_of}
 use Rattle.model.specs.Locks.{stands}
+use Rattle.holding.specs.declared.standing.LockKind.{LockKind}
+use Rattle.holding.specs.declared.standing.LockKind.TheVariants.{Exclusive, Shared}
+use Rattle.holding.specs.declared.standing.Standing.{Standing as Kept}
 use Rattle.state.specs.Change.{order_with}
 use Rattle.state.specs.View.{standing_of}
 
--- a lock by the code of its release's answer
-abbrev pub kind_of : ℕ → Kind
-kind_of n = cond (eqb n 1) exclusive_lock shared_lock
+-- the lock that the code names
+abbrev pub kind_of : LockKind → Kind
+kind_of Exclusive = exclusive_lock
+kind_of Shared = shared_lock
 
-pub code_exclusive : (n : ℕ) → n ≡ 1 → kind_of n ≡ exclusive_lock
-code_exclusive n e = rw (eq-eqb n 1 e)
-
-pub code_shared : (n : ℕ) → (n ≡ 1 → ⊥) → kind_of n ≡ shared_lock
-code_shared n o = rw (ne_eqb n 1 o)
+-- the release that stands, as the code reads it
+abbrev pub standing_as : Option Kept → Standing
+standing_as None = no_release
+standing_as (Some x) = release_of (kind_of x.kind) x.number
 
 -- fields of a row, as they were read
 pub last_read : (e : Entry) (v : ℕ) → order_with 0 v e ≡ e → e.last ≡ v % 2 ^ 32

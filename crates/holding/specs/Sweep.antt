@@ -1,5 +1,5 @@
 -- A sweep of the queue: a request turned away by a device clear, a clock reading, a closing. Assumes nothing.
-use Rattle.std.specs.Prelude.{◌≡◌, Bool, true, false, cond, ℕ, suc, ◌+◌, ◌*◌, ◌≤◌, ◌<◌, length}
+use Rattle.std.specs.Prelude.{◌≡◌, Bool, true, false, cond, ℕ, suc, ◌+◌, ◌*◌, ◌≤◌, length}
 use Rattle.std.proofs.Math.Path.{refl}
 use Rattle.std.proofs.Common.{sym, ap, ◌∙◌, arith, length-append}
 use mathlib.Core.List.{List, [], ◌∷◌, map}
@@ -17,7 +17,9 @@ use Rattle.queue.specs.Requests.{count_of}
 use Rattle.state.specs.Tidy.{Tidy}
 use Rattle.state.specs.View.{Memory, locks_of, view}
 use Rattle.holding.specs.Outcome.{Met, spot, ends, met, met_is, no_answers}
-use Rattle.holding.specs.Waiting.{stays, stays_else, swept}
+use Rattle.holding.specs.Waiting.{stays, swept}
+use Rattle.holding.specs.declared.waiting.Leaving.{Leaving}
+use Rattle.holding.specs.declared.waiting.Leaving.TheVariants.{OfSlot, By}
 
 -- where nobody is answered, all stay
 refuse_none : (es : List Entry) (p : Waiting → Bool) (ws : List Waiting) → refuse es p ws ≡ [] → keep p ws ≡ ws
@@ -28,42 +30,38 @@ refuse_none es p (w ∷ ws) e = by (p w) (refuse_none es p ws) e
     by true f e = ap (λ (xs : List Waiting). w ∷ xs) (f e)
     by false f e = let z : ◌≡◌ {A = ℕ} 0 1 = cc in absurd (omega arith)
 
-module _ (m : Memory) (i t : ℕ) (out out' : List ℕ) (at r : ℕ)
-    (e : ends (refuse (view m).locks.entries (stays i t) (view m).locks.waiting) out at ≡ spot out' r) where
-  pub swept_none : r ≡ at → Met (swept (view m).locks i t) m m out out' at r
+module _ (m : Memory) (g : Leaving) (out out' : List ℕ) (at r : ℕ)
+    (e : ends (refuse (view m).locks.entries (stays g) (view m).locks.waiting) out at ≡ spot out' r) where
+  pub swept_none : r ≡ at → Met (swept (view m).locks g) m m out out' at r
   unfolding swept
   swept_none p =
-      let n : refuse (view m).locks.entries (stays i t) (view m).locks.waiting ≡ [] = no_answers (refuse (view m).locks.entries (stays i t) (view m).locks.waiting) out at out' r e p in
-      met (swept (view m).locks i t) m m out out' at r
-      (ap (with_waiting (view m).locks) (sym (refuse_none (view m).locks.entries (stays i t) (view m).locks.waiting n)))
+      let n : refuse (view m).locks.entries (stays g) (view m).locks.waiting ≡ [] = no_answers (refuse (view m).locks.entries (stays g) (view m).locks.waiting) out at out' r e p in
+      met (swept (view m).locks g) m m out out' at r
+      (ap (with_waiting (view m).locks) (sym (refuse_none (view m).locks.entries (stays g) (view m).locks.waiting n)))
       refl
       (sym e)
       (λ t. t)
 
-  pub swept_some : (m' : Memory) → view m' ≡ on_waiting (view m) (keep (stays i t)) → (Tidy m → Tidy m') → Met (swept (view m).locks i t) m m' out out' at r
+  pub swept_some : (m' : Memory) → view m' ≡ on_waiting (view m) (keep (stays g)) → (Tidy m → Tidy m') → Met (swept (view m).locks g) m m' out out' at r
   unfolding swept
-  swept_some m' v = met (swept (view m).locks i t) m m' out out' at r (ap (λ (d : Server). d.locks) v) (ap (λ (d : Server). d.rest) v) (sym e)
+  swept_some m' v = met (swept (view m).locks g) m m' out out' at r (ap (λ (d : Server). d.locks) v) (ap (λ (d : Server). d.rest) v) (sym e)
 
 -- the request of slot i is turned away
 abbrev pub turned_away : Locks → ℕ → LockResult
 turned_away l i = record { locks = with_waiting l (keep (elsewhere i) l.waiting); answers = refuse l.entries (elsewhere i) l.waiting }
 
-pub cleared : (l : Locks) (i t : ℕ) → i < session_limit → swept l i t ≡ turned_away l i
+pub cleared : (l : Locks) (i : ℕ) → swept l (OfSlot i) ≡ turned_away l i
 unfolding swept
-cleared l i t h = ap (λ (p : Waiting → Bool). record { locks = with_waiting l (keep p l.waiting); answers = refuse l.entries p l.waiting }) (stays_else i t h)
+cleared l i = refl
 
 -- a clock reading
-pub expired : (m m₁ m' : Memory) (t : ℕ) (out out' : List ℕ) (at r : ℕ) → view m₁ ≡ with_clock (view m) t → (Tidy m → Tidy m₁) → Met (swept (view m₁).locks session_limit t) m₁ m' out out' at r
+pub expired : (m m₁ m' : Memory) (t : ℕ) (out out' : List ℕ) (at r : ℕ) → view m₁ ≡ with_clock (view m) t → (Tidy m → Tidy m₁) → Met (swept (view m₁).locks (By t)) m₁ m' out out' at r
     → Met (change (view m).locks (reading t)) m m' out out' at r
-unfolding swept change stays
+unfolding swept change
 expired m m₁ m' t out out' at r e u p =
-    let x : swept (view m₁).locks session_limit t ≡ change (view m).locks (reading t) = ap (λ (d : Server). swept d.locks session_limit t) e in
-    let q : Met (change (view m).locks (reading t)) m₁ m' out out' at r = met_is (swept (view m₁).locks session_limit t) (change (view m).locks (reading t)) m₁ m' out out' at r x p in
+    let x : swept (view m₁).locks (By t) ≡ change (view m).locks (reading t) = ap (λ (d : Server). swept d.locks (By t)) e in
+    let q : Met (change (view m).locks (reading t)) m₁ m' out out' at r = met_is (swept (view m₁).locks (By t)) (change (view m).locks (reading t)) m₁ m' out out' at r x p in
     record { locks = q.locks; rest = q.rest ∙ ap (λ (d : Server). d.rest) e; buffer = q.buffer; place = q.place; tidy = λ x. q.tidy (u x) }
-
--- a closing drops the request of its slot
-pub dropped : (m m' : Memory) (i t : ℕ) → i < session_limit → view m' ≡ on_waiting (view m) (keep (stays i t)) → view m' ≡ on_waiting (view m) (keep (elsewhere i))
-dropped m m' i t h v = v ∙ ap (λ (p : Waiting → Bool). on_waiting (view m) (keep p)) (stays_else i t h)
 
 -- how long the answers are
 pub answers_length : (xs : List Answer) → length (bytes_of (map lock_frame xs)) ≡ 17 * length xs

@@ -6,8 +6,9 @@ use Rattle.std.proofs.lemmas.List.{take-set-le}
 use Rattle.std.proofs.Math.Seq.{append_snoc}
 use Rattle.std.proofs.lemmas.Bool.{eqb-false}
 use Rattle.wire.specs.Frame.{frame_bytes}
+use Rattle.holding.specs.declared.waiting.Leaving.{Leaving}
+use Rattle.holding.specs.declared.waiting.Leaving.TheVariants.{OfSlot, By}
 use Rattle.wire.specs.Splice.{splice}
-use Rattle.model.specs.Sizes.{session_limit}
 use Rattle.model.specs.Lists.{keep}
 use Rattle.model.specs.State.{Entry, Waiting, Locks, Server}
 use Rattle.model.specs.Locks.{Answer, LockResult, tell, elsewhere, unexpired, refuse, with_waiting}
@@ -16,24 +17,18 @@ use Rattle.queue.specs.Requests.{count_of}
 use Rattle.state.specs.View.{memory, request_at, locks_of, view}
 use Rattle.holding.specs.Outcome.{ends, ends_cons, lock_answer_frame}
 
--- what stays in a sweep: with a slot i, the requests of other slots; with none, those whose deadline is past t
-unfoldable pub stays : ℕ → ℕ → Waiting → Bool
-stays i t r = cond (ltb i session_limit) (elsewhere i r) (unexpired t r)
-
-pub stays_else : (i t : ℕ) → i < session_limit → stays i t ≡ elsewhere i
-unfolding stays
-stays_else i t h =
-    let f : Bool → Waiting → Bool = (λ b r. cond b (elsewhere i r) (unexpired t r)) in
-    ap f (lt-ltb i session_limit h)
+-- what stays in a sweep: the requests of other slots, or those whose deadline is past a reading
+abbrev pub stays : Leaving → Waiting → Bool
+stays (OfSlot i) r = elsewhere i r
+stays (By t) r = unexpired t r
 
 -- by the tests of the code
-pub else_stays : (w s : List ℕ) (x i t : ℕ) → i < session_limit → stays i t (request_at w s x) ≡ not (eqb x i)
-unfolding stays request_at
-else_stays w s x i t h = rw (lt-ltb i session_limit h)
+pub else_stays : (w s : List ℕ) (x i : ℕ) → stays (OfSlot i) (request_at w s x) ≡ not (eqb x i)
+unfolding request_at
+else_stays w s x i = refl
 
-pub past_stays : (w s : List ℕ) (x i t d : ℕ) → session_limit ≤ i → (request_at w s x).deadline ≡ d → stays i t (request_at w s x) ≡ ltb t d
-unfolding stays
-past_stays w s x i t d h e = rw (le-ltb i session_limit h, e) (later d t)
+pub past_stays : (w s : List ℕ) (x t d : ℕ) → (request_at w s x).deadline ≡ d → stays (By t) (request_at w s x) ≡ ltb t d
+past_stays w s x t d e = rw e (later d t)
   where
     later : (d t : ℕ) → not (leb d t) ≡ ltb t d
     later d t = by (leb d t) refl
@@ -43,8 +38,8 @@ past_stays w s x i t d h e = rw (le-ltb i session_limit h, e) (later d t)
         by false e = sym (lt-ltb t d (leb-false d t e))
 
 -- a sweep: what does not stay is answered 0
-unfoldable pub swept : Locks → ℕ → ℕ → LockResult
-swept l i t = record { locks = with_waiting l (keep (stays i t) l.waiting); answers = refuse l.entries (stays i t) l.waiting }
+unfoldable pub swept : Locks → Leaving → LockResult
+swept l g = record { locks = with_waiting l (keep (stays g) l.waiting); answers = refuse l.entries (stays g) l.waiting }
 
 -- the slot of a request, as its row has it
 pub slot_is : (w s : List ℕ) (i : ℕ) → (request_at w s i).slot ≡ i

@@ -15,8 +15,5 @@ pub fn has_access(w: &Words, i: usize) -> bool
     if !holders::nobody_exclusive(w) {
         return holders::is_exclusive(w, i);
     }
-    if holders::nobody_shares(w) {
-        return true;
-    }
-    holders::is_sharing(w, i)
+    holders::nobody_shares(w) || holders::is_sharing(w, i)
 }

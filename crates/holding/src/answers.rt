@@ -17,11 +17,10 @@ pub fn put_answer(w: &Words, out: &mut [u8], at: usize, i: usize, code: u8) -> u
     ensures { (result ≡ at + 17) × ((s : List ℕ) → out.new ≡ splice out.old at (frame_bytes (lock_answer_frame (locks_of w.now s).entries i code))) }
 {
     let c = (tables::entry(w, i, tables::ASYNCHRONOUS) % 256) as u8;
-    frame::put_frame(out, at, c, types::ASYNC_LOCK_RESPONSE, code, 0);
-    at + 17
+    put_answer_to(w, out, at, c, i, code)
 }
 
-// The same to connection c, which is that one.
+// The same to connection c, which is that one: who has looked it up already does not look again.
 pub fn put_answer_to(w: &Words, out: &mut [u8], at: usize, c: u8, i: usize, code: u8) -> usize
     requires { (at + 17 ≤ length out.old) × ((s : List ℕ) → (Rattle.model.specs.State.at (locks_of w.now s).entries i).asynchronous ≡ c) }
     ensures { (result ≡ at + 17) × ((s : List ℕ) → out.new ≡ splice out.old at (frame_bytes (lock_answer_frame (locks_of w.now s).entries i code))) }

@@ -14,33 +14,25 @@ use state::sizes::{SESSION_LIMIT, Words};
 pub fn exclusive_code(w: &Words) -> u8
     ensures { (s : List ℕ) → cond (all no_exclusive (locks_of w.now s).entries) 0 1 ≡ result }
 {
-    if holders::nobody_exclusive(w) {
-        return 0;
-    }
-    1
+    u8::from(!holders::nobody_exclusive(w))
 }
 
 pub fn holds_any(w: &Words, i: usize) -> bool
     requires { i < session_limit }
     ensures { (s : List ℕ) → holder (at (locks_of w.now s).entries i) ≡ result }
 {
-    if holders::is_exclusive(w, i) {
-        return true;
-    }
-    holders::is_sharing(w, i)
+    holders::is_exclusive(w, i) || holders::is_sharing(w, i)
 }
 
 // The parameter: the sessions that hold any lock, each once.
 pub fn holder_count(w: &Words) -> u32
     ensures { (result ≤ session_limit) × ((s : List ℕ) → tally holder (locks_of w.now s).entries ≡ result) }
 {
-    let mut n: u32 = 0;
-    let mut k = 0;
-    while k < SESSION_LIMIT {
+    let mut n = 0;
+    for k in 0..SESSION_LIMIT {
         if holds_any(w, k) {
             n += 1;
         }
-        k += 1;
     }
     n
 }

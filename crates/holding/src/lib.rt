@@ -1,4 +1,4 @@
-// What the lock rules of 01 stand on: who has access, who holds and who waits, the release that stands, how a lock answer is written. Each
+// What the lock rules stand on: who has access, who holds and who waits, the release that stands, how a lock answer is written. Each
 // function that changes the lent memory does what the model says of one lock event.
 #![tactic(auto)]
 

@@ -14,73 +14,73 @@ ghost use Rattle.model.specs.Sizes.{session_limit};
 
 use crate::answers::put_answer;
 use queue::requests;
-use shares::leaving;
-use state::sizes::{SESSION_LIMIT, Strings, Words};
+use shares::leaving::keep_first;
+use state::sizes::{Strings, Words};
 use state::tables;
 
-// Stands for no slot.
-const NO_SLOT: usize = SESSION_LIMIT;
+// The requests that leave the queue: that of a slot, or those whose deadline is a reading of the clock or before.
+#[derive(Clone, Copy)]
+enum Leaving {
+    OfSlot(usize),
+    By(u64),
+}
 
-// Does the request of slot x stay? With a slot i, where x is another; with none, where its deadline is past t.
-fn may_stay(w: &Words, x: usize, i: usize, t: u64) -> bool
+// Does the request of slot x stay?
+fn may_stay(w: &Words, x: usize, leaving: Leaving) -> bool
     requires { x < session_limit }
-    ensures { (s : List ℕ) → stays i t (request_at w.now s x) ≡ result }
+    ensures { (s : List ℕ) → stays leaving (request_at w.now s x) ≡ result }
 {
-    if i < SESSION_LIMIT {
-        return x != i;
+    match leaving {
+        Leaving::OfSlot(i) => x != i,
+        Leaving::By(t) => requests::deadline_of(w, x) > t,
     }
-    requests::deadline_of(w, x) > t
 }
 
 // Those that do not stay are answered 0, oldest first.
-fn answer_leaving(w: &Words, out: &mut [u8], start: usize, i: usize, t: u64) -> usize
+fn answer_leaving(w: &Words, out: &mut [u8], start: usize, leaving: Leaving) -> usize
     requires { start + answers_room ≤ length out.old }
-    ensures { (s : List ℕ) → ends (refuse (locks_of w.now s).entries (stays i t) (locks_of w.now s).waiting) out.old start ≡ spot out.new result }
+    ensures { (s : List ℕ) → ends (refuse (locks_of w.now s).entries (stays leaving) (locks_of w.now s).waiting) out.old start ≡ spot out.new result }
 {
     let n = requests::waiting_count(w);
     let mut at = start;
-    let mut j = 0;
-    while j < n {
+    for j in 0..n {
         let x = requests::waiting_slot(w, j);
-        if !may_stay(w, x, i, t) {
+        if !may_stay(w, x, leaving) {
             at = put_answer(w, out, at, x, 0);
         }
-        j += 1;
     }
     at
 }
 
 // Those that stay go on waiting, in their order.
-fn keep_staying(w: &mut Words, strings: &mut Strings, i: usize, t: u64)
+fn keep_staying(w: &mut Words, strings: &mut Strings, leaving: Leaving)
     ensures { (view (memory w.new strings.new) ≡ on_waiting (view (memory w.old strings.old))
-        (keep (stays i t))) × (Tidy (memory w.old strings.old) → Tidy (memory w.new strings.new)) }
+        (keep (stays leaving))) × (Tidy (memory w.old strings.old) → Tidy (memory w.new strings.new)) }
 {
     let n = requests::waiting_count(w);
     let mut k = 0;
-    let mut j = 0;
-    while j < n {
+    for j in 0..n {
         let x = requests::waiting_slot(w, j);
-        if may_stay(w, x, i, t) {
+        if may_stay(w, x, leaving) {
             requests::swap_waiting(w, j, k);
             k += 1;
         }
-        j += 1;
     }
-    leaving::keep_first(w, strings, k);
+    keep_first(w, strings, k);
 }
 
 // What does not stay is answered 0 and leaves the queue.
-fn sweep(w: &mut Words, strings: &mut Strings, out: &mut [u8], at: usize, i: usize, t: u64) -> usize
+fn sweep(w: &mut Words, strings: &mut Strings, out: &mut [u8], at: usize, leaving: Leaving) -> usize
     requires { at + answers_room ≤ length out.old }
-    ensures { Met (swept (locks_of w.old strings.old) i t) (memory w.old strings.old)
+    ensures { Met (swept (locks_of w.old strings.old) leaving) (memory w.old strings.old)
         (memory w.new strings.new) out.old out.new at result }
 {
-    let r = answer_leaving(w, out, at, i, t);
+    let r = answer_leaving(w, out, at, leaving);
     // Nobody was answered, so all stay.
     if r == at {
         return r;
     }
-    keep_staying(w, strings, i, t);
+    keep_staying(w, strings, leaving);
     r
 }
 
@@ -96,7 +96,7 @@ pub fn clear_request(
     ensures { Met (turned_away (locks_of w.old strings.old) i) (memory w.old strings.old)
         (memory w.new strings.new) out.old out.new at result }
 {
-    sweep(w, strings, out, at, i, 0)
+    sweep(w, strings, out, at, Leaving::OfSlot(i))
 }
 
 // The clock reads t: a request whose deadline is t or before is answered 0.
@@ -106,7 +106,7 @@ pub fn expire(w: &mut Words, strings: &mut Strings, out: &mut [u8], at: usize, t
         (memory w.new strings.new) out.old out.new at result }
 {
     tables::set_clock(w, t);
-    sweep(w, strings, out, at, NO_SLOT, t)
+    sweep(w, strings, out, at, Leaving::By(t))
 }
 
 // The request of slot i leaves the queue unanswered.
@@ -115,5 +115,5 @@ pub fn drop_request(w: &mut Words, strings: &mut Strings, i: usize)
     ensures { (view (memory w.new strings.new) ≡ on_waiting (view (memory w.old strings.old))
         (keep (elsewhere i))) × (Tidy (memory w.old strings.old) → Tidy (memory w.new strings.new)) }
 {
-    keep_staying(w, strings, i, 0);
+    keep_staying(w, strings, Leaving::OfSlot(i));
 }

@@ -1,5 +1,5 @@
 -- What the writer's calls leave in the book: an open journal holds its entries, and a closed one is whole. Assumes nothing.
-use Rattle.std.specs.Prelude.{◌≡◌, ℕ, ◌+◌, ◌%◌, ◌^◌, ◌<◌, ◌≤◌, min, Bool, true, false, leb, List, [], ◌∷◌, ◌++◌, length, take, ◌==◌, nat_eq, nat_le}
+use Rattle.std.specs.Prelude.{◌≡◌, ℕ, ◌+◌, ◌%◌, ◌^◌, ◌<◌, ◌≤◌, min, Bool, true, false, leb, List, [], ◌∷◌, ◌++◌, length, take, ◌==◌, nat_eq, nat_le, Ok, Err}
 use Rattle.std.proofs.Math.Path.{refl, sym, ap}
 use Rattle.std.proofs.Common.{subst, ◌∙◌, leb-true, le-leb}
 use Rattle.std.proofs.Math.Nat.{mod-eq_of_lt}
@@ -14,7 +14,7 @@ use Rattle.journal.specs.Forward.{count_entries}
 use Rattle.journal.specs.Backward.{entries_last, fine_append}
 use Rattle.journal.specs.Trailer.{last_offset_lem}
 use Rattle.journal.specs.Writer.{Done, place, shut, left, new_of, writing, append_of, close_of}
-use Rattle.journal.specs.declared.Kept.TheVariants.{Written, NoRoom, Closed}
+use Rattle.journal.specs.declared.Unwritten.TheVariants.{NoRoom, Closed}
 
 -- the words of a writer that has written these entries
 abbrev pub words_of : List (List ℕ) → List ℕ
@@ -48,7 +48,7 @@ append_length words book b = by (shut words == 0) refl (nat_le (length (entry b)
         rw (e, q) (length_splice book (place words) (entry b) (omega arith))
 
 -- a new journal holds no entries
-pub new_holds : (words book : List ℕ) → 12 ≤ left book 0 → ((new_of words book).answer ≡ Written) × Holds [] (new_of words book).words (new_of words book).book
+pub new_holds : (words book : List ℕ) → 12 ≤ left book 0 → ((new_of words book).answer ≡ Ok tt) × Holds [] (new_of words book).words (new_of words book).book
 unfolding new_of entries last_from AllFine
 new_holds words book h =
     let e : leb 12 (left book 0) ≡ true = le-leb 12 (left book 0) h in
@@ -57,7 +57,7 @@ new_holds words book h =
 module _ (bs : List (List ℕ)) (book b : List ℕ) where
   unfoldable pub appended : Done
   appended = record {
-    answer = Written;
+    answer = Ok tt;
     words = (length (entries bs) + length (entry b)) ∷ length (entries bs) ∷ ((length bs + 1) % 2 ^ 64) ∷ 0 ∷ [];
     book = splice book (length (entries bs)) (entry b);
   }
@@ -84,17 +84,17 @@ module _ (bs : List (List ℕ)) (book b : List ℕ) where
       }
 
 written : (bs : List (List ℕ)) (book b : List ℕ) → Holds bs (words_of bs) book → Fine b → length (entry b) + 12 ≤ left book (length (entries bs))
-    → ((append_of (words_of bs) book b).answer ≡ Written) × Holds (bs ++ (b ∷ [])) (append_of (words_of bs) book b).words (append_of (words_of bs) book b).book
+    → ((append_of (words_of bs) book b).answer ≡ Ok tt) × Holds (bs ++ (b ∷ [])) (append_of (words_of bs) book b).words (append_of (words_of bs) book b).book
 unfolding appended
 written bs book b o f h = rw (fits_then bs book b h) (refl, appended_holds bs book b h f o)
 
 -- an entry that fits is written behind the others
 pub append_holds : (bs : List (List ℕ)) (words book b : List ℕ) → Holds bs words book → Fine b → length (entry b) + 12 ≤ left book (place words)
-    → ((append_of words book b).answer ≡ Written) × Holds (bs ++ (b ∷ [])) (append_of words book b).words (append_of words book b).book
+    → ((append_of words book b).answer ≡ Ok tt) × Holds (bs ++ (b ∷ [])) (append_of words book b).words (append_of words book b).book
 append_holds bs words book b o f h =
     subst
     (λ (w : List ℕ). Holds bs w book → length (entry b) + 12 ≤ left book (place w)
-    → ((append_of w book b).answer ≡ Written) × Holds (bs ++ (b ∷ [])) (append_of w book b).words (append_of w book b).book)
+    → ((append_of w book b).answer ≡ Ok tt) × Holds (bs ++ (b ∷ [])) (append_of w book b).words (append_of w book b).book)
     (sym o.says)
     (λ o h. written bs book b o f h)
     o
@@ -102,7 +102,7 @@ append_holds bs words book b o f h =
 
 -- one that does not fit leaves all as it was
 pub append_left_out : (bs : List (List ℕ)) (words book b : List ℕ) → Holds bs words book → left book (place words) < length (entry b) + 12
-    → append_of words book b ≡ record { answer = NoRoom; words = words; book = book }
+    → append_of words book b ≡ record { answer = Err NoRoom; words = words; book = book }
 unfolding append_of writing
 append_left_out bs words book b o h =
     let e : nat_eq (shut words) 0 ≡ true = ap (λ (w : List ℕ). nat_eq (shut w) 0) o.says in
@@ -110,14 +110,14 @@ append_left_out bs words book b o h =
 
 -- a closed journal answers "closed" first, and all stays as it was
 pub stays_closed : (words book : List ℕ) → (shut words == 0) ≡ false
-    → ((b : List ℕ) → append_of words book b ≡ record { answer = Closed; words = words; book = book })
-    × (close_of words book ≡ record { answer = Closed; words = words; book = book })
+    → ((b : List ℕ) → append_of words book b ≡ record { answer = Err Closed; words = words; book = book })
+    × (close_of words book ≡ record { answer = Err Closed; words = words; book = book })
 unfolding append_of close_of writing
 stays_closed words book h = (λ b. no_is _ _ h, no_is _ _ h)
 
 -- an open journal can always be closed, and the bytes written are then the closed journal of its entries
 pub record IsClosed (bs : List (List ℕ)) (done : Done) : Type 0 where
-  pub answer : done.answer ≡ Written
+  pub answer : done.answer ≡ Ok tt
   pub says : done.words ≡ length (closed_journal bs) ∷ last_offset bs ∷ length bs ∷ 1 ∷ []
   pub all : take (length (closed_journal bs)) done.book ≡ closed_journal bs
   pub fine : AllFine bs

@@ -1,10 +1,16 @@
 -- The readers, a place at a time: what the code answers. Assumes nothing.
-use Rattle.std.specs.Prelude.{ℕ, ◌+◌, ◌-◌, List, length, take, drop, nat_le}
+use Rattle.std.specs.Prelude.{ℕ, ◌+◌, ◌-◌, List, length, take, drop, nat_le, Option, Some, None}
 use Rattle.journal.specs.Journal.{choose, length_of, whole, start_of, ends, closed, used}
+use Rattle.journal.specs.declared.EntryAt.{EntryAt}
 use Rattle.journal.specs.declared.Found.{Found}
 
 abbrev pub none : Found
 none = record { found = 0; body = 0; len = 0; next = 0 }
+
+-- an entry, or none, as the C interface has it
+abbrev pub found_of : Option EntryAt → Found
+found_of (Some e) = record { found = 1; body = e.body; len = e.len; next = e.next }
+found_of None = none
 
 -- the entry that begins at a place
 unfoldable pub forward_at : List ℕ → ℕ → Found

@@ -1,5 +1,5 @@
 -- Runs of the writer, from a new journal to the closed one, and what the readers then find. Assumes nothing.
-use Rattle.std.specs.Prelude.{◌≡◌, ℕ, ◌+◌, ◌-◌, ◌<◌, ◌≤◌, min, Bool, true, false, List, [], ◌∷◌, ◌++◌, reverse, length, take, nat_le, refl}
+use Rattle.std.specs.Prelude.{◌≡◌, ℕ, ◌+◌, ◌-◌, ◌<◌, ◌≤◌, min, Bool, true, false, List, [], ◌∷◌, ◌++◌, reverse, length, take, nat_le, refl, Ok, Err}
 use Rattle.std.proofs.Common.{sym, subst, ◌∙◌}
 use Rattle.std.proofs.Math.Path.{ap}
 use native.Mathlib.Omega.{arith}
@@ -11,7 +11,7 @@ use Rattle.journal.specs.Places.{forward_at, backward_at}
 use Rattle.journal.specs.Prefix.{within}
 use Rattle.journal.specs.Walks.{walk}
 use Rattle.journal.specs.Writer.{Done, place, left, new_of, append_of, close_of, offered, kept, bytes_written}
-use Rattle.journal.specs.declared.Kept.TheVariants.{Written, NoRoom, Closed}
+use Rattle.journal.specs.declared.Unwritten.TheVariants.{NoRoom, Closed}
 
 module _ (size : ℕ) (there : List (List ℕ)) (d : Done) (b : List ℕ) (bs : List (List ℕ)) (e : size ≡ min (length d.book) reach)
     (o : Holds there d.words d.book) (f : Fine b)
@@ -32,7 +32,7 @@ module _ (size : ℕ) (there : List (List ℕ)) (d : Done) (b : List ℕ) (bs : 
       let g : left d.book (place d.words) < length (entry b) + 12 = omega arith in
       rw t
       (subst (λ (x : Done). Holds (kept size there bs) (offered x bs).words (offered x bs).book) (sym (append_left_out there d.words d.book b o g))
-      (ih there (record { answer = NoRoom; words = d.words; book = d.book }) e o))
+      (ih there (record { answer = Err NoRoom; words = d.words; book = d.book }) e o))
 
 from : (bs : List (List ℕ)) (size : ℕ) (there : List (List ℕ)) (d : Done) → size ≡ min (length d.book) reach → Holds there d.words d.book → AllFine bs
     → Holds (kept size there bs) (offered d bs).words (offered d bs).book
@@ -52,12 +52,12 @@ open_run words book bs h f =
 -- last first; had writing stopped after any byte, the forward reader, given just the bytes written, would have found exactly the entries
 -- written whole; and from now on every call answers "closed" and changes nothing.
 pub record Journaled (bs : List (List ℕ)) (done : Done) : Type 0 where
-  pub answer : done.answer ≡ Written
+  pub answer : done.answer ≡ Ok tt
   pub whole : bytes_written done ≡ closed_journal bs
   pub offset : number_at (bytes_written done) (length (bytes_written done) - 8) 4 ≡ last_offset bs
   pub count : number_at (bytes_written done) (length (bytes_written done) - 4) 4 ≡ length bs
   pub forwards : walk forward_at (length (bytes_written done)) (bytes_written done) 0 ≡ bs
   pub backwards : walk backward_at (length (bytes_written done)) (bytes_written done) (length (bytes_written done) - 12) ≡ reverse bs
   pub torn : (k : ℕ) → k ≤ place done.words → forward (take k done.book) ≡ within k bs
-  pub appends : (b : List ℕ) → append_of done.words done.book b ≡ record { answer = Closed; words = done.words; book = done.book }
-  pub closes : close_of done.words done.book ≡ record { answer = Closed; words = done.words; book = done.book }
+  pub appends : (b : List ℕ) → append_of done.words done.book b ≡ record { answer = Err Closed; words = done.words; book = done.book }
+  pub closes : close_of done.words done.book ≡ record { answer = Err Closed; words = done.words; book = done.book }

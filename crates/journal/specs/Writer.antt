@@ -1,15 +1,19 @@
 -- What the writer does, for any bits in its words. Assumes nothing.
-use Rattle.std.specs.Prelude.{◌≡◌, ℕ, ◌+◌, ◌-◌, ◌%◌, ◌^◌, min, List, [], ◌∷◌, ◌++◌, length, take, ◌==◌, nat_le, slice_index}
+use Rattle.std.specs.Prelude.{◌≡◌, ℕ, ◌+◌, ◌-◌, ◌%◌, ◌^◌, min, List, [], ◌∷◌, ◌++◌, length, take, ◌==◌, nat_le, slice_index, Result, Ok, Err}
 use Rattle.wire.specs.Splice.{splice}
 use Rattle.journal.specs.Journal.{choose, entry, entries, closing, reach}
-use Rattle.journal.specs.declared.Kept.{Kept}
-use Rattle.journal.specs.declared.Kept.TheVariants.{Written, NoRoom, Closed}
+use Rattle.journal.specs.declared.Unwritten.{Unwritten}
+use Rattle.journal.specs.declared.Unwritten.TheVariants.{NoRoom, Closed}
+
+-- what a call of the writer answers: written, or why not
+abbrev pub Told : Type 0
+Told = Result (Unit {0}) Unwritten
 
 -- the number of each answer at the C interface
-abbrev pub kept_number : Kept → ℕ
-kept_number Written = 0
-kept_number NoRoom = 1
-kept_number Closed = 2
+abbrev pub kept_number : Told → ℕ
+kept_number (Ok _) = 0
+kept_number (Err NoRoom) = 1
+kept_number (Err Closed) = 2
 
 -- the writer's words: how many bytes are written, the offset of the last entry, the number of entries, and 0 while it is open
 abbrev pub place : List ℕ → ℕ
@@ -26,7 +30,7 @@ shut words = slice_index words 3
 
 -- the answer, the words and the book after a call
 pub record Done : Type 0 where
-  pub answer : Kept
+  pub answer : Told
   pub words : List ℕ
   pub book : List ℕ
 
@@ -34,12 +38,17 @@ pub record Done : Type 0 where
 abbrev pub left : List ℕ → ℕ → ℕ
 left book at = min (length book) reach - at
 
+-- Where n bytes go, so many being left behind the bytes written. "Closed" first; then "no room" exactly if they and the twelve closing bytes
+-- do not fit.
+unfoldable pub placed : List ℕ → ℕ → ℕ → Result ℕ Unwritten
+placed words n room = choose (shut words == 0) (choose (nat_le (n + 12) room) (Ok (place words)) (Err NoRoom)) (Err Closed)
+
 -- A new, empty journal, whatever the words were. Of the book nothing is written.
 unfoldable pub new_of : List ℕ → List ℕ → Done
 new_of words book =
     choose (nat_le 12 (left book 0))
-    (record { answer = Written; words = 0 ∷ 0 ∷ 0 ∷ 0 ∷ []; book = book })
-    (record { answer = NoRoom; words = words; book = book })
+    (record { answer = Ok tt; words = 0 ∷ 0 ∷ 0 ∷ 0 ∷ []; book = book })
+    (record { answer = Err NoRoom; words = words; book = book })
 
 -- A call that writes x behind the bytes written. "Closed" first; then "no room" exactly if the entry of so many bytes (none for a
 -- closing) and the twelve closing bytes do not fit in what is left. With either nothing is written.
@@ -47,9 +56,9 @@ unfoldable pub writing : List ℕ → List ℕ → ℕ → List ℕ → List ℕ
 writing words book size x after =
     choose (shut words == 0)
     (choose (nat_le (size + 12) (left book (place words)))
-    (record { answer = Written; words = after; book = splice book (place words) x })
-    (record { answer = NoRoom; words = words; book = book }))
-    (record { answer = Closed; words = words; book = book })
+    (record { answer = Ok tt; words = after; book = splice book (place words) x })
+    (record { answer = Err NoRoom; words = words; book = book }))
+    (record { answer = Err Closed; words = words; book = book })
 
 -- an entry
 unfoldable pub append_of : List ℕ → List ℕ → List ℕ → Done
@@ -63,7 +72,7 @@ close_of words book =
     writing words book 0 (closing (last words) (count words)) ((place words + 12) ∷ last words ∷ count words ∷ 1 ∷ [])
 
 -- what a function ensures that does D
-pub record Met (D : Done) (r : Kept) (w b : List ℕ) : Type 0 where
+pub record Met (D : Done) (r : Told) (w b : List ℕ) : Type 0 where
   pub answer : r ≡ D.answer
   pub words : w ≡ D.words
   pub book : b ≡ D.book

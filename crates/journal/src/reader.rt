@@ -1,9 +1,10 @@
 // The readers, a place at a time.
 ghost use Rattle.std.specs.Prelude.{◌≡◌, ◌+◌, ◌<◌, ◌≤◌, min, length};
 ghost use Rattle.journal.specs.Journal.{closed, length_of, reach, whole};
-ghost use Rattle.journal.specs.Places.{backward_at, ending_of, forward_at, none};
+ghost use Rattle.journal.specs.Places.{backward_at, ending_of, forward_at, found_of};
 
-use crate::Found;
+use crate::EntryAt;
+use wire::number;
 
 // A body has at most so many bytes (specs: body_limit).
 pub const BODY_LIMIT: usize = moves::BODY_LIMIT;
@@ -18,17 +19,14 @@ pub const MARK: u64 = 0x4241434b;
 pub fn room(len: usize) -> usize
     ensures { result ≡ min len reach }
 {
-    if len < REACH {
-        return len;
-    }
-    REACH
+    len.min(REACH)
 }
 
 fn length_of(s: &[u8]) -> usize
     requires { 4 ≤ length s.now }
     ensures { (result ≡ length_of s.now) × (result < 4294967296) }
 {
-    wire::number::number4(s, 0) as usize
+    number::number::<4>(s, 0) as usize
 }
 
 // Do the bytes begin with a whole entry, with right distance and sum?
@@ -39,101 +37,77 @@ pub fn whole_entry(s: &[u8]) -> bool
         return false;
     }
     let n = length_of(s);
-    if n > BODY_LIMIT {
-        return false;
-    }
-    if s.len() < n + 12 {
-        return false;
-    }
-    if wire::number::number4(s, n + 4) != (n + 4) as u64 {
-        return false;
-    }
-    let e = n + 4;
-    let sum = crc::crc32(&s[..e]);
-    wire::number::number4(s, n + 8) == sum as u64
-}
-
-fn nothing() -> Found
-    ensures { result ≡ none }
-{
-    Found {
-        found: 0,
-        body: 0,
-        len: 0,
-        next: 0,
-    }
+    n <= BODY_LIMIT
+        && n + 12 <= s.len()
+        && number::number::<4>(s, n + 4) == (n + 4) as u64
+        && number::number::<4>(s, n + 8) == u64::from(crc::crc32(&s[..n + 4]))
 }
 
 // The entry that begins at a place.
-pub fn forward(book: &[u8], at: usize) -> Found
-    ensures { result ≡ forward_at book.now at }
+pub fn forward(book: &[u8], at: usize) -> Option<EntryAt>
+    ensures { found_of result ≡ forward_at book.now at }
 {
     let m = room(book.len());
     if at > m {
-        return nothing();
+        return None;
     }
     let s = &book[at..m];
     if !whole_entry(s) {
-        return nothing();
+        return None;
     }
-    let n = length_of(s);
-    Found {
-        found: 1,
+    let len = length_of(s);
+    Some(EntryAt {
         body: at + 4,
-        len: n,
-        next: at + n + 12,
-    }
+        len,
+        next: at + len + 12,
+    })
 }
 
 // The entry that the bytes end with.
-fn ending(s: &[u8]) -> Found
-    ensures { result ≡ ending_of s.now }
+fn ending(s: &[u8]) -> Option<EntryAt>
+    ensures { found_of result ≡ ending_of s.now }
 {
     let e = s.len();
     if e < 8 {
-        return nothing();
+        return None;
     }
-    let d = wire::number::number4(s, e - 8) as usize;
+    let d = number::number::<4>(s, e - 8) as usize;
     if e < d + 8 {
-        return nothing();
+        return None;
     }
     let start = e - 8 - d;
     let t = &s[start..e];
     if !whole_entry(t) {
-        return nothing();
+        return None;
     }
-    let n = length_of(t);
-    if n + 4 != d {
-        return nothing();
+    let len = length_of(t);
+    if len + 4 != d {
+        return None;
     }
-    Found {
-        found: 1,
+    Some(EntryAt {
         body: start + 4,
-        len: n,
+        len,
         next: start,
-    }
+    })
 }
 
 // Do the last twelve bytes begin with "BACK"?
 fn is_closed(s: &[u8]) -> bool
     ensures { result ≡ closed s.now }
 {
-    if s.len() < 12 {
-        return false;
-    }
-    wire::number::number4(s, s.len() - 12) == MARK
+    s.len() >= 12 && number::number::<4>(s, s.len() - 12) == MARK
 }
 
 // The entry that ends at a place of a closed journal.
-pub fn backward(book: &[u8], at: usize) -> Found
-    ensures { result ≡ backward_at book.now at }
+pub fn backward(book: &[u8], at: usize) -> Option<EntryAt>
+    ensures { found_of result ≡ backward_at book.now at }
 {
     let m = room(book.len());
     if !is_closed(&book[..m]) {
-        return nothing();
+        return None;
     }
     if at > m - 12 {
-        return nothing();
+        return None;
     }
     ending(&book[..at])
 }

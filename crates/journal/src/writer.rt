@@ -1,31 +1,15 @@
 // The writer, over a lent book and four lent words: how many bytes are written, the offset of the last entry, the number of entries,
 // and 0 while the journal is open. Any bits may stand in the words.
-ghost use Rattle.std.specs.Prelude.{◌≡◌, ◌+◌, ◌-◌, ◌<◌, ◌≤◌, min, [], ◌∷◌, ◌++◌, length, take, drop, ◌==◌, nat_le};
-ghost use Rattle.journal.specs.Journal.{body_limit, closing, entry, headed, reach};
-ghost use Rattle.journal.specs.Writer.{Met, append_of, close_of, new_of, shut};
+ghost use Rattle.std.specs.Prelude.{◌≡◌, ◌+◌, ◌-◌, ◌<◌, ◌≤◌, min, [], ◌∷◌, ◌++◌, length, take, drop, ◌==◌, nat_le, List, ℕ};
+ghost use Rattle.journal.specs.Journal.{body_limit, closing, entry, reach};
+ghost use Rattle.journal.specs.Writer.{Met, append_of, close_of, new_of, place, placed, shut};
 ghost use Rattle.crc.specs.Crc.{crc_of};
 ghost use Rattle.journal.specs.Numbered.{numbered};
 ghost use Rattle.wire.specs.Field.{field};
 ghost use Rattle.wire.specs.Splice.{splice};
 
-use crate::{Kept, reader};
+use crate::{Unwritten, reader};
 use wire::{frame, number};
-
-fn set_all(w: &mut [u64], a: u64, b: u64, c: u64, d: u64)
-    requires { length w.old ≡ 4 }
-    ensures { w.new ≡ a ∷ b ∷ c ∷ d ∷ [] }
-{
-    w[0] = a;
-    w[1] = b;
-    w[2] = c;
-    w[3] = d;
-}
-
-fn set_words(w: &mut [u64; 4], a: u64, b: u64, c: u64, d: u64)
-    ensures { w.new ≡ a ∷ b ∷ c ∷ d ∷ [] }
-{
-    set_all(w, a, b, c, d);
-}
 
 fn is_open(words: &[u64; 4]) -> bool
     ensures { result ≡ (shut words.now == 0) }
@@ -39,23 +23,89 @@ fn fits(len: usize, at: u64, n: usize) -> bool
     ensures { result ≡ nat_le (n + 12) (min len reach - at) }
 {
     let m = reader::room(len) as u64;
-    if at > m {
-        return false;
-    }
-    n as u64 + 12 <= m - at
+    at <= m && n as u64 + 12 <= m - at
 }
 
-// Length and body, the body in four parts.
-fn put_headed(book: &mut [u8], at: usize, a: &[u8], b: &[u8], c: &[u8], d: &[u8])
-    requires { (length a.now + length b.now + length c.now + length d.now ≤ body_limit) × (at + 4 + length a.now + length b.now + length c.now + length d.now ≤ length book.old) }
-    ensures { book.new ≡ splice book.old at (headed (a.now ++ b.now ++ c.now ++ d.now)) }
+// The body of an entry: how long it is, and that it is written into the book part behind part.
+trait Body {
+    ghost bytes: { Self → List ℕ };
+
+    fn size(&self) -> usize
+        requires { length (bytes self.now) ≤ body_limit }
+        ensures { result ≡ length (bytes self.now) };
+
+    fn put(&self, book: &mut [u8], at: usize)
+        requires { (length (bytes self.now) ≤ body_limit) × (at + length (bytes self.now) ≤ length book.old) }
+        ensures { book.new ≡ splice book.old at (bytes self.now) };
+}
+
+// Four parts in a row.
+#[derive(Clone, Copy)]
+struct Parts<'a> {
+    a: &'a [u8],
+    b: &'a [u8],
+    c: &'a [u8],
+    d: &'a [u8],
+}
+
+impl Body for Parts<'_> {
+    ghost bytes = { λ p. p.a.now ++ p.b.now ++ p.c.now ++ p.d.now };
+
+    fn size(&self) -> usize {
+        self.a.len() + self.b.len() + self.c.len() + self.d.len()
+    }
+
+    fn put(&self, book: &mut [u8], at: usize) {
+        frame::put_bytes(book, at, self.a);
+        frame::put_bytes(book, at + self.a.len(), self.b);
+        frame::put_bytes(book, at + self.a.len() + self.b.len(), self.c);
+        frame::put_bytes(
+            book,
+            at + self.a.len() + self.b.len() + self.c.len(),
+            self.d,
+        );
+    }
+}
+
+fn put_byte(book: &mut [u8], at: usize, b: u8)
+    requires { at + 1 ≤ length book.old }
+    ensures { book.new ≡ splice book.old at (b ∷ []) }
 {
-    let n = a.len() + b.len() + c.len() + d.len();
-    number::put4(book, at, n as u64);
-    frame::put_bytes(book, at + 4, a);
-    frame::put_bytes(book, at + 4 + a.len(), b);
-    frame::put_bytes(book, at + 4 + a.len() + b.len(), c);
-    frame::put_bytes(book, at + 4 + a.len() + b.len() + c.len(), d);
+    book[at] = b;
+}
+
+// How such a body begins: the tag and the numbers.
+fn put_head(book: &mut [u8], at: usize, tag: u8, x: u64, y: u64)
+    requires { at + 9 ≤ length book.old }
+    ensures { book.new ≡ splice book.old at (numbered tag x y) }
+{
+    put_byte(book, at, tag);
+    number::put::<4>(book, at + 1, x);
+    number::put::<4>(book, at + 5, y);
+}
+
+// A tag, two numbers of 4 bytes and two parts.
+#[derive(Clone, Copy)]
+struct Numbered<'a> {
+    tag: u8,
+    x: u64,
+    y: u64,
+    b: &'a [u8],
+    c: &'a [u8],
+}
+
+impl Body for Numbered<'_> {
+    ghost bytes = { λ p. numbered p.tag p.x p.y ++ p.b.now ++ p.c.now };
+
+    fn size(&self) -> usize {
+        9 + self.b.len() + self.c.len()
+    }
+
+    fn put(&self, book: &mut [u8], at: usize) {
+        put_head(book, at, self.tag, self.x, self.y);
+        moves::put_part(book, at + 9, self.b);
+        moves::put_if_any(book, at + 9 + self.b.len(), self.c);
+    }
 }
 
 // The sum over a part of the book.
@@ -67,89 +117,82 @@ fn sum_of(book: &[u8], at: usize, e: usize) -> u32
 }
 
 // A whole entry. Every byte is written behind those before it.
-fn put_entry(book: &mut [u8], at: usize, a: &[u8], b: &[u8], c: &[u8], d: &[u8])
-    requires { (length a.now + length b.now + length c.now + length d.now ≤ body_limit) × (at + 12 + length a.now + length b.now + length c.now + length d.now ≤ length book.old) }
-    ensures { book.new ≡ splice book.old at (entry (a.now ++ b.now ++ c.now ++ d.now)) }
+fn put_entry<B: Body>(book: &mut [u8], at: usize, body: &B)
+    requires { (length (B.bytes body.now) ≤ body_limit) × (at + 12 + length (B.bytes body.now) ≤ length book.old) }
+    ensures { book.new ≡ splice book.old at (entry (B.bytes body.now)) }
 {
-    let n = a.len() + b.len() + c.len() + d.len();
-    put_headed(book, at, a, b, c, d);
+    let n = body.size();
+    number::put::<4>(book, at, n as u64);
+    body.put(book, at + 4);
     let sum = sum_of(book, at, at + (n + 4));
-    number::put4(book, at + (n + 4), n as u64 + 4);
-    number::put4(book, at + (n + 8), sum as u64);
+    number::put::<4>(book, at + (n + 4), n as u64 + 4);
+    number::put::<4>(book, at + (n + 8), sum as u64);
 }
 
 fn put_closing(book: &mut [u8], at: usize, last: u64, count: u64)
     requires { at + 12 ≤ length book.old }
     ensures { book.new ≡ splice book.old at (closing last count) }
 {
-    number::put4(book, at, reader::MARK);
-    number::put4(book, at + 4, last);
-    number::put4(book, at + 8, count);
+    number::put::<4>(book, at, reader::MARK);
+    number::put::<4>(book, at + 4, last);
+    number::put::<4>(book, at + 8, count);
+}
+
+// Where n bytes go, if the journal is open and they fit.
+fn place_for(words: &[u64; 4], len: usize, n: usize) -> Result<u64, Unwritten>
+    requires { n ≤ 65536 }
+    ensures { result ≡ placed words.now n (min len reach - place words.now) }
+{
+    if !is_open(words) {
+        return Err(Unwritten::Closed);
+    }
+    if !fits(len, words[0], n) {
+        return Err(Unwritten::NoRoom);
+    }
+    Ok(words[0])
 }
 
 // A new, empty journal, whatever the words were.
-pub fn new(words: &mut [u64; 4], book: &[u8]) -> Kept
+pub fn new(words: &mut [u64; 4], book: &[u8]) -> Result<(), Unwritten>
     ensures { Met (new_of words.old book.now) result words.new book.now }
 {
-    if fits(book.len(), 0, 0) {
-        set_words(words, 0, 0, 0, 0);
-        return Kept::Written;
+    if !fits(book.len(), 0, 0) {
+        return Err(Unwritten::NoRoom);
     }
-    Kept::NoRoom
+    *words = [0, 0, 0, 0];
+    Ok(())
+}
+
+// An entry behind the last.
+fn write_entry<B: Body>(words: &mut [u64; 4], book: &mut [u8], body: &B) -> Result<(), Unwritten>
+    requires { length (B.bytes body.now) ≤ body_limit }
+    ensures { Met (append_of words.old book.old (B.bytes body.now)) result words.new book.new }
+{
+    let n = body.size() + 12;
+    let at = place_for(words, book.len(), n)?;
+    put_entry(book, at as usize, body);
+    let [_, _, count, _] = *words;
+    *words = [at + n as u64, at, count.wrapping_add(1), 0];
+    Ok(())
 }
 
 // An entry whose body is four parts in a row, so that nobody has to put them together first.
-pub fn append(words: &mut [u64; 4], book: &mut [u8], a: &[u8], b: &[u8], c: &[u8], d: &[u8]) -> Kept
+pub fn append(
+    words: &mut [u64; 4],
+    book: &mut [u8],
+    a: &[u8],
+    b: &[u8],
+    c: &[u8],
+    d: &[u8],
+) -> Result<(), Unwritten>
     requires { length a.now + length b.now + length c.now + length d.now ≤ body_limit }
     ensures { Met (append_of words.old book.old (a.now ++ b.now ++ c.now ++ d.now)) result words.new book.new }
 {
-    if !is_open(words) {
-        return Kept::Closed;
-    }
-    let at = words[0];
-    let n = a.len() + b.len() + c.len() + d.len() + 12;
-    if fits(book.len(), at, n) {
-        put_entry(book, at as usize, a, b, c, d);
-        let count = std::num::wrapping_add_u64(words[2], 1);
-        set_words(words, at + n as u64, at, count, 0);
-        return Kept::Written;
-    }
-    Kept::NoRoom
+    write_entry(words, book, &Parts { a, b, c, d })
 }
 
-fn put_byte(book: &mut [u8], at: usize, b: u8)
-    requires { at + 1 ≤ length book.old }
-    ensures { book.new ≡ splice book.old at (b ∷ []) }
-{
-    book[at] = b;
-}
-
-// The length of a body, and how it begins: a tag and two numbers.
-fn put_head(book: &mut [u8], at: usize, n: usize, tag: u8, x: u64, y: u64)
-    requires { at + 13 ≤ length book.old }
-    ensures { book.new ≡ splice book.old at (field 4 n ++ numbered tag x y) }
-{
-    number::put4(book, at, n as u64);
-    put_byte(book, at + 4, tag);
-    number::put4(book, at + 5, x);
-    number::put4(book, at + 9, y);
-}
-
-// A whole entry of a body that begins so, its two parts behind. Every byte is written behind those before it.
-fn put_numbered(book: &mut [u8], at: usize, tag: u8, x: u64, y: u64, b: &[u8], c: &[u8])
-    requires { (9 + length b.now + length c.now ≤ body_limit) × (at + 21 + length b.now + length c.now ≤ length book.old) }
-    ensures { book.new ≡ splice book.old at (entry (numbered tag x y ++ b.now ++ c.now)) }
-{
-    let size = 9 + b.len() + c.len();
-    put_head(book, at, size, tag, x, y);
-    moves::put_part(book, at + 13, b);
-    moves::put_if_any(book, at + 13 + b.len(), c);
-    let sum = sum_of(book, at, at + (size + 4));
-    number::put4(book, at + (size + 4), size as u64 + 4);
-    number::put4(book, at + (size + 8), sum as u64);
-}
-
-// An entry whose body is a tag, two numbers of 4 bytes and two parts, as a delivery's: its head goes straight to the book.
+// An entry whose body is a tag, two numbers of 4 bytes and two parts, as a delivery's: its head goes straight to the book, since most events
+// are deliveries, and a head put together elsewhere first would be copied once more.
 pub fn append_numbered(
     words: &mut [u64; 4],
     book: &mut [u8],
@@ -158,38 +201,20 @@ pub fn append_numbered(
     y: u64,
     b: &[u8],
     c: &[u8],
-) -> Kept
+) -> Result<(), Unwritten>
     requires { 9 + length b.now + length c.now ≤ body_limit }
     ensures { Met (append_of words.old book.old (numbered tag x y ++ b.now ++ c.now)) result words.new book.new }
 {
-    if !is_open(words) {
-        return Kept::Closed;
-    }
-    let at = words[0];
-    let size = 9 + b.len() + c.len() + 12;
-    if fits(book.len(), at, size) {
-        put_numbered(book, at as usize, tag, x, y, b, c);
-        let count = std::num::wrapping_add_u64(words[2], 1);
-        set_words(words, at + size as u64, at, count, 0);
-        return Kept::Written;
-    }
-    Kept::NoRoom
+    write_entry(words, book, &Numbered { tag, x, y, b, c })
 }
 
 // The closing trailer behind the last entry.
-pub fn close(words: &mut [u64; 4], book: &mut [u8]) -> Kept
+pub fn close(words: &mut [u64; 4], book: &mut [u8]) -> Result<(), Unwritten>
     ensures { Met (close_of words.old book.old) result words.new book.new }
 {
-    if !is_open(words) {
-        return Kept::Closed;
-    }
-    let at = words[0];
-    let last = words[1];
-    let count = words[2];
-    if fits(book.len(), at, 0) {
-        put_closing(book, at as usize, last, count);
-        set_words(words, at + 12, last, count, 1);
-        return Kept::Written;
-    }
-    Kept::NoRoom
+    let at = place_for(words, book.len(), 0)?;
+    let [_, last, count, _] = *words;
+    put_closing(book, at as usize, last, count);
+    *words = [at + 12, last, count, 1];
+    Ok(())
 }

@@ -35,9 +35,9 @@ use Rattle.journal.proofs.Backward.{backward_closed}
 use Rattle.journal.proofs.Prefix.{stopped}
 use Rattle.journal.specs.Holds.{Holds, new_holds, append_holds, append_left_out, IsClosed, close_closes}
 use Rattle.journal.proofs.Holds.{read_open}
-use Rattle.journal.specs.Writer.{Done, place, left, new_of, append_of, close_of, kept_number}
-use Rattle.journal.specs.declared.Kept.{Kept}
-use Rattle.journal.specs.declared.Kept.TheVariants.{Written, NoRoom}
+use Rattle.journal.specs.Writer.{Done, Told as Outcome, place, left, new_of, append_of, close_of, kept_number}
+use Rattle.std.specs.Prelude.{Ok, Err}
+use Rattle.journal.specs.declared.Unwritten.TheVariants.{NoRoom}
 use Rattle.record.specs.Layout as layout
 use Rattle.record.specs.Layout.{encode, row}
 use Rattle.record.proofs.RoundTrip.{read_again}
@@ -150,16 +150,16 @@ module _ (m m' : Memory) (s : Seen) (g : Run m (s ∷ []) m') where
     unfolding entry_unless
     fits a true i =
         let y = append_holds bs w b X o (fine (eqb-true _ _ a)) (leb-true _ _ i) in
-        ended (append_of w b X) true (yes_is _ _ a) (ap₂ (λ (u v : Bool). u && v) (told ∙ a) (ap (λ (v : Kept). eqb (kept_number v) 0) y.0)) y.1
+        ended (append_of w b X) true (yes_is _ _ a) (ap₂ (λ (u v : Bool). u && v) (told ∙ a) (ap (λ (v : Outcome). eqb (kept_number v) 0) y.0)) y.1
     fits a false i =
         let y = append_left_out bs w b X o (leb-false _ _ i) in
-        ended (record { answer = NoRoom; words = w; book = b }) false (yes_is _ _ a ∙ y) (ap (λ (u : Bool). u && false) (told ∙ a)) (subst (λ (y : List (List ℕ)). Holds y w b) (sym (append-nil bs)) o)
+        ended (record { answer = Err NoRoom; words = w; book = b }) false (yes_is _ _ a ∙ y) (ap (λ (u : Bool). u && false) (told ∙ a)) (subst (λ (y : List (List ℕ)). Holds y w b) (sym (append-nil bs)) o)
 
     one : (c : Bool) → eqb (refusal d s.event) 0 ≡ c → Holds (bs ++ entry_of t) w' b'
     unfolding entry_unless
     one true a = fits a (leb (length (entry X) + 12) (left b (place w))) refl
     one false a =
-        ended (record { answer = Written; words = w; book = b }) false (no_is _ _ a) (ap (λ (u : Bool). u && true) (told ∙ a)) (subst (λ (y : List (List ℕ)). Holds y w b) (sym (append-nil bs)) o)
+        ended (record { answer = Ok tt; words = w; book = b }) false (no_is _ _ a) (ap (λ (u : Bool). u && true) (told ∙ a)) (subst (λ (y : List (List ℕ)). Holds y w b) (sym (append-nil bs)) o)
 
     pub one_call : Holds (bs ++ entry_of (record { seen = s; kept = k })) w' b'
     unfolding t

@@ -13,7 +13,7 @@ use Rattle.model.specs.State.{Server}
 use Rattle.model.specs.Interface.{Event, Event.opening, Event.delivery, Event.cut, Event.clock, Event.answer, Event.status, Event.setting, Setting.watch}
 use Rattle.model.specs.Interface.{Setting.patterns, Reply, Reply.refused, Reply.done, Reply.withheld, Reply.took, DeliveryAnswer, delivery_answer, DoneAnswer}
 use Rattle.model.specs.Interface.{done_answer, AnsweredAnswer, answered_answer}
-use Rattle.commands.specs.declared.Judged.{Judged}
+use Rattle.commands.specs.Lists.{Judged}
 use Rattle.commands.specs.Lists.{lines_of}
 use Rattle.commands.specs.Rulings.{judged}
 use Rattle.model.specs.Listing.{ListedAnswer, listed_answer}
@@ -33,7 +33,6 @@ use Rattle.server.specs.Events.{Called, Replied}
 use Rattle.server.specs.Listing.{SetsList}
 use Rattle.journal.specs.Journal.{body_limit}
 use Rattle.journal.specs.Numbered.{numbered, numbered_size}
-use Rattle.journal.specs.Writer as Book
 use Rattle.record.specs.Layout as layout
 use Rattle.record.specs.Layout.{encode, row}
 use Rattle.judging.specs.Kept.{recorded}
@@ -123,8 +122,14 @@ none_handed {n = n} h = record { refused_as = h.refused_as; inside = omega arith
 pub called_again : {e : Event} {m m' : Memory} {out out' : List ℕ} {r s : Done} → s ≡ r → Called e r m m' out out' → Called e s m m' out out'
 called_again {e = e} {m = m} {m' = m'} {out = out} {out' = out'} q h = subst (λ (x : Done). Called e x m m' out out') (sym q) h
 
-pub kept_again : {D : Book.Done} {k j : ℕ} {words book : List ℕ} → k ≡ j → Keeps D j words book → Keeps D k words book
-kept_again q h = record { answer = q ∙ h.answer; words_are = h.words_are; book_is = h.book_is }
+pub delivered_again : {e : Event} {m m' : Memory} {out out' : List ℕ} {r s : Delivery} → s ≡ r → Delivered e r m m' out out' → Delivered e s m m' out out'
+delivered_again {e = e} {m = m} {m' = m'} {out = out} {out' = out'} q h = subst (λ (x : Delivery). Delivered e x m m' out out') (sym q) h
+
+pub replied_again : {e : Event} {m m' : Memory} {out out' : List ℕ} {r s : Answered} → s ≡ r → Replied e r m m' out out' → Replied e s m m' out out'
+replied_again {e = e} {m = m} {m' = m'} {out = out} {out' = out'} q h = subst (λ (x : Answered). Replied e x m m' out out') (sym q) h
+
+pub list_again : {text : List ℕ} {m m' : Memory} {r s : Listed} → s ≡ r → SetsList text r m m' → SetsList text s m m'
+list_again {text = text} {m = m} {m' = m'} q h = subst (λ (x : Listed). SetsList text x m m') (sym q) h
 
 -- the plain call on the first bytes, as the code takes them
 pub delivered_first : (c : ℕ) (bs : List ℕ) (room n : ℕ) {r : Delivery} {m m' : Memory} {out out' : List ℕ} → n ≡ min (length bs) layout.most_delivered

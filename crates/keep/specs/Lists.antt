@@ -1,13 +1,12 @@
 -- 02, Q-12, a list of allowed commands in an entry: its text. A list that is taken consists of bytes, and fits.
 -- Assumes nothing.
-use Rattle.std.specs.Prelude.{◌≡◌, refl, Bool, true, false, cond, List, [], ◌∷◌, ◌++◌, ℕ, zero, suc, ◌+◌, ◌<◌, eqb, length}
+use Rattle.std.specs.Prelude.{◌≡◌, refl, Bool, true, false, cond, List, [], ◌∷◌, ◌++◌, ℕ, zero, suc, ◌+◌, ◌<◌, eqb, length, Ok, Err}
 use Rattle.std.proofs.Common.{sym, subst, true≢false, arith, lit<, length-append, eqb-true}
 use Rattle.wire.specs.Field.{field, length_field, Bytes}
 use Rattle.scpi.specs.Bytes.{Capital, Small, All, colon_sign, query_sign, star_sign, open_sign, close_sign}
 use Rattle.scpi.specs.Grammar.{Word, short, long, Row, Row.r_none, Row.r_word, Row.r_bracket, text, mark, Tree, Tree.t_path, Tree.t_star, source, Fine, GoodPattern}
-use Rattle.commands.specs.declared.Judged.{Judged}
-use Rattle.commands.specs.declared.Judged.TheVariants.{Taken, BadPattern, TooMany}
-use Rattle.commands.specs.Lists.{lines_of, more, AllGood, Listed}
+use Rattle.commands.specs.declared.ListFault.TheVariants.{BadPattern, TooMany}
+use Rattle.commands.specs.Lists.{Judged, taken, lines_of, more, AllGood, Listed}
 use Rattle.commands.proofs.Lines.{listed_room}
 use Rattle.commands.specs.Rulings.{judged, judged_is}
 use Rattle.model.specs.Sizes.{list_limit}
@@ -103,9 +102,9 @@ taken_list d s z =
     go (judged (lines_of s)) refl n.0 n.1.0
   where
     go : (j : Judged) → judged (lines_of s) ≡ j → is_too_many j ≡ false → is_bad j ≡ false → Listed (lines_of s)
-    go Taken e p q = (judged_is (lines_of s) Taken).1 (sym e)
-    go (BadPattern k i) e p q = absurd (true≢false q)
-    go TooMany e p q = absurd (true≢false p)
+    go (Ok u) e p q = (judged_is (lines_of s) taken).1 (sym e)
+    go (Err (BadPattern k i)) e p q = absurd (true≢false q)
+    go (Err TooMany) e p q = absurd (true≢false p)
 
 -- so its text consists of bytes, and a body has room for it
 pub list_row : (d : Server) (s : List ℕ) → refusal d (setting (patterns s)) ≡ 0 → layout.Row list_limit s

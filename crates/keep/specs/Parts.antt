@@ -1,5 +1,5 @@
 -- The parts of a body, as the code hands them to the writer, and what the plain call's answer tells of them. Assumes nothing.
-use Rattle.std.specs.Prelude.{◌≡◌, Bool, true, false, ◌||◌, List, ◌∷◌, ◌++◌, eqb, take}
+use Rattle.std.specs.Prelude.{◌≡◌, Bool, true, false, ◌||◌, List, ◌∷◌, ◌++◌, eqb, take, Ok}
 use Rattle.std.proofs.Math.Path.{refl, sym}
 use Rattle.std.proofs.Common.{ap, subst, ◌∙◌, ⊎_elim, true≢false, append_assoc, arith, length-take, length-append, take_all, ltb-false, ne_eqb}
 use Prim.Native.Nat.{ℕ, zero, suc, ◌≤◌, ◌<◌, min}
@@ -24,7 +24,6 @@ use Rattle.journal.specs.Journal.{body_limit}
 use Rattle.journal.specs.Bytes.{below, no_is}
 use Rattle.journal.specs.Numbered.{numbered}
 use Rattle.journal.specs.Writer.{Done, append_of}
-use Rattle.journal.specs.declared.Kept.TheVariants.{Written}
 use Rattle.record.specs.Layout as layout
 use Rattle.record.specs.Layout.{encode, row}
 use Rattle.keep.specs.Lists.{row_length, list_row}
@@ -162,7 +161,7 @@ pub kept_if : (z : ℕ) (words book x y : List ℕ) (k : ℕ) (words' book' : Li
 unfolding entry_unless
 kept_if zero words book x y k words' book' p h = subst (λ (i : List ℕ). Keeps (entry_unless zero words book i) k words' book') (p refl) h
 kept_if (suc z) words book x y k words' book' p h =
-    let D : Done = record { answer = Written; words = words; book = book } in
+    let D : Done = record { answer = Ok tt; words = words; book = book } in
     let n : eqb (suc z) 0 ≡ false = ne_eqb (suc z) 0 (λ q. omega (arith, q)) in
     subst (λ (i : Done). Keeps i k words' book') (no_is {A = Done} (append_of words book x) D n ∙ sym (no_is {A = Done} (append_of words book y) D n)) h
 

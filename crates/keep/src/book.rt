@@ -12,30 +12,27 @@ use journal::{Found, reader, writer};
 pub fn hislip_journal_new(journal: &mut Writer, book: &[u8]) -> KeptAlone
     ensures { Keeps (new_of journal.old book.now) result.kept journal.new book.now }
 {
-    let k = writer::new(journal, book);
-    let kept = journal::kept_number(k);
-    KeptAlone { kept }
+    KeptAlone::from(writer::new(journal, book))
 }
 
 // The closing trailer behind the last entry.
 pub fn hislip_journal_close(journal: &mut Writer, book: &mut [u8]) -> KeptAlone
     ensures { Keeps (close_of journal.old book.old) result.kept journal.new book.new }
 {
-    let k = writer::close(journal, book);
-    let kept = journal::kept_number(k);
-    KeptAlone { kept }
+    KeptAlone::from(writer::close(journal, book))
 }
 
 // The entry that begins at a place.
+// Kept: two functions of one shape, the two names of the C interface.
 pub fn hislip_journal_forward(book: &[u8], at: u64) -> Found
     ensures { result ≡ forward_at book.now at }
 {
-    reader::forward(book, at as usize)
+    Found::from(reader::forward(book, at as usize))
 }
 
 // The entry that ends at a place of a closed journal.
 pub fn hislip_journal_backward(book: &[u8], at: u64) -> Found
     ensures { result ≡ backward_at book.now at }
 {
-    reader::backward(book, at as usize)
+    Found::from(reader::backward(book, at as usize))
 }

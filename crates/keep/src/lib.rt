@@ -1,7 +1,8 @@
-// The calls that keep a journal (02, Q-7): each does the plain call's event, and then writes its entry.
+// The calls that keep a journal: each does the plain call's event, and then writes its entry.
 #![tactic(auto)]
 
-ghost use Rattle.std.specs.Prelude.{min, eqb, length, not, [], ◌≡◌};
+ghost use Rattle.std.specs.Prelude.{eqb, length, not, [], ◌≡◌};
+ghost use Rattle.journal.specs.Writer.{kept_number};
 ghost use Rattle.model.specs.Interface.{Event, Event.answer, Event.clock, Event.cut, Event.delivery, Event.opening, Reply};
 ghost use Rattle.model.specs.Post.{Post};
 ghost use Rattle.server.specs.Calls.{Delivered};
@@ -14,12 +15,16 @@ pub mod book;
 pub mod lists;
 pub mod watches;
 
-use entries::{Writer, heads, keep_delivery, keep_entry, keep_numbers};
+use entries::heads::{self, Tag};
+use entries::{Writer, keep_delivery, keep_entry, keep_numbers};
+use journal::{Unwritten, kept_number};
 use record::events::{MOST_DELIVERED, MOST_SHOWN};
-use server::Done;
+use server::{Answered, Done};
+use sessions::Delivery;
 use state::sizes::{Strings, Words};
 
 // What the calls answer: the plain call's numbers, then what became of the entry: 0 written (or the event was refused), 1 no room, 2 closed.
+// Kept: the refusal, the outcome and what became of the entry are numbers, here and in lists.rt, since these are structs of the C interface.
 #[repr(C)]
 #[derive(Clone, Copy)]
 pub struct KeptDelivery {
@@ -55,27 +60,64 @@ pub struct KeptAlone {
     pub kept: u64,
 }
 
-// At most so many.
-fn least(n: usize, most: usize) -> usize
-    ensures { result ≡ min n most }
-{
-    if n < most {
-        return n;
+// What each call answers is made of the plain call's answer and of what became of the entry.
+impl From<(Delivery, Result<(), Unwritten>)> for KeptDelivery {
+    ghost from_gives = { λ told kept. (of_delivery kept ≡ told.0) × (kept.kept ≡ kept_number told.1) };
+
+    fn from(told: (Delivery, Result<(), Unwritten>)) -> KeptDelivery {
+        let (plain, entry) = told;
+        KeptDelivery {
+            refusal: plain.refusal,
+            outcome: plain.outcome,
+            session: plain.session,
+            taken: plain.taken,
+            output: plain.output,
+            missing: plain.missing,
+            kept: kept_number(entry),
+        }
     }
-    most
 }
 
-fn done(r: Done, kept: u64) -> KeptDone
-    ensures { (of_done result ≡ r) × (result.kept ≡ kept) }
-{
-    KeptDone {
-        refusal: r.refusal,
-        output: r.output,
-        kept,
+impl From<(Done, Result<(), Unwritten>)> for KeptDone {
+    ghost from_gives = { λ told kept. (of_done kept ≡ told.0) × (kept.kept ≡ kept_number told.1) };
+
+    fn from(told: (Done, Result<(), Unwritten>)) -> KeptDone {
+        let (done, entry) = told;
+        KeptDone {
+            refusal: done.refusal,
+            output: done.output,
+            kept: kept_number(entry),
+        }
+    }
+}
+
+impl From<(Answered, Result<(), Unwritten>)> for KeptAnswered {
+    ghost from_gives = { λ told kept. (of_answered kept ≡ told.0) × (kept.kept ≡ kept_number told.1) };
+
+    fn from(told: (Answered, Result<(), Unwritten>)) -> KeptAnswered {
+        let (answered, entry) = told;
+        KeptAnswered {
+            refusal: answered.refusal,
+            withheld: answered.withheld,
+            output: answered.output,
+            kept: kept_number(entry),
+        }
+    }
+}
+
+impl From<Result<(), Unwritten>> for KeptAlone {
+    ghost from_gives = { λ told alone. alone.kept ≡ kept_number told };
+
+    fn from(told: Result<(), Unwritten>) -> KeptAlone {
+        KeptAlone {
+            kept: kept_number(told),
+        }
     }
 }
 
 // A connection opens.
+// Kept: each kept call, here and in watches.rt and lists.rt, is the plain call, the head of its event and the entry, a line each. One function
+// over closures for the plain call and the head would need as many lines at each call.
 pub fn hislip_keep_open(
     words: &mut Words,
     strings: &mut Strings,
@@ -89,9 +131,9 @@ pub fn hislip_keep_open(
         result.kept journal.new book.new }
 {
     let r = server::hislip_open(words, strings, connection);
-    let h = heads::one(heads::OPENING, connection as u64);
-    let kept = keep_numbers(journal, book, r.refusal, &h, &[]);
-    done(r, kept)
+    let head = heads::one(Tag::Opening, connection as u64);
+    let told = keep_numbers(journal, book, r.refusal, &head, &[]);
+    KeptDone::from((r, told))
 }
 
 // A connection is cut.
@@ -109,10 +151,10 @@ pub fn hislip_keep_cut(
         book.old) result.kept journal.new book.new }
 {
     let r = server::hislip_cut(words, strings, connection, out);
-    let h = heads::one(heads::CUT, connection as u64);
+    let head = heads::one(Tag::Cut, connection as u64);
     let n = r.output as usize;
-    let kept = keep_numbers(journal, book, r.refusal, &h, &out[..n]);
-    done(r, kept)
+    let told = keep_numbers(journal, book, r.refusal, &head, &out[..n]);
+    KeptDone::from((r, told))
 }
 
 // The clock reads so many milliseconds.
@@ -130,10 +172,10 @@ pub fn hislip_keep_clock(
         book.old) result.kept journal.new book.new }
 {
     let r = server::hislip_clock(words, strings, milliseconds, out);
-    let h = heads::long(heads::CLOCK, milliseconds);
+    let head = heads::long(Tag::Clock, milliseconds);
     let n = r.output as usize;
-    let kept = keep_numbers(journal, book, r.refusal, &h, &out[..n]);
-    done(r, kept)
+    let told = keep_numbers(journal, book, r.refusal, &head, &out[..n]);
+    KeptDone::from((r, told))
 }
 
 // The instrument's status byte changes.
@@ -150,9 +192,9 @@ pub fn hislip_keep_status(
         result.kept journal.new book.new }
 {
     server::hislip_status(words, strings, status);
-    let h = heads::byte(heads::STATUS, status as u64);
-    let kept = keep_numbers(journal, book, 0, &h, &[]);
-    KeptAlone { kept }
+    let head = heads::byte(Tag::Status, status as u64);
+    let told = keep_numbers(journal, book, 0, &head, &[]);
+    KeptAlone::from(told)
 }
 
 // Unread bytes of a connection are delivered. With a journal kept no more than the first 1,040 are looked at.
@@ -171,11 +213,11 @@ pub fn hislip_keep_deliver(
         (looked (delivery connection bytes.now (length out.old))) journal.old book.old) result.kept
         journal.new book.new }
 {
-    let n = least(bytes.len(), MOST_DELIVERED);
+    let n = bytes.len().min(MOST_DELIVERED);
     let shown = &bytes[..n];
     let r = server::hislip_deliver(words, strings, connection, shown, out);
     let m = r.output as usize;
-    let kept = keep_delivery(
+    let told = keep_delivery(
         journal,
         book,
         r.refusal,
@@ -183,15 +225,7 @@ pub fn hislip_keep_deliver(
         shown,
         &out[..m],
     );
-    KeptDelivery {
-        refusal: r.refusal,
-        outcome: r.outcome,
-        session: r.session,
-        taken: r.taken,
-        output: r.output,
-        missing: r.missing,
-        kept,
-    }
+    KeptDelivery::from((r, told))
 }
 
 // The instrument answers a session, with END unless `end` is 0. Of what is unread of the session's synchronous connection only the first 16
@@ -213,25 +247,28 @@ pub fn hislip_keep_answer(
         (looked (answer session payload.now (not (eqb end 0)) shown.now (length out.old))) journal.old
         book.old) result.kept journal.new book.new }
 {
-    let n = least(shown.len(), MOST_SHOWN);
+    let n = shown.len().min(MOST_SHOWN);
     let s = &shown[..n];
     let r = server::hislip_answer(words, strings, session, payload, end, s, out);
-    let h = heads::three(
-        heads::ANSWER,
+    let head = heads::three(
+        Tag::Answer,
         session as u64,
         heads::bit(end),
         payload.len() as u64,
     );
     let row = heads::row(s);
     let e = 4 + n;
-    let m = r.output as usize;
-    let kept = keep_entry(journal, book, r.refusal, &h, payload, &row[..e], &out[..m]);
-    KeptAnswered {
-        refusal: r.refusal,
-        withheld: r.withheld,
-        output: r.output,
-        kept,
-    }
+    let sent = r.output as usize;
+    let told = keep_entry(
+        journal,
+        book,
+        r.refusal,
+        &head,
+        payload,
+        &row[..e],
+        &out[..sent],
+    );
+    KeptAnswered::from((r, told))
 }
 
-// An event more is a call like these (watches.rt has three, lists.rt one), with a line each in `looked` (specs/Keeping.antt) and `recorded` (judging/specs/Kept.antt) and a head in heads.rt.
+// An event more is a call like these (watches.rt has three, lists.rt one), with a line each in `looked` (specs/Keeping.antt) and `recorded` (judging/specs/Kept.antt) and a tag and a head in heads.rt.

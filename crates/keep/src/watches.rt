@@ -1,4 +1,4 @@
-// Setting a watch (02, Q-11), kept.
+// Setting a watch, kept.
 ghost use Rattle.model.specs.Interface.{Event.setting, Setting.watch};
 ghost use Rattle.readings.specs.Bits.{bits};
 ghost use Rattle.readings.specs.Watch.{Limits.above, Limits.off, Limits.outside};
@@ -7,8 +7,9 @@ ghost use Rattle.state.specs.View.{memory, view};
 ghost use Rattle.keep.specs.Keeping.{Keeps, keeping, of_done};
 ghost use Rattle.std.specs.Prelude.{[]};
 
-use crate::{KeptDone, done};
-use entries::{Writer, heads, keep_numbers};
+use crate::KeptDone;
+use entries::heads::{self, Tag};
+use entries::{Writer, keep_numbers};
 use sensing::floats;
 use server::watches;
 use state::sizes::{Strings, Words};
@@ -27,9 +28,9 @@ pub fn hislip_keep_watch_off(
         result.kept journal.new book.new }
 {
     let r = watches::hislip_watch_off(words, strings, session);
-    let h = heads::one(heads::WATCH_OFF, session as u64);
-    let kept = keep_numbers(journal, book, r.refusal, &h, &[]);
-    done(r, kept)
+    let head = heads::one(Tag::WatchOff, session as u64);
+    let told = keep_numbers(journal, book, r.refusal, &head, &[]);
+    KeptDone::from((r, told))
 }
 
 // A reading above the limit trips.
@@ -48,9 +49,9 @@ pub fn hislip_keep_watch_above(
 {
     let r = watches::hislip_watch_above(words, strings, session, limit);
     let x = floats::bits_of(limit);
-    let h = heads::two(heads::WATCH_ABOVE, session as u64, x);
-    let kept = keep_numbers(journal, book, r.refusal, &h, &[]);
-    done(r, kept)
+    let head = heads::two(Tag::WatchAbove, session as u64, x);
+    let told = keep_numbers(journal, book, r.refusal, &head, &[]);
+    KeptDone::from((r, told))
 }
 
 // A reading below the low limit or above the high one trips.
@@ -71,7 +72,7 @@ pub fn hislip_keep_watch_outside(
     let r = watches::hislip_watch_outside(words, strings, session, low, high);
     let x = floats::bits_of(low);
     let y = floats::bits_of(high);
-    let h = heads::triple(heads::WATCH_OUTSIDE, session as u64, x, y);
-    let kept = keep_numbers(journal, book, r.refusal, &h, &[]);
-    done(r, kept)
+    let head = heads::triple(Tag::WatchOutside, session as u64, x, y);
+    let told = keep_numbers(journal, book, r.refusal, &head, &[]);
+    KeptDone::from((r, told))
 }

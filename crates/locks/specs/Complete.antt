@@ -1,5 +1,5 @@
 -- A release that stands takes effect (02, Q-3): with the message that it names, or with a device clear. Assumes nothing.
-use Rattle.std.specs.Prelude.{◌≡◌, refl, false, List, ℕ, ◌-◌, ◌%◌, ◌^◌, ◌≤◌, ◌<◌, length}
+use Rattle.std.specs.Prelude.{◌≡◌, refl, false, Option, Some, None, List, ℕ, ◌^◌, ◌≤◌, ◌<◌, length}
 use Rattle.std.proofs.Common.{subst, ◌∙◌, true≢false, mod-eq_of_lt, eq-eqb, ne_eqb}
 use Rattle.std.proofs.Math.Path.{ap}
 use Rattle.model.specs.Sizes.{before_first}
@@ -8,10 +8,11 @@ use Rattle.model.specs.Locks.{LockEvent.command, LockEvent.clear, LockResult, Du
 use Rattle.model.specs.Locks.{release_code, due_at, due_any, completed, is_due, stands, change, settle, grant_pass}
 use Rattle.state.specs.Change.{on_entry, order_with}
 use Rattle.state.specs.Grid.{upd, upd_upd, upd_set}
-use Rattle.state.specs.View.{Memory, view, standing_of}
+use Rattle.state.specs.View.{Memory, view}
 use Rattle.holding.specs.Outcome.{Met, told}
 use Rattle.locks.specs.Settled.{both, settled, met_both}
-use Rattle.holding.specs.Standing.{word_none}
+use Rattle.holding.specs.Standing.{kind_of, standing_as}
+use Rattle.holding.specs.declared.standing.Standing.{Standing as Kept}
 use Rattle.holding.specs.Sweep.{turned_away}
 
 -- the last message's number is n; and besides, the release took effect
@@ -41,22 +42,23 @@ module _ (l : Locks) (i n : ℕ) where
       → settled l (command i n) ≡ both (completed (due_now k) l i n) (grant_pass (completed (due_now k) l i n).locks)
   message_due k e = done (due_now k) e
 
--- what is due, by the word of the row
-module _ (x : Standing) (v n : ℕ) (e : x ≡ standing_of v) where
-  pub due_none : v ≡ 0 → due_at n x ≡ not_due
-  due_none z = ap (due_at n) (e ∙ word_none v z)
+-- what is due, by the release that stands
+module _ (x : Standing) (r : Option Kept) (n : ℕ) (e : x ≡ standing_as r) where
+  pub due_none : r ≡ None → due_at n x ≡ not_due
+  due_none z = ap (due_at n) (e ∙ ap standing_as z)
 
-  pub due_any_none : v ≡ 0 → due_any x ≡ not_due
-  due_any_none z = ap due_any (e ∙ word_none v z)
+  pub due_any_none : r ≡ None → due_any x ≡ not_due
+  due_any_none z = ap due_any (e ∙ ap standing_as z)
 
-  pub due_other : (v ≡ 0 → ⊥) → ((v - 1) % 2 ^ 32 ≡ n → ⊥) → due_at n x ≡ not_due
-  due_other z o = ap (due_at n) e ∙ rw (ne_eqb v 0 z, ne_eqb ((v - 1) % 2 ^ 32) n o)
+  module _ (k : Kept) (z : r ≡ Some k) where
+    pub due_other : (k.number ≡ n → ⊥) → due_at n x ≡ not_due
+    due_other o = ap (due_at n) (e ∙ ap standing_as z) ∙ rw (ne_eqb k.number n o)
 
-  pub due_this : (k : Kind) → standing_of v ≡ release_of k ((v - 1) % 2 ^ 32) → (v - 1) % 2 ^ 32 ≡ n → due_at n x ≡ due_now k
-  due_this k s o = ap (due_at n) (e ∙ s) ∙ rw (eq-eqb ((v - 1) % 2 ^ 32) n o)
+    pub due_this : k.number ≡ n → due_at n x ≡ due_now (kind_of k.kind)
+    due_this o = ap (due_at n) (e ∙ ap standing_as z) ∙ rw (eq-eqb k.number n o)
 
-  pub due_any_lem : (k : Kind) → standing_of v ≡ release_of k ((v - 1) % 2 ^ 32) → due_any x ≡ due_now k
-  due_any_lem k s = ap due_any (e ∙ s)
+    pub due_any_lem : due_any x ≡ due_now (kind_of k.kind)
+    due_any_lem = ap due_any (e ∙ ap standing_as z)
 
 pub due_unstood : (x : Standing) (n : ℕ) → stands x ≡ false → due_at n x ≡ not_due
 due_unstood no_release n e = refl

@@ -1,6 +1,6 @@
 -- The two lock messages that are done in few steps: an exclusive request while all is free, and a release that ends at once with nobody
 -- waiting. Assumes nothing.
-use Rattle.std.specs.Prelude.{◌≡◌, refl, true, false, List, [], ◌∷◌, ℕ, eqb, length}
+use Rattle.std.specs.Prelude.{◌≡◌, refl, true, false, Some, List, [], ◌∷◌, ℕ, eqb, length}
 use Rattle.std.proofs.Common.{◌∙◌, arith}
 use Rattle.std.proofs.lemmas.Bool.{not-true}
 use Rattle.model.specs.Lists.{all}
@@ -11,6 +11,7 @@ use Rattle.holding.specs.Access.{but_one, one_of}
 use Rattle.locks.specs.Asking.{decided_granted, holds_none, request_decided, unable_waits}
 use Rattle.grants.specs.Granting.{may_alone}
 use Rattle.holding.specs.Outcome.{told}
+use Rattle.holding.specs.declared.standing.LockKind.TheVariants.{Exclusive}
 use Rattle.locks.specs.Release.{freed, release_now, ruled_exclusive, ruled_now}
 use Rattle.locks.specs.Settled.{both, settled}
 
@@ -46,4 +47,4 @@ pub record Ended (l : Locks) (i n : ℕ) : Type 0 where
 pub ended_release : (l : Locks) (i n : ℕ) → Ended l i n
     → settled l (release i n) ≡ both (told (freed l i exclusive_lock) (tell l.entries i 1 false)) (grant_pass (freed l i exclusive_lock))
 ended_release l i n e =
-    release_now l i n exclusive_lock (ruled_exclusive (at l.entries i) n e.settles e.exclusive ∙ ruled_now 1 (eqb (at l.entries i).last n) (λ z. absurd (omega arith)) e.last)
+    release_now l i n exclusive_lock (ruled_exclusive (at l.entries i) n e.settles e.exclusive ∙ ruled_now (Some Exclusive) (eqb (at l.entries i).last n) Exclusive refl e.last)

@@ -1,6 +1,6 @@
 -- A release (02, Q-3): 3, at once, or it stands. Assumes nothing.
-use Rattle.std.specs.Prelude.{◌≡◌, refl, Bool, true, false, not, cond, List, ℕ, eqb}
-use Rattle.std.proofs.Common.{◌∙◌, eq-eqb, ne_eqb}
+use Rattle.std.specs.Prelude.{◌≡◌, refl, Bool, true, false, not, cond, Option, Some, None, List, ℕ, eqb}
+use Rattle.std.proofs.Common.{◌∙◌}
 use Rattle.std.proofs.Math.Path.{ap}
 use Rattle.model.specs.State.{Entry, Locks, Server, Kind, Kind.exclusive_lock, Kind.shared_lock, Standing, Standing.release_of, at, blank}
 use Rattle.model.specs.Locks.{LockEvent.release, Releasing, Releasing.r_invalid, Releasing.r_now, Releasing.r_stands, tell, no_shared, without, with_order}
@@ -11,42 +11,45 @@ use Rattle.state.specs.View.{standing_of}
 use Rattle.holding.specs.Outcome.{told}
 use Rattle.locks.specs.Settled.{both, settled}
 use Rattle.holding.specs.Standing.{kind_of}
+use Rattle.holding.specs.declared.standing.LockKind.{LockKind}
+use Rattle.holding.specs.declared.standing.LockKind.TheVariants.{Exclusive, Shared}
 
--- by the lock that it frees (0: none, or a release stands) and whether the number that it names is the last message's
-abbrev pub ruled_by : ℕ → Bool → Releasing
-ruled_by r a = cond (eqb r 0) r_invalid (cond a (r_now (kind_of r)) (r_stands (kind_of r)))
+-- by the lock that it frees (none: none is held, or a release stands) and whether the number that it names is the last message's
+abbrev pub ruled_by : Option LockKind → Bool → Releasing
+ruled_by None a = r_invalid
+ruled_by (Some k) a = cond a (r_now (kind_of k)) (r_stands (kind_of k))
 
 module _ (e : Entry) (n : ℕ) where
-  pub ruled_standing : stands e.standing ≡ true → releasing_of e n ≡ ruled_by 0 (eqb e.last n)
+  pub ruled_standing : stands e.standing ≡ true → releasing_of e n ≡ ruled_by None (eqb e.last n)
   ruled_standing h = rw h
 
-  pub ruled_exclusive : stands e.standing ≡ false → e.exclusive ≡ true → releasing_of e n ≡ ruled_by 1 (eqb e.last n)
+  pub ruled_exclusive : stands e.standing ≡ false → e.exclusive ≡ true → releasing_of e n ≡ ruled_by (Some Exclusive) (eqb e.last n)
   ruled_exclusive h x = rw (h, x) (by (eqb e.last n))
     where
       by : (a : Bool) → releasing false true (no_shared e) a ≡ cond a (r_now exclusive_lock) (r_stands exclusive_lock)
       by true = refl
       by false = refl
 
-  pub ruled_shared : stands e.standing ≡ false → e.exclusive ≡ false → no_shared e ≡ not true → releasing_of e n ≡ ruled_by 2 (eqb e.last n)
+  pub ruled_shared : stands e.standing ≡ false → e.exclusive ≡ false → no_shared e ≡ not true → releasing_of e n ≡ ruled_by (Some Shared) (eqb e.last n)
   ruled_shared h x y = rw (h, x, y) (by (eqb e.last n))
     where
       by : (a : Bool) → releasing false false false a ≡ cond a (r_now shared_lock) (r_stands shared_lock)
       by true = refl
       by false = refl
 
-  pub ruled_nothing : stands e.standing ≡ false → e.exclusive ≡ false → no_shared e ≡ not false → releasing_of e n ≡ ruled_by 0 (eqb e.last n)
+  pub ruled_nothing : stands e.standing ≡ false → e.exclusive ≡ false → no_shared e ≡ not false → releasing_of e n ≡ ruled_by None (eqb e.last n)
   ruled_nothing h x y = rw (h, x, y)
 
 -- by the code's tests
-module _ (r : ℕ) where
-  pub ruled_invalid : (a : Bool) → r ≡ 0 → ruled_by r a ≡ r_invalid
-  ruled_invalid a e = rw (eq-eqb r 0 e)
+module _ (r : Option LockKind) (a : Bool) where
+  pub ruled_invalid : r ≡ None → ruled_by r a ≡ r_invalid
+  ruled_invalid e = rw e
 
-  pub ruled_now : (a : Bool) → (r ≡ 0 → ⊥) → a ≡ true → ruled_by r a ≡ r_now (kind_of r)
-  ruled_now a o e = rw (ne_eqb r 0 o, e)
+  pub ruled_now : (k : LockKind) → r ≡ Some k → a ≡ true → ruled_by r a ≡ r_now (kind_of k)
+  ruled_now k e h = rw (e, h)
 
-  pub ruled_stands : (a : Bool) → (r ≡ 0 → ⊥) → a ≡ false → ruled_by r a ≡ r_stands (kind_of r)
-  ruled_stands a o e = rw (ne_eqb r 0 o, e)
+  pub ruled_stands : (k : LockKind) → r ≡ Some k → a ≡ false → ruled_by r a ≡ r_stands (kind_of k)
+  ruled_stands k e h = rw (e, h)
 
 -- the lock is free
 abbrev pub freed : Locks → ℕ → Kind → Locks

@@ -6,7 +6,7 @@ ghost use Rattle.holding.specs.Standing.{kind_of};
 ghost use Rattle.model.specs.Bound.{answers_room};
 ghost use Rattle.model.specs.Locks.Due.{due_now};
 ghost use Rattle.model.specs.Locks.LockEvent.{clear, command};
-ghost use Rattle.model.specs.Locks.{change, completed, due_any, release_code, stands};
+ghost use Rattle.model.specs.Locks.{change, completed, due_any, stands};
 ghost use Rattle.model.specs.Sizes.{before_first, session_limit};
 ghost use Rattle.model.specs.State;
 ghost use Rattle.state.specs.Change.{on_entry, order_with};
@@ -14,7 +14,7 @@ ghost use Rattle.state.specs.View.{locks_of, memory, view};
 
 use grants::grant_pass;
 use holding::answers::put_answer;
-use holding::standing::NUMBERS;
+use holding::standing::LockKind;
 use holding::{standing, waiting};
 use state::sizes::{BEFORE_FIRST, Strings, Words};
 use state::tables;
@@ -26,14 +26,14 @@ fn complete(
     out: &mut [u8],
     at: usize,
     i: usize,
-    kind: u8,
+    kind: LockKind,
     n: u64,
 ) -> usize
-    requires { (i < session_limit) × (at + 17 ≤ length out.old) × (n < 2 ^ 32) × (release_code (kind_of kind) ≡ kind) }
+    requires { (i < session_limit) × (at + 17 ≤ length out.old) × (n < 2 ^ 32) }
     ensures { (result ≡ at + 17) × Met (completed (due_now (kind_of kind)) (locks_of w.old strings.old) i n)
         (memory w.old strings.old) (memory w.new strings.new) out.old out.new at result }
 {
-    let r = put_answer(w, out, at, i, kind);
+    let r = put_answer(w, out, at, i, kind.code());
     standing::free_lock(w, strings, i, kind);
     tables::set_order(w, i, tables::LAST_NUMBER, n);
     tables::set_order(w, i, tables::STANDING, 0);
@@ -53,18 +53,16 @@ pub fn at_message(
     ensures { Met (settled (locks_of w.old strings.old) (command i n)) (memory w.old strings.old)
         (memory w.new strings.new) out.old out.new at result }
 {
-    let word = tables::order(w, i, tables::STANDING);
-    let number = n as u64;
-    if word == 0 {
-        tables::set_order(w, i, tables::LAST_NUMBER, number);
-        return at;
+    match standing::standing_at(w, i) {
+        Some(release) if release.number == n => {
+            let r = complete(w, strings, out, at, i, release.kind, n as u64);
+            grant_pass::grant_waiting(w, strings, out, r)
+        }
+        _ => {
+            tables::set_order(w, i, tables::LAST_NUMBER, n as u64);
+            at
+        }
     }
-    if (word - 1) % NUMBERS != number {
-        tables::set_order(w, i, tables::LAST_NUMBER, number);
-        return at;
-    }
-    let r = complete(w, strings, out, at, i, standing::kind_in(word), number);
-    grant_pass::grant_waiting(w, strings, out, r)
 }
 
 // The same where no release of slot i stands: the number is noted, nothing else is changed, and nothing is told.
@@ -84,20 +82,11 @@ fn complete_any(w: &mut Words, strings: &mut Strings, out: &mut [u8], at: usize,
         (locks_of w.old strings.old) i before_first) (memory w.old strings.old)
         (memory w.new strings.new) out.old out.new at result }
 {
-    let word = tables::order(w, i, tables::STANDING);
-    if word == 0 {
+    let Some(release) = standing::standing_at(w, i) else {
         tables::set_order(w, i, tables::LAST_NUMBER, BEFORE_FIRST);
         return at;
-    }
-    complete(
-        w,
-        strings,
-        out,
-        at,
-        i,
-        standing::kind_in(word),
-        BEFORE_FIRST,
-    )
+    };
+    complete(w, strings, out, at, i, release.kind, BEFORE_FIRST)
 }
 
 // A device clear: the request of slot i is answered 0, then a release that stands takes effect.

@@ -1,4 +1,4 @@
-// The lock rules of 01 in code: requests, releases, and a release that takes effect later. Each function does to the lent memory and the
+// The lock rules in code: requests, releases, and a release that takes effect later. Each function does to the lent memory and the
 // output what the model says of one lock event.
 #![tactic(auto)]
 

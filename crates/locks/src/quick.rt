@@ -17,7 +17,7 @@ use crate::request::request_lock;
 use grants::granting;
 use holding::answers::put_answer_to;
 use holding::standing;
-use holding::standing::EXCLUSIVE;
+use holding::standing::LockKind;
 use queue::requests;
 use state::holders;
 use state::sizes::{Strings, Words};
@@ -27,19 +27,14 @@ fn is_free(w: &Words, i: usize) -> bool
     requires { i < session_limit }
     ensures { result ≡ true → (s : List ℕ) → Free (locks_of w.now s) i }
 {
-    if standing::stands(w, i) {
-        return false;
-    }
-    if !holders::nobody_exclusive(w) {
-        return false;
-    }
-    if !holders::nobody_shares(w) {
-        return false;
-    }
-    requests::waiting_count(w) == 0
+    !standing::stands(w, i)
+        && holders::nobody_exclusive(w)
+        && holders::nobody_shares(w)
+        && requests::waiting_count(w) == 0
 }
 
 // A request of slot i.
+// Kept: the few steps stand beside `request_lock`, so that the way of the message that is mostly sent has no call in it.
 pub fn request_quickly(
     w: &mut Words,
     strings: &mut Strings,
@@ -54,13 +49,11 @@ pub fn request_quickly(
     ensures { Met (change (locks_of w.old strings.old) (request i timeout string.now))
         (memory w.old strings.old) (memory w.new strings.new) out.old out.new at result }
 {
-    if string.len() == 0 {
-        if is_free(w, i) {
-            let r = put_answer_to(w, out, at, c, i, 1);
-            holders::give_exclusive(w, i);
-            granting::note_grant(w, i);
-            return r;
-        }
+    if string.is_empty() && is_free(w, i) {
+        let r = put_answer_to(w, out, at, c, i, 1);
+        holders::give_exclusive(w, i);
+        granting::note_grant(w, i);
+        return r;
     }
     request_lock(w, strings, out, at, i, timeout, string)
 }
@@ -70,19 +63,14 @@ fn ends_at_once(w: &Words, i: usize, n: u32) -> bool
     requires { i < session_limit }
     ensures { result ≡ true → (s : List ℕ) → Ended (locks_of w.now s) i n }
 {
-    if standing::stands(w, i) {
-        return false;
-    }
-    if !holders::is_exclusive(w, i) {
-        return false;
-    }
-    if !standing::is_last(w, i, n) {
-        return false;
-    }
-    requests::waiting_count(w) == 0
+    !standing::stands(w, i)
+        && holders::is_exclusive(w, i)
+        && standing::is_last(w, i, n)
+        && requests::waiting_count(w) == 0
 }
 
 // A release of slot i that names message n.
+// Kept: the few steps stand beside `release_lock`, for the same reason.
 pub fn release_quickly(
     w: &mut Words,
     strings: &mut Strings,
@@ -97,7 +85,7 @@ pub fn release_quickly(
         (memory w.new strings.new) out.old out.new at result }
 {
     if ends_at_once(w, i, n) {
-        let r = put_answer_to(w, out, at, c, i, EXCLUSIVE);
+        let r = put_answer_to(w, out, at, c, i, LockKind::Exclusive.code());
         holders::drop_exclusive(w, i);
         return r;
     }

@@ -24,9 +24,10 @@ fn holds_kind(w: &Words, i: usize, n: usize) -> bool
     ensures { (s k : List ℕ) → length k ≡ n → holds k (at (locks_of w.now s).entries i) ≡ result }
 {
     if n == 0 {
-        return holders::is_exclusive(w, i);
+        holders::is_exclusive(w, i)
+    } else {
+        holders::is_sharing(w, i)
     }
-    holders::is_sharing(w, i)
 }
 
 // Does no request of slot i wait?
@@ -36,13 +37,10 @@ fn is_idle(w: &Words, i: usize) -> bool
     if requests::nobody_waits(w) {
         return true;
     }
-    let n = requests::waiting_count(w);
-    let mut j = 0;
-    while j < n {
+    for j in 0..requests::waiting_count(w) {
         if requests::waiting_slot(w, j) == i {
             return false;
         }
-        j += 1;
     }
     true
 }
@@ -52,26 +50,14 @@ fn is_invalid(w: &Words, i: usize, n: usize) -> bool
     requires { i < session_limit }
     ensures { (s k : List ℕ) → length k ≡ n → unable (locks_of w.now s) i k ≡ result }
 {
-    if n > STRING_LIMIT {
-        return true;
-    }
-    if standing::stands(w, i) {
-        return true;
-    }
-    if holds_kind(w, i, n) {
-        return true;
-    }
-    !is_idle(w, i)
+    n > STRING_LIMIT || standing::stands(w, i) || holds_kind(w, i, n) || !is_idle(w, i)
 }
 
 // Can a request not wait?
 fn cannot_wait(w: &Words, timeout: u32) -> bool
     ensures { (s : List ℕ) → (eqb timeout 0 || no_place (locks_of w.now s).waiting) ≡ result }
 {
-    if timeout == 0 {
-        return true;
-    }
-    requests::waiting_count(w) >= SESSION_LIMIT
+    timeout == 0 || requests::waiting_count(w) >= SESSION_LIMIT
 }
 
 // The request of slot i waits until the clock and the timeout: only now its string is laid into its place.

@@ -8,9 +8,9 @@ use Rattle.wire.specs.Field.{field}
 use Rattle.wire.specs.Message.{header, encode, header_bytes}
 use Rattle.wire.specs.Frame.{frame_bytes, bytes_of}
 use Rattle.wire.specs.Class.{class_of}
-use Rattle.commands.specs.declared.Judged.{Judged}
-use Rattle.commands.specs.declared.Judged.TheVariants.{Taken, BadPattern, TooMany}
-use Rattle.commands.specs.Lists.{lines_of, command_of}
+use Rattle.commands.specs.declared.ListFault.TheVariants.{BadPattern, TooMany}
+use Rattle.std.specs.Prelude.{Ok, Err}
+use Rattle.commands.specs.Lists.{Judged, lines_of, command_of}
 use Rattle.commands.specs.Lists as Lists
 use Rattle.commands.specs.Rulings.{judged, judged_from}
 use Rattle.model.specs.State.{Server}
@@ -74,6 +74,6 @@ unfolding refusal causes
 by_ruling d text = go (judged (lines_of text))
   where
     go : (j : Judged) → first_cause (record { test = is_too_many j; number = too_many_patterns } ∷ record { test = is_bad j; number = bad_pattern } ∷ []) ≡ Lists.refusal j
-    go Taken = refl
-    go (BadPattern k i) = refl
-    go TooMany = refl
+    go (Ok u) = refl
+    go (Err (BadPattern k i)) = refl
+    go (Err TooMany) = refl

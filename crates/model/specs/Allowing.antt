@@ -1,9 +1,8 @@
--- 02, Q-12: which payloads of a DataEND the server allows. `Admits` says it without a search, `admits` answers it, and they say the same.
+-- Which payloads of a DataEND the server allows. `Admits` says it without a search, `admits` answers it, and they say the same.
 -- Assumes nothing.
-use Rattle.std.specs.Prelude.{◌≡◌, refl, ◌↔◌, Bool, true, false, List, ℕ}
-use Rattle.commands.specs.declared.Judged.{Judged}
-use Rattle.commands.specs.declared.Judged.TheVariants.{Taken, BadPattern, TooMany}
-use Rattle.commands.specs.Lists.{lines_of, command_of, Allows}
+use Rattle.std.specs.Prelude.{◌≡◌, refl, ◌↔◌, Bool, true, false, List, ℕ, Ok, Err}
+use Rattle.commands.specs.declared.ListFault.TheVariants.{BadPattern, TooMany}
+use Rattle.commands.specs.Lists.{Judged, lines_of, command_of, Allows}
 use Rattle.commands.specs.Deciding.{allows, allows_is}
 use Rattle.model.specs.State.{Allowed, Allowed.any_command, Allowed.only}
 
@@ -22,11 +21,11 @@ admits_is (only text) p = allows_is (lines_of text) (command_of p)
 
 -- the ruling on a list that the host sets: it has a bad pattern, it has too many
 abbrev pub is_bad : Judged → Bool
-is_bad Taken = false
-is_bad (BadPattern k i) = true
-is_bad TooMany = false
+is_bad (Ok u) = false
+is_bad (Err (BadPattern k i)) = true
+is_bad (Err TooMany) = false
 
 abbrev pub is_too_many : Judged → Bool
-is_too_many Taken = false
-is_too_many (BadPattern k i) = false
-is_too_many TooMany = true
+is_too_many (Ok u) = false
+is_too_many (Err (BadPattern k i)) = false
+is_too_many (Err TooMany) = true

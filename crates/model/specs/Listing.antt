@@ -1,9 +1,8 @@
--- 02, Q-12: "The first bad pattern is refused as 11 with the place of the first byte that no pattern could have there": which one and where.
+-- "The first bad pattern is refused as 11 with the place of the first byte that no pattern could have there": which one and where.
 -- Nothing that is kept depends on it: it is read off the call beside the reply. Assumes nothing.
-use Rattle.std.specs.Prelude.{◌≡◌, List, [], ℕ, ◌≤◌, ◌<◌, length}
-use Rattle.commands.specs.declared.Judged.{Judged}
-use Rattle.commands.specs.declared.Judged.TheVariants.{Taken, BadPattern, TooMany}
-use Rattle.commands.specs.Lists.{lines_of, Listed, FirstBad}
+use Rattle.std.specs.Prelude.{◌≡◌, List, [], ℕ, ◌≤◌, ◌<◌, length, Ok, Err}
+use Rattle.commands.specs.declared.ListFault.TheVariants.{BadPattern, TooMany}
+use Rattle.commands.specs.Lists.{Judged, lines_of, Listed, FirstBad}
 use Rattle.commands.specs.Rulings.{judged}
 use Rattle.model.specs.State.{Server, Allowed.only, with_allowed}
 use Rattle.model.specs.Interface.{Event.setting, Setting.patterns, Reply, Reply.refused, Reply.done, Reply.withheld, Reply.took, bad_pattern, too_many_patterns}
@@ -11,14 +10,14 @@ use Rattle.model.specs.Step.{Result, step}
 
 -- the first bad pattern, from 0, and the place in it
 abbrev pub pattern_of : Judged → ℕ
-pattern_of Taken = 0
-pattern_of (BadPattern k i) = k
-pattern_of TooMany = 0
+pattern_of (Ok u) = 0
+pattern_of (Err (BadPattern k i)) = k
+pattern_of (Err TooMany) = 0
 
 abbrev pub place_of : Judged → ℕ
-place_of Taken = 0
-place_of (BadPattern k i) = i
-place_of TooMany = 0
+place_of (Ok u) = 0
+place_of (Err (BadPattern k i)) = i
+place_of (Err TooMany) = 0
 
 -- what hislip_patterns returns: where nothing is refused each number is 0
 pub record ListedAnswer : Type 0 where

@@ -1,13 +1,12 @@
 -- A part of an entry moved into the book step by step. Assumes nothing.
-use Rattle.std.specs.Prelude.{◌≡◌, refl, List, [], ◌∷◌, ◌++◌, ℕ, zero, suc, ◌+◌, ◌-◌, ◌*◌, ◌/◌, ◌≤◌, get_or, set, take, drop}
-use Rattle.std.proofs.Common.{sym, ap₂, ◌∙◌, add-zero, length-take, take-add, drop-cons}
-use Rattle.std.proofs.Math.Path.{ap}
-use Rattle.std.proofs.Math.Nat.{sub-zero}
-use native.Mathlib.Omega.{arith}
-use Rattle.std.proofs.Math.ListN.{length}
-use Rattle.std.proofs.Math.Seq.{slice, slice_empty, length-slice, take-length, take-nil}
-use Rattle.std.proofs.lemmas.List.{drop-append-le}
-use Rattle.wire.specs.Splice.{splice, splice_nil, splice_splice, length_splice, stores, stores_splice}
+use Rattle.std.specs.Prelude.{◌≡◌, refl, List, [], ◌∷◌, ◌++◌, ℕ, zero, suc, ◌+◌, ◌-◌, ◌*◌, ◌/◌, ◌%◌, ◌≤◌, ◌<◌, get_or, set, take, drop, replicate, length}
+use Rattle.std.proofs.Common.{sym, ap, ap₂, ◌∙◌, add-zero, append-nil, length-take, take-add, drop_of_length-le, mod-lt, arith}
+use Rattle.std.proofs.Math.Nat.{sub-zero, mul_assoc, add-mul, one-mul, mul-add-div_right, div-eq_of_lt}
+use Rattle.std.proofs.Math.Seq.{slice, slice_empty, length-slice, take-length, take-nil, paste}
+use Rattle.std.proofs.lemmas.Nat.{div-add-mod'}
+use Rattle.std.proofs.lemmas.List.{drop-append-le, drop-take, length-replicate}
+use Rattle.std.proofs.lemmas.List.Edits.{paste_more}
+use Rattle.wire.specs.Splice.{splice, splice_nil, splice_splice, length_splice, paste_splice}
 
 -- the bytes of s from place f up to place t, put where they belong in l if s begins at a; every other byte keeps its value
 unfoldable pub moved : List ℕ → ℕ → List ℕ → ℕ → ℕ → List ℕ
@@ -64,14 +63,15 @@ module _ (l : List ℕ) (a : ℕ) (s : List ℕ) (fits : a + length s ≤ length
   behind f m t p q h e₁ e₂ = e₂ ∙ ap (λ (x : List ℕ). moved x a s m t) e₁ ∙ moved_moved f m t p q h
 
   pub rest_moved : {l₁ l₂ l₃ l₄ : List ℕ} → l₁ ≡ moved l a s (length s / 16 * 16) (length s / 8 * 8) → l₂ ≡ moved l₁ a s (length s / 8 * 8) (length s / 4 * 4)
-      → l₃ ≡ moved l₂ a s (length s / 4 * 4) (length s / 2 * 2) → l₄ ≡ moved l₃ a s (length s / 2 * 2) (length s) → l₄ ≡ moved l a s (length s / 16 * 16) (length s)
-  rest_moved e₁ e₂ e₃ e₄ =
+      → l₃ ≡ moved l₂ a s (length s / 4 * 4) (length s / 2 * 2) → l₄ ≡ moved l₃ a s (length s / 2 * 2) (length s / 1 * 1) → l₄ ≡ moved l a s (length s / 16 * 16) (length s)
+  rest_moved {l₃ = l₃} {l₄ = l₄} e₁ e₂ e₃ e₄ =
       let n : ℕ = length s in
+      let one : n / 1 * 1 ≡ n = omega arith in
       behind (n / 16 * 16) (n / 2 * 2) n (omega arith) (omega arith) (omega arith)
       (behind (n / 16 * 16) (n / 4 * 4) (n / 2 * 2) (omega arith) (omega arith) (omega arith)
       (behind (n / 16 * 16) (n / 8 * 8) (n / 4 * 4) (omega arith) (omega arith) (omega arith) e₁ e₂)
       e₃)
-      e₄
+      (some_left l₃ l₄ a s (n / 2 * 2) n (n / 1 * 1) e₄ one)
 
   pub part_moved : {l₁ l₂ : List ℕ} → l₁ ≡ moved l a s 0 (length s / 16 * 16) → l₂ ≡ moved l₁ a s (length s / 16 * 16) (length s) → l₂ ≡ splice l a s
   part_moved e₁ e₂ = behind 0 (length s / 16 * 16) (length s) (omega arith) (omega arith) (omega arith) e₁ e₂ ∙ moved_all l a s
@@ -80,47 +80,44 @@ module _ (l : List ℕ) (a : ℕ) (s : List ℕ) (fits : a + length s ≤ length
 pub empty_moved : (l : List ℕ) (a : ℕ) (s : List ℕ) → length s ≡ 0 → l ≡ splice l a s
 empty_moved l a s e = none_left l a s 0 (length s) e ∙ moved_all l a s
 
--- the n elements from i + j on. At a numeral n it computes to what the code has read
-abbrev pub reads : List ℕ → ℕ → ℕ → ℕ → List ℕ
-reads s i j zero = []
-reads s i j (suc n) = get_or s (i + j) 0 ∷ reads s i (j + 1) n
+-- one byte more is read
+pub read_more : (n : ℕ) (d : List ℕ) (k : ℕ) → k < n → k < length d → set (paste (replicate n 0) 0 d k) k (get_or d k 0) ≡ paste (replicate n 0) 0 d (k + 1)
+read_more n d k h l =
+    let z : 0 + k ≡ k = omega arith in
+    let r : List ℕ = replicate n 0 in
+    ap (λ (j : ℕ). set (paste r 0 d k) j (get_or d k 0)) (sym z) ∙ paste_more r 0 d k 0 (omega (arith, length-replicate {A = ℕ} n 0)) l
 
-reads_are : (s : List ℕ) (i j n : ℕ) → i + j + n ≤ length s → reads s i j n ≡ take n (drop (i + j) s)
-reads_are s i j zero h = refl
-reads_are s i j (suc n) h =
-    let d : drop (i + j) s ≡ get_or s (i + j) 0 ∷ drop (suc (i + j)) s = drop-cons s (i + j) 0 (omega arith) in
-    let f : i + (j + 1) ≡ suc (i + j) = omega arith in
-    ap (λ (x : List ℕ). get_or s (i + j) 0 ∷ x) (reads_are s i (j + 1) n (omega arith) ∙ ap (λ (k : ℕ). take n (drop k s)) f)
-    ∙ ap (take (suc n)) (sym d)
+-- n bytes read in a row are the part's from there
+pub all_read : (n : ℕ) (s b : List ℕ) (i k : ℕ) → i + n ≤ length s → k ≤ n → n ≤ k → b ≡ paste (replicate n 0) 0 (drop i s) k → b ≡ slice i (i + n) s
+all_read n s b i k h p q e =
+    let z : k ≡ n = omega arith in
+    let o : 0 + n ≡ n = omega arith in
+    let r : List ℕ = replicate n 0 in
+    let d : drop n r ≡ [] = drop_of_length-le r (omega (arith, length-replicate {A = ℕ} n 0)) in
+    e ∙ rw (z, o, d) (append-nil (take n (drop i s))) ∙ sym (drop-take i n s)
 
-length_reads : (s : List ℕ) (i j n : ℕ) → length (reads s i j n) ≡ n
-length_reads s i j zero = refl
-length_reads s i j (suc n) = ap suc (length_reads s i (j + 1) n)
-
-first_and_more : (n : ℕ) (s : List ℕ) (i : ℕ) → i + suc n ≤ length s → get_or s i 0 ∷ reads s i 1 n ≡ slice i (i + suc n) s
-first_and_more n s i h =
-    let d : drop i s ≡ get_or s i 0 ∷ drop (suc i) s = drop-cons s i 0 (omega arith) in
-    let f : i + 1 ≡ suc i = omega arith in
-    let k : i + suc n - i ≡ suc n = omega arith in
-    ap (λ (x : List ℕ). get_or s i 0 ∷ x) (reads_are s i 1 n (omega arith) ∙ ap (λ (m : ℕ). take n (drop m s)) f)
-    ∙ ap (take (suc n)) (sym d)
-    ∙ ap (λ (m : ℕ). take m (drop i s)) (sym k)
-    ∙ sym (drop_take i (i + suc n) s)
-
--- what was read, stored one behind the other
-pub step_moved : (n : ℕ) (l : List ℕ) (a : ℕ) (s : List ℕ) (i : ℕ) → a + i + suc n ≤ length l → i + suc n ≤ length s
-    → stores (set l (a + i) (get_or s i 0)) (a + i) 1 (reads s i 1 n) ≡ moved l a s i (i + suc n)
+-- and written one behind the other they are moved
+pub all_written : (n : ℕ) (l : List ℕ) (a : ℕ) (s b m : List ℕ) (i j : ℕ) → i + n ≤ length s → j ≤ n → n ≤ j → b ≡ slice i (i + n) s → m ≡ paste l (a + i) b j → m ≡ moved l a s i (i + n)
 unfolding moved
-step_moved n l a s i p h =
-    let k : a + i + length (get_or s i 0 ∷ reads s i 1 n) ≤ length l = omega (arith, length_reads s i 1 n) in
-    stores_splice l (a + i) (get_or s i 0) (reads s i 1 n) k ∙ ap (splice l (a + i)) (first_and_more n s i h)
+all_written n l a s b m i j h p q e f =
+    let z : length b ≡ n = ap length e ∙ length-slice i (i + n) s h ∙ omega arith in
+    f ∙ paste_splice l (a + i) b j (omega (arith, z)) ∙ ap (splice l (a + i)) e
 
--- the same in two halves
-pub halves_moved : (l : List ℕ) (a : ℕ) (s : List ℕ) (i : ℕ) {l₁ l₂ : List ℕ} → a + i + 16 ≤ length l → i + 16 ≤ length s
-    → l₁ ≡ splice l (a + i) (get_or s i 0 ∷ reads s i 1 7) → l₂ ≡ splice l₁ (a + i + 8) (reads s i 8 8) → l₂ ≡ moved l a s i (i + 16)
-unfolding moved
-halves_moved l a s i p h e₁ e₂ =
-    e₂
-    ∙ ap (λ (x : List ℕ). splice x (a + i + 8) (reads s i 8 8)) e₁
-    ∙ splice_splice l (a + i) (get_or s i 0 ∷ reads s i 1 7) (omega arith) (reads s i 8 8)
-    ∙ ap (splice l (a + i)) (first_and_more 15 s i h)
+-- a length by steps of d and of 2 d: the same, or one step of d more
+halved : (n d : ℕ) → 0 < d → n / d ≡ n / (2 * d) * 2 + n % (2 * d) / d
+halved n d h =
+    let e : n ≡ n / (2 * d) * 2 * d + n % (2 * d) = sym (div-add-mod' n (2 * d)) ∙ ap (λ (x : ℕ). x + n % (2 * d)) (sym (mul_assoc (n / (2 * d)) 2 d)) in
+    ap (λ (x : ℕ). x / d) e ∙ mul-add-div_right h (n / (2 * d) * 2) (n % (2 * d))
+
+pub none_more : (n d : ℕ) → 0 < d → n % (2 * d) < d → n / d * d ≡ n / (2 * d) * (2 * d)
+none_more n d h l =
+    let z : n % (2 * d) / d ≡ 0 = div-eq_of_lt l in
+    rw (halved n d h, z, add-zero, mul_assoc) refl
+
+pub one_more : (n d : ℕ) → 0 < d → d ≤ n % (2 * d) → n / (2 * d) * (2 * d) + d ≡ n / d * d
+one_more n d h l =
+    let m : n % (2 * d) < 2 * d = mod-lt n (omega arith) in
+    let s : n % (2 * d) - d < d = omega arith in
+    let f : n % (2 * d) ≡ 1 * d + (n % (2 * d) - d) = omega arith in
+    let z : n % (2 * d) / d ≡ 1 = ap (λ (x : ℕ). x / d) f ∙ mul-add-div_right h 1 (n % (2 * d) - d) ∙ ap (λ (x : ℕ). 1 + x) (div-eq_of_lt s) in
+    sym (rw (halved n d h, z, add-mul, mul_assoc, one-mul) refl)

@@ -1,8 +1,10 @@
 -- The questions' answers as numbers. Assumes nothing.
-use Rattle.std.specs.Prelude.{◌≡◌, Bool, true, false, cond, ℕ}
+use Rattle.std.specs.Prelude.{◌≡◌, refl, Bool, true, false, cond, Result, Ok, Err, ℕ}
+use Rattle.sessions.specs.Refusals.{number_of}
+use Rattle.sessions.specs.declared.refusal.Refusal.{Refusal}
 use Rattle.std.proofs.Common.{ap, ◌∙◌, sym}
 use Rattle.readings.specs.Bits.{bits}
-use Rattle.readings.specs.Record.{Recorded}
+use Rattle.readings.specs.Record.{Recorded, nothing, once_seen}
 use Rattle.model.specs.State.{Server, at, live, slot_of_number, exchange_at, sensing_at}
 use Rattle.model.specs.Interface.{no_such_session}
 use Rattle.model.specs.Asking.{DeadlineAnswer, SizeAnswer, size_answer, ReadingsAnswer, no_readings, readings_told, readings_answer}
@@ -15,6 +17,11 @@ deadline_numbers r = record { waiting = r.waiting; deadline = r.deadline }
 
 abbrev pub size_numbers : Size → SizeAnswer
 size_numbers r = record { refusal = r.refusal; size = r.size }
+
+-- a size that is told, or a refusal
+abbrev pub size_told : Result ℕ Refusal → Size
+size_told (Ok x) = record { refusal = 0; size = x }
+size_told (Err e) = record { refusal = number_of e; size = 0 }
 
 -- by the slot found, and whether it is live
 module _ (d : Server) (n i : ℕ) (f : slot_of_number d.locks.entries n ≡ i) (r : Size) where
@@ -30,9 +37,17 @@ module _ (d : Server) (n i : ℕ) (f : slot_of_number d.locks.entries n ≡ i) (
   pub session_size : (x : ℕ) → live (at d.locks.entries i) ≡ true → (exchange_at d.rest i).client_size ≡ x → r ≡ record { refusal = 0; size = x } → size_numbers r ≡ size_answer d n
   session_size x e z q = ap size_numbers q ∙ ap (λ (y : ℕ). record { refusal = 0; size = y }) (sym z) ∙ sym (by_slot true e)
 
--- 02, Q-11: a record by its bits
+-- a record by its bits
 abbrev pub readings_numbers : Readings → ReadingsAnswer
 readings_numbers r = record { refusal = r.refusal; seen = r.seen; last = bits r.last; lowest = bits r.lowest; highest = bits r.highest }
+
+-- what is told of a record is what it says
+told_once : (r : Recorded) → readings_told (once_seen r) ≡ readings_told r
+told_once r = go r.seen refl
+  where
+    go : (t : Bool) → r.seen ≡ t → readings_told (cond t r nothing) ≡ readings_told r
+    go true e = refl
+    go false e = rw e
 
 module _ (d : Server) (n i : ℕ) (f : slot_of_number d.locks.entries n ≡ i) (x : ReadingsAnswer) where
   told_by_lem : (b : Bool) → live (at d.locks.entries i) ≡ b → readings_answer d n ≡ cond b (readings_told (sensing_at d.rest i).recorded) (no_readings no_such_session)
@@ -43,11 +58,11 @@ module _ (d : Server) (n i : ℕ) (f : slot_of_number d.locks.entries n ≡ i) (
   pub nobody_told : live (at d.locks.entries i) ≡ false → x ≡ no_readings no_such_session → x ≡ readings_answer d n
   nobody_told e q = q ∙ sym (told_by_lem false e)
 
-  pub none_told : (r : Recorded) → live (at d.locks.entries i) ≡ true → r ≡ (sensing_at d.rest i).recorded → r.seen ≡ false → x ≡ no_readings 0 → x ≡ readings_answer d n
-  none_told r e q s z = z ∙ sym (told_by_lem true e ∙ ap readings_told (sym q)
+  pub none_told : (r : Recorded) → live (at d.locks.entries i) ≡ true → r ≡ once_seen (sensing_at d.rest i).recorded → r.seen ≡ false → x ≡ no_readings 0 → x ≡ readings_answer d n
+  none_told r e q s z = z ∙ sym (told_by_lem true e ∙ sym (told_once (sensing_at d.rest i).recorded) ∙ ap readings_told (sym q)
       ∙ ap (λ (b : Bool). cond b (record { refusal = 0; seen = 1; last = r.last; lowest = r.lowest; highest = r.highest }) (no_readings 0)) s)
 
-  pub some_told : (r : Recorded) → live (at d.locks.entries i) ≡ true → r ≡ (sensing_at d.rest i).recorded → r.seen ≡ true
+  pub some_told : (r : Recorded) → live (at d.locks.entries i) ≡ true → r ≡ once_seen (sensing_at d.rest i).recorded → r.seen ≡ true
       → x ≡ record { refusal = 0; seen = 1; last = r.last; lowest = r.lowest; highest = r.highest } → x ≡ readings_answer d n
-  some_told r e q s z = z ∙ sym (told_by_lem true e ∙ ap readings_told (sym q)
+  some_told r e q s z = z ∙ sym (told_by_lem true e ∙ sym (told_once (sensing_at d.rest i).recorded) ∙ ap readings_told (sym q)
       ∙ ap (λ (b : Bool). cond b (record { refusal = 0; seen = 1; last = r.last; lowest = r.lowest; highest = r.highest }) (no_readings 0)) s)

@@ -1,16 +1,18 @@
 // What a host may ask; nothing is changed by it.
 ghost use Rattle.model.specs.Asking.{deadline_answer, size_answer};
-ghost use Rattle.questions.specs.Asking.{deadline_numbers, size_numbers};
+ghost use Rattle.questions.specs.Asking.{deadline_numbers, size_numbers, size_told};
 ghost use Rattle.state.specs.View.{memory, view};
-ghost use Rattle.std.specs.Prelude.{◌≡◌};
+ghost use Rattle.std.specs.Prelude.{List, ℕ, ◌≡◌};
 
-use crate::NO_SUCH_SESSION;
+use crate::found::live_slot;
 use holding::deadline;
 use queue::requests;
-use state::sizes::{SESSION_LIMIT, Strings, Words};
-use state::{search, tables};
+use sessions::refusal::Refusal;
+use state::sizes::{Strings, Words};
+use state::tables;
 
 // How many requests wait, and the earliest deadline (0 if none waits).
+// Kept: a number for the refusal, in Size, and 0 for no deadline, in Deadline, since these are structs of the C interface.
 #[repr(C)]
 #[derive(Clone, Copy)]
 pub struct Deadline {
@@ -26,10 +28,27 @@ pub struct Size {
     pub size: u64,
 }
 
-fn sized(refusal: u64, size: u64) -> Size
-    ensures { result ≡ record { refusal = refusal; size = size } }
+// A refused question is told no size.
+impl From<Result<u64, Refusal>> for Size {
+    ghost from_gives = { λ r s. s ≡ size_told r };
+
+    fn from(told: Result<u64, Refusal>) -> Size {
+        match told {
+            Ok(size) => Size { refusal: 0, size },
+            Err(why) => Size {
+                refusal: why.number(),
+                size: 0,
+            },
+        }
+    }
+}
+
+// How long an answer to a session may be.
+fn client_size(words: &Words, session: u32) -> Result<u64, Refusal>
+    ensures { (s : List ℕ) → size_numbers (size_told result) ≡ size_answer (view (memory words.now s)) session }
 {
-    Size { refusal, size }
+    let i = live_slot(words, session)?;
+    Ok(tables::exchange(words, i, tables::CLIENT_SIZE))
 }
 
 // Until when a host may sleep: no reading of the clock before the deadline answers anybody.
@@ -48,13 +67,5 @@ pub fn hislip_deadline(words: &Words, strings: &Strings) -> Deadline
 pub fn hislip_client_size(words: &Words, strings: &Strings, session: u32) -> Size
     ensures { size_numbers result ≡ size_answer (view (memory words.now strings.now)) session }
 {
-    let i = search::slot_of_number(words, session as u64);
-    if i >= SESSION_LIMIT {
-        return sized(NO_SUCH_SESSION, 0);
-    }
-    if tables::entry(words, i, tables::NUMBER) == 0 {
-        return sized(NO_SUCH_SESSION, 0);
-    }
-    let size = tables::exchange(words, i, tables::CLIENT_SIZE);
-    sized(0, size)
+    Size::from(client_size(words, session))
 }

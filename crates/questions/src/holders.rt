@@ -7,13 +7,13 @@ ghost use Rattle.questions.specs.Holders.{Tells, as_row, counted_of, listed, one
 ghost use Rattle.state.specs.View.{locks_of, memory, view};
 
 use holding::info;
+use sessions::refusal::Refusal;
 use state::sizes::{SESSION_LIMIT, Strings, Words};
 use state::{holders as kept, tables};
 
-const LIST_TOO_SHORT: u64 = 9;
-
 // A holding session: its SessionID, whether it holds exclusive and whether shared (1 or 0), the clock reading of its last grant, the number
 // of locks granted to it.
+// Kept: numbers for what is held, and for a refusal in Counted, since these are structs of the C interface.
 #[repr(C)]
 #[derive(Clone, Copy)]
 pub struct Row {
@@ -33,6 +33,8 @@ pub struct Counted {
 }
 
 // Some rows: the first `count` of 32.
+// Kept: two open fields and no model. The rows go into the host's list by one copy of the first `count`, and `listed` says in one line what
+// the two hold.
 #[derive(Drop)]
 pub struct Panel {
     pub rows: [Row; 32],
@@ -65,14 +67,12 @@ fn put_in(rows: [Row; 32], n: usize, r: Row) -> [Row; 32]
 {
     let mut out = rows;
     let mut carried = r;
-    let mut i: usize = 0;
-    while i < n {
+    for i in 0..n {
         let x = out[i];
         if carried.session < x.session {
             out[i] = carried;
             carried = x;
         }
-        i += 1;
     }
     out[n] = carried;
     out
@@ -124,15 +124,14 @@ pub fn holders(w: &Words) -> Panel
     ensures { (result.count ≤ 32) × (length (listed result) ≡ result.count) × ((s : List ℕ) → listed result ≡ rows_in (view (memory w.now s))) }
 {
     let mut panel = nobody();
-    let mut i: usize = SESSION_LIMIT;
-    while i > 0 {
-        i -= 1;
+    for i in (0..SESSION_LIMIT).rev() {
         panel = with_slot(w, panel, i);
     }
     panel
 }
 
 // What is to be done with a list of `room` rows: the answer, and how many of these rows are written.
+// Kept: the count stands beside the rows, so that a refused list, too, is written by the one copy, of no rows.
 #[derive(Drop)]
 pub struct Filling {
     pub rows: [Row; 32],
@@ -151,7 +150,7 @@ pub fn told(w: &Words, s: &Strings, room: usize) -> Filling
             rows,
             count: 0,
             answer: Counted {
-                refusal: LIST_TOO_SHORT,
+                refusal: Refusal::ListTooShort as u64,
                 rows: 0,
             },
         };
@@ -171,11 +170,7 @@ pub fn fill_slice(rows: &mut [Row], src: [Row; 32], n: usize)
     requires { (n ≤ 32) × (n ≤ length rows.old) }
     ensures { rows.new ≡ take n src ++ drop n rows.old }
 {
-    let mut i: usize = 0;
-    while i < n {
-        rows[i] = src[i];
-        i += 1;
-    }
+    rows[..n].copy_from_slice(&src[..n]);
 }
 
 // Who holds what, since when, in the list that the host lends: ascending by SessionID; further rows are untouched.

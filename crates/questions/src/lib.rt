@@ -2,6 +2,7 @@
 #![tactic(auto)]
 
 pub mod asking;
+pub mod found;
 pub mod holders;
 pub mod watched;
 

@@ -1,4 +1,4 @@
-// Readings under watch (02, Q-11): what a host may ask of them.
+// Readings under watch: what a host may ask of them.
 ghost use Rattle.model.specs.Asking.{no_readings, readings_answer};
 ghost use Rattle.questions.specs.Asking.{readings_numbers};
 ghost use Rattle.state.specs.View.{memory, view};
@@ -9,6 +9,7 @@ use sensing::sense;
 use state::sizes::{SESSION_LIMIT, Strings, Words};
 use state::{search, tables};
 
+// Kept: numbers for a refusal and a flag, since `hislip_readings` of the C interface answers with this struct.
 // The refusal (0: none), 1 if a numeric reading was sent to the session, and then the last, the lowest and the highest.
 #[repr(C)]
 #[derive(Clone, Copy)]
@@ -37,16 +38,12 @@ pub fn hislip_readings(words: &Words, strings: &Strings, session: u32) -> Readin
     ensures { readings_numbers result ≡ readings_answer (view (memory words.now strings.now)) session }
 {
     let i = search::slot_of_number(words, session as u64);
-    if i >= SESSION_LIMIT {
+    if i >= SESSION_LIMIT || tables::entry(words, i, tables::NUMBER) == 0 {
         return no_readings(NO_SUCH_SESSION);
     }
-    if tables::entry(words, i, tables::NUMBER) == 0 {
-        return no_readings(NO_SUCH_SESSION);
-    }
-    let told = sense::record_at(words, i);
-    if !told.seen {
+    let Some(told) = sense::record_at(words, i) else {
         return no_readings(0);
-    }
+    };
     Readings {
         refusal: 0,
         seen: 1,

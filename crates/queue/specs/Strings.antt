@@ -1,6 +1,6 @@
 -- Strings in the lent bytes: the shared one and each slot's, as parts of the bytes, and comparing two. Assumes nothing.
-use Rattle.std.specs.Prelude.{◌≡◌, refl, Bool, true, false, ◌&&◌, List, [], ◌∷◌, ℕ, zero, suc, ◌+◌, ◌*◌, ◌-◌, ◌≤◌, ◌<◌, min, eqb, length, get_or, take, drop}
-use Rattle.std.proofs.Common.{sym, ap, ◌∙◌, true≢false, not-suc-le-zero, add-one, arith, length-take, length-drop, drop_of_length-le, drop-cons, eq-eqb, ne_eqb, eqb-true}
+use Rattle.std.specs.Prelude.{◌≡◌, refl, Bool, true, false, ◌&&◌, List, [], ◌∷◌, ℕ, zero, suc, ◌+◌, ◌*◌, ◌-◌, ◌<◌, min, eqb, length, take, drop}
+use Rattle.std.proofs.Common.{sym, ap, ◌∙◌, true≢false, not-suc-le-zero, arith, length-take, length-drop, eqb-true}
 use Rattle.model.specs.Sizes.{session_limit, string_limit}
 use Rattle.wire.specs.Both.{and_left, and_right}
 use Rattle.model.specs.Lists.{same}
@@ -33,17 +33,7 @@ string_part w s i = take_least (word w (REQUESTS + i * REQUEST + 1)) string_limi
 pub string_length : (w s : List ℕ) (i : ℕ) → i < session_limit → length s ≡ STRINGS → min (word w (REQUESTS + i * REQUEST + 1)) string_limit ≡ length (string_at w s i)
 string_length w s i h n = sym (ap length (string_part w s i) ∙ simp (length-take, length-drop) (omega arith))
 
--- comparing byte by byte, from place i on
-pub same_step : (a b : List ℕ) (i : ℕ) → i < length a → i < length b → get_or a i 0 ≡ get_or b i 0 → same (drop i a) (drop i b) ≡ same (drop (i + 1) a) (drop (i + 1) b)
-same_step a b i h l e =
-    rw (add-one, drop-cons a i 0 h, drop-cons b i 0 l, eq-eqb (get_or a i 0) (get_or b i 0) e)
-
-pub same_stop : (a b : List ℕ) (i : ℕ) → i < length a → i < length b → (get_or a i 0 ≡ get_or b i 0 → ⊥) → same (drop i a) (drop i b) ≡ false
-same_stop a b i h l o = rw (drop-cons a i 0 h, drop-cons b i 0 l, ne_eqb (get_or a i 0) (get_or b i 0) o)
-
-pub same_end : (a b : List ℕ) (i : ℕ) → length a ≤ i → length b ≤ i → same (drop i a) (drop i b) ≡ true
-same_end a b i h l = rw (drop_of_length-le a h, drop_of_length-le b l)
-
+-- of two lengths
 pub same_lengths : (a b : List ℕ) → (length a ≡ length b → ⊥) → same a b ≡ false
 same_lengths [] [] o = absurd (o refl)
 same_lengths [] (y ∷ b) o = refl

@@ -1,16 +1,16 @@
 -- Bytes that are wiped, and the words that go with them: the request of a slot that does not wait, the shared string where nobody shares.
 -- Nobody sees it. Assumes nothing.
 use Rattle.std.specs.Prelude.{◌≡◌, refl, ◌⊎◌, ℕ, ◌+◌, ◌*◌, ◌-◌, ◌%◌, ◌^◌, ◌≤◌, ◌<◌, length, set}
-use Rattle.std.proofs.Common.{sym, ap, ◌∙◌, inl, inr, ⊎_elim, arith, lit<, length-set, ext_get_or}
+use Rattle.std.proofs.Common.{sym, ◌∙◌, inl, inr, ⊎_elim, arith, lit<, length-set, ext_get_or}
 use Rattle.std.proofs.Math.Path.{ap₂}
 use mathlib.Core.List.{List, ◌∷◌}
 use Rattle.std.proofs.Math.ListN.{take}
 use Rattle.model.specs.Sizes.{session_limit, string_limit, list_limit}
-use Rattle.state.specs.Table.{apart, below}
+use Rattle.state.specs.Table.{apart}
 use Rattle.state.specs.Grid.{part, word_of, length_part}
 use Rattle.state.specs.Layout.{CLOCK, SHARERS, KEY, COUNT, REQUESTS, REQUEST, WORDS, LIST, STRINGS}
 use Rattle.state.specs.View.{memory, word, key_of, locks_of, view}
-use Rattle.state.specs.Change.{off, here, past_homes, entries_off, waiting_off, rest_off}
+use Rattle.state.specs.Change.{off, past_homes, entries_off, waiting_off, rest_off}
 use Rattle.queue.specs.Requests.{Idle, unseen, waiting_strings}
 use Rattle.queue.specs.Queue.{slot_off}
 use Rattle.queue.specs.Sharing.{unshared_entries}
@@ -20,27 +20,6 @@ pub record Wiped (s s' : List ℕ) (a n : ℕ) : Type 0 where
   pub room : length s' ≡ length s
   pub blank : (p : ℕ) → a ≤ p → p < a + n → word s' p ≡ 0
   pub others : (p : ℕ) → (p < a) ⊎ (a + n ≤ p) → word s' p ≡ word s p
-
-pub wiped_none : (s : List ℕ) (a : ℕ) → Wiped s s a 0
-wiped_none s a = record { room = refl; blank = λ p h l. absurd (omega arith); others = λ p o. refl }
-
--- one byte more
-module _ (s s' : List ℕ) (a i : ℕ) (x : Wiped s s' a i) (h : a + i < length s) where
-  blank_more : (p : ℕ) → a ≤ p → p < a + (i + 1) → (p < a + i) ⊎ (a + i ≤ p) → word (set s' (a + i) 0) p ≡ 0
-  blank_more p l m =
-      ⊎_elim
-      (λ (y : p < a + i). off s' (a + i) 0 p (omega arith) ∙ x.blank p l y)
-      (λ (y : a + i ≤ p). let z : p ≡ a + i = omega arith in ap (word (set s' (a + i) 0)) z ∙ here s' (a + i) 0 (omega (arith, x.room)))
-
-  pub wiped_more : Wiped s (set s' (a + i) 0) a (i + 1)
-  wiped_more =
-      record {
-        room = length-set s' (a + i) 0 ∙ x.room;
-        blank = λ p l m. blank_more p l m (below p (a + i));
-        others = λ p o.
-            off s' (a + i) 0 p (λ e. ⊎_elim (λ (y : p < a). omega arith) (λ (y : a + (i + 1) ≤ p). omega arith) o)
-            ∙ x.others p (⊎_elim (λ (y : p < a). inl y) (λ (y : a + (i + 1) ≤ p). inr (omega arith)) o);
-      }
 
 -- a part that agrees byte for byte
 pub part_same : (s s' : List ℕ) (c k : ℕ) → length s' ≡ length s → c + k ≤ length s → ((p : ℕ) → c ≤ p → p < c + k → word s' p ≡ word s p) → part s' c k ≡ part s c k

@@ -9,7 +9,7 @@ ghost use Rattle.wire.specs.Splice.{splice};
 ghost use Rattle.model.specs.Sizes.{list_limit, session_limit, string_limit};
 ghost use Rattle.state.specs.Layout.{STRINGS, WORDS};
 
-use crate::same::{differ_early, same_bytes};
+use crate::same::same_strings;
 use state::layout::{COUNT, KEY, QUEUE, REQUEST, REQUESTS};
 use state::sizes::{SESSION_LIMIT, SESSIONS, STRING_LIMIT, Strings, Words};
 use state::words::store;
@@ -22,10 +22,7 @@ pub fn least(a: u64, b: usize) -> usize
     requires { b ≤ list_limit }
     ensures { (result ≡ min a b) × (result ≤ b) }
 {
-    if a < b as u64 {
-        return a as usize;
-    }
-    b
+    a.min(b as u64) as usize
 }
 
 // How many requests wait.
@@ -36,6 +33,7 @@ pub fn waiting_count(w: &Words) -> usize
 }
 
 // Does no request wait?
+#[tactic(auto, using(crate::specs::Requests::none_counted))]
 pub fn nobody_waits(w: &Words) -> bool
     ensures { eqb (count_of w.now) 0 ≡ result }
 {
@@ -43,6 +41,7 @@ pub fn nobody_waits(w: &Words) -> bool
 }
 
 // The slot of the j-th request that waits.
+#[tactic(auto, using(crate::specs::Queue::waiting_at), unfolding(state::specs::View::slot_at))]
 pub fn waiting_slot(w: &Words, j: usize) -> usize
     requires { j < count_of w.now }
     ensures { (result < session_limit) × ((s : List ℕ) → get_or (locks_of w.now s).waiting j no_request ≡ request_at w.now s result) }
@@ -51,6 +50,7 @@ pub fn waiting_slot(w: &Words, j: usize) -> usize
 }
 
 // The deadline of the request of slot i.
+#[tactic(auto, unfolding(state::specs::View::request_at))]
 pub fn deadline_of(w: &Words, i: usize) -> u64
     requires { i < session_limit }
     ensures { (s : List ℕ) → (request_at w.now s i).deadline ≡ result }
@@ -59,6 +59,7 @@ pub fn deadline_of(w: &Words, i: usize) -> u64
 }
 
 // The length of the string of slot i's request.
+#[tactic(auto, using(crate::specs::Strings::string_length))]
 pub fn string_length(w: &Words, i: usize) -> usize
     requires { i < session_limit }
     ensures { (result ≤ string_limit) × ((s : List ℕ) → length s ≡ STRINGS → result ≡ length (string_at w.now s i)) }
@@ -67,6 +68,7 @@ pub fn string_length(w: &Words, i: usize) -> usize
 }
 
 // The j-th request that waits and the k-th change places: the same slots go on waiting.
+#[tactic(auto, using(crate::specs::Queue::swapped, crate::specs::Leaving::swapped_tidy), unfolding(state::specs::View::slot_at))]
 pub fn swap_waiting(w: &mut Words, j: usize, k: usize)
     requires { (j < count_of w.old) × (k < count_of w.old) }
     ensures { ((s : List ℕ) → view (memory w.new s) ≡ on_waiting (view (memory w.old s))
@@ -79,8 +81,9 @@ pub fn swap_waiting(w: &mut Words, j: usize, k: usize)
     store(w, QUEUE + j, y);
 }
 
-fn put_request_in(w: &mut [u64], strings: &mut [u8], i: usize, deadline: u64, string: &[u8])
-    requires { (i < session_limit) × (length string.now ≤ string_limit) × (length w.old ≡ WORDS) × (length strings.old ≡ STRINGS) × (count_of w.old < session_limit) × Idle w.old i }
+// The request of slot i, which does not wait, goes to the end of the queue with a string and a deadline.
+pub fn put_request(w: &mut Words, strings: &mut Strings, i: usize, deadline: u64, string: &[u8])
+    requires { (i < session_limit) × (length string.now ≤ string_limit) × (count_of w.old < session_limit) × Idle w.old i }
     ensures { (view (memory w.new strings.new) ≡ on_waiting (view (memory w.old strings.old))
         (λ x. x ++ (record { slot = i; deadline = deadline; string = string.now } ∷ [])))
         × (Tidy (memory w.old strings.old) → Tidy (memory w.new strings.new)) }
@@ -93,83 +96,34 @@ fn put_request_in(w: &mut [u64], strings: &mut [u8], i: usize, deadline: u64, st
     w[COUNT] = n as u64 + 1;
 }
 
-// The request of slot i, which does not wait, goes to the end of the queue with a string and a deadline.
-pub fn put_request(w: &mut Words, strings: &mut Strings, i: usize, deadline: u64, string: &[u8])
-    requires { (i < session_limit) × (length string.now ≤ string_limit) × (count_of w.old < session_limit) × Idle w.old i }
-    ensures { (view (memory w.new strings.new) ≡ on_waiting (view (memory w.old strings.old))
-        (λ x. x ++ (record { slot = i; deadline = deadline; string = string.now } ∷ [])))
-        × (Tidy (memory w.old strings.old) → Tidy (memory w.new strings.new)) }
-{
-    put_request_in(w, strings, i, deadline, string);
-}
-
-fn same_parts(strings: &[u8], k: usize, a: usize, n: usize) -> bool
-    requires { (k ≤ length strings.now) × (a + n ≤ length strings.now) }
-    ensures { same (take k strings.now) (take n (drop a strings.now)) ≡ result }
-{
-    let e = a + n;
-    if differ_early(&strings[..k], &strings[a..e]) {
-        return false;
-    }
-    same_bytes(&strings[..k], &strings[a..e])
-}
-
-fn has_key_in(w: &Words, strings: &[u8], i: usize) -> bool
-    requires { (i < session_limit) × (length strings.now ≡ STRINGS) }
-    ensures { same (key_of w.now strings.now) (string_at w.now strings.now i) ≡ result }
-{
-    let k = least(w[KEY], KEY_REST) + 1;
-    let n = least(w[REQUESTS + i * REQUEST + 1], STRING_LIMIT);
-    same_parts(strings, k, STRING_LIMIT + i * STRING_LIMIT, n)
-}
-
 // Is the string of slot i's request the shared one?
+#[tactic(auto, using(crate::specs::Strings::key_part, crate::specs::Strings::string_part))]
 pub fn has_key(w: &Words, strings: &Strings, i: usize) -> bool
     requires { i < session_limit }
     ensures { same (key_of w.now strings.now) (string_at w.now strings.now i) ≡ result }
 {
-    has_key_in(w, strings, i)
-}
-
-fn is_key_in(w: &Words, strings: &[u8], string: &[u8]) -> bool
-    requires { length strings.now ≡ STRINGS }
-    ensures { same (key_of w.now strings.now) string.now ≡ result }
-{
     let k = least(w[KEY], KEY_REST) + 1;
-    if differ_early(&strings[..k], string) {
-        return false;
-    }
-    same_bytes(&strings[..k], string)
+    let n = least(w[REQUESTS + i * REQUEST + 1], STRING_LIMIT);
+    let at = STRING_LIMIT + i * STRING_LIMIT;
+    same_strings(&strings[..k], &strings[at..at + n])
 }
 
 // Is a string, laid nowhere yet, the shared one?
+#[tactic(auto, using(crate::specs::Strings::key_part))]
 pub fn is_key(w: &Words, strings: &Strings, string: &[u8]) -> bool
     ensures { same (key_of w.now strings.now) string.now ≡ result }
 {
-    is_key_in(w, strings, string)
-}
-
-fn lay_first(strings: &mut [u8], b: &[u8], n: usize)
-    requires { (n ≤ length b.now) × (n ≤ string_limit) × (length strings.old ≡ STRINGS) }
-    ensures { strings.new ≡ splice strings.old 0 (take n b.now) }
-{
-    wire::frame::put_payload(strings, 0, &b[..n]);
-}
-
-fn pick_up(b: &mut [u8], strings: &[u8], a: usize, n: usize)
-    requires { (a + n ≤ length strings.now) × (n ≤ length b.old) × (n ≤ string_limit) }
-    ensures { b.new ≡ splice b.old 0 (take n (drop a strings.now)) }
-{
-    let e = a + n;
-    wire::frame::put_payload(b, 0, &strings[a..e]);
+    let k = least(w[KEY], KEY_REST) + 1;
+    same_strings(&strings[..k], string)
 }
 
 // The n bytes from a place on become the first n.
-pub fn copy_to_front(strings: &mut [u8], a: usize, n: usize)
-    requires { (a + n ≤ length strings.old) × (n ≤ string_limit) × (length strings.old ≡ STRINGS) }
+pub fn copy_to_front(strings: &mut Strings, a: usize, n: usize)
+    requires { (a + n ≤ STRINGS) × (n ≤ string_limit) }
     ensures { strings.new ≡ splice strings.old 0 (take n (drop a strings.old)) }
 {
     let mut b = [0; STRING_LIMIT];
-    pick_up(&mut b, strings, a, n);
-    lay_first(strings, &b, n);
+    let copy = &mut b[..n];
+    copy.copy_from_slice(&strings[a..a + n]);
+    strings[..n].copy_from_slice(copy);
 }

@@ -1,4 +1,5 @@
 pub mod Digits
+pub mod Requests
 pub mod Steps
 pub mod Examples
 pub mod Order

@@ -7,10 +7,7 @@ fn with_value(status: u8, value: u8) -> u8
     requires { (value ≡ 16) ⊎ (value ≡ 64) }
     ensures { result ≡ with_value status value }
 {
-    if status / value % 2 == 1 {
-        return status;
-    }
-    status + value
+    status | value
 }
 
 // The control code of a service request.

@@ -1,49 +1,90 @@
-// A body, read: the event behind its tag, and where the frames begin.
-ghost use Rattle.record.specs.Layout.{decode};
-ghost use Rattle.record.specs.Parts.{Reads};
+// A body, read: the event behind its tag, and the frames behind the event.
+ghost use Rattle.record.specs.Layout.{by_tag, decode};
+ghost use Rattle.record.specs.Seen.{Reads};
 
-use crate::parts::Parts;
-use crate::{events, parts};
+use crate::events::{Event, MOST_DELIVERED, MOST_SHOWN};
+use crate::rows;
+use journal::reader::BODY_LIMIT;
+use wire::number;
 
-const LAST_TAG: u8 = 9;
+// END, as a byte, is 0 or 1.
+const MOST_END: u8 = 1;
 
-// Where everything stands in a body, or that it has no layout.
-pub fn read(s: &[u8]) -> Parts
-    ensures { Reads result s.now (decode s.now) }
+// The event that stands behind a tag.
+fn read_event(tag: u8, s: &[u8]) -> Option<(Event<'_>, &[u8])>
+    ensures { Reads result (by_tag tag s.now) }
 {
-    if s.len() == 0 {
-        return parts::nothing(s);
+    match tag {
+        0 => {
+            let (connection, frames) = rows::number4(s)?;
+            Some((Event::Opening { connection }, frames))
+        }
+        1 => {
+            let (connection, rest) = rows::number4(s)?;
+            let (bytes, frames) = rows::row(rest, MOST_DELIVERED)?;
+            Some((Event::Delivery { connection, bytes }, frames))
+        }
+        2 => {
+            let (connection, frames) = rows::number4(s)?;
+            Some((Event::Cut { connection }, frames))
+        }
+        3 => {
+            if s.len() < 8 {
+                return None;
+            }
+            let milliseconds = number::number::<8>(s, 0);
+            Some((Event::Clock { milliseconds }, &s[8..]))
+        }
+        4 => {
+            let (session, rest) = rows::number4(s)?;
+            let (end, rest) = rest.split_first()?;
+            if *end > MOST_END {
+                return None;
+            }
+            let (payload, rest) = rows::row(rest, BODY_LIMIT)?;
+            let (shown, frames) = rows::row(rest, MOST_SHOWN)?;
+            let end = *end != 0;
+            Some((
+                Event::Answer {
+                    session,
+                    end,
+                    payload,
+                    shown,
+                },
+                frames,
+            ))
+        }
+        5 => {
+            let (byte, frames) = s.split_first()?;
+            Some((Event::Status { byte: *byte }, frames))
+        }
+        6 => {
+            let (session, frames) = rows::number4(s)?;
+            Some((Event::WatchOff { session }, frames))
+        }
+        7 => {
+            let (session, rest) = rows::number4(s)?;
+            let (limit, frames) = rows::number4(rest)?;
+            Some((Event::WatchAbove { session, limit }, frames))
+        }
+        8 => {
+            let (session, rest) = rows::number4(s)?;
+            let (low, rest) = rows::number4(rest)?;
+            let (high, frames) = rows::number4(rest)?;
+            Some((Event::WatchOutside { session, low, high }, frames))
+        }
+        9 => {
+            let (text, frames) = rows::row(s, BODY_LIMIT)?;
+            Some((Event::Patterns { text }, frames))
+        }
+        _ => None,
     }
-    let tag = s[0];
-    if tag > LAST_TAG {
-        return parts::nothing(s);
-    }
-    if tag == 0 {
-        return events::opening(s);
-    }
-    if tag == 1 {
-        return events::delivery(s);
-    }
-    if tag == 2 {
-        return events::cut(s);
-    }
-    if tag == 3 {
-        return events::clock(s);
-    }
-    if tag == 4 {
-        return events::answer(s);
-    }
-    if tag == 5 {
-        return events::status(s);
-    }
-    if tag == 6 {
-        return events::watch_off(s);
-    }
-    if tag == 7 {
-        return events::watch_above(s);
-    }
-    if tag == 8 {
-        return events::watch_outside(s);
-    }
-    events::patterns(s)
+}
+
+// What stands in a body, or that it has no layout.
+pub fn read(s: &[u8]) -> Option<(Event<'_>, &[u8])>
+    ensures { Reads result (decode s.now) }
+{
+    let (tag, rest) = s.split_first()?;
+    read_event(*tag, rest)
 }

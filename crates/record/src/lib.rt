@@ -3,5 +3,4 @@
 
 pub mod body;
 pub mod events;
-pub mod parts;
 pub mod rows;

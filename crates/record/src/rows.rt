@@ -1,52 +1,27 @@
-// Rows of bytes in a body: a length in 4 bytes, then the bytes.
-ghost use Rattle.std.specs.Prelude.{◌≤◌, drop, length};
-ghost use Rattle.record.specs.Layout.{get_row};
-ghost use Rattle.record.specs.Parts.{Spans};
+// What stands at the front of bytes, and what stands behind it. A row of bytes is its length in 4 bytes, then the bytes.
+ghost use Rattle.std.specs.Prelude.{◌≡◌, MatchOption};
+ghost use Rattle.record.specs.Layout.{found, get_number, get_row, none};
 
 use wire::number;
 
-// A row of bytes in a body: `found` 0: none. Else where it begins, its length, and the place behind it.
-#[derive(Clone, Copy)]
-pub struct Span {
-    pub found: u64,
-    pub begin: usize,
-    pub len: usize,
-    pub next: usize,
+// A number of 4 bytes.
+pub(crate) fn number4(s: &[u8]) -> Option<(u32, &[u8])>
+    ensures { MatchOption result (get_number 4 s.now ≡ none) (λ p. get_number 4 s.now ≡ found p.0 p.1.now) }
+{
+    if s.len() < 4 {
+        return None;
+    }
+    Some((number::number::<4>(s, 0) as u32, &s[4..]))
 }
 
-pub fn row_at(s: &[u8], at: usize, most: usize) -> Span
-    requires { at ≤ length s.now }
-    ensures { Spans result s.now at (get_row most (drop at s.now)) }
+// A row of at most so many bytes.
+pub fn row(s: &[u8], most: usize) -> Option<(&[u8], &[u8])>
+    ensures { MatchOption result (get_row most s.now ≡ none) (λ p. get_row most s.now ≡ found p.0.now p.1.now) }
 {
-    if s.len() - at < 4 {
-        return Span {
-            found: 0,
-            begin: at,
-            len: 0,
-            next: at,
-        };
-    }
-    let n = number::number4(s, at) as usize;
+    let (n, rest) = number4(s)?;
+    let n = n as usize;
     if n > most {
-        return Span {
-            found: 0,
-            begin: at,
-            len: 0,
-            next: at,
-        };
+        return None;
     }
-    if s.len() - at - 4 < n {
-        return Span {
-            found: 0,
-            begin: at,
-            len: 0,
-            next: at,
-        };
-    }
-    Span {
-        found: 1,
-        begin: at + 4,
-        len: n,
-        next: at + 4 + n,
-    }
+    rest.split_at_checked(n)
 }

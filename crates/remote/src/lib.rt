@@ -7,7 +7,7 @@ ghost use Rattle.remote.specs.Shown.{shown};
 ghost use Rattle.std.specs.Prelude.{◌≡◌};
 
 #[repr(C)]
-#[derive(Clone, Copy)]
+#[derive(Clone, Copy, Default)]
 pub struct RemoteLocal {
     pub enable: bool,
     pub lockout: bool,
@@ -19,32 +19,28 @@ impl RemoteLocal {
     pub fn start() -> RemoteLocal
         ensures { (v : Making) → shown result ≡ (fresh v).rest.remote_local }
     {
-        RemoteLocal {
-            enable: false,
-            lockout: false,
-            remote: false,
-        }
+        RemoteLocal::default()
     }
 
     // Codes 1, 3, 4 and 5 set flags, 6 clears remote, any other clears all three.
+    #[tactic(auto, unfolding(model::specs::Exchange::controlled))]
     pub fn controlled(self, code: u8) -> RemoteLocal
         ensures { shown result ≡ controlled code (shown self) }
     {
         match code {
             1 => RemoteLocal {
                 enable: true,
-                lockout: self.lockout,
-                remote: self.remote,
+                ..self
             },
             3 => RemoteLocal {
                 enable: true,
-                lockout: self.lockout,
                 remote: true,
+                ..self
             },
             4 => RemoteLocal {
                 enable: true,
                 lockout: true,
-                remote: self.remote,
+                ..self
             },
             5 => RemoteLocal {
                 enable: true,
@@ -52,32 +48,17 @@ impl RemoteLocal {
                 remote: true,
             },
             6 => RemoteLocal {
-                enable: self.enable,
-                lockout: self.lockout,
                 remote: false,
+                ..self
             },
-            _ => RemoteLocal {
-                enable: false,
-                lockout: false,
-                remote: false,
-            },
+            _ => RemoteLocal::default(),
         }
     }
-}
 
-// The same in place, on flags that the caller lends: the struct is copied out, and what `controlled` makes of it is stored.
-pub fn control(flags: &mut RemoteLocal, code: u8)
-    ensures { shown flags.new ≡ controlled code (shown flags.old) }
-{
-    let f = *flags;
-    *flags = f.controlled(code);
-}
-
-// The same with plain parameters: a copy of the flags is lent.
-pub fn commanded(flags: RemoteLocal, code: u8) -> RemoteLocal
-    ensures { shown result ≡ controlled code (shown flags) }
-{
-    let mut f = flags;
-    control(&mut f, code);
-    f
+    // The same in place, on flags that the caller lends.
+    pub fn control(&mut self, code: u8)
+        ensures { shown self.new ≡ controlled code (shown self.old) }
+    {
+        *self = self.controlled(code);
+    }
 }

@@ -1,26 +1,28 @@
 -- Laws for the code: what a call gave beside the frames recorded; what a body that was read says; a turn.
 use mathlib.Core.Path.{◌≡◌, refl, sym, ap, subst, ◌∙◌}
-use mathlib.Core.Bool.{Bool, true, false, not, ◌||◌, cond, true≢false}
+use mathlib.Core.Bool.{Bool, true, false, not, ◌||◌, ◌&&◌, cond, true≢false}
 use mathlib.Core.List.{List, [], ◌∷◌}
 use Prim.Native.Nat.{ℕ, zero, suc, ◌+◌, ◌-◌, ◌%◌, ◌^◌, ◌≤◌, ◌<◌}
 use native.Mathlib.Nat.{mod-eq_of_lt}
 use native.Mathlib.Omega.{arith}
 use lib.Dec.{eqb}
-use lib.ListN.{length, take, drop, length-append, length-drop}
-use lib.Seq.{take-length}
+use lib.Pointwise.{pointwise}
+use Rattle.std.specs.Int.{from_bool}
+use lib.ListN.{length, take, length-append, length-drop}
 use borrow.Author.Tests.{le-leb, lt-leb, eq-eqb, ne_eqb}
-use Rattle.wire.specs.Field.{Bytes}
 use Rattle.wire.specs.Frame.{bytes_of}
 use Rattle.wire.specs.Splice.{splice, take_front}
 use Rattle.journal.specs.Journal.{choose}
 use Rattle.journal.specs.Bytes.{yes_is, no_is}
-use Rattle.record.specs.Layout.{Event as Recorded, opening as r-opening, delivery as r-delivery, cut as r-cut, clock as r-clock, answer as r-answer}
-use Rattle.record.specs.Layout.{status as r-status, watch_off, watch_above, watch_outside, patterns as r-patterns, found, none, Fits, decode}
-use Rattle.record.proofs.RoundTrip.{read_written}
-use Rattle.record.specs.Parts.{seen, Reads, nine}
-use Rattle.record.specs.declared.parts.Parts.{Parts}
+use Rattle.record.specs.Layout.{opening as r-opening, delivery as r-delivery, cut as r-cut, clock as r-clock, answer as r-answer}
+use Rattle.record.specs.Layout.{status as r-status, watch_off, watch_above, watch_outside, patterns as r-patterns, found, none, decode}
+use Rattle.record.specs.Seen.{event_of}
+use Rattle.record.specs.declared.events.Event.{Event as Given}
 use Rattle.verifier.specs.Judge.{in_layout, in_parcels, gave, on, fault, same, by_deed, by_event}
 use Rattle.verifier.specs.Framing.{fault_of}
+use Rattle.verifier.specs.declared.Fault.{Fault}
+use Rattle.verifier.specs.declared.Fault.TheVariants.{Layout, Parcels}
+use Rattle.std.specs.Prelude.{Result, Ok, Err}
 use Rattle.model.specs.Sizes.{output_minimum}
 use Rattle.readings.specs.Bits.{not_number, below}
 use Rattle.readings.specs.Watch as Watch
@@ -29,7 +31,7 @@ use Rattle.model.specs.State.{Server, at, live, slot_of_number, connection_at}
 use Rattle.model.specs.Interface.{Event, Event.opening, Event.delivery, Event.cut, Event.clock, Event.answer, Event.status, Event.setting}
 use Rattle.model.specs.Interface.{Setting.watch, Setting.patterns, Reply, Reply.refused as turned_away_lem, Reply.done, Reply.withheld, Reply.took, DoneAnswer}
 use Rattle.model.specs.Interface.{done_answer, DeliveryAnswer, delivery_answer, AnsweredAnswer, answered_answer}
-use Rattle.commands.specs.declared.Judged.{Judged}
+use Rattle.commands.specs.Lists.{Judged}
 use Rattle.model.specs.Listing.{ListedAnswer, listed_answer}
 use Rattle.model.specs.Post.{Post}
 use Rattle.model.specs.Refusals.{causes, refusal}
@@ -47,7 +49,7 @@ use Rattle.server.specs.Calls.{Delivered}
 use Rattle.server.specs.Listing.{SetsList}
 use Rattle.server.specs.Events.{Called, Replied}
 use Rattle.judging.specs.Replay.{by_reply, by_call, deed}
-use Rattle.replay.specs.Replays.{went_of, compared_of, Replays, Judges, Later}
+use Rattle.replay.specs.Replays.{went_of, byte_of, compared_of, Replays, Judges}
 
 -- the number of a refusal, 0 for none; a refusal's number is not 0
 abbrev number_of : Reply → ℕ
@@ -94,15 +96,15 @@ fair d e = go (refusal d e)
     go zero = planned_fair d e
     go (suc k) = omega arith
 
-five : (d : Server) → went_of 5 d ≡ fault in_parcels
-unfolding went_of choose fault_of
-five d = refl
+at_parcels : (d : Server) → went_of (Err Parcels) d ≡ fault in_parcels
+unfolding went_of fault_of
+at_parcels d = refl
 
-four : (d : Server) → went_of 4 d ≡ fault in_layout
-unfolding went_of choose fault_of
-four d = refl
+at_layout : (d : Server) → went_of (Err Layout) d ≡ fault in_layout
+unfolding went_of fault_of
+at_layout d = refl
 
-either_went : (b : Bool) (d : Server) → went_of (choose b 0 5) d ≡ choose b (on d) (fault in_parcels)
+either_went : (b : Bool) (d : Server) → went_of (choose b (Ok tt) (Err Parcels)) d ≡ choose b (on d) (fault in_parcels)
 unfolding went_of choose fault_of
 either_went true d = refl
 either_went false d = refl
@@ -119,15 +121,15 @@ module _ (fs : List ℕ) (d : Server) (out frames : List ℕ) (n k : ℕ) (t : t
   given : n ≡ 0 → k ≡ length fs → went_of (compared_of n k out frames) d ≡ by_deed (gave fs d) frames
   unfolding compared_of by_deed
   given p q =
-      ap (λ (x : ℕ). went_of x d)
+      ap (λ (x : Result (Unit {0}) Fault). went_of x d)
       (yes_is _ _ (eq-eqb n 0 p) ∙ yes_is _ _ (le-leb k (length out) (omega (arith, q, l)))
-      ∙ ap (λ (x : List ℕ). choose (same x frames) 0 5) (ap (λ (j : ℕ). take j out) q ∙ t))
+      ∙ ap (λ (x : List ℕ). choose (same x frames) (Ok tt) (Err Parcels)) (ap (λ (j : ℕ). take j out) q ∙ t))
       ∙ either_went (same fs frames) d
 
   -- a call's reply, told by the numbers
   beside : (y : Reply) → Fair y → n ≡ number_of y → (n ≡ 0 → k ≡ length fs) → went_of (compared_of n k out frames) d ≡ by_deed (by_reply y fs d) frames
   unfolding by_reply compared_of by_deed
-  beside (turned_away_lem j) f p q = ap (λ (x : ℕ). went_of x d) (no_is _ _ (ne_eqb n 0 (λ z. omega (arith, p, f, z)))) ∙ five d
+  beside (turned_away_lem j) f p q = ap (λ (x : Result (Unit {0}) Fault). went_of x d) (no_is _ _ (ne_eqb n 0 (λ z. omega (arith, p, f, z)))) ∙ at_parcels d
   beside done f p q = given p (q p)
   beside withheld f p q = given p (q p)
   beside (took o i s) f p q = given p (q p)
@@ -190,53 +192,53 @@ listed_refusal (took o i s) j = refl
 -- the events
 module _ (m m' : Memory) (frames : List ℕ) where
   -- a call without a buffer
-  quiet : (e : Event) (n r : ℕ) → Post view e m m' [] [] (step (view m) e).reply (length (bytes_of (step (view m) e).frames)) → n ≡ number_of (step (view m) e).reply
+  quiet : (e : Event) (n : ℕ) (r : Result (Unit {0}) Fault) → Post view e m m' [] [] (step (view m) e).reply (length (bytes_of (step (view m) e).frames)) → n ≡ number_of (step (view m) e).reply
       → r ≡ compared_of n 0 [] frames → went_of r (view m') ≡ by_deed (by_call (view m) e) frames
   quiet e n r p h q =
       let l = (fronted [] [] (bytes_of (step (view m) e).frames) p.buffer refl).1 in
-      ap (λ (k : ℕ). went_of k (view m')) q ∙ called e m m' [] [] frames n 0 p refl h (λ _. omega (arith, l))
+      ap (λ (k : Result (Unit {0}) Fault). went_of k (view m')) q ∙ called e m m' [] [] frames n 0 p refl h (λ _. omega (arith, l))
 
-  silenced : (e : Event) (r : ℕ) (a : Done) → Called e a m m' [] [] → r ≡ compared_of a.refusal 0 [] frames → went_of r (view m') ≡ by_deed (by_call (view m) e) frames
+  silenced : (e : Event) (r : Result (Unit {0}) Fault) (a : Done) → Called e a m m' [] [] → r ≡ compared_of a.refusal 0 [] frames → went_of r (view m') ≡ by_deed (by_call (view m) e) frames
   silenced e r a p q =
       quiet e a.refusal r p.post (ap (λ (w : DoneAnswer). w.refusal) p.numbers ∙ done_refusal (step (view m) e).reply _) q
 
-  pub set_list : (text : List ℕ) (r : ℕ) (a : Listed) → SetsList text a m m' → r ≡ compared_of a.refusal 0 [] frames → Replays r (r-patterns text) m m' frames
+  pub set_list : (text : List ℕ) (r : Result (Unit {0}) Fault) (a : Listed) → SetsList text a m m' → r ≡ compared_of a.refusal 0 [] frames → Replays r (r-patterns text) m m' frames
   set_list text r a p q =
       quiet (setting (patterns text)) a.refusal r p.post
       (ap (λ (w : ListedAnswer). w.refusal) p.numbers ∙ listed_refusal (step (view m) (setting (patterns text))).reply _) q
 
-  pub opened : (c r : ℕ) (a : Done) → Called (opening c) a m m' [] [] → r ≡ compared_of a.refusal 0 [] frames → Replays r (r-opening c) m m' frames
+  pub opened : (c : ℕ) (r : Result (Unit {0}) Fault) (a : Done) → Called (opening c) a m m' [] [] → r ≡ compared_of a.refusal 0 [] frames → Replays r (r-opening c) m m' frames
   opened c r a p q = silenced (opening c) r a p q
 
-  pub set_off : (n r : ℕ) (a : Done) → Called (setting (watch n off)) a m m' [] [] → r ≡ compared_of a.refusal 0 [] frames → Replays r (watch_off n) m m' frames
+  pub set_off : (n : ℕ) (r : Result (Unit {0}) Fault) (a : Done) → Called (setting (watch n off)) a m m' [] [] → r ≡ compared_of a.refusal 0 [] frames → Replays r (watch_off n) m m' frames
   set_off n r a p q = silenced (setting (watch n off)) r a p q
 
-  pub set_above : (n l x : ℕ) → x ≡ l → (r : ℕ) (a : Done) → Called (setting (watch n (above x))) a m m' [] [] → r ≡ compared_of a.refusal 0 [] frames → Replays r (watch_above n l) m m' frames
+  pub set_above : (n l x : ℕ) → x ≡ l → (r : Result (Unit {0}) Fault) (a : Done) → Called (setting (watch n (above x))) a m m' [] [] → r ≡ compared_of a.refusal 0 [] frames → Replays r (watch_above n l) m m' frames
   set_above n l x e r a p q = silenced (setting (watch n (above l))) r a (subst (λ (k : ℕ). Called (setting (watch n (above k))) a m m' [] []) e p) q
 
-  pub set_outside : (n l h x y : ℕ) → x ≡ l → y ≡ h → (r : ℕ) (a : Done) → Called (setting (watch n (outside x y))) a m m' [] [] → r ≡ compared_of a.refusal 0 [] frames
+  pub set_outside : (n l h x y : ℕ) → x ≡ l → y ≡ h → (r : Result (Unit {0}) Fault) (a : Done) → Called (setting (watch n (outside x y))) a m m' [] [] → r ≡ compared_of a.refusal 0 [] frames
       → Replays r (watch_outside n l h) m m' frames
   set_outside n l h x y e f r a p q =
       silenced (setting (watch n (outside l h))) r a
       (subst (λ (k : ℕ). Called (setting (watch n (outside l k))) a m m' [] []) f (subst (λ (k : ℕ). Called (setting (watch n (outside k y))) a m m' [] []) e p)) q
 
   module _ (out out' : List ℕ) (h : length out ≡ output_minimum) (l : length out' ≡ length out) where
-    by_done : (e : Event) (r : ℕ) (a : Done) → Called e a m m' out out' → r ≡ compared_of a.refusal a.output out' frames → went_of r (view m') ≡ by_deed (by_call (view m) e) frames
+    by_done : (e : Event) (r : Result (Unit {0}) Fault) (a : Done) → Called e a m m' out out' → r ≡ compared_of a.refusal a.output out' frames → went_of r (view m') ≡ by_deed (by_call (view m) e) frames
     by_done e r a p q =
         let y = (step (view m) e).reply in
         let k : ℕ = length (bytes_of (step (view m) e).frames) in
         let n : a.refusal ≡ (done_answer y k).refusal = ap (λ (z : DoneAnswer). z.refusal) p.numbers in
-        ap (λ (j : ℕ). went_of j (view m')) q
+        ap (λ (j : Result (Unit {0}) Fault). went_of j (view m')) q
         ∙ called e m m' out out' frames a.refusal a.output p.post l (n ∙ done_refusal y k)
         (λ z. ap (λ (w : DoneAnswer). w.output) p.numbers ∙ done_output y k (fair (view m) e) (sym n ∙ z))
 
-    pub cut_off : (c r : ℕ) (a : Done) → Called (cut c (length out)) a m m' out out' → r ≡ compared_of a.refusal a.output out' frames → Replays r (r-cut c) m m' frames
+    pub cut_off : (c : ℕ) (r : Result (Unit {0}) Fault) (a : Done) → Called (cut c (length out)) a m m' out out' → r ≡ compared_of a.refusal a.output out' frames → Replays r (r-cut c) m m' frames
     cut_off c r a p q = by_done (cut c output_minimum) r a (subst (λ (k : ℕ). Called (cut c k) a m m' out out') h p) q
 
-    pub clock_read : (t r : ℕ) (a : Done) → Called (clock t (length out)) a m m' out out' → r ≡ compared_of a.refusal a.output out' frames → Replays r (r-clock t) m m' frames
+    pub clock_read : (t : ℕ) (r : Result (Unit {0}) Fault) (a : Done) → Called (clock t (length out)) a m m' out out' → r ≡ compared_of a.refusal a.output out' frames → Replays r (r-clock t) m m' frames
     clock_read t r a p q = by_done (clock t output_minimum) r a (subst (λ (k : ℕ). Called (clock t k) a m m' out out') h p) q
 
-    pub delivered : (c : ℕ) (bs : List ℕ) (r : ℕ) (a : Delivery) → Delivered (delivery c bs (length out)) a m m' out out' →
+    pub delivered : (c : ℕ) (bs : List ℕ) (r : Result (Unit {0}) Fault) (a : Delivery) → Delivered (delivery c bs (length out)) a m m' out out' →
         r ≡ compared_of a.refusal a.output out' frames → Replays r (r-delivery c bs) m m' frames
     delivered c bs r a p q = go (subst (λ (k : ℕ). Delivered (delivery c bs k) a m m' out out') h p)
       where
@@ -245,11 +247,11 @@ module _ (m m' : Memory) (frames : List ℕ) where
             let e : Event = delivery c bs output_minimum in
             let y = (step (view m) e).reply in
             let k : ℕ = length (bytes_of (step (view m) e).frames) in
-            ap (λ (j : ℕ). went_of j (view m')) q
+            ap (λ (j : Result (Unit {0}) Fault). went_of j (view m')) q
             ∙ called e m m' out out' frames a.refusal a.output o.post l (ap (λ (z : DeliveryAnswer). z.refusal) o.numbers ∙ delivery_refusal y k _)
             (λ z. ap (λ (w : DeliveryAnswer). w.output) o.numbers ∙ delivery_output y k _ (fair (view m) e) (sym (ap (λ (w : DeliveryAnswer). w.refusal) o.numbers) ∙ z))
 
-    pub answered_so : (n end : ℕ) (x sh : List ℕ) (r : ℕ) (a : Answered) → Replied (answer n x (not (eqb end 0)) sh (length out)) a m m' out out' →
+    pub answered_so : (n end : ℕ) (x sh : List ℕ) (r : Result (Unit {0}) Fault) (a : Answered) → Replied (answer n x (not (eqb end 0)) sh (length out)) a m m' out out' →
         r ≡ compared_of a.refusal a.output out' frames → Replays r (r-answer n end x sh) m m' frames
     answered_so n end x sh r a p q = go (subst (λ (k : ℕ). Replied (answer n x (not (eqb end 0)) sh k) a m m' out out') h p)
       where
@@ -258,17 +260,17 @@ module _ (m m' : Memory) (frames : List ℕ) where
             let e : Event = answer n x (not (eqb end 0)) sh output_minimum in
             let y = (step (view m) e).reply in
             let k : ℕ = length (bytes_of (step (view m) e).frames) in
-            ap (λ (j : ℕ). went_of j (view m')) q
+            ap (λ (j : Result (Unit {0}) Fault). went_of j (view m')) q
             ∙ called e m m' out out' frames a.refusal a.output o.post l (ap (λ (z : AnsweredAnswer). z.refusal) o.numbers ∙ answered_refusal y k)
             (λ z. ap (λ (w : AnsweredAnswer). w.output) o.numbers ∙ answered_output y k (fair (view m) e) (sym (ap (λ (w : AnsweredAnswer). w.refusal) o.numbers) ∙ z))
 
-  pub status_set : (b r : ℕ) → Post view (status b) m m' [] [] done 0 → r ≡ compared_of 0 0 [] frames → Replays r (r-status b) m m' frames
+  pub status_set : (b : ℕ) (r : Result (Unit {0}) Fault) → Post view (status b) m m' [] [] done 0 → r ≡ compared_of 0 0 [] frames → Replays r (r-status b) m m' frames
   status_set b r p q =
       let e : Event = status b in
       let g : Post view e m m' [] [] (step (view m) e).reply (length (bytes_of (step (view m) e).frames)) =
       subst (λ (y : Reply). Post view e m m' [] [] y (length (bytes_of (step (view m) e).frames))) p.replies
       (subst (λ (k : ℕ). Post view e m m' [] [] done k) p.output_length p) in
-      ap (λ (k : ℕ). went_of k (view m')) q
+      ap (λ (k : Result (Unit {0}) Fault). went_of k (view m')) q
       ∙ called e m m' [] [] frames 0 0 g refl (ap number_of p.replies) (λ z. p.output_length)
 
 -- the float of a number's bits has those bits
@@ -301,196 +303,59 @@ module _ (m : Memory) (frames : List ℕ) (n : ℕ) where
   either_bad true b e = refl
   either_bad false b e = e
 
-  pub no_above : (l : ℕ) → not_number l ≡ true → Replays 5 (watch_above n l) m m frames
+  pub no_above : (l : ℕ) → not_number l ≡ true → Replays (Err Parcels) (watch_above n l) m m frames
   unfolding Watch.refused
-  no_above l e = five (view m) ∙ sym (refused_step (view m) (setting (watch n (above l))) frames (bad_limits_lem (above l) e))
+  no_above l e = at_parcels (view m) ∙ sym (refused_step (view m) (setting (watch n (above l))) frames (bad_limits_lem (above l) e))
 
-  pub no_low : (l h : ℕ) → not_number l ≡ true → Replays 5 (watch_outside n l h) m m frames
+  pub no_low : (l h : ℕ) → not_number l ≡ true → Replays (Err Parcels) (watch_outside n l h) m m frames
   unfolding Watch.refused
-  no_low l h e = five (view m) ∙ sym (refused_step (view m) (setting (watch n (outside l h))) frames (bad_limits_lem (outside l h) (ap (λ (b : Bool). b || (not_number h || below h l)) e)))
+  no_low l h e = at_parcels (view m) ∙ sym (refused_step (view m) (setting (watch n (outside l h))) frames (bad_limits_lem (outside l h) (ap (λ (b : Bool). b || (not_number h || below h l)) e)))
 
-  pub no_high : (l h : ℕ) → not_number h ≡ true → Replays 5 (watch_outside n l h) m m frames
+  pub no_high : (l h : ℕ) → not_number h ≡ true → Replays (Err Parcels) (watch_outside n l h) m m frames
   unfolding Watch.refused
   no_high l h e =
-      five (view m)
+      at_parcels (view m)
       ∙ sym (refused_step (view m) (setting (watch n (outside l h))) frames (bad_limits_lem (outside l h) (either_bad (not_number l) _ (ap (λ (b : Bool). b || below h l) e))))
 
 -- a body that was read
-module _ (p : Parts) (s : List ℕ) (o : Reads p s (decode s)) where
-  at_0 : p.kind ≡ 0 → seen p s ≡ found (r-opening p.a) (drop p.frames s)
-  unfolding seen choose
-  at_0 e = rw e
-
-  at_1 : p.kind ≡ 1 → seen p s ≡ found (r-delivery p.a (take p.size (drop p.first s))) (drop p.frames s)
-  unfolding seen choose
-  at_1 e = rw e
-
-  at_2 : p.kind ≡ 2 → seen p s ≡ found (r-cut p.a) (drop p.frames s)
-  unfolding seen choose
-  at_2 e = rw e
-
-  at_3 : p.kind ≡ 3 → seen p s ≡ found (r-clock p.a) (drop p.frames s)
-  unfolding seen choose
-  at_3 e = rw e
-
-  at_4 : p.kind ≡ 4 → seen p s ≡ found (r-answer p.a p.b (take p.size (drop p.first s)) (take p.extent (drop p.second s))) (drop p.frames s)
-  unfolding seen choose
-  at_4 e = rw e
-
-  at_5 : p.kind ≡ 5 → seen p s ≡ found (r-status p.a) (drop p.frames s)
-  unfolding seen choose
-  at_5 e = rw e
-
-  at_6 : p.kind ≡ 6 → seen p s ≡ found (watch_off p.a) (drop p.frames s)
-  unfolding seen choose
-  at_6 e = rw e
-
-  at_7 : p.kind ≡ 7 → seen p s ≡ found (watch_above p.a p.b) (drop p.frames s)
-  unfolding seen choose
-  at_7 e = rw e
-
-  at_8 : p.kind ≡ 8 → seen p s ≡ found (watch_outside p.a p.b p.c) (drop p.frames s)
-  unfolding seen choose
-  at_8 e = rw e
-
-  at_9 : p.kind ≡ 9 → seen p s ≡ found (r-patterns (take p.size (drop p.first s))) (drop p.frames s)
-  unfolding seen choose
-  at_9 e = rw e
-
-  at_10 : p.kind ≡ 10 → seen p s ≡ none
-  unfolding seen choose
-  at_10 e = rw e
-
-  -- numbers fit their fields
-  fits_read : Bytes s → (e : Recorded) (x : List ℕ) → seen p s ≡ found e x → Fits e
-  fits_read y e x q = (read_written s y e x (sym o.says ∙ q)).fits
-
-  pub fits_0 : Bytes s → p.kind ≡ 0 → p.a < 256 ^ 4
-  fits_0 y e = fits_read y (r-opening p.a) _ (at_0 e)
-
-  pub fits_1 : Bytes s → p.kind ≡ 1 → p.a < 256 ^ 4
-  fits_1 y e = (fits_read y (r-delivery p.a _) _ (at_1 e)).0
-
-  pub fits_2 : Bytes s → p.kind ≡ 2 → p.a < 256 ^ 4
-  fits_2 y e = fits_read y (r-cut p.a) _ (at_2 e)
-
-  pub fits_4 : Bytes s → p.kind ≡ 4 → (p.a < 256 ^ 4) × (p.b < 2)
-  fits_4 y e = let f = fits_read y (r-answer p.a p.b _ _) _ (at_4 e) in (f.0, f.1)
-
-  pub fits_5 : Bytes s → p.kind ≡ 5 → p.a < 256 ^ 1
-  fits_5 y e = fits_read y (r-status p.a) _ (at_5 e)
-
-  pub fits_6 : Bytes s → p.kind ≡ 6 → p.a < 256 ^ 4
-  fits_6 y e = fits_read y (watch_off p.a) _ (at_6 e)
-
-  pub fits_7 : Bytes s → p.kind ≡ 7 → (p.a < 256 ^ 4) × (p.b < 256 ^ 4)
-  fits_7 y e = fits_read y (watch_above p.a p.b) _ (at_7 e)
-
-  pub fits_8 : Bytes s → p.kind ≡ 8 → (p.a < 256 ^ 4) × (p.b < 256 ^ 4) × (p.c < 256 ^ 4)
-  fits_8 y e = fits_read y (watch_outside p.a p.b p.c) _ (at_8 e)
-
-  -- the frames, as the code cuts them out: up to the body's end
-  abbrev rest : List ℕ
-  rest = take (length s - p.frames) (drop p.frames s)
-
-  rest_is : rest ≡ drop p.frames s
-  rest_is = ap (λ (k : ℕ). take k (drop p.frames s)) (sym (length-drop p.frames s)) ∙ take-length (drop p.frames s)
-
-  module _ (m m' : Memory) (r : ℕ) where
-    judged : (e : Recorded) → seen p s ≡ found e (drop p.frames s) → Replays r e m m' rest → Judges r m m' s
-    unfolding by_event
-    judged e q g = subst (λ (x : List ℕ). Replays r e m m' x) rest_is g ∙ ap (by_event deed (view m)) (sym q ∙ o.says)
-
-    pub judged_0 : p.kind ≡ 0 → Replays r (r-opening p.a) m m' rest → Judges r m m' s
-    judged_0 e g = judged _ (at_0 e) g
-
-    pub judged_1 : p.kind ≡ 1 → Replays r (r-delivery p.a (take (p.first + p.size - p.first) (drop p.first s))) m m' rest → Judges r m m' s
-    judged_1 e g =
-        let k : p.first + p.size - p.first ≡ p.size = omega arith in
-        judged _ (at_1 e) (subst (λ (j : ℕ). Replays r (r-delivery p.a (take j (drop p.first s))) m m' rest) k g)
-
-    pub judged_2 : p.kind ≡ 2 → Replays r (r-cut p.a) m m' rest → Judges r m m' s
-    judged_2 e g = judged _ (at_2 e) g
-
-    pub judged_3 : p.kind ≡ 3 → Replays r (r-clock p.a) m m' rest → Judges r m m' s
-    judged_3 e g = judged _ (at_3 e) g
-
-    pub judged_4 : p.kind ≡ 4 → Replays r (r-answer p.a p.b (take (p.first + p.size - p.first) (drop p.first s))
-        (take (p.second + p.extent - p.second) (drop p.second s))) m m' rest → Judges r m m' s
-    judged_4 e g =
-        let k : p.first + p.size - p.first ≡ p.size = omega arith in
-        let i : p.second + p.extent - p.second ≡ p.extent = omega arith in
-        judged _ (at_4 e)
-        (subst (λ (j : ℕ). Replays r (r-answer p.a p.b (take p.size (drop p.first s)) (take j (drop p.second s))) m m' rest) i
-        (subst (λ (j : ℕ). Replays r (r-answer p.a p.b (take j (drop p.first s)) (take (p.second + p.extent - p.second) (drop p.second s))) m m' rest) k g))
-
-    pub judged_5 : p.kind ≡ 5 → Replays r (r-status p.a) m m' rest → Judges r m m' s
-    judged_5 e g = judged _ (at_5 e) g
-
-    pub judged_6 : p.kind ≡ 6 → Replays r (watch_off p.a) m m' rest → Judges r m m' s
-    judged_6 e g = judged _ (at_6 e) g
-
-    pub judged_7 : p.kind ≡ 7 → Replays r (watch_above p.a p.b) m m' rest → Judges r m m' s
-    judged_7 e g = judged _ (at_7 e) g
-
-    pub judged_8 : p.kind ≡ 8 → Replays r (watch_outside p.a p.b p.c) m m' rest → Judges r m m' s
-    judged_8 e g = judged _ (at_8 e) g
-
-    -- what is none of the others is a list
-    pub judged_9 : Later p → (p.kind ≡ 6 → ⊥) → (p.kind ≡ 7 → ⊥) → (p.kind ≡ 8 → ⊥) → Replays r (r-patterns (take (p.first + p.size - p.first) (drop p.first s))) m m' rest → Judges r m m' s
-    judged_9 l n₆ n₇ n₈ g =
-        let t : p.kind ≤ 10 = o.top in
-        let n : p.kind ≡ 10 → ⊥ = l.0.0 in
-        let e : p.kind ≡ 9 = nine p.kind (omega arith) l.0.1 l.0.2 l.0.3 l.0.4 l.1 l.2 n₆ n₇ n₈ in
-        let k : p.first + p.size - p.first ≡ p.size = omega arith in
-        judged _ (at_9 e) (subst (λ (j : ℕ). Replays r (r-patterns (take j (drop p.first s))) m m' rest) k g)
-
-  pub no_layout : (m : Memory) → p.kind ≡ 10 → Judges 4 m m s
+module _ (m m' : Memory) (s frames : List ℕ) (r : Result (Unit {0}) Fault) where
+  pub judged : (e v : Given) → e ≡ v → decode s ≡ found (event_of e) frames → Replays r (event_of v) m m' frames → Judges r m m' s
   unfolding by_event
-  no_layout m e = four (view m) ∙ ap (by_event deed (view m)) (sym (at_10 e) ∙ o.says)
+  judged e v i q g = g ∙ ap (by_event deed (view m)) (ap (λ (x : Given). found (event_of x) frames) (sym i) ∙ sym q)
 
-same_nil : same [] [] ≡ true
-same_nil = refl
+pub no_layout : (m : Memory) (s : List ℕ) → decode s ≡ none → Judges (Err Layout) m m s
+unfolding by_event
+no_layout m s q = at_layout (view m) ∙ ap (by_event deed (view m)) (sym q)
 
-same_cons : (y : ℕ) (x : List ℕ) → same [] (y ∷ x) ≡ false
-same_cons y x = refl
+-- a bool as a byte
+pub byte_is : (b : Bool) (k : ℕ) → k ≡ from_bool b → k ≡ byte_of b
+byte_is true k e = e
+byte_is false k e = e
+
+-- the library compares slices as the definition does
+pub compares : (x y : List ℕ) → pointwise eqb x y ≡ same x y
+compares [] [] = refl
+compares [] (y ∷ ys) = refl
+compares (x ∷ xs) [] = refl
+compares (x ∷ xs) (y ∷ ys) = ap (λ (b : Bool). eqb x y && b) (compares xs ys)
 
 -- the comparison in code: one law for each way out
 module _ (n k : ℕ) (out frames : List ℕ) where
-  pub not_taken : (n ≡ 0 → ⊥) → 5 ≡ compared_of n k out frames
+  pub not_taken : (n ≡ 0 → ⊥) → Err Parcels ≡ compared_of n k out frames
   unfolding compared_of
   not_taken h = sym (no_is _ _ (ne_eqb n 0 h))
 
-  pub too_much : n ≡ 0 → length out < k → 5 ≡ compared_of n k out frames
+  pub too_much : n ≡ 0 → length out < k → Err Parcels ≡ compared_of n k out frames
   unfolding compared_of
   too_much z h = sym (yes_is _ _ (eq-eqb n 0 z) ∙ no_is _ _ (lt-leb k (length out) h))
 
   module _ (z : n ≡ 0) (l : k ≤ length out) (b : Bool) (e : b ≡ same (take k out) frames) where
-    to_same : compared_of n k out frames ≡ choose b 0 5
+    to_same : compared_of n k out frames ≡ choose b (Ok tt) (Err Parcels)
     unfolding compared_of
-    to_same = yes_is _ _ (eq-eqb n 0 z) ∙ yes_is _ _ (le-leb k (length out) l) ∙ ap (λ (x : Bool). choose x 0 5) (sym e)
+    to_same = yes_is _ _ (eq-eqb n 0 z) ∙ yes_is _ _ (le-leb k (length out) l) ∙ ap (λ (x : Bool). choose x (Ok tt) (Err Parcels)) (sym e)
 
-    pub alike : b ≡ true → 0 ≡ compared_of n k out frames
+    pub alike : b ≡ true → Ok tt ≡ compared_of n k out frames
     alike t = sym (to_same ∙ yes_is _ _ t)
 
-    pub unlike : b ≡ false → 5 ≡ compared_of n k out frames
+    pub unlike : b ≡ false → Err Parcels ≡ compared_of n k out frames
     unlike t = sym (to_same ∙ no_is _ _ t)
-
-module _ (n : ℕ) (frames : List ℕ) (z : n ≡ 0) where
-  silent_is : compared_of n 0 [] frames ≡ choose (same [] frames) 0 5
-  unfolding compared_of
-  silent_is = yes_is _ _ (eq-eqb n 0 z) ∙ yes_is _ _ refl
-
-  pub no_frames : length frames ≡ 0 → 0 ≡ compared_of n 0 [] frames
-  no_frames h = sym (silent_is ∙ empty frames h)
-    where
-      empty : (x : List ℕ) → length x ≡ 0 → ◌≡◌ {A = ℕ} (choose (same [] x) 0 5) 0
-      empty [] e = yes_is _ _ same_nil
-      empty (y ∷ x) e = absurd (omega (arith, e))
-
-  pub some_frames : (length frames ≡ 0 → ⊥) → 5 ≡ compared_of n 0 [] frames
-  some_frames h = sym (silent_is ∙ some frames h)
-    where
-      some : (x : List ℕ) → (length x ≡ 0 → ⊥) → ◌≡◌ {A = ℕ} (choose (same [] x) 0 5) 5
-      some [] e = absurd (e refl)
-      some (y ∷ x) e = no_is _ _ (same_cons y x)

@@ -1,51 +1,48 @@
-// One recorded event, done by the server's own function: 0 if it gives the very frames beside it, else the fault of parcels.
-ghost use Rattle.std.specs.Prelude.{◌^◌, ◌<◌, length, [], ◌≡◌};
+// One recorded event, done by the server's own function: it gives the very frames beside it, or there is a fault of parcels.
+ghost use Rattle.std.specs.Prelude.{length, [], ◌≡◌};
 ghost use Rattle.model.specs.Sizes.{output_minimum};
 ghost use Rattle.readings.specs.Bits.{not_number};
 ghost use Rattle.record.specs.Layout.{answer, clock, cut, delivery, opening, patterns, status, watch_above, watch_off, watch_outside};
-ghost use Rattle.replay.specs.Replays.{Replays, compared_of};
+ghost use Rattle.replay.specs.Replays.{Replays, byte_of, compared_of};
 ghost use Rattle.state.specs.View.{memory};
 
 use sensing::floats;
 use server::{listing, watches};
 use state::sizes::{Strings, Words};
-use verifier::{ACCEPTED, PARCELS};
+use verifier::Fault;
 
 // What a call gave, beside the frames recorded.
-fn compared(refusal: u64, output: u64, out: &[u8], frames: &[u8]) -> u64
+fn compared(refusal: u64, output: u64, out: &[u8], frames: &[u8]) -> Result<(), Fault>
     ensures { result ≡ compared_of refusal output out.now frames.now }
 {
     if refusal != 0 {
-        return PARCELS;
+        return Err(Fault::Parcels);
     }
     if output > out.len() as u64 {
-        return PARCELS;
+        return Err(Fault::Parcels);
     }
-    let n = output as usize;
-    if verifier::equal(&out[..n], frames) {
-        return ACCEPTED;
+    if &out[..output as usize] == frames {
+        return Ok(());
     }
-    PARCELS
+    Err(Fault::Parcels)
 }
 
 // A call that has no output.
-fn silent(refusal: u64, frames: &[u8]) -> u64
+fn silent(refusal: u64, frames: &[u8]) -> Result<(), Fault>
     ensures { result ≡ compared_of refusal 0 [] frames.now }
 {
-    if refusal != 0 {
-        return PARCELS;
-    }
-    if frames.len() != 0 {
-        return PARCELS;
-    }
-    ACCEPTED
+    compared(refusal, 0, &[], frames)
 }
 
-pub fn opens(words: &mut Words, strings: &mut Strings, connection: u64, frames: &[u8]) -> u64
-    requires { connection < 256 ^ 4 }
+pub fn opens(
+    words: &mut Words,
+    strings: &mut Strings,
+    connection: u32,
+    frames: &[u8],
+) -> Result<(), Fault>
     ensures { Replays result (opening connection) (memory words.old strings.old) (memory words.new strings.new) frames.now }
 {
-    let a = server::hislip_open(words, strings, connection as u32);
+    let a = server::hislip_open(words, strings, connection);
     silent(a.refusal, frames)
 }
 
@@ -53,15 +50,15 @@ pub fn delivers(
     words: &mut Words,
     strings: &mut Strings,
     out: &mut [u8],
-    connection: u64,
+    connection: u32,
     bytes: &[u8],
     frames: &[u8],
-) -> u64
-    requires { (connection < 256 ^ 4) × (length out.old ≡ output_minimum) }
+) -> Result<(), Fault>
+    requires { length out.old ≡ output_minimum }
     ensures { Replays result (delivery connection bytes.now) (memory words.old strings.old)
         (memory words.new strings.new) frames.now }
 {
-    let a = server::hislip_deliver(words, strings, connection as u32, bytes, out);
+    let a = server::hislip_deliver(words, strings, connection, bytes, out);
     compared(a.refusal, a.output, out, frames)
 }
 
@@ -69,13 +66,13 @@ pub fn cuts(
     words: &mut Words,
     strings: &mut Strings,
     out: &mut [u8],
-    connection: u64,
+    connection: u32,
     frames: &[u8],
-) -> u64
-    requires { (connection < 256 ^ 4) × (length out.old ≡ output_minimum) }
+) -> Result<(), Fault>
+    requires { length out.old ≡ output_minimum }
     ensures { Replays result (cut connection) (memory words.old strings.old) (memory words.new strings.new) frames.now }
 {
-    let a = server::hislip_cut(words, strings, connection as u32, out);
+    let a = server::hislip_cut(words, strings, connection, out);
     compared(a.refusal, a.output, out, frames)
 }
 
@@ -85,7 +82,7 @@ pub fn reads_clock(
     out: &mut [u8],
     milliseconds: u64,
     frames: &[u8],
-) -> u64
+) -> Result<(), Fault>
     requires { length out.old ≡ output_minimum }
     ensures { Replays result (clock milliseconds) (memory words.old strings.old) (memory words.new strings.new) frames.now }
 {
@@ -97,48 +94,48 @@ pub fn answers(
     words: &mut Words,
     strings: &mut Strings,
     out: &mut [u8],
-    session: u64,
-    end: u64,
+    session: u32,
+    end: bool,
     payload: &[u8],
     shown: &[u8],
     frames: &[u8],
-) -> u64
-    requires { (session < 256 ^ 4) × (end < 2) × (length out.old ≡ output_minimum) }
-    ensures { Replays result (answer session end payload.now shown.now) (memory words.old strings.old)
+) -> Result<(), Fault>
+    requires { length out.old ≡ output_minimum }
+    ensures { Replays result (answer session (byte_of end) payload.now shown.now) (memory words.old strings.old)
         (memory words.new strings.new) frames.now }
 {
-    let a = server::hislip_answer(
-        words,
-        strings,
-        session as u32,
-        payload,
-        end as u8,
-        shown,
-        out,
-    );
+    let a = server::hislip_answer(words, strings, session, payload, u8::from(end), shown, out);
     compared(a.refusal, a.output, out, frames)
 }
 
-pub fn sets_status(words: &mut Words, strings: &mut Strings, byte: u64, frames: &[u8]) -> u64
-    requires { byte < 256 ^ 1 }
+pub fn sets_status(
+    words: &mut Words,
+    strings: &mut Strings,
+    byte: u8,
+    frames: &[u8],
+) -> Result<(), Fault>
     ensures { Replays result (status byte) (memory words.old strings.old) (memory words.new strings.new) frames.now }
 {
-    server::hislip_status(words, strings, byte as u8);
+    server::hislip_status(words, strings, byte);
     silent(0, frames)
 }
 
 // Are the 32 bits not a number's: above the infinity, below the sign?
-fn is_no_number(b: u64) -> bool
+fn is_no_number(b: u32) -> bool
     ensures { result ≡ not_number b }
 {
     b % 2147483648 > 2139095040
 }
 
-pub fn sets_off(words: &mut Words, strings: &mut Strings, session: u64, frames: &[u8]) -> u64
-    requires { session < 256 ^ 4 }
+pub fn sets_off(
+    words: &mut Words,
+    strings: &mut Strings,
+    session: u32,
+    frames: &[u8],
+) -> Result<(), Fault>
     ensures { Replays result (watch_off session) (memory words.old strings.old) (memory words.new strings.new) frames.now }
 {
-    let a = watches::hislip_watch_off(words, strings, session as u32);
+    let a = watches::hislip_watch_off(words, strings, session);
     silent(a.refusal, frames)
 }
 
@@ -146,45 +143,48 @@ pub fn sets_off(words: &mut Words, strings: &mut Strings, session: u64, frames: 
 pub fn sets_above(
     words: &mut Words,
     strings: &mut Strings,
-    session: u64,
-    limit: u64,
+    session: u32,
+    limit: u32,
     frames: &[u8],
-) -> u64
-    requires { (session < 256 ^ 4) × (limit < 256 ^ 4) }
+) -> Result<(), Fault>
     ensures { Replays result (watch_above session limit) (memory words.old strings.old) (memory words.new strings.new) frames.now }
 {
     if is_no_number(limit) {
-        return PARCELS;
+        return Err(Fault::Parcels);
     }
-    let x = floats::float_of(limit);
-    let a = watches::hislip_watch_above(words, strings, session as u32, x);
+    let x = floats::float_of(limit as u64);
+    let a = watches::hislip_watch_above(words, strings, session, x);
     silent(a.refusal, frames)
 }
 
 pub fn sets_outside(
     words: &mut Words,
     strings: &mut Strings,
-    session: u64,
-    low: u64,
-    high: u64,
+    session: u32,
+    low: u32,
+    high: u32,
     frames: &[u8],
-) -> u64
-    requires { (session < 256 ^ 4) × (low < 256 ^ 4) × (high < 256 ^ 4) }
+) -> Result<(), Fault>
     ensures { Replays result (watch_outside session low high) (memory words.old strings.old) (memory words.new strings.new) frames.now }
 {
     if is_no_number(low) {
-        return PARCELS;
+        return Err(Fault::Parcels);
     }
     if is_no_number(high) {
-        return PARCELS;
+        return Err(Fault::Parcels);
     }
-    let x = floats::float_of(low);
-    let y = floats::float_of(high);
-    let a = watches::hislip_watch_outside(words, strings, session as u32, x, y);
+    let x = floats::float_of(low as u64);
+    let y = floats::float_of(high as u64);
+    let a = watches::hislip_watch_outside(words, strings, session, x, y);
     silent(a.refusal, frames)
 }
 
-pub fn sets_list(words: &mut Words, strings: &mut Strings, text: &[u8], frames: &[u8]) -> u64
+pub fn sets_list(
+    words: &mut Words,
+    strings: &mut Strings,
+    text: &[u8],
+    frames: &[u8],
+) -> Result<(), Fault>
     ensures { Replays result (patterns text.now) (memory words.old strings.old) (memory words.new strings.new) frames.now }
 {
     let a = listing::hislip_patterns(words, strings, text);

@@ -12,20 +12,7 @@ ghost use Rattle.state.specs.View.{memory};
 ghost use Rattle.verifier.specs.Standing.{Sound, wanted_of};
 
 use state::sizes::{Strings, Words};
-use verifier::Standing;
-
-// The reading stops with a fault.
-fn failed(r: Standing, fault: u64) -> Standing
-    ensures { result ≡ record { have = r.have; count = r.count; at = r.at; last = r.last; fault = fault } }
-{
-    Standing {
-        have: r.have,
-        count: r.count,
-        at: r.at,
-        last: r.last,
-        fault,
-    }
-}
+use verifier::{Progress, Standing};
 
 // Bytes of the book, at most as many as are wanted.
 fn turn(
@@ -36,35 +23,30 @@ fn turn(
     out: &mut [u8],
     bytes: &[u8],
 ) -> Standing
-    requires { Sound r buf.old × (r.fault ≡ 0) × (0 < length bytes.now) × (r.have + length bytes.now ≤ wanted_of (take r.have buf.old))
+    requires { Sound r buf.old × (r.fault ≡ None) × (0 < length bytes.now) × (r.have + length bytes.now ≤ wanted_of (take r.have buf.old))
         × (r.at + r.have + length bytes.now < 2 ^ 63) × (length out.old ≡ output_minimum) }
     ensures { Turned result r buf.old buf.new (memory words.old strings.old) (memory words.new strings.new) bytes.now }
 {
-    let h = r.have;
-    let e = h + bytes.len();
-    let k = verifier::feed(buf, h, bytes);
-    if k == verifier::MORE {
-        return Standing {
-            have: e,
-            count: r.count,
-            at: r.at,
-            last: r.last,
-            fault: 0,
-        };
-    }
-    if k != verifier::WHOLE {
-        return failed(r, k);
-    }
-    let j = body::replay_part(words, strings, out, buf, e - 8);
-    if j != 0 {
-        return failed(r, j);
-    }
-    Standing {
-        have: 0,
-        count: r.count + 1,
-        at: r.at + e as u64,
-        last: r.at,
-        fault: 0,
+    let e = r.have + bytes.len();
+    match verifier::feed(buf, r.have, bytes) {
+        Err(fault) => Standing {
+            fault: Some(fault),
+            ..r
+        },
+        Ok(Progress::More) => Standing { have: e, ..r },
+        Ok(Progress::Whole) => match body::replay(words, strings, out, &buf[4..e - 8]) {
+            Err(fault) => Standing {
+                fault: Some(fault),
+                ..r
+            },
+            Ok(()) => Standing {
+                have: 0,
+                count: r.count + 1,
+                at: r.at + e as u64,
+                last: r.at,
+                fault: None,
+            },
+        },
     }
 }
 
@@ -81,15 +63,13 @@ pub fn feed(
     ensures { Turned result r buf.old buf.new (memory words.old strings.old) (memory words.new strings.new) piece.now }
 {
     let mut s = r;
-    let mut i = 0;
-    while i < piece.len() {
-        if s.fault != 0 {
-            return s;
-        }
-        let h = s.have;
-        let e = i + verifier::portion(buf, h, piece.len() - i);
-        s = turn(s, buf, words, strings, out, &piece[i..e]);
-        i = e;
+    let mut rest = piece;
+    // Kept: each turn takes as much of the piece as is wanted; nothing is counted.
+    while s.fault.is_none() && !rest.is_empty() {
+        let n = verifier::portion(buf, s.have, rest.len());
+        let (bytes, more) = rest.split_at(n);
+        s = turn(s, buf, words, strings, out, bytes);
+        rest = more;
     }
     s
 }

@@ -1,7 +1,7 @@
 -- What a test's answer says. Assumes nothing.
 use Rattle.std.specs.Prelude.{◌≡◌, refl, ◌⊎◌, ◌↔◌, Bool, true, false, ℕ, ◌≤◌, ◌<◌, ltb}
 use Rattle.std.proofs.Common.{inl, inr, arith, ltb-true, ltb-false}
-use Rattle.scpi.specs.declared.Checked.TheVariants.{Good, Bad}
+use Rattle.scpi.specs.Automaton.{good, bad}
 
 -- what a test says of a fact
 abbrev pub Says : Bool → Type 0 → Type 0
@@ -34,5 +34,5 @@ pub says_as : {X Y : Type 0} (r : Bool) → Says r X → X ↔ Y → Says r Y
 says_as true s f = f.0 s
 says_as false s f = λ y. s (f.1 y)
 
-pub good_or_bad : (i : ℕ) → Good ≡ Bad i → ⊥
+pub good_or_bad : (i : ℕ) → good ≡ bad i → ⊥
 good_or_bad i e = let z : ◌≡◌ {A = ℕ} 0 1 = cc in omega arith

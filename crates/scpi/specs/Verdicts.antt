@@ -1,18 +1,16 @@
 -- What the reading answers is the verdict of the grammar, and the only one. Assumes nothing.
-use Rattle.std.specs.Prelude.{◌≡◌, refl, ◌⊎◌, ◌↔◌, true, false, cond, List, [], ◌++◌, ℕ, suc, ◌+◌, ◌≤◌, ◌<◌, leb, length, take, drop}
+use Rattle.std.specs.Prelude.{◌≡◌, refl, ◌⊎◌, ◌↔◌, true, false, cond, List, [], ◌++◌, ℕ, suc, ◌+◌, ◌≤◌, ◌<◌, leb, length, take, drop, Ok, Err}
 use Rattle.std.proofs.Common.{sym, ap, subst, ◌∙◌, ⊎_elim, append_assoc, append-nil, arith, take-append-drop, take-take}
 use Rattle.std.proofs.Math.Seq.{take-length}
-use Rattle.scpi.specs.declared.Checked.{Checked}
-use Rattle.scpi.specs.declared.Checked.TheVariants.{Good, Bad}
 use Rattle.scpi.specs.Grammar.{Pattern, Viable, longest, GoodPattern, BadAt, BadAt.b_byte, BadAt.b_short, BadAt.b_long}
 use Rattle.scpi.specs.Answers.{lt_or_ge}
-use Rattle.scpi.specs.Automaton.{State, State.a_start, accepts, dead, run, scan}
+use Rattle.scpi.specs.Automaton.{State, State.a_start, accepts, dead, run, scan, Checked, bad}
 use Rattle.scpi.specs.Accepting.{Accepted}
 
--- 02, Q-12: the answer to a pattern
+-- the answer to a pattern
 abbrev pub Verdict : List ℕ → Checked → Type 0
-Verdict p Good = GoodPattern p
-Verdict p (Bad i) = BadAt p i
+Verdict p (Ok u) = GoodPattern p
+Verdict p (Err b) = BadAt p b.place
 
 -- r is the verdict, and no other answer is
 abbrev pub Exactly : List ℕ → Checked → Type 0
@@ -54,10 +52,10 @@ good_not_bad p g (b_short l v n) = n g.pattern
 good_not_bad p g (b_long l v) = let h : length p ≤ 128 = g.fits in omega arith
 
 one_verdict : (p : List ℕ) (r s : Checked) → Verdict p r → Verdict p s → s ≡ r
-one_verdict p Good Good h k = refl
-one_verdict p Good (Bad i) h k = absurd (good_not_bad p h k)
-one_verdict p (Bad i) Good h k = absurd (good_not_bad p k h)
-one_verdict p (Bad i) (Bad j) h k = ap Bad (bad_one p k h)
+one_verdict p (Ok u) (Ok v) h k = refl
+one_verdict p (Ok u) (Err b) h k = absurd (good_not_bad p h k)
+one_verdict p (Err b) (Ok v) h k = absurd (good_not_bad p k h)
+one_verdict p (Err b) (Err d) h k = ap bad (bad_one p k h)
 
 pub exactly : (p : List ℕ) (r : Checked) → Verdict p r → Exactly p r
 exactly p r h s = (λ k. one_verdict p r s h k, λ e. subst (Verdict p) (sym e) h)
@@ -65,14 +63,14 @@ exactly p r h s = (λ k. one_verdict p r s h k, λ e. subst (Verdict p) (sym e) 
 -- ---- the reading's answer is the verdict
 
 abbrev pub Scanned : State → List ℕ → ℕ → Checked → Type 0
-Scanned s l n Good = Accepted (run s l)
-Scanned s l n (Bad i) = (k : ℕ) × (i ≡ n + k)
+Scanned s l n (Ok u) = Accepted (run s l)
+Scanned s l n (Err b) = (k : ℕ) × (b.place ≡ n + k)
     × (((k ≡ length l) × (dead (run s l) ≡ false) × (accepts (run s l) ≡ false))
     ⊎ ((k < length l) × (dead (run s (take k l)) ≡ false) × (dead (run s (take (suc k) l)) ≡ true)))
 
 abbrev pub too_long : Checked → Checked
-too_long Good = Bad 128
-too_long (Bad i) = Bad i
+too_long (Ok u) = bad 128
+too_long (Err b) = Err b
 
 -- the verdict as a function
 unfoldable pub verdict_of : List ℕ → Checked

@@ -14,20 +14,14 @@ pub fn is_between(low: u8, high: u8, b: u8) -> bool
 pub fn raised(b: u8) -> u8
     ensures { result ≡ upper b }
 {
-    if is_between(97, 122, b) {
-        return b - 32;
-    }
-    b
+    b.to_ascii_uppercase()
 }
 
 // Are they one byte, whatever their case? Most that are, are the same.
 fn alike(x: u8, y: u8) -> bool
     ensures { result ≡ eqb (upper x) (upper y) }
 {
-    if x == y {
-        return true;
-    }
-    raised(x) == raised(y)
+    x == y || raised(x) == raised(y)
 }
 
 // The first place from `at` on whose byte is not between low and high.
@@ -35,14 +29,12 @@ pub fn run_end(p: &[u8], at: usize, low: u8, high: u8) -> usize
     requires { at ≤ length p.now }
     ensures { (result ≡ at + leading low high (drop at p.now)) × (result ≤ length p.now) }
 {
-    let mut i = at;
-    while i < p.len() {
+    for i in at..p.len() {
         if !is_between(low, high, p[i]) {
             return i;
         }
-        i += 1;
     }
-    i
+    p.len()
 }
 
 // Does the command go on at i with the bytes of the pattern from a up to e, whatever their case?
@@ -53,14 +45,10 @@ pub fn goes_on(p: &[u8], a: usize, e: usize, c: &[u8], i: usize) -> bool
     if e - a > c.len() - i {
         return false;
     }
-    let mut k = a;
-    let mut j = i;
-    while k < e {
-        if !alike(p[k], c[j]) {
+    for k in 0..e - a {
+        if !alike(p[a + k], c[i + k]) {
             return false;
         }
-        k += 1;
-        j += 1;
     }
     true
 }

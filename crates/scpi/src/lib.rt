@@ -1,19 +1,14 @@
-// Command patterns in SCPI notation (02, Q-12): what is a pattern, and where does one go bad?
+// Command patterns in SCPI notation: what is a pattern, and where does one go bad?
 #![tactic(auto)]
 
 pub mod bytes;
 pub mod checking;
 
-// A pattern is good, or bad at a place, counted from 0.
-#[derive(Clone, Copy)]
-pub enum Checked {
-    Good,
-    Bad(usize),
-}
+// A pattern has at most so many bytes.
+pub const LONGEST: usize = 128;
 
-// What reading a part of a pattern finds: it goes on at a place, or it is bad at one.
-#[derive(Clone, Copy)]
-pub enum Found {
-    On(usize),
-    Wrong(usize),
+// What is no pattern, and the place of its first bad byte, counted from 0: the one behind the end where it stops short.
+#[derive(Clone, Copy, Debug, PartialEq, Eq)]
+pub struct BadPattern {
+    pub place: usize,
 }

@@ -1,4 +1,4 @@
-// Readings under watch (02, Q-11), in the lent words: a session's watch and record, by its slot. Whatever the words hold, they show both.
+// Readings under watch, in the lent words: a session's watch and record, by its slot. Whatever the words hold, they show both.
 #![tactic(auto)]
 
 pub mod floats;

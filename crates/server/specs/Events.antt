@@ -1,5 +1,5 @@
 -- The calls other than deliveries: what each ensures, its refusals in 01's order, and its plan carried out. Assumes nothing.
-use Rattle.std.specs.Prelude.{◌≡◌, refl, true, false, List, [], map, ℕ, zero, suc, ◌+◌, ◌≤◌, ◌<◌, length}
+use Rattle.std.specs.Prelude.{◌≡◌, refl, true, false, Result as Res, Ok, Err, List, [], map, ℕ, zero, suc, ◌+◌, ◌≤◌, ◌<◌, length}
 use Rattle.std.proofs.Common.{sym, ap, ◌∙◌, true≢false, append-nil, zero-add, lt-ltb, le-ltb, le-leb}
 use Rattle.std.proofs.lemmas.Bool.{lt-leb}
 use Rattle.wire.specs.Frame.{Frame, bytes_of, written}
@@ -21,10 +21,17 @@ use Rattle.holding.specs.Outcome.{Met}
 use Rattle.sessions.specs.Closing.{ClosesPlace, closed_server}
 use Rattle.server.specs.declared.Answered.{Answered}
 use Rattle.server.specs.declared.Done.{Done}
+use Rattle.sessions.specs.Refusals.{number_of}
+use Rattle.sessions.specs.declared.refusal.Refusal.{Refusal}
 use Rattle.server.specs.Causes.{untimely, enough_room, clock_causes}
 
 abbrev pub done_numbers : Done → DoneAnswer
 done_numbers r = record { refusal = r.refusal; output = r.output }
+
+-- what a call tells: how many bytes hold frames, or its refusal
+abbrev pub done_told : Res ℕ Refusal → Done
+done_told (Ok n) = record { refusal = 0; output = n }
+done_told (Err e) = record { refusal = number_of e; output = 0 }
 
 pub record Called (e : Event) (r : Done) (m m' : Memory) (out out' : List ℕ) : Type 0 where
   pub numbers : done_numbers r ≡ done_answer (step (view m) e).reply (length (bytes_of (step (view m) e).frames))

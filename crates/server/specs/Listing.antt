@@ -7,9 +7,7 @@ use mathlib.Core.List.{List, []}
 use Prim.Native.Nat.{ℕ, suc, ◌≤◌}
 use Rattle.wire.specs.Frame.{bytes_of}
 use Rattle.wire.specs.Splice.{splice_nil}
-use Rattle.commands.specs.declared.Judged.{Judged}
-use Rattle.commands.specs.declared.Judged.TheVariants.{Taken, BadPattern, TooMany}
-use Rattle.commands.specs.Lists.{lines_of}
+use Rattle.commands.specs.Lists.{Judged, taken, bad_pattern_at, list_too_long, lines_of}
 use Rattle.commands.proofs.Lines.{listed_room}
 use Rattle.commands.specs.Rulings.{Ruled, judged, ruled_judged}
 use Rattle.model.specs.Sizes.{list_limit}
@@ -36,8 +34,8 @@ pub record SetsList (text : List ℕ) (r : Listed) (m m' : Memory) : Type 0 wher
   pub tidy : Tidy m → Tidy m'
 
 -- a list that is taken has room
-pub room_for : (text : List ℕ) → Ruled (lines_of text) Taken → length text ≤ list_limit
-room_for text h = listed_room text ((h Taken).1 refl)
+pub room_for : (text : List ℕ) → Ruled (lines_of text) taken → length text ≤ list_limit
+room_for text h = listed_room text ((h taken).1 refl)
 
 -- by the ruling
 module _ (text : List ℕ) (r : Listed) (m : Memory) where
@@ -53,23 +51,23 @@ module _ (text : List ℕ) (r : Listed) (m : Memory) where
         tidy = λ t. t;
       }
 
-  pub too_many : Ruled (lines_of text) TooMany → listed_numbers r ≡ record { refusal = 12; pattern = 0; place = 0 } → SetsList text r m m
+  pub too_many : Ruled (lines_of text) list_too_long → listed_numbers r ≡ record { refusal = 12; pattern = 0; place = 0 } → SetsList text r m m
   unfolding refusal causes
-  too_many h f = let e : judged (lines_of text) ≡ TooMany = sym (ruled_judged (lines_of text) TooMany h) in turned_away_lem 11 TooMany (rw e) e f
+  too_many h f = let e : judged (lines_of text) ≡ list_too_long = sym (ruled_judged (lines_of text) list_too_long h) in turned_away_lem 11 list_too_long (rw e) e f
 
-  pub bad_pattern_lem : (k i : ℕ) → Ruled (lines_of text) (BadPattern k i) → listed_numbers r ≡ record { refusal = 11; pattern = k; place = i } → SetsList text r m m
+  pub bad_pattern_lem : (k i : ℕ) → Ruled (lines_of text) (bad_pattern_at k i) → listed_numbers r ≡ record { refusal = 11; pattern = k; place = i } → SetsList text r m m
   unfolding refusal causes
-  bad_pattern_lem k i h f = let e : judged (lines_of text) ≡ BadPattern k i = sym (ruled_judged (lines_of text) (BadPattern k i) h) in turned_away_lem 10 (BadPattern k i) (rw e) e f
+  bad_pattern_lem k i h f = let e : judged (lines_of text) ≡ bad_pattern_at k i = sym (ruled_judged (lines_of text) (bad_pattern_at k i) h) in turned_away_lem 10 (bad_pattern_at k i) (rw e) e f
 
   set_now : (d : Server) → finish d (plan d (setting (patterns text))) ≡ record { server = on_rest d (λ (x : Rest). with_allowed x (only text)); reply = done; frames = [] }
   unfolding finish plan change setting_sensings
   set_now d = refl
 
-  pub taken_list : (m' : Memory) → Ruled (lines_of text) Taken → view m' ≡ on_rest (view m) (λ (x : Rest). with_allowed x (only text)) → (Tidy m → Tidy m')
+  pub taken_list : (m' : Memory) → Ruled (lines_of text) taken → view m' ≡ on_rest (view m) (λ (x : Rest). with_allowed x (only text)) → (Tidy m → Tidy m')
       → listed_numbers r ≡ record { refusal = 0; pattern = 0; place = 0 } → SetsList text r m m'
   unfolding refusal causes step answered bytes_of
   taken_list m' h v t f =
-      let e : judged (lines_of text) ≡ Taken = sym (ruled_judged (lines_of text) Taken h) in
+      let e : judged (lines_of text) ≡ taken = sym (ruled_judged (lines_of text) taken h) in
       let q : refusal (view m) (setting (patterns text)) ≡ 0 = rw e in
       let x : step (view m) (setting (patterns text)) ≡ record { server = on_rest (view m) (λ (x : Rest). with_allowed x (only text)); reply = done; frames = [] } =
       ap (λ (k : ℕ). answered k (view m) (setting (patterns text))) q ∙ set_now (view m) in

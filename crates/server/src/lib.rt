@@ -6,7 +6,7 @@ ghost use Rattle.model.specs.Interface.Reply.{done};
 ghost use Rattle.model.specs.Post.{Post};
 ghost use Rattle.server.specs.Calls.{Delivered};
 ghost use Rattle.server.specs.Answers.{Gives, refused_at};
-ghost use Rattle.server.specs.Events.{Called, Fresh, Replied};
+ghost use Rattle.server.specs.Events.{Called, Fresh, Replied, done_told};
 ghost use Rattle.state.specs.Tidy.{Tidy};
 ghost use Rattle.state.specs.View.{memory, view};
 ghost use Rattle.std.specs.Prelude.{length, eqb, not, List, [], ◌≡◌, ℕ, ◌<◌, ◌≤◌};
@@ -19,6 +19,7 @@ pub mod watches;
 use delivery::deliver;
 use exchanges::{events, interrupted};
 use holding::waiting;
+use sessions::refusal::Refusal;
 use sessions::{Delivery, answer, closing, mode};
 use state::sizes::{
     CLOCK_LIMIT, CONNECTION_LIMIT, OUTPUT_MINIMUM, PAYLOAD_LIMIT, SESSION_LIMIT, Strings, Words,
@@ -32,6 +33,7 @@ const CONNECTIONS: u32 = CONNECTION_LIMIT as u32;
 const HEADER: usize = 16;
 
 // What the other calls answer the host: the refusal (0: none), and how many bytes of the output hold frames.
+// Kept: a number for the refusal, here and in Answered, since these are structs of the C interface.
 #[repr(C)]
 #[derive(Clone, Copy)]
 pub struct Done {
@@ -69,24 +71,64 @@ pub fn hislip_deliver(
     answer::refuse(7)
 }
 
-fn told(refusal: u64, output: u64) -> Done
-    ensures { result ≡ record { refusal = refusal; output = output } }
+// A refused call sends nothing.
+impl From<Result<usize, Refusal>> for Done {
+    ghost from_gives = { λ r d. d ≡ done_told r };
+
+    fn from(told: Result<usize, Refusal>) -> Done {
+        match told {
+            Ok(output) => Done {
+                refusal: 0,
+                output: output as u64,
+            },
+            Err(why) => Done {
+                refusal: why.number(),
+                output: 0,
+            },
+        }
+    }
+}
+
+fn try_open(words: &mut Words, strings: &mut Strings, connection: u32) -> Result<usize, Refusal>
+    ensures { Called (opening connection) (done_told result) (memory words.old strings.old) (memory words.new strings.new) [] [] }
 {
-    Done { refusal, output }
+    if connection >= CONNECTIONS {
+        return Err(Refusal::NoSuchConnection);
+    }
+    if tables::is_open(words, connection as usize) {
+        return Err(Refusal::AlreadyOpen);
+    }
+    events::open_connection(words, connection as u64);
+    Ok(0)
 }
 
 // A connection opens.
 pub fn hislip_open(words: &mut Words, strings: &mut Strings, connection: u32) -> Done
     ensures { Called (opening connection) result (memory words.old strings.old) (memory words.new strings.new) [] [] }
 {
+    Done::from(try_open(words, strings, connection))
+}
+
+fn try_cut(
+    words: &mut Words,
+    strings: &mut Strings,
+    connection: u32,
+    out: &mut [u8],
+) -> Result<usize, Refusal>
+    ensures { Called (cut connection (length out.old)) (done_told result) (memory words.old strings.old)
+        (memory words.new strings.new) out.old out.new }
+{
+    if out.len() < OUTPUT_MINIMUM {
+        return Err(Refusal::BufferTooSmall);
+    }
     if connection >= CONNECTIONS {
-        return told(1, 0);
+        return Err(Refusal::NoSuchConnection);
     }
-    if tables::is_open(words, connection as usize) {
-        return told(2, 0);
+    if !tables::is_open(words, connection as usize) {
+        return Err(Refusal::NoSuchConnection);
     }
-    events::open_connection(words, connection as u64);
-    told(0, 0)
+    let i = search::place_of(words, connection as u64).slot();
+    Ok(closing::close_place(words, strings, out, 0, connection as u64, i))
 }
 
 // A connection is cut.
@@ -94,19 +136,28 @@ pub fn hislip_cut(words: &mut Words, strings: &mut Strings, connection: u32, out
     ensures { Called (cut connection (length out.old)) result (memory words.old strings.old)
         (memory words.new strings.new) out.old out.new }
 {
+    Done::from(try_cut(words, strings, connection, out))
+}
+
+fn try_clock(
+    words: &mut Words,
+    strings: &mut Strings,
+    milliseconds: u64,
+    out: &mut [u8],
+) -> Result<usize, Refusal>
+    ensures { Called (clock milliseconds (length out.old)) (done_told result) (memory words.old strings.old)
+        (memory words.new strings.new) out.old out.new }
+{
     if out.len() < OUTPUT_MINIMUM {
-        return told(7, 0);
+        return Err(Refusal::BufferTooSmall);
     }
-    if connection >= CONNECTIONS {
-        return told(1, 0);
+    if milliseconds > CLOCK_LIMIT {
+        return Err(Refusal::ClockAbove);
     }
-    if !tables::is_open(words, connection as usize) {
-        return told(1, 0);
+    if milliseconds < tables::clock(words) {
+        return Err(Refusal::ClockBack);
     }
-    let place = search::place_of(words, connection as u64);
-    let i = place.slot;
-    let end = closing::close_place(words, strings, out, 0, connection as u64, i);
-    told(0, end as u64)
+    Ok(waiting::expire(words, strings, out, 0, milliseconds))
 }
 
 // The clock reads so many milliseconds.
@@ -119,17 +170,7 @@ pub fn hislip_clock(
     ensures { Called (clock milliseconds (length out.old)) result (memory words.old strings.old)
         (memory words.new strings.new) out.old out.new }
 {
-    if out.len() < OUTPUT_MINIMUM {
-        return told(7, 0);
-    }
-    if milliseconds > CLOCK_LIMIT {
-        return told(4, 0);
-    }
-    if milliseconds < tables::clock(words) {
-        return told(3, 0);
-    }
-    let end = waiting::expire(words, strings, out, 0, milliseconds);
-    told(0, end as u64)
+    Done::from(try_clock(words, strings, milliseconds, out))
 }
 
 // The instrument's status byte changes.
@@ -140,22 +181,11 @@ pub fn hislip_status(words: &mut Words, strings: &mut Strings, status: u8)
     events::set_status(words, status);
 }
 
-// Any value but 0 says yes.
-fn is_set(b: u8) -> bool
-    ensures { not (eqb b 0) ≡ result }
-{
-    if b == 0 {
-        return false;
-    }
-    true
-}
-
 // A fresh server in the lent memory, which prefers synchronized mode if `overlap` is 0, else overlap mode.
 pub fn hislip_new(words: &mut Words, strings: &mut Strings, vendor: u16, overlap: u8)
     ensures { Fresh (record { vendor = vendor; prefers_overlap = not (eqb overlap 0) }) (memory words.new strings.new) }
 {
-    let prefers = is_set(overlap);
-    start::start(words, strings, vendor, prefers);
+    start::start(words, strings, vendor, overlap != 0);
 }
 
 // How many words and bytes to lend.
@@ -212,25 +242,25 @@ fn give_answer(
     replied(0, 0, n as u64)
 }
 
-// The refusal of an answer of n bytes to slot i (0: none), as one number: behind five early returns the compiler takes `give_answer` for rare and
-// leaves it a call.
+// The refusal of an answer of n bytes to slot i (0: none).
+// Kept: one number and no `Result`, since behind five early returns the compiler takes `give_answer` for rare and leaves it a call.
 fn answer_refusal(words: &Words, i: usize, n: usize) -> u64
     ensures { ((s : List ℕ) → refused_at (view (memory words.now s)) i n ≡ result) × (result ≡ 0 → (i < session_limit) × (n ≤ payload_limit)) }
 {
     if i >= SESSION_LIMIT {
-        return 8;
+        return Refusal::NoSuchSession as u64;
     }
     if tables::entry(words, i, tables::NUMBER) == 0 {
-        return 8;
+        return Refusal::NoSuchSession as u64;
     }
     if !mode::may_answer(words, i) {
-        return 5;
+        return Refusal::NothingAsked as u64;
     }
     if n > PAYLOAD_LIMIT {
-        return 6;
+        return Refusal::AnswerTooLong as u64;
     }
     if tables::exchange(words, i, tables::CLIENT_SIZE) < n as u64 {
-        return 6;
+        return Refusal::AnswerTooLong as u64;
     }
     0
 }
@@ -249,13 +279,12 @@ pub fn hislip_answer(
         (memory words.old strings.old) (memory words.new strings.new) out.old out.new }
 {
     if out.len() < OUTPUT_MINIMUM {
-        return replied(7, 0, 0);
+        return replied(Refusal::BufferTooSmall as u64, 0, 0);
     }
     let i = search::slot_of_number(words, session as u64);
     let refusal = answer_refusal(words, i, payload.len());
     if refusal != 0 {
         return replied(refusal, 0, 0);
     }
-    let with_end = is_set(end);
-    give_answer(words, out, i, with_end, payload, shown)
+    give_answer(words, out, i, end != 0, payload, shown)
 }

@@ -1,8 +1,10 @@
 pub mod Closing
 pub mod Did
+pub mod Outcomes
 pub mod Replies
 pub mod Synchronous
 pub mod Mode
 pub mod Opening
 pub mod SessionIds
 pub mod Asynchronous
+pub mod Refusals

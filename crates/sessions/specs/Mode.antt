@@ -1,6 +1,7 @@
 -- 02, Q-1: the two modes: what the words say of them, and the count of a session's answers. Assumes nothing.
 use Rattle.std.specs.Prelude.{◌≡◌, refl, Bool, true, false, not, ◌&&◌, cond, ℕ, ◌%◌, ◌^◌, eqb}
-use Rattle.std.proofs.Common.{sym, ◌∙◌, eq-eqb, ne_eqb}
+use Rattle.std.proofs.lemmas.Bool.{eqb-false}
+use Rattle.std.proofs.Common.{eqb-true, sym, ◌∙◌, eq-eqb, ne_eqb}
 use Rattle.std.proofs.Math.Path.{ap}
 use Rattle.wire.specs.MessageId.{start, next}
 use Rattle.model.specs.Sizes.{no_connection}
@@ -85,3 +86,10 @@ module _ (e : Entry) (x : Exchange) where
   pub may_unasked : (r : ℕ) → x.overlap ≡ false → exchange_with 1 r x ≡ x → r ≡ 0 → may_answer e x ≡ false
   unfolding may_answer
   may_unasked r o q h = rw o (ap is_asked (sym (ap (λ (y : Exchange). y.asked) q) ∙ ap asked_of h))
+
+  pub may_by_asked : (r : ℕ) → x.overlap ≡ false → exchange_with 1 r x ≡ x → may_answer e x ≡ not (eqb r 0)
+  may_by_asked r o q = by (eqb r 0) refl
+    where
+      by : (b : Bool) → eqb r 0 ≡ b → may_answer e x ≡ not b
+      by true h = may_unasked r o q (eqb-true r 0 h)
+      by false h = may_asked r o q (eqb-false r 0 h)

@@ -1,8 +1,11 @@
 // What a delivery answers the host, case by case.
 ghost use Rattle.std.specs.Prelude.{◌+◌, ◌≤◌, ◌≡◌};
+ghost use Rattle.model.specs.Interface.{outcome_number};
+ghost use Rattle.sessions.specs.Outcomes.{outcome_meant};
 ghost use Rattle.model.specs.Sizes.{payload_limit};
 
-use crate::{Delivery, outcome};
+use crate::Delivery;
+use crate::outcome::Outcome;
 
 // The call is turned away.
 pub fn refuse(n: u64) -> Delivery
@@ -24,7 +27,7 @@ pub fn more_needed(missing: u64) -> Delivery
 {
     Delivery {
         refusal: 0,
-        outcome: outcome::MORE_NEEDED,
+        outcome: Outcome::MoreNeeded as u64,
         session: 0,
         taken: 0,
         output: 0,
@@ -33,12 +36,12 @@ pub fn more_needed(missing: u64) -> Delivery
 }
 
 // Nothing is sent: skipped, held, ignored.
-pub fn quiet(outcome: u64, taken: u64) -> Delivery
-    ensures { result ≡ record { refusal = 0; outcome = outcome; session = 0; taken = taken; output = 0; missing = 0 } }
+pub fn quiet(outcome: Outcome, taken: u64) -> Delivery
+    ensures { result ≡ record { refusal = 0; outcome = outcome_number (outcome_meant outcome); session = 0; taken = taken; output = 0; missing = 0 } }
 {
     Delivery {
         refusal: 0,
-        outcome,
+        outcome: outcome as u64,
         session: 0,
         taken,
         output: 0,
@@ -52,7 +55,7 @@ pub fn error_sent(taken: u64) -> Delivery
 {
     Delivery {
         refusal: 0,
-        outcome: outcome::ERROR_SENT,
+        outcome: Outcome::ErrorSent as u64,
         session: 0,
         taken,
         output: 17,
@@ -66,7 +69,7 @@ pub fn closed(session: u64, output: u64) -> Delivery
 {
     Delivery {
         refusal: 0,
-        outcome: outcome::CLOSED,
+        outcome: Outcome::Closed as u64,
         session,
         taken: 0,
         output,
@@ -81,7 +84,7 @@ pub fn acted(session: u64, len: u64, output: u64) -> Delivery
 {
     Delivery {
         refusal: 0,
-        outcome: outcome::ACTED,
+        outcome: Outcome::Acted as u64,
         session,
         taken: 16 + len,
         output,

@@ -1,4 +1,4 @@
-// 02, Q-1: the two modes. A server prefers one, and each session is in one; in overlap mode its answers carry the count of its answers.
+// The two modes. A server prefers one, and each session is in one; in overlap mode its answers carry the count of its answers.
 ghost use Rattle.std.specs.Prelude.{ℕ, ◌<◌, ◌&&◌, cond, false, not, List, ◌≡◌};
 ghost use Rattle.sessions.specs.Mode.{counted};
 ghost use Rattle.sessions.specs.Synchronous.{with_slot};
@@ -20,10 +20,7 @@ use wire::message_id::MessageId;
 pub fn preference(w: &Words) -> u8
     ensures { cond (rest_of w.now).made.prefers_overlap 1 0 ≡ result }
 {
-    if tables::single(w, tables::PREFERENCE) == 1 {
-        return 1;
-    }
-    0
+    u8::from(tables::single(w, tables::PREFERENCE) == 1)
 }
 
 // Is the session of slot i in overlap mode?
@@ -71,10 +68,8 @@ fn may_overlap(w: &Words, i: usize) -> bool
     if tables::exchange(w, i, tables::IN_CLEAR) == 1 {
         return false;
     }
-    if tables::entry(w, i, tables::NUMBER) == 0 {
-        return true;
-    }
-    tables::entry(w, i, tables::ASYNCHRONOUS) % 256 != NO_CONNECTION
+    tables::entry(w, i, tables::NUMBER) == 0
+        || tables::entry(w, i, tables::ASYNCHRONOUS) % 256 != NO_CONNECTION
 }
 
 // May slot i be answered? In synchronized mode if it has asked something.
@@ -83,10 +78,8 @@ pub fn may_answer(w: &Words, i: usize) -> bool
     ensures { (s : List ℕ) → may_answer (at (locks_of w.now s).entries i) (exchange_at (rest_of w.now) i) ≡ result }
 {
     if is_overlap(w, i) {
-        return may_overlap(w, i);
+        may_overlap(w, i)
+    } else {
+        tables::exchange(w, i, tables::ASKED) != 0
     }
-    if tables::exchange(w, i, tables::ASKED) == 0 {
-        return false;
-    }
-    true
 }

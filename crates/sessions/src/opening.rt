@@ -36,11 +36,7 @@ fn enter_session(w: &mut Words, strings: &mut Strings, i: usize, n: u64, c: u64)
 fn version(param: u32) -> u32
     ensures { (result ≡ min (param / 65536) 256) × (result ≤ 256) }
 {
-    let v = param / 65536;
-    if v < 256 {
-        return v;
-    }
-    256
+    (param / 65536).min(256)
 }
 
 // Initialize that acts: the first free slot, the next SessionID.

@@ -12,7 +12,8 @@ ghost use Rattle.wire.specs.Frame.{bytes_of};
 ghost use Rattle.wire.specs.Splice.{splice};
 ghost use Rattle.model.specs.Sizes.{connection_limit, output_minimum};
 
-use crate::{Delivery, answer, closing, outcome};
+use crate::outcome::Outcome;
+use crate::{Delivery, answer, closing};
 use state::sizes::{NO_CONNECTION, SESSION_LIMIT, Strings, Words};
 use state::tables;
 use wire::{frame, types};
@@ -52,7 +53,7 @@ pub fn skip(w: &mut Words, c: u64, remainder: u64, taken: u64) -> Delivery
         (memory w.old s) (memory w.new s) out out }
 {
     keep_open(w, c, remainder - taken);
-    answer::quiet(outcome::SKIPPED, taken)
+    answer::quiet(Outcome::Skipped, taken)
 }
 
 // The FatalError to each connection of the session in slot i, or to connection c alone; the place behind it.

@@ -3,7 +3,6 @@ ghost use Rattle.std.specs.Prelude.{ℕ, ◌≤◌, List, ◌≡◌};
 ghost use Rattle.model.specs.Locks.{issued};
 ghost use Rattle.model.specs.Sizes.{session_limit};
 ghost use Rattle.state.specs.View.{locks_of, rest_of};
-ghost use Rattle.model.specs.Sizes.{session_limit};
 
 use state::sizes::{SESSION_LIMIT, SESSIONS, Words};
 use state::{search, tables};
@@ -13,13 +12,11 @@ pub fn next_session_id(w: &Words) -> u64
     ensures { (1 ≤ result) × (result ≤ 65535) × ((s : List ℕ) → issued session_limit 0 (locks_of w.now s).entries (rest_of w.now).last_issued ≡ result) }
 {
     let last = tables::single(w, tables::LAST) % 65536;
-    let mut k: u64 = 0;
-    while k < SESSIONS {
+    for k in 0..SESSIONS {
         let n = (last + k) % 65535 + 1;
         if search::slot_of_number(w, n) >= SESSION_LIMIT {
             return n;
         }
-        k += 1;
     }
-    (last + k) % 65535 + 1
+    (last + SESSIONS) % 65535 + 1
 }

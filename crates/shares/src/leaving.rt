@@ -10,55 +10,53 @@ ghost use Rattle.state.specs.View.{memory, view, word};
 
 use crate::wiping::wipe_request;
 use queue::requests::least;
-use state::holders::{bit_of, put_in};
+use state::holders::{is_in, put_in};
 use state::layout::{COUNT, QUEUE};
 use state::sizes::{SESSION_LIMIT, SESSIONS, Strings, Words};
 
 // The slots of the first n places, a bit each.
-fn waiting_set(w: &[u64], n: usize) -> u64
-    requires { (n ≤ session_limit) × (length w.now ≡ WORDS) }
+#[tactic(auto, using(queue::specs::Leaving::no_members, queue::specs::Leaving::members_more), unfolding(state::specs::View::slot_at))]
+fn waiting_set(w: &Words, n: usize) -> u64
+    requires { n ≤ session_limit }
     ensures { Members w.now n result }
 {
     let mut stay = 0;
-    let mut j = 0;
-    while j < n {
+    for j in 0..n {
         let x = (w[QUEUE + j] % SESSIONS) as usize;
         stay = put_in(stay, x);
-        j += 1;
     }
     stay
 }
 
 // A place behind the count is wiped, and the request of its slot with it if that waits no more.
-fn leave_place(w: &mut [u64], strings: &mut [u8], p: usize, stay: u64)
-    requires { (p < session_limit) × (length w.old ≡ WORDS) × (length strings.old ≡ STRINGS) × (count_of w.old ≤ p) × Members w.old (count_of w.old) stay }
+#[tactic(auto, using(queue::specs::Leaving::kept_left, queue::specs::Leaving::wiped_left), unfolding(state::specs::View::slot_at))]
+fn leave_place(w: &mut Words, strings: &mut Strings, p: usize, stay: u64)
+    requires { (p < session_limit) × (count_of w.old ≤ p) × Members w.old (count_of w.old) stay }
     ensures { Left w.old strings.old w.new strings.new p }
 {
     let x = (w[QUEUE + p] % SESSIONS) as usize;
-    if bit_of(stay, x) == 1 {
-        w[QUEUE + p] = 0;
-        return;
+    if !is_in(stay, x) {
+        wipe_request(w, strings, x);
     }
-    wipe_request(w, strings, x);
     w[QUEUE + p] = 0;
 }
 
 // The places from n to m, behind the count, which is n.
-fn leave_places(w: &mut [u64], strings: &mut [u8], n: usize, m: usize, stay: u64)
-    requires { (length w.old ≡ WORDS) × (length strings.old ≡ STRINGS) × (word w.old COUNT ≡ n) × (n ≤ m) × (m ≤ session_limit) × Members w.old n stay }
+#[tactic(auto, using(queue::specs::Leaving::members_left, queue::specs::Leaving::over_tidy))]
+fn leave_places(w: &mut Words, strings: &mut Strings, n: usize, m: usize, stay: u64)
+    requires { (word w.old COUNT ≡ n) × (n ≤ m) × (m ≤ session_limit) × Members w.old n stay }
     ensures { (view (memory w.new strings.new) ≡ view (memory w.old strings.old))
-        × (TidyOver (Still n n m) (memory w.old strings.old) → Tidy (memory w.new strings.new))
-        × (length w.new ≡ WORDS) }
+        × (TidyOver (Still n n m) (memory w.old strings.old) → Tidy (memory w.new strings.new)) }
 {
-    let mut p = n;
-    while p < m {
+    for p in n..m {
         leave_place(w, strings, p, stay);
-        p += 1;
     }
 }
 
-fn keep_first_in(w: &mut [u64], strings: &mut [u8], n: usize)
-    requires { (length w.old ≡ WORDS) × (length strings.old ≡ STRINGS) × (n ≤ count_of w.old) }
+// Only the first n go on waiting.
+#[tactic(auto, using(queue::specs::Queue::cut_short, queue::specs::Leaving::kept_all, queue::specs::Leaving::kept_some))]
+pub fn keep_first(w: &mut Words, strings: &mut Strings, n: usize)
+    requires { n ≤ count_of w.old }
     ensures { (view (memory w.new strings.new) ≡ on_waiting (view (memory w.old strings.old)) (take n))
         × (Tidy (memory w.old strings.old) → Tidy (memory w.new strings.new)) }
 {
@@ -70,13 +68,4 @@ fn keep_first_in(w: &mut [u64], strings: &mut [u8], n: usize)
     }
     let stay = waiting_set(w, n);
     leave_places(w, strings, n, m, stay);
-}
-
-// Only the first n go on waiting.
-pub fn keep_first(w: &mut Words, strings: &mut Strings, n: usize)
-    requires { n ≤ count_of w.old }
-    ensures { (view (memory w.new strings.new) ≡ on_waiting (view (memory w.old strings.old)) (take n))
-        × (Tidy (memory w.old strings.old) → Tidy (memory w.new strings.new)) }
-{
-    keep_first_in(w, strings, n);
 }

@@ -17,8 +17,9 @@ use state::layout::{KEY, SHARERS};
 use state::sizes::{STRING_LIMIT, Strings, Words};
 
 // While nobody shares, a string becomes the one that the next session shares. Nobody sees it yet.
-fn lay_key(w: &mut [u64], strings: &mut [u8], string: &[u8])
-    requires { (0 < length string.now) × (length string.now ≤ string_limit) × (length w.old ≡ WORDS) × (length strings.old ≡ STRINGS)
+#[tactic(auto, using(queue::specs::Sharing::key_unseen, queue::specs::Sharing::key_laid))]
+fn lay_key(w: &mut Words, strings: &mut Strings, string: &[u8])
+    requires { (0 < length string.now) × (length string.now ≤ string_limit)
         × (all no_shared (locks_of w.old strings.old).entries ≡ true) }
     ensures { (view (memory w.new strings.new) ≡ view (memory w.old strings.old))
         × (key_of w.new strings.new ≡ string.now) × (w.new ≡ set w.old KEY (length string.now - 1))
@@ -29,8 +30,9 @@ fn lay_key(w: &mut [u64], strings: &mut [u8], string: &[u8])
 }
 
 // The same with the string of slot i's request, which has n bytes.
-fn copy_key(w: &mut [u64], strings: &mut [u8], i: usize, n: usize)
-    requires { (i < session_limit) × (0 < n) × (n ≤ string_limit) × (length w.old ≡ WORDS) × (length strings.old ≡ STRINGS)
+#[tactic(auto, using(queue::specs::Strings::string_bytes, queue::specs::Sharing::key_unseen, queue::specs::Sharing::key_laid))]
+fn copy_key(w: &mut Words, strings: &mut Strings, i: usize, n: usize)
+    requires { (i < session_limit) × (0 < n) × (n ≤ string_limit)
         × (n ≡ length (string_at w.old strings.old i)) × (all no_shared (locks_of w.old strings.old).entries ≡ true) }
     ensures { (view (memory w.new strings.new) ≡ view (memory w.old strings.old))
         × (key_of w.new strings.new ≡ string_at w.old strings.old i)
@@ -42,6 +44,7 @@ fn copy_key(w: &mut [u64], strings: &mut [u8], i: usize, n: usize)
 }
 
 // Slot i gets the shared lock with a string that fits the shared locks.
+#[tactic(auto, using(queue::specs::Sharing::no_sharers, queue::specs::Sharing::given_laid, queue::specs::Unsharing::first_tidy, queue::specs::Sharing::fits_key))]
 pub fn give_key(w: &mut Words, strings: &mut Strings, i: usize, string: &[u8])
     requires { (i < session_limit) × (0 < length string.now) × (length string.now ≤ string_limit) × (all (fits string.now) (locks_of w.old strings.old).entries ≡ true) }
     ensures { (view (memory w.new strings.new) ≡ on_entry (view (memory w.old strings.old)) i
@@ -56,6 +59,7 @@ pub fn give_key(w: &mut Words, strings: &mut Strings, i: usize, string: &[u8])
 }
 
 // Slot i gets the shared lock with the string of its request, which has n bytes and fits the shared locks.
+#[tactic(auto, using(queue::specs::Sharing::no_sharers, queue::specs::Sharing::given_laid, queue::specs::Unsharing::first_tidy, queue::specs::Sharing::fits_key))]
 pub fn give_shared(w: &mut Words, strings: &mut Strings, i: usize, n: usize)
     requires { (i < session_limit) × (n ≡ length (string_at w.old strings.old i)) × (0 < n) × (n ≤ string_limit)
         × (all (fits (string_at w.old strings.old i)) (locks_of w.old strings.old).entries ≡ true) }
@@ -71,9 +75,10 @@ pub fn give_shared(w: &mut Words, strings: &mut Strings, i: usize, n: usize)
     join_sharers(w, i);
 }
 
-// Slot i leaves those that share, if it did; with the last the string goes.
-fn leave_sharers_in(w: &mut [u64], strings: &mut [u8], i: usize)
-    requires { (i < session_limit) × (length w.old ≡ WORDS) × (length strings.old ≡ STRINGS) }
+// Slot i holds the shared lock no more, if it did; with the last the string goes.
+#[tactic(auto, using(state::specs::Granting::shared_dropped, queue::specs::Unsharing::none_left, queue::specs::Unsharing::others_left, queue::specs::Unsharing::last_left))]
+pub fn leave_sharers(w: &mut Words, strings: &mut Strings, i: usize)
+    requires { i < session_limit }
     ensures { (view (memory w.new strings.new) ≡ on_entry (view (memory w.old strings.old)) i without_shared)
         × (Tidy (memory w.old strings.old) → Tidy (memory w.new strings.new)) }
 {
@@ -89,13 +94,4 @@ fn leave_sharers_in(w: &mut [u64], strings: &mut [u8], i: usize)
         return;
     }
     wipe_key(w, strings);
-}
-
-// Slot i holds the shared lock no more, if it did.
-pub fn leave_sharers(w: &mut Words, strings: &mut Strings, i: usize)
-    requires { i < session_limit }
-    ensures { (view (memory w.new strings.new) ≡ on_entry (view (memory w.old strings.old)) i without_shared)
-        × (Tidy (memory w.old strings.old) → Tidy (memory w.new strings.new)) }
-{
-    leave_sharers_in(w, strings, i);
 }

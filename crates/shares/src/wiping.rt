@@ -8,23 +8,19 @@ ghost use Rattle.queue.specs.Wiping.{Wiped};
 
 use queue::requests::{KEY_REST, least};
 use state::layout::{KEY, REQUEST, REQUESTS};
-use state::sizes::STRING_LIMIT;
+use state::sizes::{STRING_LIMIT, Strings, Words};
 
 // The n bytes from a place on become 0.
-pub fn wipe(strings: &mut [u8], a: usize, n: usize)
-    requires { a + n ≤ length strings.old }
+pub fn wipe(strings: &mut Strings, a: usize, n: usize)
+    requires { a + n ≤ STRINGS }
     ensures { Wiped strings.old strings.new a n }
 {
-    let mut i = 0;
-    while i < n {
-        strings[a + i] = 0;
-        i += 1;
-    }
+    strings[a..a + n].fill(0);
 }
 
 // The request of slot i, which does not wait.
-pub fn wipe_request(w: &mut [u64], strings: &mut [u8], i: usize)
-    requires { (i < session_limit) × (length w.old ≡ WORDS) × (length strings.old ≡ STRINGS) × Idle w.old i }
+pub fn wipe_request(w: &mut Words, strings: &mut Strings, i: usize)
+    requires { (i < session_limit) × Idle w.old i }
     ensures { (w.new ≡ set (set w.old (REQUESTS + i * REQUEST + 0) 0) (REQUESTS + i * REQUEST + 1) 0)
         × Wiped strings.old strings.new (string_limit + i * string_limit)
         (min (word w.old (REQUESTS + i * REQUEST + 1)) string_limit) }
@@ -36,11 +32,12 @@ pub fn wipe_request(w: &mut [u64], strings: &mut [u8], i: usize)
 }
 
 // The shared string, where nobody shares.
-pub fn wipe_key(w: &mut [u64], strings: &mut [u8])
-    requires { (length w.old ≡ WORDS) × (length strings.old ≡ STRINGS) × (word w.old SHARERS % 2 ^ session_limit ≡ 0) }
+#[tactic(auto, using(queue::specs::Wiping::key_wiped))]
+pub fn wipe_key(w: &mut Words, strings: &mut Strings)
+    requires { word w.old SHARERS % 2 ^ session_limit ≡ 0 }
     ensures { (view (memory w.new strings.new) ≡ view (memory w.old strings.old))
         × (w.new ≡ set w.old KEY 0) × Wiped strings.old strings.new 0
-        (min (word w.old KEY) (string_limit - 1) + 1) × (length w.new ≡ WORDS) }
+        (min (word w.old KEY) (string_limit - 1) + 1) }
 {
     let n = least(w[KEY], KEY_REST) + 1;
     wipe(strings, 0, n);

@@ -1,6 +1,6 @@
 -- The memory of a fresh server, word for word and byte for byte; and that it shows the fresh server. Assumes nothing.
-use Rattle.std.specs.Prelude.{◌≡◌, refl, Bool, true, false, cond, List, [], ◌∷◌, ◌++◌, ℕ, zero, suc, ◌+◌, ◌*◌, ◌-◌, ◌%◌, ◌^◌, ◌≤◌, ◌<◌, eqb, ltb, length, get_or, set, take, replicate}
-use Rattle.std.proofs.Common.{sym, ap, ap₂, ◌∙◌, mod-eq_of_lt, zero-add, add-one, take_all, take-suc, take-suc-set}
+use Rattle.std.specs.Prelude.{◌≡◌, refl, Bool, true, false, cond, List, [], ◌∷◌, ◌++◌, ℕ, zero, suc, ◌+◌, ◌*◌, ◌-◌, ◌%◌, ◌^◌, ◌<◌, eqb, ltb, get_or, set, replicate}
+use Rattle.std.proofs.Common.{sym, ap, ap₂, ◌∙◌, mod-eq_of_lt, zero-add}
 use Rattle.wire.specs.MessageId.{start}
 use Rattle.readings.specs.Bits.{not_number}
 use Rattle.model.specs.Sizes.{session_limit, connection_limit, payload_limit, before_first}
@@ -85,10 +85,16 @@ fresh_view v h =
     })
     (mod-eq_of_lt h) (flag_back v.prefers_overlap)
 
--- copying element by element: a turn, and the end
-pub copy_turn : (w src : List ℕ) (i x : ℕ) → i < length w → i < length src → get_or src i 0 ≡ x → take i w ≡ take i src → take (i + 1) (set w i x) ≡ take (i + 1) src
-copy_turn w src i x h l q e =
-    rw add-one (take-suc-set w i x h ∙ ap₂ (λ (y : List ℕ) (z : ℕ). y ++ (z ∷ [])) e (sym q) ∙ sym (take-suc src i 0 l))
+-- the words of a fresh server while its slots start: those of the first n slots are there, all else is 0
+unfoldable pub started : ℕ → List ℕ
+started zero = replicate WORDS 0
+started (suc i) =
+    set
+    (set (set (set (started i) (EXCHANGES + i * EXCHANGE + 3) payload_limit) (EXCHANGES + i * EXCHANGE + 5) start) (EXCHANGES + i * EXCHANGE + 8) start)
+    (ORDERS + i * ORDER + 0)
+    before_first
 
-pub copy_done : (w src : List ℕ) (i : ℕ) → length w ≤ i → length src ≤ i → take i w ≡ take i src → w ≡ src
-copy_done w src i h l e = sym (take_all i w h) ∙ e ∙ take_all i src l
+-- computed over every slot
+pub all_started : started session_limit ≡ fresh_words unmade
+unfolding started
+all_started = refl

@@ -2,11 +2,11 @@
 -- confirmed there is its session, the one that a search of all slots finds; else it has none. Assumes nothing.
 use Rattle.std.specs.Prelude.{◌≡◌, refl, ◌⊎◌, ◌↔◌, Bool, true, false, not, ◌||◌, List, ℕ, zero, suc, ◌*◌, ◌<◌, eqb, length}
 use Rattle.std.proofs.Common.{sym, ◌∙◌, inl, inr, ⊎_elim, true≢false, arith, lit<, eqb-true, eq-eqb}
-use Rattle.std.proofs.Math.Path.{ap}
+use Rattle.std.proofs.Math.Path.{ap, ap₂}
 use Rattle.std.proofs.lemmas.Bool.{eqb-false}
 use Rattle.model.specs.Sizes.{session_limit, connection_limit, no_connection}
 use Rattle.model.specs.State.{Entry, at, live, half_open, slot_of_number}
-use Rattle.model.specs.Place.{Role, Role.r_none, Role.r_half_open, Role.r_synchronous, Role.r_asynchronous, role_in, is_on_connection, slot_in, role_of}
+use Rattle.model.specs.Place.{Role, Role.r_none, Role.r_half_open, Role.r_synchronous, Role.r_asynchronous, role_in, is_on_connection, place_of, slot_in, role_of}
 use Rattle.model.proofs.Basics.{and_l, and_r, inside, pos_passes, pos_past, Sole}
 use Rattle.model.proofs.Place.{place_unique, place_role as role-is, no_role}
 use Rattle.state.specs.Table.{length_tab}
@@ -14,7 +14,7 @@ use Rattle.state.specs.View.{row_word, home_in, home_of, key_of, field_of, entry
 use Rattle.state.specs.Confirmed.{field_number, shows}
 use Rattle.state.specs.Change.{entry_at_lem}
 use Rattle.state.specs.Channels.{Unshown}
-use Rattle.state.specs.Search.{role_number, place_slot, on_synchronous, on_asynchronous, role_half_open, role_synchronous, role_asynchronous, past_none}
+use Rattle.state.specs.Search.{seat, place_slot, on_synchronous, on_asynchronous, role_half_open, role_synchronous, role_asynchronous, past_none}
 
 -- slot i of the table, by what it shows
 module _ (w s : List ℕ) (i : ℕ) (h : i < session_limit) where
@@ -122,25 +122,34 @@ module _ (w s : List ℕ) (c : ℕ) (few : c < connection_limit) where
       ∙ pos_past (is_on_connection c) es (λ j e. ⊎_elim (λ (q : field_of w j 1 ≡ c). lone j 0 (within j e) (lit< tt) q) (λ (q : field_of w j 2 ≡ c). lone j 1 (within j e) (lit< tt) q) (shown_by j e))
       ∙ slots
 
-  pub role_nowhere : Unshown w c → role_number (role_of es c) ≡ 0
+  pub role_nowhere : Unshown w c → role_of es c ≡ r_none
   role_nowhere lone =
-      ap role_number (role-is es c)
+      role-is es c
       ∙ past_none w s c (slot_in es c) (omega (arith, place_none lone))
 
-  pub role_found : (i f r : ℕ) → slot_in es c ≡ i → role_number (role_in c (at es i)) ≡ r → role_number (role_of es c) ≡ r
-  role_found i f r e q = ap role_number (role-is es c ∙ ap (λ (j : ℕ). role_in c (at es j)) e) ∙ q
+  pub role_found : (i : ℕ) (r : Role) → slot_in es c ≡ i → role_in c (at es i) ≡ r → role_of es c ≡ r
+  role_found i r e q = role-is es c ∙ ap (λ (j : ℕ). role_in c (at es j)) e ∙ q
+
+  -- both together
+  pub nowhere_meant : Unshown w c → place_of es c ≡ seat session_limit r_none
+  nowhere_meant lone = ap₂ seat (place_none lone) (role_nowhere lone)
+
+  pub seat_found : (i f : ℕ) → i < session_limit → 0 < f → f < 3 → field_of w i f ≡ c → place_of es c ≡ seat i (role_in c (at es i))
+  seat_found i f h o l e =
+      let p : slot_in es c ≡ i = place_found i f h o l e in
+      ap₂ seat p (role_found i (role_in c (at es i)) p refl)
 
   -- the role, by the place in the row
-  pub role_second : (i : ℕ) → i < session_limit → field_of w i 2 ≡ c → role_number (role_in c (at es i)) ≡ 3
+  pub role_second : (i : ℕ) → i < session_limit → field_of w i 2 ≡ c → role_in c (at es i) ≡ r_asynchronous
   role_second i h e =
       role_asynchronous c (at es i) (lives_at i 2 h (omega arith) e) (λ q. let z : c ≡ no_connection = sym (asynchronous_at w s i h ∙ e) ∙ q in omega arith)
       (λ q. not_both i e (sym (synchronous_at w s i h) ∙ q))
 
   module _ (i : ℕ) (h : i < session_limit) (e : field_of w i 1 ≡ c) where
-    pub role_half : field_of w i 2 ≡ no_connection → role_number (role_in c (at es i)) ≡ 1
+    pub role_half : field_of w i 2 ≡ no_connection → role_in c (at es i) ≡ r_half_open
     role_half q = role_half_open c (at es i) (lives_at i 1 h (omega arith) e) (asynchronous_at w s i h ∙ q)
 
-    pub role_first : (field_of w i 2 ≡ no_connection → ⊥) → role_number (role_in c (at es i)) ≡ 2
+    pub role_first : (field_of w i 2 ≡ no_connection → ⊥) → role_in c (at es i) ≡ r_synchronous
     role_first q = role_synchronous c (at es i) (lives_at i 1 h (omega arith) e) (λ z. q (sym (asynchronous_at w s i h) ∙ z)) (synchronous_at w s i h ∙ e)
 
   -- where no session is found, nobody shows the connection
@@ -177,10 +186,4 @@ one_look w s c few =
     }
   where
     none : Unshown w c → role_of (locks_of w s).entries c ≡ r_none
-    none lone = by (role_of (locks_of w s).entries c) (role_nowhere w s c few lone)
-      where
-        by : (r : Role) → role_number r ≡ 0 → r ≡ r_none
-        by r_none e = refl
-        by r_half_open e = absurd (let z : ⊥ = omega arith in z)
-        by r_synchronous e = absurd (let z : ⊥ = omega arith in z)
-        by r_asynchronous e = absurd (let z : ⊥ = omega arith in z)
+    none lone = role_nowhere w s c few lone

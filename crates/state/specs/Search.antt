@@ -6,17 +6,30 @@ use Rattle.std.proofs.Math.ListN.{get_or-eq_default}
 use Rattle.model.specs.Sizes.{session_limit, no_connection}
 use Rattle.model.specs.Lists.{position}
 use Rattle.model.specs.State.{Entry, at, blank}
-use Rattle.model.specs.Place.{Role, Role.r_none, Role.r_half_open, Role.r_synchronous, Role.r_asynchronous, role_in, is_on_connection, place_of}
+use Rattle.model.specs.Place.{Place, Role, Role.r_none, Role.r_half_open, Role.r_synchronous, Role.r_asynchronous, role_in, is_on_connection, place_of}
+use Rattle.state.specs.declared.search.Place.{Place as Found}
+use Rattle.state.specs.declared.search.Place.TheVariants.{Nowhere, HalfOpen, OnSynchronous, OnAsynchronous}
 use Rattle.state.specs.Table.{tab, length_tab}
 use Rattle.state.specs.View.{key_of, entry_at, entries_of, locks_of}
 use Rattle.state.specs.Change.{entry_with, entry_at_lem}
 
--- the number of each role
-abbrev pub role_number : Role → ℕ
-role_number r_none = 0
-role_number r_half_open = 1
-role_number r_synchronous = 2
-role_number r_asynchronous = 3
+-- a slot and a role
+abbrev pub seat : ℕ → Role → Place
+seat i r = record { slot = i; role = r }
+
+-- what a place means: without a session the slot is one past the table
+abbrev pub place_meant : Found → Place
+place_meant Nowhere = seat session_limit r_none
+place_meant (HalfOpen i) = seat i r_half_open
+place_meant (OnSynchronous i) = seat i r_synchronous
+place_meant (OnAsynchronous i) = seat i r_asynchronous
+
+-- a place in a session is one in the table
+abbrev pub IsWithin : Found → Type 0
+IsWithin Nowhere = Unit {0}
+IsWithin (HalfOpen i) = i < session_limit
+IsWithin (OnSynchronous i) = i < session_limit
+IsWithin (OnAsynchronous i) = i < session_limit
 
 -- a search from row a on, over n rows: found at a, further on, nowhere
 module _ {A : Type 0} (p : A → Bool) (f : ℕ → A) where
@@ -88,18 +101,18 @@ module _ (c : ℕ) (e : Entry) where
   pub on_asynchronous : (e.number ≡ 0 → ⊥) → (e.synchronous ≡ c → ⊥) → is_on_connection c e ≡ eqb e.asynchronous c
   on_asynchronous p q = rw (ne_eqb e.number 0 p, ne_eqb e.synchronous c q)
 
-  pub role_half_open : (e.number ≡ 0 → ⊥) → e.asynchronous ≡ no_connection → role_number (role_in c e) ≡ 1
+  pub role_half_open : (e.number ≡ 0 → ⊥) → e.asynchronous ≡ no_connection → role_in c e ≡ r_half_open
   role_half_open p q = rw (ne_eqb e.number 0 p, eq-eqb e.asynchronous no_connection q)
 
-  pub role_synchronous : (e.number ≡ 0 → ⊥) → (e.asynchronous ≡ no_connection → ⊥) → e.synchronous ≡ c → role_number (role_in c e) ≡ 2
+  pub role_synchronous : (e.number ≡ 0 → ⊥) → (e.asynchronous ≡ no_connection → ⊥) → e.synchronous ≡ c → role_in c e ≡ r_synchronous
   role_synchronous p q r = rw (ne_eqb e.number 0 p, ne_eqb e.asynchronous no_connection q, eq-eqb e.synchronous c r)
 
-  pub role_asynchronous : (e.number ≡ 0 → ⊥) → (e.asynchronous ≡ no_connection → ⊥) → (e.synchronous ≡ c → ⊥) → role_number (role_in c e) ≡ 3
+  pub role_asynchronous : (e.number ≡ 0 → ⊥) → (e.asynchronous ≡ no_connection → ⊥) → (e.synchronous ≡ c → ⊥) → role_in c e ≡ r_asynchronous
   role_asynchronous p q r = rw (ne_eqb e.number 0 p, ne_eqb e.asynchronous no_connection q, ne_eqb e.synchronous c r)
 
 -- past the table there is no session
-pub past_none : (w s : List ℕ) (c i : ℕ) → session_limit ≤ i → role_number (role_in c (at (locks_of w s).entries i)) ≡ 0
+pub past_none : (w s : List ℕ) (c i : ℕ) → session_limit ≤ i → role_in c (at (locks_of w s).entries i) ≡ r_none
 unfolding locks_of entries_of
 past_none w s c i h =
     let l : length (tab (entry_at w (key_of w s)) 0 session_limit) ≤ i = rw (length_tab (entry_at w (key_of w s)) 0 session_limit) h in
-    ap (λ (e : Entry). role_number (role_in c e)) (get_or-eq_default (tab (entry_at w (key_of w s)) 0 session_limit) blank l)
+    ap (λ (e : Entry). role_in c e) (get_or-eq_default (tab (entry_at w (key_of w s)) 0 session_limit) blank l)

@@ -16,14 +16,14 @@ use crate::{layout, tables};
 
 fn set_row(w: &mut Words, i: usize, f: usize, v: u64)
     requires { (i < session_limit) × (f < 3) }
-    ensures { (w.new ≡ set w.old (ENTRIES + i * ENTRY + f) v) × (length w.old ≡ WORDS) }
+    ensures { w.new ≡ set w.old (ENTRIES + i * ENTRY + f) v }
 {
     store(w, layout::ENTRIES + i * layout::ENTRY + f, v);
 }
 
 fn set_home(w: &mut Words, c: u64, v: u64)
     requires { c < connection_limit }
-    ensures { (w.new ≡ set w.old (home_at c) v) × (length w.old ≡ WORDS) }
+    ensures { w.new ≡ set w.old (home_at c) v }
 {
     store(
         w,

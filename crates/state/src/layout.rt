@@ -14,6 +14,7 @@ pub const CONNECTIONS: usize = EXCHANGES + SESSION_LIMIT * EXCHANGE;
 pub const CONNECTION: usize = 3;
 
 // the place of the home in the row
+// Kept: a number with 0 for none is the word of the lent memory, whose layout docs/MEMORY.md and specs/Layout.antt hold; place_of answers which slot it is.
 pub const HOME: usize = 2;
 
 // a row for each slot: its watch, whether it has tripped, whether a reading was seen, the last, the lowest, the highest
@@ -22,11 +23,13 @@ pub const SENSINGS: usize = CONNECTIONS + CONNECTION_LIMIT * CONNECTION;
 pub const SENSING: usize = 6;
 
 // the length of the text of the allowed commands, plus 1; 0: no list is set
+// Kept: the word of the lent memory, as HOME is; no function hands it on.
 pub const LISTED: usize = SENSINGS + SESSION_LIMIT * SENSING;
 
 pub const CLOCK: usize = LISTED + 1;
 
 // the slot of the exclusive holder, plus 1; 0 or a number past the slots: nobody
+// Kept: the word of the lent memory, as HOME is; no function hands it on.
 pub const HOLDER: usize = CLOCK + 1;
 
 // bit i: slot i holds the shared lock

@@ -1,5 +1,4 @@
-// The sizes of 01's bench, with 02's Q-6: the one place in code, as `model/specs/Sizes.antt` is the one in definitions. Each function below
-// ties the two.
+// The sizes of the server: the one place in code, as `model/specs/Sizes.antt` is the one in definitions. `are_as_defined` ties the two.
 ghost use Rattle.model.specs.Sizes.{before_first, clock_limit, connection_limit, list_limit, no_connection, output_minimum, payload_limit, session_limit, string_limit};
 ghost use Rattle.state.specs.Layout.{STRINGS, WORDS};
 ghost use Rattle.std.specs.Prelude.{◌≡◌};
@@ -30,6 +29,7 @@ pub const PAYLOAD: u64 = PAYLOAD_LIMIT as u64;
 pub const CLOCK_LIMIT: u64 = 4611686018427387904;
 
 // stands for "no connection" where a connection's number is kept
+// Kept: a number for none, as the definitions have it (no_connection in model/specs/Sizes.antt), and as the lent memory is compared with it.
 pub const NO_CONNECTION: u64 = 255;
 
 // fffffefe hex, the number before the first: the last message's where none acted
@@ -44,59 +44,18 @@ pub type Words = [u64; WORDS];
 
 pub type Strings = [u8; STRINGS];
 
-pub fn session_limit() -> usize
-    ensures { result ≡ session_limit }
-{
-    SESSION_LIMIT
-}
-
-pub fn connection_limit() -> usize
-    ensures { result ≡ connection_limit }
-{
-    CONNECTION_LIMIT
-}
-
-pub fn payload_limit() -> usize
-    ensures { result ≡ payload_limit }
-{
-    PAYLOAD_LIMIT
-}
-
-pub fn string_limit() -> usize
-    ensures { result ≡ string_limit }
-{
-    STRING_LIMIT
-}
-
-pub fn list_limit() -> usize
-    ensures { result ≡ list_limit }
-{
-    LIST_LIMIT
-}
-
-pub fn output_minimum() -> usize
-    ensures { result ≡ output_minimum }
-{
-    OUTPUT_MINIMUM
-}
-
-pub fn clock_limit() -> u64
-    ensures { result ≡ clock_limit }
-{
-    CLOCK_LIMIT
-}
-
-pub fn no_connection() -> u64
-    ensures { result ≡ no_connection }
-{
-    NO_CONNECTION
-}
-
-pub fn before_first() -> u64
-    ensures { result ≡ before_first }
-{
-    BEFORE_FIRST
-}
+// Nothing at run time: each size above is the one of that name in the definitions.
+pub fn are_as_defined()
+    ensures session_limit { SESSION_LIMIT ≡ session_limit }
+    ensures connection_limit { CONNECTION_LIMIT ≡ connection_limit }
+    ensures payload_limit { PAYLOAD_LIMIT ≡ payload_limit }
+    ensures string_limit { STRING_LIMIT ≡ string_limit }
+    ensures list_limit { LIST_LIMIT ≡ list_limit }
+    ensures output_minimum { OUTPUT_MINIMUM ≡ output_minimum }
+    ensures clock_limit { CLOCK_LIMIT ≡ clock_limit }
+    ensures no_connection { NO_CONNECTION ≡ no_connection }
+    ensures before_first { BEFORE_FIRST ≡ before_first }
+{}
 
 // How many words and bytes are lent.
 pub fn words() -> u64

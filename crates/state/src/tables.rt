@@ -94,16 +94,14 @@ pub const REMOTE: usize = 6;
 pub fn word_of(on: bool) -> u64
     ensures { result ≡ cond on 1 0 }
 {
-    if on {
-        return 1;
-    }
-    0
+    u64::from(on)
 }
 
 // A connection's number is below this.
 const CONNECTION_NUMBERS: u64 = sizes::CONNECTIONS;
 
 // What a session has asked and been sent.
+#[tactic(auto, using(crate::specs::Change::exchange_read))]
 pub fn exchange(w: &Words, i: usize, f: usize) -> u64
     requires { (i < session_limit) × (f < 9) }
     ensures { (exchange_with f result (exchange_at (rest_of w.now) i) ≡ exchange_at (rest_of w.now) i) × (result ≡ exchange_word w.now i f) }
@@ -111,6 +109,7 @@ pub fn exchange(w: &Words, i: usize, f: usize) -> u64
     w[EXCHANGES + i * EXCHANGE + f]
 }
 
+#[tactic(auto, using(crate::specs::Change::exchange_stored, crate::specs::Keeping::exchange_tidy))]
 pub fn set_exchange(w: &mut Words, i: usize, f: usize, v: u64)
     requires { (i < session_limit) × (f < 9) }
     ensures { ((s : List ℕ) → view (memory w.new s) ≡ on_exchange (view (memory w.old s)) i (exchange_with f v))
@@ -127,6 +126,7 @@ pub fn sensing(w: &Words, i: usize, f: usize) -> u64
     w[SENSINGS + i * SENSING + f]
 }
 
+#[tactic(auto, using(crate::specs::Change::sensing_stored, crate::specs::Keeping::sensing_tidy))]
 pub fn set_sensing(w: &mut Words, i: usize, f: usize, v: u64)
     requires { (i < session_limit) × (f < 6) }
     ensures { ((s : List ℕ) → view (memory w.new s) ≡ on_sensing (view (memory w.old s)) i (sensing_with f v))
@@ -136,6 +136,7 @@ pub fn set_sensing(w: &mut Words, i: usize, f: usize, v: u64)
 }
 
 // A connection.
+#[tactic(auto, using(crate::specs::Change::connection_read))]
 pub fn connection(w: &Words, i: usize, f: usize) -> u64
     requires { (i < connection_limit) × (f < 2) }
     ensures { (connection_with f result (connection_at (rest_of w.now) i) ≡ connection_at (rest_of w.now) i) × (result ≡ connection_word w.now i f) }
@@ -148,25 +149,21 @@ pub fn is_open(w: &Words, i: usize) -> bool
     requires { i < connection_limit }
     ensures { (connection_at (rest_of w.now) i).is_open ≡ result }
 {
-    if connection(w, i, IS_OPEN) % 2 == 1 {
-        return true;
-    }
-    false
+    connection(w, i, IS_OPEN) % 2 == 1
 }
 
 // Is a connection open, with nothing to skip? One comparison asks both.
+#[tactic(auto, using(crate::specs::Ready::ready, crate::specs::Ready::unready))]
 pub fn is_ready(w: &Words, i: usize) -> bool
     requires { i < connection_limit }
     ensures { is_ready (connection_at (rest_of w.now) i) ≡ result }
 {
     let open = connection(w, i, IS_OPEN) % 2;
     let left = connection(w, i, REMAINDER);
-    if left < open {
-        return true;
-    }
-    false
+    left < open
 }
 
+#[tactic(auto, using(crate::specs::Change::connection_stored, crate::specs::Keeping::connection_tidy))]
 pub fn set_connection(w: &mut Words, i: usize, f: usize, v: u64)
     requires { (i < connection_limit) × (f < 2) }
     ensures { ((s : List ℕ) → view (memory w.new s) ≡ on_connection (view (memory w.old s)) i (connection_with f v))
@@ -192,6 +189,7 @@ pub fn row_of_home(w: &Words, i: usize, h: u64) -> u64
 }
 
 // The home of a connection: the slot and the place in its row that have it, as one number.
+// Kept: the word itself, with 0 for none (the contract's home_of): one comparison with home_in confirms slot and place at once.
 pub fn home(w: &Words, c: u64) -> u64
     requires { c < connection_limit }
     ensures { result ≡ home_of w.now c }
@@ -207,6 +205,7 @@ pub fn home_in(i: usize, f: usize) -> u64
 }
 
 // A slot of the table of sessions: its SessionID; a connection only confirmed, that is if the slot is live and the connection's home.
+// Kept: NO_CONNECTION stands for none in the definitions too, where the clause puts the result back into a session's entry (entry_with).
 pub fn entry(w: &Words, i: usize, f: usize) -> u64
     requires { (i < session_limit) × (f < 3) }
     ensures { ((s : List ℕ) → entry_with f result (at (locks_of w.now s).entries i) ≡ at (locks_of w.now s).entries i) × (result ≡ field_of w.now i f) }
@@ -228,6 +227,7 @@ pub fn entry(w: &Words, i: usize, f: usize) -> u64
 }
 
 // The last message of a slot, the release that stands, and what was granted to it.
+#[tactic(auto, using(crate::specs::Change::order_read))]
 pub fn order(w: &Words, i: usize, f: usize) -> u64
     requires { (i < session_limit) × (f < 4) }
     ensures { ((s : List ℕ) → order_with f result (at (locks_of w.now s).entries i) ≡ at (locks_of w.now s).entries i) × (result ≡ order_word w.now i f) }
@@ -235,6 +235,7 @@ pub fn order(w: &Words, i: usize, f: usize) -> u64
     w[ORDERS + i * ORDER + f]
 }
 
+#[tactic(auto, using(crate::specs::Change::order_stored, crate::specs::Keeping::order_tidy))]
 pub fn set_order(w: &mut Words, i: usize, f: usize, v: u64)
     requires { (i < session_limit) × (f < 4) }
     ensures { ((s : List ℕ) → view (memory w.new s) ≡ on_entry (view (memory w.old s)) i (order_with f v))
@@ -244,6 +245,7 @@ pub fn set_order(w: &mut Words, i: usize, f: usize, v: u64)
 }
 
 // A single value; its place is its word.
+#[tactic(auto, using(crate::specs::Change::single_read))]
 pub fn single(w: &Words, f: usize) -> u64
     requires { f < 7 }
     ensures { (single_with f result (rest_of w.now) ≡ rest_of w.now) × (result ≡ word w.now f) }
@@ -251,6 +253,7 @@ pub fn single(w: &Words, f: usize) -> u64
     w[f]
 }
 
+#[tactic(auto, using(crate::specs::Change::single_stored, crate::specs::Keeping::value_tidy))]
 pub fn set_single(w: &mut Words, f: usize, v: u64)
     requires { f < 7 }
     ensures { ((s : List ℕ) → view (memory w.new s) ≡ on_rest (view (memory w.old s)) (single_with f v))
@@ -263,12 +266,14 @@ pub fn set_single(w: &mut Words, f: usize, v: u64)
 const CLOCK_RANGE: u64 = 9223372036854775808;
 
 // The clock, in milliseconds.
+#[tactic(auto, unfolding(crate::specs::View::locks_of))]
 pub fn clock(w: &Words) -> u64
     ensures { (result < 9223372036854775808) × ((s : List ℕ) → result ≡ (locks_of w.now s).clock) }
 {
     w[CLOCK] % CLOCK_RANGE
 }
 
+#[tactic(auto, using(crate::specs::Change::clock_stored, crate::specs::Keeping::clock_tidy))]
 pub fn set_clock(w: &mut Words, t: u64)
     requires { t < 9223372036854775808 }
     ensures { ((s : List ℕ) → view (memory w.new s) ≡ with_clock (view (memory w.old s)) t)

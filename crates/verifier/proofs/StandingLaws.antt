@@ -1,5 +1,5 @@
 -- Laws of what specs/Standing.antt defines. Assumes nothing.
-use Rattle.std.specs.Prelude.{◌≡◌, Bool, ℕ, ◌+◌, ◌-◌, ◌≤◌, ◌<◌, leb, drop}
+use Rattle.std.specs.Prelude.{◌≡◌, Bool, ℕ, Option, Some, None, Result, Ok, Err, ◌+◌, ◌-◌, ◌≤◌, ◌<◌, leb, drop}
 use Rattle.std.proofs.Math.Path.{refl, sym, ap, subst}
 use Rattle.std.proofs.Common.{◌∙◌, take-take}
 use Rattle.std.proofs.Math.Logic.{⊎_elim}
@@ -7,7 +7,7 @@ use Rattle.std.proofs.Math.Bool.{true, false}
 use mathlib.Core.List.{List, [], ◌∷◌, ◌++◌, append_assoc}
 use native.Mathlib.Omega.{arith}
 use Rattle.std.proofs.Math.ListN.{length, take, length-append}
-use borrow.Author.Tests.{le-leb, lt-leb, eq-eqb, ne_eqb}
+use borrow.Author.Tests.{le-leb, lt-leb}
 use Rattle.journal.specs.Journal.{choose, body_limit, length_of, body_of}
 use Rattle.journal.specs.Bytes.{yes_is, no_is, below}
 use Rattle.journal.specs.Steps.{drop_take}
@@ -17,8 +17,11 @@ use Rattle.verifier.specs.Feed.{Reading, reading, done, by_next, settle, feed_by
 use Rattle.verifier.specs.Pieces.{length_front, back_front}
 use Rattle.verifier.specs.Framing.{fault_of, by_framing, Fed}
 use Rattle.verifier.proofs.FramingLaws.{settle_framing}
+use Rattle.verifier.specs.declared.Fault.{Fault}
+use Rattle.verifier.specs.declared.Progress.{Progress}
+use Rattle.verifier.specs.declared.Progress.TheVariants.{More, Whole}
 use Rattle.verifier.specs.declared.Standing.{Standing}
-use Rattle.verifier.specs.Standing.{wanted_of, place_in, reading_of, Sound, wanted_few, wanted_back, wanted_entry, still_short, had, all, had_length, all_length, one, entry_long}
+use Rattle.verifier.specs.Standing.{wanted_of, place_in, stands, reading_of, Sound, wanted_few, wanted_back, wanted_entry, still_short, had, all, had_length, all_length, one, entry_long}
 
 -- a byte more that is not the last one wanted wants no other number
 wanted_same : (s : List ℕ) (b : ℕ) → length s + 1 < wanted_of s → wanted_of (s ++ (b ∷ [])) ≡ wanted_of s
@@ -72,29 +75,28 @@ module _ {S : Type 0} (deed : S → Event → Deed S) where
       ∙ ap (settle deed p) (append_assoc s (b ∷ []) (c ∷ x))
 
 -- A turn of the code, for any server: bytes up to those wanted are put behind those had, and `framing` tells what they come to.
-module _ {S : Type 0} (deed : S → Event → Deed S) (r : Standing) (buf new : List ℕ) (b : ℕ) (x : List ℕ) (k : ℕ) (d : S)
-    (o : Sound r buf) (going : r.fault ≡ 0) (h : r.have + length (b ∷ x) ≤ wanted_of (take r.have buf)) (f : Fed k r.have (b ∷ x) buf new) where
+module _ {S : Type 0} (deed : S → Event → Deed S) (r : Standing) (buf new : List ℕ) (b : ℕ) (x : List ℕ) (k : Result Progress Fault) (d : S)
+    (o : Sound r buf) (going : r.fault ≡ None) (h : r.have + length (b ∷ x) ≤ wanted_of (take r.have buf)) (f : Fed k r.have (b ∷ x) buf new) where
   -- what the definition says of these bytes, by the answer
   turned : feed deed (reading_of r buf d) (b ∷ x) ≡ by_framing deed (place_in r d) (all {S = S} deed r buf new b x k d o going h f) k
-  unfolding reading_of
+  unfolding reading_of stands
   turned =
-      ap (λ (y : Reading S). feed deed y (b ∷ x)) (yes_is _ _ (eq-eqb r.fault 0 going))
+      ap (λ (o : Option Fault). feed deed (stands o r.count (reading (place_in r d) (take r.have buf))) (b ∷ x)) going
       ∙ at_once deed x (place_in r d) (had {S = S} deed r buf new b x k d o going h f) b (omega (arith, (had_length {S = S} deed r buf new b x k d o going h f), h)) (o.fits going)
       ∙ settle_framing deed (place_in r d) (all {S = S} deed r buf new b x k d o going h f)
       ∙ ap (by_framing deed (place_in r d) (all {S = S} deed r buf new b x k d o going h f)) (sym f.kind)
 
   module _ (r' : Standing) where
     -- more are needed
-    pub turn_more : k ≡ 0 → r' ≡ record { have = r.have + length (b ∷ x); count = r.count; at = r.at; last = r.last; fault = 0 }
+    pub turn_more : k ≡ Ok More → r' ≡ record { have = r.have + length (b ∷ x); count = r.count; at = r.at; last = r.last; fault = None }
         → (reading_of r' new d ≡ feed deed (reading_of r buf d) (b ∷ x)) × Sound r' new
-    unfolding reading_of by_framing
+    unfolding reading_of stands by_framing
     turn_more z e =
         let q = still_short (all {S = S} deed r buf new b x k d o going h f) (sym f.kind ∙ z) in
         let w : take (r.have + length (b ∷ x)) new ≡ (all {S = S} deed r buf new b x k d o going h f) = f.had in
         rw e (
-          yes_is _ _ refl
-              ∙ ap (reading (place_in r d)) w
-              ∙ sym (turned ∙ yes_is _ _ (eq-eqb k 0 z)),
+          ap (reading (place_in r d)) w
+              ∙ sym (turned ∙ ap (by_framing deed (place_in r d) (all {S = S} deed r buf new b x k d o going h f)) z),
           record {
             room = f.size ∙ o.room;
             short = λ _. subst (λ (y : List ℕ). r.have + length (b ∷ x) < wanted_of y) (sym w) (omega (arith, q.0, (all_length {S = S} deed r buf new b x k d o going h f)));
@@ -103,22 +105,22 @@ module _ {S : Type 0} (deed : S → Event → Deed S) (r : Standing) (buf new : 
           },
         )
 
-    faulty : (j : ℕ) → (j ≡ 0 → ⊥) → r' ≡ record { have = r.have; count = r.count; at = r.at; last = r.last; fault = j } → (reading_of r' new d ≡ done (wrong r.count (fault_of j))) × Sound r' new
-    unfolding reading_of
-    faulty j n e =
+    faulty : (j : Fault) → r' ≡ record { have = r.have; count = r.count; at = r.at; last = r.last; fault = Some j } → (reading_of r' new d ≡ done (wrong r.count (fault_of j))) × Sound r' new
+    unfolding reading_of stands
+    faulty j e =
         rw e
-        (no_is _ _ (ne_eqb j 0 n), record { room = f.size ∙ o.room; short = λ z. absurd (n z); fits = λ z. absurd (n z); count = o.count })
+        (refl, record { room = f.size ∙ o.room; short = λ z. cc; fits = λ z. cc; count = o.count })
 
     -- a fault of the framing
-    pub turn_fault : (k ≡ 0 → ⊥) → (k ≡ 7 → ⊥) → r' ≡ record { have = r.have; count = r.count; at = r.at; last = r.last; fault = k }
+    pub turn_fault : (j : Fault) → k ≡ Err j → r' ≡ record { have = r.have; count = r.count; at = r.at; last = r.last; fault = Some j }
         → (reading_of r' new d ≡ feed deed (reading_of r buf d) (b ∷ x)) × Sound r' new
     unfolding by_framing
-    turn_fault n m e =
-        let y = faulty k n e in
-        (y.0 ∙ sym (turned ∙ no_is _ _ (ne_eqb k 0 n) ∙ no_is _ _ (ne_eqb k 7 m)), y.1)
+    turn_fault j z e =
+        let y = faulty j e in
+        (y.0 ∙ sym (turned ∙ ap (by_framing deed (place_in r d) (all {S = S} deed r buf new b x k d o going h f)) z), y.1)
 
   -- a whole entry
-  module _ (z : k ≡ 7) where
+  module _ (z : k ≡ Ok Whole) where
     -- its body is what the code cuts out
     body_is : (e : ℕ) → e ≡ r.have + length (b ∷ x) → take (e - 8 - 4) (drop 4 new) ≡ body_of (all {S = S} deed r buf new b x k d o going h f)
     body_is e q =
@@ -130,28 +132,28 @@ module _ {S : Type 0} (deed : S → Event → Deed S) (r : Standing) (buf new : 
 
     whole_turn : (e : ℕ) → e ≡ r.have + length (b ∷ x)
         → feed deed (reading_of r buf d) (b ∷ x) ≡ by_next (by_step (place_in r d) (length (all {S = S} deed r buf new b x k d o going h f)) (by_event deed d (decode (take (e - 8 - 4) (drop 4 new)))))
-    unfolding by_framing choose
+    unfolding by_framing
     whole_turn e q =
         turned ∙ ap (by_framing deed (place_in r d) (all {S = S} deed r buf new b x k d o going h f)) z
         ∙ ap (λ (y : List ℕ). by_next (by_step (place_in r d) (length (all {S = S} deed r buf new b x k d o going h f)) (by_event deed d (decode y)))) (sym (body_is e q))
 
     module _ (r' : Standing) (e : ℕ) (q : e ≡ r.have + length (b ∷ x)) where
       -- its layout or its frames are wrong
-      pub turn_wrong : (j : ℕ) → (j ≡ 0 → ⊥) → by_event deed d (decode (take (e - 8 - 4) (drop 4 new))) ≡ fault (fault_of j)
-          → r' ≡ record { have = r.have; count = r.count; at = r.at; last = r.last; fault = j }
+      pub turn_wrong : (j : Fault) → by_event deed d (decode (take (e - 8 - 4) (drop 4 new))) ≡ fault (fault_of j)
+          → r' ≡ record { have = r.have; count = r.count; at = r.at; last = r.last; fault = Some j }
           → (d' : S) → (reading_of r' new d' ≡ feed deed (reading_of r buf d) (b ∷ x)) × Sound r' new
-      unfolding reading_of by_step by_next
-      turn_wrong j n w i d' =
+      unfolding reading_of stands by_step by_next
+      turn_wrong j w i d' =
           rw i (
-            no_is _ _ (ne_eqb j 0 n) ∙ sym (whole_turn e q ∙ ap (λ (y : Went S). by_next (by_step (place_in r d) (length (all {S = S} deed r buf new b x k d o going h f)) y)) w),
-            record { room = f.size ∙ o.room; short = λ y. absurd (n y); fits = λ y. absurd (n y); count = o.count },
+            sym (whole_turn e q ∙ ap (λ (y : Went S). by_next (by_step (place_in r d) (length (all {S = S} deed r buf new b x k d o going h f)) y)) w),
+            record { room = f.size ∙ o.room; short = λ y. cc; fits = λ y. cc; count = o.count },
           )
 
       -- it is right
       pub turn_pass : (d' : S) → by_event deed d (decode (take (e - 8 - 4) (drop 4 new))) ≡ on d'
-          → r' ≡ record { have = 0; count = r.count + 1; at = r.at + e; last = r.at; fault = 0 }
+          → r' ≡ record { have = 0; count = r.count + 1; at = r.at + e; last = r.at; fault = None }
           → (reading_of r' new d' ≡ feed deed (reading_of r buf d) (b ∷ x)) × Sound r' new
-      unfolding reading_of by_step by_next wanted_of choose
+      unfolding reading_of stands by_step by_next wanted_of choose
       turn_pass d' w i =
           let c : r.count ≤ r.at = o.count in
           let l : e ≡ length (all {S = S} deed r buf new b x k d o going h f) = q ∙ sym (all_length {S = S} deed r buf new b x k d o going h f) in

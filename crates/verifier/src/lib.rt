@@ -1,13 +1,14 @@
-// The verifier (02: judge) without the server: what the bytes had from a place on come to. Whoever has the server goes on from
+// The verifier without the server: what the bytes had from a place on come to. Whoever has the server goes on from
 // a whole entry: its layout (crate record), its frames beside the server's.
 #![tactic(auto)]
 
 ghost use Rattle.std.specs.Prelude.{◌+◌, ◌-◌, ◌≤◌, ◌<◌, min, length, take, ◌≡◌};
 ghost use Rattle.verifier.specs.Framing.{Fed, end_of, framing_of};
 ghost use Rattle.verifier.specs.Standing.{ending_of, start, wanted_of};
-ghost use Rattle.verifier.specs.Judge.{same};
 
 use journal::reader;
+use std::error::Error;
+use std::fmt;
 use wire::{frame, number};
 
 const BODY_LIMIT: u64 = reader::BODY_LIMIT as u64;
@@ -21,81 +22,96 @@ pub const ENTRY_LIMIT: usize = reader::BODY_LIMIT + AROUND;
 // "BACK" as a number
 const BACK: u64 = 1111573323;
 
-// What the bytes had come to: more are needed, a fault, a whole entry with right distance and sum.
-pub const MORE: u64 = 0;
+// What is wrong with a book: an entry's length, its distance from the entry before, its sum, its layout, its frames, or the closing
+// trailer.
+#[derive(Clone, Copy, Debug, PartialEq, Eq)]
+pub enum Fault {
+    Length,
+    Distance,
+    Sum,
+    Layout,
+    Parcels,
+    Trailer,
+}
 
-pub const LENGTH: u64 = 1;
+impl fmt::Display for Fault {
+    fn fmt<W: fmt::Write>(&self, f: &mut fmt::Formatter<W>) -> fmt::Result {
+        let words = match self {
+            Fault::Length => "length",
+            Fault::Distance => "distance",
+            Fault::Sum => "sum",
+            Fault::Layout => "layout",
+            Fault::Parcels => "parcels",
+            Fault::Trailer => "closing trailer",
+        };
+        f.write_str(words)
+    }
+}
 
-pub const DISTANCE: u64 = 2;
+impl Error for Fault {}
 
-pub const SUM: u64 = 3;
+// What bytes without a fault had come to: more are needed, or they are a whole entry with right distance and sum.
+#[derive(Clone, Copy, Debug, PartialEq, Eq)]
+pub enum Progress {
+    More,
+    Whole,
+}
 
-pub const LAYOUT: u64 = 4;
-
-pub const PARCELS: u64 = 5;
-
-pub const TRAILER: u64 = 6;
-
-pub const WHOLE: u64 = 7;
-
-pub const ACCEPTED: u64 = 0;
-
-// MORE, WHOLE, or the fault.
-pub fn framing(s: &[u8]) -> u64
+pub fn framing(s: &[u8]) -> Result<Progress, Fault>
     ensures { result ≡ framing_of s.now }
 {
     if s.len() <= 3 {
-        return MORE;
+        return Ok(Progress::More);
     }
-    let n = number::number4(s, 0);
+    let n = number::number::<4>(s, 0);
     if n == BACK {
         if s.len() <= AROUND {
-            return MORE;
+            return Ok(Progress::More);
         }
-        return TRAILER;
+        return Err(Fault::Trailer);
     }
     if n > BODY_LIMIT {
-        return LENGTH;
+        return Err(Fault::Length);
     }
     let e = n as usize;
     if s.len() < e + AROUND {
-        return MORE;
+        return Ok(Progress::More);
     }
-    if number::number4(s, e + 4) != n + 4 {
-        return DISTANCE;
+    if number::number::<4>(s, e + 4) != n + 4 {
+        return Err(Fault::Distance);
     }
     let t = e + 4;
     let sum = crc::crc32(&s[..t]) as u64;
-    if number::number4(s, e + 8) != sum {
-        return SUM;
+    if number::number::<4>(s, e + 8) != sum {
+        return Err(Fault::Sum);
     }
-    WHOLE
+    Ok(Progress::Whole)
 }
 
-// The end of the book: ACCEPTED, or the fault.
-pub fn ending(s: &[u8], last: u64, count: u64) -> u64
+// The end of the book: accepted, or the fault.
+pub fn ending(s: &[u8], last: u64, count: u64) -> Result<(), Fault>
     ensures { result ≡ end_of s.now last count }
 {
     if s.len() < 4 {
-        return LENGTH;
+        return Err(Fault::Length);
     }
-    if number::number4(s, 0) != BACK {
-        return LENGTH;
+    if number::number::<4>(s, 0) != BACK {
+        return Err(Fault::Length);
     }
     if s.len() != AROUND {
-        return TRAILER;
+        return Err(Fault::Trailer);
     }
-    if number::number4(s, 4) != last {
-        return TRAILER;
+    if number::number::<4>(s, 4) != last {
+        return Err(Fault::Trailer);
     }
-    if number::number4(s, 8) != count {
-        return TRAILER;
+    if number::number::<4>(s, 8) != count {
+        return Err(Fault::Trailer);
     }
-    ACCEPTED
+    Ok(())
 }
 
 // Bytes more: they are put behind those had, and `framing` tells what they come to.
-pub fn feed(buf: &mut [u8], have: usize, bytes: &[u8]) -> u64
+pub fn feed(buf: &mut [u8], have: usize, bytes: &[u8]) -> Result<Progress, Fault>
     requires { have + length bytes.now ≤ length buf.old }
     ensures { Fed result have bytes.now buf.old buf.new }
 {
@@ -104,32 +120,15 @@ pub fn feed(buf: &mut [u8], have: usize, bytes: &[u8]) -> u64
     framing(&buf[..e])
 }
 
-// Are two rows of bytes the same?
-pub fn equal(x: &[u8], y: &[u8]) -> bool
-    ensures { result ≡ same x.now y.now }
-{
-    if x.len() != y.len() {
-        return false;
-    }
-    let mut i = 0;
-    while i < x.len() {
-        if x[i] != y[i] {
-            return false;
-        }
-        i += 1;
-    }
-    true
-}
-
 // Where a reading stands: bytes had from this place on, entries passed, the offset of this place, that of the entry before it, and the
-// fault (0: none so far). The bytes had stand in a lent buffer.
+// fault, if there is one so far. The bytes had stand in a lent buffer.
 #[derive(Clone, Copy)]
 pub struct Standing {
     pub have: usize,
     pub count: u64,
     pub at: u64,
     pub last: u64,
-    pub fault: u64,
+    pub fault: Option<Fault>,
 }
 
 // A new reading.
@@ -141,7 +140,7 @@ pub fn begin() -> Standing
         count: 0,
         at: 0,
         last: 0,
-        fault: 0,
+        fault: None,
     }
 }
 
@@ -152,7 +151,7 @@ fn wanted(s: &[u8]) -> u64
     if s.len() <= 3 {
         return 4;
     }
-    let n = number::number4(s, 0);
+    let n = number::number::<4>(s, 0);
     if n == BACK {
         return AROUND as u64 + 1;
     }
@@ -164,21 +163,16 @@ pub fn portion(buf: &[u8], have: usize, left: usize) -> usize
     requires { (have ≤ length buf.now) × (have < wanted_of (take have buf.now)) }
     ensures { result ≡ min (wanted_of (take have buf.now) - have) left }
 {
-    let w = wanted(&buf[..have]) as usize - have;
-    if left < w {
-        return left;
-    }
-    w
+    left.min(wanted(&buf[..have]) as usize - have)
 }
 
-// The end of the book: ACCEPTED, or the fault.
-pub fn verdict(r: Standing, buf: &[u8]) -> u64
-    requires { r.have ≤ length buf.now }
+// The end of the book: accepted, or the fault.
+pub fn verdict(r: Standing, buf: &[u8]) -> Result<(), Fault>
+    requires { r.fault ≡ None → r.have ≤ length buf.now }
     ensures { result ≡ ending_of r buf.now }
 {
-    if r.fault != 0 {
-        return r.fault;
+    if let Some(fault) = r.fault {
+        return Err(fault);
     }
-    let e = r.have;
-    ending(&buf[..e], r.last, r.count)
+    ending(&buf[..r.have], r.last, r.count)
 }

@@ -1,6 +1,6 @@
 -- What is judged: of bytes that were read, the reading is the definition's. Which bytes a file gives no contract can say, so they are just
 -- some. Assumes nothing.
-use Rattle.std.specs.Prelude.{◌≡◌, List, [], ◌++◌, ℕ, ◌+◌, ◌-◌, ◌*◌, ◌^◌, ◌≤◌, ◌<◌, length, take}
+use Rattle.std.specs.Prelude.{◌≡◌, List, [], ◌++◌, ℕ, None, ◌+◌, ◌-◌, ◌*◌, ◌^◌, ◌≤◌, ◌<◌, length, take}
 use Rattle.std.proofs.Common.{sym, ap, subst, ◌∙◌, arith, length-take}
 use Rattle.journal.specs.Journal.{body_limit}
 use Rattle.verifier.specs.Judge.{first}
@@ -21,11 +21,11 @@ entry_limit = body_limit + 12
 abbrev pub piece_limit : ℕ
 piece_limit = 16384
 
--- the reading that stands, from the server in memory m on, for the bytes that were read; unless the file could not be read (9)
+-- the reading that stands, from the server in memory m on, for the bytes that were read
 pub record Judged (r : Standing) (buf : List ℕ) (m m' : Memory) : Type 0 where
   pub bytes : List ℕ
-  pub reads : (r.fault ≡ 9 → ⊥) → reading_of r buf (view m') ≡ feed deed (reading (first (view m)) []) bytes
-  pub have : r.fault ≡ 0 → r.have ≤ length buf
+  pub reads : reading_of r buf (view m') ≡ feed deed (reading (first (view m)) []) bytes
+  pub have : r.fault ≡ None → r.have ≤ length buf
 
 -- between two pieces, with so many turns left
 pub record Going (r : Standing) (buf : List ℕ) (m m' : Memory) (turns : ℕ) : Type 0 where
@@ -40,17 +40,12 @@ begun r buf m e l =
     subst (λ (x : Standing). Going x buf m m 140737488355328) (sym e)
     (record { bytes = []; reads = start_reading buf (view m); sound = start_sound buf l; offset = omega arith })
 
-sound_have : (r : Standing) (buf : List ℕ) → Sound r buf → r.fault ≡ 0 → r.have ≤ length buf
+sound_have : (r : Standing) (buf : List ℕ) → Sound r buf → r.fault ≡ None → r.have ≤ length buf
 sound_have r buf o z = omega (arith, o.short z, o.fits z, o.room)
 
 module _ (r : Standing) (buf : List ℕ) (m m' : Memory) (turns : ℕ) (g : Going r buf m m' turns) where
   pub stopped : Judged r buf m m'
-  stopped = record { bytes = g.bytes; reads = λ _. g.reads; have = sound_have r buf g.sound }
-
-  pub not_read : (s : Standing) → s ≡ record { have = r.have; count = r.count; at = r.at; last = r.last; fault = 9 } → Judged s buf m m'
-  not_read s e =
-      let f : s.fault ≡ 9 = ap (λ (x : Standing). x.fault) e in
-      record { bytes = []; reads = λ n. absurd (n f); have = λ z. absurd (omega (arith, z, f)) }
+  stopped = record { bytes = g.bytes; reads = g.reads; have = sound_have r buf g.sound }
 
   module _ (t : 0 < turns) (x : List ℕ) (l : length x ≤ 16384) where
     pub may_feed : (out : List ℕ) → length out ≡ output_minimum → Sound r buf × (r.at + r.have + length x < 2 ^ 63) × (length out ≡ output_minimum)
@@ -63,7 +58,7 @@ module _ (r : Standing) (buf : List ℕ) (m m' : Memory) (turns : ℕ) (g : Goin
           ∙ sym (feed_append deed (reading (first (view m)) []) g.bytes x)
 
       pub faulty : Judged s buf' m m''
-      faulty = record { bytes = g.bytes ++ x; reads = λ _. read_on; have = sound_have s buf' u.sound }
+      faulty = record { bytes = g.bytes ++ x; reads = read_on; have = sound_have s buf' u.sound }
 
       pub on : (k : ℕ) → k ≡ turns - 1 → Going s buf' m m'' k
       on k e = record { bytes = g.bytes ++ x; reads = read_on; sound = u.sound; offset = omega (arith, e, g.offset, u.offset) }

@@ -1,56 +1,72 @@
-// The arguments behind the file's name.
-ghost use Rattle.std.specs.Prelude.{◌≡◌, ◌≤◌, length};
+// What the program is called with: FILE VENDOR MODE.
+ghost use Rattle.std.specs.Prelude.{◌≤◌, IfOk, IfSome, length};
 
 use std::env::{Env, FillError};
+use std::fmt;
 
 // an argument of more bytes is none of ours
 const LONGEST: usize = 16;
 
-pub const BAD_VENDOR: u64 = 65536;
+// What is wrong with the arguments, in the order in which it is looked for.
+#[derive(Clone, Copy)]
+pub enum UsageError {
+    Count,
+    File,
+    Vendor,
+    Mode,
+}
 
-pub const BAD_MODE: u64 = 2;
-
-const NO_DIGIT: u64 = 16;
-
-// The value of a hex digit, upper case or lower case.
-fn digit(b: u8) -> u64
-    ensures { result ≤ 16 }
-{
-    match b {
-        48..=57 => b as u64 - 48,
-        65..=70 => b as u64 - 55,
-        97..=102 => b as u64 - 87,
-        _ => NO_DIGIT,
+impl fmt::Display for UsageError {
+    fn fmt<W: fmt::Write>(&self, f: &mut fmt::Formatter<W>) -> fmt::Result {
+        let words = match self {
+            UsageError::Count => "usage: verify FILE VENDOR MODE",
+            UsageError::File => "FILE is a path of at most 4096 bytes",
+            UsageError::Vendor => "VENDOR is four hex digits",
+            UsageError::Mode => "MODE is synchronized or overlap",
+        };
+        f.write_str(words)
     }
 }
 
-fn vendor_of(s: &[u8]) -> u64
-    ensures { result ≤ 65536 }
+// The arguments; FILE's bytes stand at the front of a lent buffer.
+#[derive(Clone, Copy)]
+pub struct Arguments {
+    pub length: usize,
+    pub vendor: u16,
+    pub overlap: bool,
+}
+
+// The value of a hex digit, upper case or lower case.
+fn digit(b: u8) -> Option<u16>
+    ensures { IfSome result (λ d. d ≤ 15) }
 {
-    if s.len() != 4 {
-        return BAD_VENDOR;
+    match b {
+        b'0'..=b'9' => Some(u16::from(b - b'0')),
+        b'A'..=b'F' => Some(u16::from(b - b'A' + 10)),
+        b'a'..=b'f' => Some(u16::from(b - b'a' + 10)),
+        _ => None,
     }
-    let a = digit(s[0]);
-    let b = digit(s[1]);
-    let c = digit(s[2]);
-    let d = digit(s[3]);
-    if a > 15 {
-        return BAD_VENDOR;
+}
+
+// Four hex digits.
+fn vendor_of(s: &[u8]) -> Option<u16> {
+    let &[a, b, c, d] = s else {
+        return None;
+    };
+    Some(((digit(a)? * 16 + digit(b)?) * 16 + digit(c)?) * 16 + digit(d)?)
+}
+
+// Whether the mode is overlap.
+fn overlap_of(s: &[u8]) -> Option<bool> {
+    match s {
+        b"synchronized" => Some(false),
+        b"overlap" => Some(true),
+        _ => None,
     }
-    if b > 15 {
-        return BAD_VENDOR;
-    }
-    if c > 15 {
-        return BAD_VENDOR;
-    }
-    if d > 15 {
-        return BAD_VENDOR;
-    }
-    ((a * 16 + b) * 16 + c) * 16 + d
 }
 
 // Whether there is an argument of that number.
-pub fn is_given(rt: &impl Env, number: usize) -> bool {
+fn is_given(rt: &impl Env, number: usize) -> bool {
     let mut first = [0u8; 1];
     !matches!(rt.arg(number, &mut first), Err(FillError::NotPresent))
 }
@@ -62,32 +78,23 @@ fn argument(rt: &impl Env, number: usize, word: &mut [u8]) -> usize
     rt.arg(number, word).unwrap_or(0)
 }
 
-// VENDOR: four hex digits.
-pub fn vendor(rt: &impl Env) -> u64
-    ensures { result ≤ 65536 }
+pub fn read(rt: &impl Env, path: &mut [u8]) -> Result<Arguments, UsageError>
+    ensures { IfOk result (λ a. a.length ≤ length path.new) }
 {
+    if !is_given(rt, 3) || is_given(rt, 4) {
+        return Err(UsageError::Count);
+    }
+    let Ok(length) = rt.arg(1, path) else {
+        return Err(UsageError::File);
+    };
     let mut word = [0u8; LONGEST];
     let n = argument(rt, 2, &mut word);
-    vendor_of(&word[..n])
-}
-
-fn mode_of(s: &[u8]) -> u64
-    ensures { result ≤ 2 }
-{
-    if verifier::equal(s, b"synchronized") {
-        return 0;
-    }
-    if verifier::equal(s, b"overlap") {
-        return 1;
-    }
-    BAD_MODE
-}
-
-// MODE: 1 for overlap.
-pub fn mode(rt: &impl Env) -> u64
-    ensures { result ≤ 2 }
-{
-    let mut word = [0u8; LONGEST];
+    let vendor = vendor_of(&word[..n]).ok_or(UsageError::Vendor)?;
     let n = argument(rt, 3, &mut word);
-    mode_of(&word[..n])
+    let overlap = overlap_of(&word[..n]).ok_or(UsageError::Mode)?;
+    Ok(Arguments {
+        length,
+        vendor,
+        overlap,
+    })
 }

@@ -4,17 +4,16 @@
 mod arguments;
 mod say;
 
-ghost use Rattle.std.specs.Prelude.{◌≤◌, length, ◌≡◌};
+ghost use Rattle.std.specs.Prelude.{◌≤◌, IfSome, length, ◌≡◌};
 ghost use Rattle.journal.specs.Journal.{body_limit};
 ghost use Rattle.model.specs.Sizes.{output_minimum};
 ghost use Rattle.state.specs.View.{memory};
 ghost use Rattle.verify.specs.Judged.{Judged, entry_limit, piece_limit};
 
-use arguments::{BAD_MODE, BAD_VENDOR};
 use state::sizes;
 use state::sizes::{Strings, Words};
 use std::io::Read;
-use std::rt::{Env, Files};
+use std::rt::Files;
 use std::{fs, io, str};
 use verifier::Standing;
 
@@ -28,22 +27,7 @@ const LONGEST_PATH: usize = 4096;
 // A proved loop has to end, and nothing says that a file does: at most so many pieces, 2^61 bytes, are read.
 const TURNS: u64 = 140737488355328;
 
-// The file could not be read: this was said already.
-const UNREAD: u64 = 9;
-
-fn unread(r: Standing) -> Standing
-    ensures { result ≡ record { have = r.have; count = r.count; at = r.at; last = r.last; fault = 9 } }
-{
-    Standing {
-        have: r.have,
-        count: r.count,
-        at: r.at,
-        last: r.last,
-        fault: UNREAD,
-    }
-}
-
-// Reads piece after piece, up to the end or to the first fault.
+// Reads piece after piece, up to the end or to the first fault. Of a file that cannot be read it says so, and answers nothing.
 fn judge(
     errors: &impl Print,
     file: &mut impl Read,
@@ -53,9 +37,9 @@ fn judge(
     strings: &mut Strings,
     out: &mut [u8],
     piece: &mut [u8],
-) -> Standing
+) -> Option<Standing>
     requires { (length buf.old ≡ entry_limit) × (length out.old ≡ output_minimum) × (length piece.old ≤ piece_limit) }
-    ensures { Judged result buf.new (memory words.old strings.old) (memory words.new strings.new) }
+    ensures { IfSome result (λ r. Judged r buf.new (memory words.old strings.old) (memory words.new strings.new)) }
 {
     let mut r = verifier::begin();
     for _ in 0..TURNS {
@@ -63,19 +47,19 @@ fn judge(
             Ok(n) => n,
             Err(e) => {
                 say::unreadable(errors, path, &e);
-                return unread(r);
+                return None;
             }
         };
         if n == 0 {
-            return r;
+            return Some(r);
         }
         r = replay::feed(r, buf, words, strings, out, &piece[..n]);
-        if r.fault != 0 {
-            return r;
+        if r.fault.is_some() {
+            return Some(r);
         }
     }
     say::endless(errors);
-    unread(r)
+    None
 }
 
 // A path that is not UTF-8 opens nothing.
@@ -91,7 +75,7 @@ fn judge_file<R: Files + Print>(
     errors: &impl Print,
     path: &[u8],
     vendor: u16,
-    overlap: u8,
+    overlap: bool,
 ) -> io::Result<()> {
     let mut file = match open(rt, path) {
         Ok(file) => file,
@@ -105,8 +89,8 @@ fn judge_file<R: Files + Print>(
     let mut buf = [0; verifier::ENTRY_LIMIT];
     let mut out = [0; OUTPUT];
     let mut piece = [0; PIECE];
-    server::hislip_new(&mut words, &mut strings, vendor, overlap);
-    let r = judge(
+    server::hislip_new(&mut words, &mut strings, vendor, u8::from(overlap));
+    let judged = judge(
         errors,
         &mut file,
         path,
@@ -116,36 +100,20 @@ fn judge_file<R: Files + Print>(
         &mut out,
         &mut piece,
     );
-    if r.fault == UNREAD {
-        return Ok(());
+    match judged {
+        Some(r) => say::verdict(rt, r.count, verifier::verdict(r, &buf)),
+        None => Ok(()),
     }
-    if r.fault != 0 {
-        return say::verdict(rt, r.count, r.fault);
-    }
-    let k = verifier::verdict(r, &buf);
-    say::verdict(rt, r.count, k)
 }
 
 fn main(rt: HostRuntime) -> io::Result<()> {
     let errors = rt.stderr();
-    if !arguments::is_given(&rt, 3) || arguments::is_given(&rt, 4) {
-        say::usage(&errors, b"usage: verify FILE VENDOR MODE\n");
-        return Ok(());
-    }
     let mut path = [0u8; LONGEST_PATH];
-    let Ok(length) = rt.arg(1, &mut path) else {
-        say::usage(&errors, b"FILE is a path of at most 4096 bytes\n");
-        return Ok(());
-    };
-    let vendor = arguments::vendor(&rt);
-    if vendor == BAD_VENDOR {
-        say::usage(&errors, b"VENDOR is four hex digits\n");
-        return Ok(());
+    match arguments::read(&rt, &mut path) {
+        Ok(a) => judge_file(&rt, &errors, &path[..a.length], a.vendor, a.overlap),
+        Err(e) => {
+            say::usage(&errors, e);
+            Ok(())
+        }
     }
-    let overlap = arguments::mode(&rt);
-    if overlap == BAD_MODE {
-        say::usage(&errors, b"MODE is synchronized or overlap\n");
-        return Ok(());
-    }
-    judge_file(&rt, &errors, &path[..length], vendor as u16, overlap as u8)
 }

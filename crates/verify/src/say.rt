@@ -1,9 +1,11 @@
 // What is printed. Where the standard error takes nothing, there is no place left to say so.
+use crate::arguments::UsageError;
 use std::io::{Cursor, Write};
 use std::{io, str};
+use verifier::Fault;
 
-pub fn usage(errors: &impl Print, text: &[u8]) {
-    let _ = errors.write_all(text);
+pub fn usage(errors: &impl Print, error: UsageError) {
+    let _ = println!(errors; "{error}");
 }
 
 pub fn endless(errors: &impl Print) {
@@ -34,22 +36,10 @@ pub fn unreadable(errors: &impl Print, path: &[u8], error: &io::Error) {
     let _ = failure(errors, path, error);
 }
 
-fn fault(rt: &impl Print, k: u64) -> io::Result<()> {
-    match k {
-        1 => rt.write_all(b"length\n"),
-        2 => rt.write_all(b"distance\n"),
-        3 => rt.write_all(b"sum\n"),
-        4 => rt.write_all(b"layout\n"),
-        5 => rt.write_all(b"parcels\n"),
-        _ => rt.write_all(b"closing trailer\n"),
-    }
-}
-
 // The one line: accepted, or the first wrong entry and its kind of fault.
-pub fn verdict(rt: &impl Print, count: u64, k: u64) -> io::Result<()> {
-    if k == verifier::ACCEPTED {
-        return print!(rt; "accepted: {count} entries\n");
+pub fn verdict(rt: &impl Print, count: u64, verdict: Result<(), Fault>) -> io::Result<()> {
+    match verdict {
+        Ok(()) => println!(rt; "accepted: {count} entries"),
+        Err(fault) => println!(rt; "entry {count}: {fault}"),
     }
-    print!(rt; "entry {count}: ")?;
-    fault(rt, k)
 }

@@ -18,6 +18,3 @@ loop-i-preserved c = let a = c.args in
 pub returns : goal.returns
 returns c = let a = c.args in
     sym (feed_last c.loop-i.x a.bytes.now c.loop-i.i (omega arith)) ∙ c.loop-i.invariant.1
-
-pub loop-i-init : goal.loop-i-init
-loop-i-init c = (search rules, refl)

@@ -1,12 +1,10 @@
 -- `put_steps` meets its contract: the bytes before i are in place.
-use mathlib.Core.Path.{◌≡◌}
-use Prim.Native.Nat.{◌≤◌, ◌-◌, ◌%◌}
-use lib.ListN.{length}
+use Rattle.std.proofs.Common.{◌≡◌, ◌≤◌, ◌-◌, ◌%◌, length}
 use Rattle.moves.specs.Moves.{moved}
 use Rattle.moves.proofs.put_steps.Given as goal
 
 abbrev pub invariant-loop-i : goal.invariant-loop-i
-invariant-loop-i l = (l.i ≤ length l.src) × (l.i % 16 ≡ 0) × (l.n ≡ length l.src) × (length l.book ≡ length l.initial.book) × (l.book ≡ moved l.initial.book l.at l.src 0 l.i)
+invariant-loop-i l = (l.i ≤ length l.src) × (l.i % 16 ≡ 0) × (l.book ≡ moved l.initial.book l.at l.src 0 l.i)
 
 abbrev pub decreases-loop-i : goal.decreases-loop-i
 decreases-loop-i l = length l.src - l.i

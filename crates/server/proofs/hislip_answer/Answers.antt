@@ -1,5 +1,5 @@
 -- `hislip_answer` meets its contract: the refusals in their order, then the answer, sent or withheld.
-use Rattle.server.specs.Answers.{answer_short_room, answer_refused, answer_call, same_end}
+use Rattle.server.specs.Answers.{answer_short_room, answer_refused, answer_call}
 use mathlib.Core.Path.{refl, ◌∙◌}
 use mathlib.Core.Bool.{not}
 use lib.Dec.{eqb}
@@ -63,6 +63,5 @@ returns c = let a = c.args in
     c.if-out-lt-OUTPUT_MINIMUM.false
     ∙ c.answer_refusal-refusal.ensures.0 s in
     answer_call a.session i p end sh room _ m _ out _ found (q ∙ c.if-refusal-ne0.false)
-    (same_end d _ i end c.is_set-with_end.result p sh _ out _ c.is_set-with_end.ensures
-    (c.give_answer.ensures.0 s))
+    (c.give_answer.ensures.0 s)
     (c.give_answer.ensures.1 s)

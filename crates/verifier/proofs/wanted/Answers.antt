@@ -6,7 +6,7 @@ pub returns-then-s-le3 : goal.returns-then-s-le3
 returns-then-s-le3 c = wants_few _ c.if-s-le3.true
 
 pub returns-then-n-eq-BACK : goal.returns-then-n-eq-BACK
-returns-then-n-eq-BACK c = wants_back _ _ c.number4-n.ensures.0 c.if-s-le3.false c.if-n-eq-BACK.true
+returns-then-n-eq-BACK c = wants_back _ _ c.number-n.ensures.value c.if-s-le3.false c.if-n-eq-BACK.true
 
 pub returns : goal.returns
-returns c = wants_entry _ _ c.number4-n.ensures.0 c.if-s-le3.false c.if-n-eq-BACK.false
+returns c = wants_entry _ _ c.number-n.ensures.value c.if-s-le3.false c.if-n-eq-BACK.false

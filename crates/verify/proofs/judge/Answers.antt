@@ -6,8 +6,8 @@ use Rattle.verify.proofs.judge.Goals as goal
 pub loop-init : goal.loop-init
 loop-init g c = begun _ _ _ c.begin-r.ensures c.requires.0
 
-pub returns-then-r-ne0 : goal.returns-then-r-ne0
-returns-then-r-ne0 g c =
+pub returns-then-is_some : goal.returns-then-is_some
+returns-then-is_some g c =
     faulty _ _ _ _ _ c.loop.invariant (omega (arith, c.loop-test.true)) _
     (short_piece _ _ (omega (arith, c.read.auto.buf, c.loop.auto.piece, c.requires.2)))
     _ _ _ c.feed-r.ensures

@@ -1,14 +1,13 @@
 -- `synchronous::complete_verdict` meets its contract.
-use mathlib.Core.Path.{refl}
+use native.Mathlib.Omega.{arith}
 use Rattle.checks.specs.Synchronous.{complete_payload, complete_acts, complete_outside}
-use Rattle.checks.specs.Numbers.{numbered}
 use Rattle.checks.proofs.synchronous.complete_verdict.Goals as goal
 
-pub returns-then-len-gt0 : goal.returns-then-len-gt0
-returns-then-len-gt0 c = numbered _ _ (complete_payload _ _ c.if-len-gt0.true) refl
+pub returns-in-true-eq0 : goal.returns-in-true-eq0
+returns-in-true-eq0 c = complete_acts _ _ (omega (arith, c.in-true-eq0.is-1)) c.in-true-eq0.is-0
 
-pub returns-then-clearing : goal.returns-then-clearing
-returns-then-clearing c = numbered _ _ (complete_acts _ _ c.if-len-gt0.false c.if-clearing.true) refl
+pub returns-in_default : goal.returns-in_default
+returns-in_default c = complete_payload _ _ (omega (arith, c.in_default.is-1))
 
-pub returns : goal.returns
-returns c = numbered _ _ (complete_outside _ _ c.if-len-gt0.false c.if-clearing.false) refl
+pub returns-in_default-2 : goal.returns-in_default-2
+returns-in_default-2 c = complete_outside _ _ c.in_default.is-0

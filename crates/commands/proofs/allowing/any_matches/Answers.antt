@@ -11,9 +11,6 @@ use Rattle.commands.proofs.Refusing.{line_matched, line_refused, moved}
 use borrow.Author.Rules.{rules}
 use Rattle.commands.proofs.allowing.any_matches.Goals as goal
 
-pub returns-then-first_matches : goal.returns-then-first_matches
-returns-then-first_matches c = (λ t. c.first_matches.ensures.0 c.if-first_matches.true, λ x. refl)
-
 pub loop-at-init : goal.loop-at-init
 loop-at-init c = let n = c.opening_from-at in
     let m = c.first_matches in
@@ -40,14 +37,6 @@ returns-then-matches c = let m = c.matches in
       λ x. refl,
     )
 
-pub next_opening-at-requires : goal.next_opening-at-requires
-next_opening-at-requires c = c.line_end-e.ensures.1
-
-pub loop-at-smaller : goal.loop-at-smaller
-loop-at-smaller c = let e = c.line_end-e in
-    let l = c.loop-at in
-    omega (arith, e.ensures.0, c.next_opening-at.ensures.0, c.loop-at-test.true)
-
 pub loop-at-preserved : goal.loop-at-preserved
 loop-at-preserved c = let n = c.next_opening-at in
     let m = c.matches in
@@ -70,6 +59,3 @@ pub returns : goal.returns
 returns c = let l = c.loop-at in
     let a = c.args in
     (λ t. untrue t, λ x. absurd (behind_end a.text.now a.c.now l.at (search rules) (l.invariant.2.0 x)))
-
-pub first_matches-requires : goal.first_matches-requires
-first_matches-requires c = (c.raised_at-f.ensures, c.raised_at-g.ensures)

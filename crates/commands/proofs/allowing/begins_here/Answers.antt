@@ -1,5 +1,5 @@
 -- `allowing::begins_here` meets its contract: the tests are those of the definition.
-use mathlib.Core.Path.{refl}
+use Rattle.std.specs.Prelude.{refl}
 use Rattle.commands.specs.Refusing.{begins}
 use Rattle.commands.proofs.allowing.begins_here.Goals as goal
 

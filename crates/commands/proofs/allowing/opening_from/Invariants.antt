@@ -1,6 +1,5 @@
 -- `allowing::opening_from` meets its contract. The invariant of the three loops: no place that was passed opens a line.
-use Prim.Native.Nat.{◌-◌, ◌≤◌}
-use lib.ListN.{length}
+use Rattle.std.specs.Prelude.{◌-◌, ◌≤◌, length}
 use Rattle.commands.specs.Refusing.{Shut}
 use Rattle.commands.proofs.allowing.opening_from.Given as goal
 
@@ -16,8 +15,5 @@ invariant-loop-i-2 l = (l.at ≤ l.i) × (l.i ≤ length l.text) × Shut l.text 
 abbrev pub decreases-loop-i-2 : goal.decreases-loop-i-2
 decreases-loop-i-2 l = length l.text - l.i
 
-abbrev pub invariant-loop-i-3 : goal.invariant-loop-i-3
-invariant-loop-i-3 l = (l.at ≤ l.i) × (l.i ≤ length l.text) × Shut l.text l.f l.g l.at l.i
-
-abbrev pub decreases-loop-i-3 : goal.decreases-loop-i-3
-decreases-loop-i-3 l = length l.text - l.i
+abbrev pub invariant-loop-k : goal.invariant-loop-k
+invariant-loop-k l = Shut l.text l.f l.g l.at l.k

@@ -7,7 +7,7 @@ use Rattle.commands.specs.Rulings.{judged_from}
 use Rattle.commands.proofs.listing.first_bad.Given as goal
 
 abbrev pub invariant-loop-at : goal.invariant-loop-at
-invariant-loop-at l = (l.k ≤ l.at) × (l.at ≤ length l.text + 1) × (judged_from l.k (lines_of (drop l.at l.text)) ≡ judged_from 0 (lines_of l.text))
+invariant-loop-at l = (l.pattern ≤ l.at) × (l.at ≤ length l.text + 1) × (judged_from l.pattern (lines_of (drop l.at l.text)) ≡ judged_from 0 (lines_of l.text))
 
 abbrev pub decreases-loop-at : goal.decreases-loop-at
 decreases-loop-at l = length l.text + 1 - l.at

@@ -11,8 +11,8 @@ decreases-match_bracket l = 2 * (l.left + (length l.p.now - l.at)) + 1
 abbrev pub decreases-match_path : goal.decreases-match_path
 decreases-match_path l = 2 * (l.left + (length l.p.now - l.at))
 
-abbrev pub invariant-match_path-loop-i : goal.invariant-match_path-loop-i
-invariant-match_path-loop-i l = (l.at ≤ l.w.at) × (l.w.at ≤ length l.p + 1) × Leads (8 - l.left) l.p l.at l.c l.initial.w.on l.w.at l.w.on
+abbrev pub invariant-match_path-loop-w : goal.invariant-match_path-loop-w
+invariant-match_path-loop-w l = (l.at ≤ l.w.at) × (l.w.at ≤ length l.p + 1) × Leads (8 - l.left) l.p l.at l.c l.initial.w.on l.w.at l.w.on
 
-abbrev pub decreases-match_path-loop-i : goal.decreases-match_path-loop-i
-decreases-match_path-loop-i l = length l.p - l.w.at
+abbrev pub decreases-match_path-loop-w : goal.decreases-match_path-loop-w
+decreases-match_path-loop-w l = length l.p - l.w.at

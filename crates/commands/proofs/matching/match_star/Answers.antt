@@ -1,33 +1,36 @@
 -- `matching::match_star` meets its contract.
-use mathlib.Core.Path.{sym, ◌∙◌}
-use mathlib.Core.Bool.{true, false}
-use Rattle.scpi.specs.declared.Checked.TheVariants.{Good}
-use Rattle.scpi.specs.Answers.{says_yes, says_no, good_or_bad}
+use Rattle.std.proofs.Common.{refl, sym, subst, ◌∙◌, ◌≡◌, Bool, true, false, Ok, Err, get_or, ℕ, List, is_ok}
+use borrow.Author.Tests.{eqb-true}
+use Rattle.scpi.specs.Answers.{Says, says_yes, says_no, good_or_bad, untrue}
+use Rattle.scpi.specs.Automaton.{Checked, good}
+use Rattle.scpi.specs.Bytes.{star_sign, caseless}
+use Rattle.scpi.specs.Verdicts.{Exactly}
 use Rattle.scpi.specs.Words.{like_length}
+use Rattle.commands.specs.Spelling.{Matches}
 use Rattle.commands.specs.Whole.{like_starts, says_star}
+use Rattle.commands.proofs.matching.match_star.Goals.{then-p-c, else-p-c}
 use Rattle.commands.proofs.matching.match_star.Goals as goal
 
-pub returns-then-n-c : goal.returns-then-n-c
-returns-then-n-c c = λ m.
-    let a = c.args in
-    says_star a.p.now a.c.now false c.requires (λ h. c.if-n-c.true (sym (like_length a.c.now a.p.now h))) m.good m.spells
+-- bytes that are alike match if they are a pattern
+checked : (p c : List ℕ) → get_or p 0 0 ≡ star_sign → caseless c ≡ caseless p → (r : Checked) → Exactly p r → (b : Bool) → b ≡ is_ok r → Says b (Matches p c)
+checked p c s h (Ok u) x true e = let g = (x good).1 refl in record { good = g; spells = says_star p c true s h g }
+checked p c s h (Ok u) x false e = untrue e
+checked p c s h (Err b) x true e = untrue (sym e)
+checked p c s h (Err b) x false e = λ m. good_or_bad b.place ((x good).0 m.good)
 
-pub returns-then-not-goes_on : goal.returns-then-not-goes_on
-returns-then-not-goes_on c = λ m.
-    let g = c.goes_on in
-    let a = c.args in
-    says_star a.p.now a.c.now false c.requires
-    (says_no g.result (like_starts a.p.now a.c.now c.if-n-c.false g.result g.ensures) (c.if-not-goes_on.true)) m.good m.spells
+pub returns-then-goes_on : goal.returns-then-goes_on
+returns-then-goes_on c = let a = c.args in
+    let h : caseless a.c.now ≡ caseless a.p.now = elim c.if-p-c.branch [
+      | then-p-c w ↦ says_yes w.goes_on.result (like_starts a.p.now a.c.now w.if-p-c.true w.goes_on.result w.goes_on.ensures) (sym w.value-is ∙ c.if-goes_on.true)
+      | else-p-c w ↦ absurd (w.if-p-c.false (eqb-true _ _ (sym w.value-is ∙ c.if-goes_on.true)))
+    ] in
+    checked a.p.now a.c.now c.requires h c.check.result c.check.ensures c.is_ok.result c.is_ok.ensures.value
 
-pub returns-in-Good : goal.returns-in-Good
-returns-in-Good c = let g = c.goes_on in
-    let a = c.args in
-    let h = (c.check-k.ensures Good).1 (sym c.in-Good.is) in
-    record {
-      good = h;
-      spells = says_star a.p.now a.c.now true c.requires
-          (says_yes g.result (like_starts a.p.now a.c.now c.if-n-c.false g.result g.ensures) (c.if-not-goes_on.false)) h;
-    }
-
-pub returns-in-Bad : goal.returns-in-Bad
-returns-in-Bad c = λ m. good_or_bad c.in-Bad.field-0 ((c.check-k.ensures Good).0 m.good ∙ c.in-Bad.is)
+pub returns-else-goes_on : goal.returns-else-goes_on
+returns-else-goes_on c = let a = c.args in
+    let X = Matches a.p.now a.c.now in
+    subst (λ (b : Bool). Says b X) (sym c.if-goes_on.false) (elim c.if-p-c.branch [
+      | then-p-c w ↦ λ m. says_star a.p.now a.c.now false c.requires
+          (says_no w.goes_on.result (like_starts a.p.now a.c.now w.if-p-c.true w.goes_on.result w.goes_on.ensures) (sym w.value-is ∙ c.if-goes_on.false)) m.good m.spells
+      | else-p-c w ↦ λ m. says_star a.p.now a.c.now false c.requires (λ h. w.if-p-c.false (sym (like_length a.c.now a.p.now h))) m.good m.spells
+    ])

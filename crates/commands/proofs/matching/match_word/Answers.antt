@@ -5,17 +5,6 @@ use borrow.Author.Rules.{rules}
 use Rattle.scpi.specs.Scans.{word_on}
 use Rattle.commands.proofs.matching.match_word.Goals as goal
 
-pub returns-then-m-at : goal.returns-then-m-at
-returns-then-m-at c = let m = c.run_end-m in
-    record {
-      caps = m.result;
-      onward = search rules;
-      inside = omega arith;
-      caps_end = m.ensures.0;
-      read = λ l. absurd (omega arith);
-      word = λ l. absurd (omega (arith, c.if-m-at.true));
-    }
-
 pub returns : goal.returns
 returns c = let e = c.run_end-end in
     let m = c.run_end-m in
@@ -28,5 +17,5 @@ returns c = let e = c.run_end-end in
       read = λ l.
           (word_on a.p.now (a.at + 1) m.result m.ensures.0 e.result (omega (arith, m.ensures.0, c.if-m-at.false)) m.ensures.1
           e.ensures.0 e.ensures.1).3;
-      word = λ l. (e.ensures.1, e.ensures.0, c.step-t.ensures);
+      word = λ l. (e.ensures.1, e.ensures.0, c.step-on.ensures);
     }

@@ -1,23 +1,9 @@
--- `matching::member` meets its contract.
-use Rattle.commands.specs.Places.{member_low, member_mid, member_high}
-use lib.Count.{trailing_le}
-use native.Mathlib.Omega.{arith}
-use lib.ListN.{get_or}
-use borrow.Author.Rules.{rules}
+-- `matching::member` meets its contract. The invariant: the words that were passed have no place.
+use Rattle.std.proofs.Common.{rules, arith, ℕ, ◌≡◌, subst, ◌*◌, ◌≤◌}
+use Rattle.commands.specs.Sets.{On}
+use Rattle.commands.specs.Places.{member_here, member_behind, member_none}
 use Rattle.commands.proofs.matching.member.Goals as goal
 
-pub returns-then-a-lt64 : goal.returns-then-a-lt64
-returns-then-a-lt64 c = let a = c.args in member_low a.s.now c.if-a-lt64.true
-
-pub returns-then-b-lt64 : goal.returns-then-b-lt64
-returns-then-b-lt64 c = let a = c.args in member_mid a.s.now c.if-b-lt64.true
-
-pub overflow_add-result-2 : goal.overflow_add-result-2
-overflow_add-result-2 c = let a = c.args in omega (arith, trailing_le 64 (get_or a.s.now 2 0))
-
-pub overflow_cast-result-2 : goal.overflow_cast-result-2
-overflow_cast-result-2 c = let a = c.args in search (rules, trailing_le 64 (get_or a.s.now 2 0))
-
-pub returns : goal.returns
-returns c = let a = c.args in
-    member_high a.s.now (λ l. omega (arith, c.if-a-lt64.false)) (λ l. omega (arith, c.if-b-lt64.false))
+pub returns-then-i-lt64 : goal.returns-then-i-lt64
+returns-then-i-lt64 c = let l = c.loop-k in
+    member_here c.args.s.now l.k l.invariant (search rules) c.if-i-lt64.true

@@ -43,9 +43,3 @@ returns-then-not-goes_on c = let a = c.args in
           (⊎_elim (λ (x : From (part a.a a.m a.p.now) a.c.now a.i k). untrue (sym n ∙ x.1))
           (λ (x : From (part a.a a.e a.p.now) a.c.now a.i k). untrue (sym o ∙ x.1)) y)) h,
     )
-
-pub spread_on-requires : goal.spread_on-requires
-spread_on-requires c = (search rules, search rules, search rules, search rules, search rules, sym c.goes_on.ensures ∙ c.if-not-goes_on.false)
-
-pub returns : goal.returns
-returns c = c.spread_on.ensures

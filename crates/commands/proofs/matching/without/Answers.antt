@@ -9,19 +9,6 @@ use Rattle.commands.specs.Places.{weight, on_below, has_low, has_mid, has_high, 
 use borrow.Author.Rules.{rules}
 use Rattle.commands.proofs.matching.without.Goals as goal
 
-pub overflow_sub-result : goal.overflow_sub-result
-overflow_sub-result c = let a = c.args in subst (λ (x : ℕ). x ≤ get_or a.s 0 0) (sym c.power_of.ensures) (has_low a.s a.j c.requires c.if-j-lt64.true)
-
-pub overflow_sub-result-then-j-lt128 : goal.overflow_sub-result-then-j-lt128
-overflow_sub-result-then-j-lt128 c = let a = c.args in subst (λ (x : ℕ). x ≤ get_or a.s 1 0) (sym c.power_of-then-j-lt128.ensures)
-    (has_mid a.s a.j c.requires (search rules) c.if-j-lt128.true)
-
-pub power_of-requires-2 : goal.power_of-requires-2
-power_of-requires-2 c = let a = c.args in let l : a.j < 192 = on_below a.s a.j c.requires in search rules
-
-pub overflow_sub-result-2 : goal.overflow_sub-result-2
-overflow_sub-result-2 c = let a = c.args in subst (λ (x : ℕ). x ≤ get_or a.s 2 0) (sym c.power_of-2.ensures) (has_high a.s a.j c.requires (search rules))
-
 pub returns-then-j-lt64 : goal.returns-then-j-lt64
 returns-then-j-lt64 c = let a = c.args in
     subst (λ (x : ℕ). ((k : ℕ) → On a.s k ↔ (On ((get_or a.s 0 0 - x) ∷ get_or a.s 1 0 ∷ get_or a.s 2 0 ∷ []) k ⊎ (k ≡ a.j)))

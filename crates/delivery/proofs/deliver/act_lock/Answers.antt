@@ -4,11 +4,7 @@ use Rattle.sessions.specs.Asynchronous.{did_message}
 use Rattle.effects.specs.LockMessages.{release_told, request_told}
 use Rattle.model.specs.Acts.{AsynchronousKind.k_lock}
 use Rattle.state.specs.View.{memory}
-use borrow.Author.Rules.{rules}
 use Rattle.delivery.proofs.deliver.act_lock.Goals as goal
-
-pub release_quickly-end-requires : goal.release_quickly-end-requires
-release_quickly-end-requires c = (search rules, search rules, c.requires.4)
 
 pub returns-then-code-eq0 : goal.returns-then-code-eq0
 returns-then-code-eq0 c = let a = c.args in
@@ -18,9 +14,6 @@ returns-then-code-eq0 c = let a = c.args in
     c.release_quickly-end.result a.payload.now _ c.acted.ensures
     (c.entry-n.ensures.0 a.strings.now)
     c.if-code-eq0.true c.release_quickly-end.ensures)
-
-pub request_quickly-end-requires : goal.request_quickly-end-requires
-request_quickly-end-requires c = (search rules, search rules, c.requires.4)
 
 pub returns : goal.returns
 returns c = let a = c.args in

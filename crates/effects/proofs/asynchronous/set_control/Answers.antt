@@ -6,8 +6,8 @@ use Rattle.effects.proofs.asynchronous.set_control.Goals as goal
 
 pub returns : goal.returns
 returns c = let a = c.args in
-    let f = c.flags_of-f in
-    let g = c.commanded in (
-      λ s. controls (view (memory a.w.now s)) _ a.code (shown f.result) (shown g.result) f.ensures g.ensures (c.set_flags.ensures.0 s),
+    let f = c.flags_of-flags in
+    let g = c.control in (
+      λ s. controls (view (memory a.w.now s)) _ a.code (shown f.result) (shown g.new.self) f.ensures g.ensures (c.set_flags.ensures.0 s),
       c.set_flags.ensures.1,
     )

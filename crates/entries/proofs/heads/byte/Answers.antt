@@ -1,8 +1,9 @@
--- `heads::byte` meets its contract: the bytes of a field, written out.
+-- `heads::byte` meets its contract: the bytes of a number are a field.
+use Rattle.std.proofs.Common.{refl, ◌∙◌}
 use Rattle.wire.specs.Field.{field}
-use borrow.Author.Rules.{rules}
+use Rattle.entries.specs.Parts.{bytes_field}
 use Rattle.entries.proofs.heads.byte.Goals as goal
 
 pub returns : goal.returns
 unfolding field
-returns c = search rules
+returns c = rw (c.from.ensures, c.to_be_bytes.ensures ∙ bytes_field c.args.x) refl

@@ -7,5 +7,5 @@ pub returns : goal.returns
 returns c = (
   search rules,
   row_taken _ _ _ c.args.s.now (search rules)
-      c.put4.ensures c.put_bytes.ensures,
+      c.put.ensures c.put_bytes.ensures,
 )

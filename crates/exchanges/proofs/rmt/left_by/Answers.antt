@@ -8,12 +8,12 @@ use Rattle.exchanges.proofs.rmt.left_by.Goals as goal
 pub overflow_mul-result : goal.overflow_mul-result
 overflow_mul-result c = let h : c.same_number-available.result * (1 - c.same_number-delivered.result) ≤ 1 =
     rw (c.same_number-available.ensures.0, c.same_number-delivered.ensures.0)
-    (both_small (eqb c.args.word 1) (eqb c.wide.result 1)) in
+    (both_small (eqb c.args.word 1) (eqb c.from.result 1)) in
     search (rules, h)
 
 pub returns : goal.returns
 returns c = (
-  rw (c.same_number-available.ensures.0, c.same_number-delivered.ensures.0, c.wide.ensures.0)
+  rw (c.same_number-available.ensures.0, c.same_number-delivered.ensures.0, c.from.ensures)
       (both_on (eqb c.args.word 1) (eqb c.args.code 1)),
-  rw (c.same_number-available.ensures.0, c.same_number-delivered.ensures.0) (both_small (eqb c.args.word 1) (eqb c.wide.result 1)),
+  rw (c.same_number-available.ensures.0, c.same_number-delivered.ensures.0) (both_small (eqb c.args.word 1) (eqb c.from.result 1)),
 )

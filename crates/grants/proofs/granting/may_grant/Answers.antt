@@ -1,43 +1,10 @@
--- `granting::may_grant` meets its contract: the tests of the code, in the order of the rule.
-use mathlib.Core.Path.{sym, ap, ◌∙◌}
-use mathlib.Core.Bool.{not}
-use Rattle.grants.specs.Granting.{fits_free, fits_key, may_alone, may_not, may_share, may_sharing}
+-- `granting::may_grant` meets its contract: another session's exclusive lock is asked first.
+use mathlib.Core.Path.{◌∙◌}
+use Rattle.grants.specs.Granting.{may_not}
 use Rattle.queue.specs.Requests.{string_at}
 use Rattle.state.specs.View.{locks_of}
 use Rattle.grants.proofs.granting.may_grant.Goals as goal
 
 pub returns-then-not-no_other_exclusive : goal.returns-then-not-no_other_exclusive
-returns-then-not-no_other_exclusive c = let a = c.args in
-    may_not (locks_of a.w.now a.strings.now).entries a.i (string_at a.w.now a.strings.now a.i)
-    (c.no_other_exclusive.ensures a.strings.now ∙ c.if-not-no_other_exclusive.true)
-
-pub returns-then-is_sharing : goal.returns-then-is_sharing
-returns-then-is_sharing c = let a = c.args in
-    may_sharing (locks_of a.w.now a.strings.now).entries a.i (string_at a.w.now a.strings.now a.i)
-    (sym c.asked_length.ensures.1 ∙ c.if-asked_length-eq0.true)
-    (c.no_other_exclusive.ensures a.strings.now
-    ∙ c.if-not-no_other_exclusive.false) (c.is_sharing.ensures a.strings.now ∙ ap not c.if-is_sharing.true)
-
-pub returns-then-asked_length-eq0 : goal.returns-then-asked_length-eq0
-returns-then-asked_length-eq0 c = let a = c.args in
-    may_alone (locks_of a.w.now a.strings.now).entries a.i (string_at a.w.now a.strings.now a.i) _
-    (sym c.asked_length.ensures.1 ∙ c.if-asked_length-eq0.true)
-    (c.no_other_exclusive.ensures a.strings.now
-    ∙ c.if-not-no_other_exclusive.false)
-    (c.is_sharing.ensures a.strings.now ∙ ap not c.if-is_sharing.false) (c.nobody_shares.ensures a.strings.now)
-
-pub returns-then-nobody_shares : goal.returns-then-nobody_shares
-returns-then-nobody_shares c = let a = c.args in
-    may_share (locks_of a.w.now a.strings.now).entries a.i (string_at a.w.now a.strings.now a.i) _
-    (λ e. c.if-asked_length-eq0.false (c.asked_length.ensures.1 ∙ e))
-    (c.no_other_exclusive.ensures a.strings.now
-    ∙ c.if-not-no_other_exclusive.false)
-    (fits_free a.w.now a.strings.now (string_at a.w.now a.strings.now a.i) (c.nobody_shares-2.ensures a.strings.now ∙ c.if-nobody_shares.true))
-
-pub returns : goal.returns
-returns c = let a = c.args in
-    may_share (locks_of a.w.now a.strings.now).entries a.i (string_at a.w.now a.strings.now a.i) _
-    (λ e. c.if-asked_length-eq0.false (c.asked_length.ensures.1 ∙ e))
-    (c.no_other_exclusive.ensures a.strings.now
-    ∙ c.if-not-no_other_exclusive.false)
-    (fits_key a.w.now a.strings.now (string_at a.w.now a.strings.now a.i) (c.nobody_shares-2.ensures a.strings.now ∙ c.if-nobody_shares.false) ∙ c.has_key.ensures)
+returns-then-not-no_other_exclusive c = let a = c.args in let w = a.w.now in let s = a.strings.now in
+    may_not (locks_of w s).entries a.i (string_at w s a.i) (c.no_other_exclusive.ensures s ∙ c.if-not-no_other_exclusive.true)

@@ -1,5 +1,5 @@
 -- `access::has_access` meets its contract: the tests of the code, in their order.
-use mathlib.Core.Path.{◌∙◌}
+use mathlib.Core.Path.{sym, ◌∙◌}
 use Rattle.holding.specs.Access.{access_open, access_shared, access_taken}
 use Rattle.state.specs.View.{locks_of}
 use Rattle.holding.proofs.access.has_access.Goals as goal
@@ -13,9 +13,10 @@ returns-then-nobody_shares c = let a = c.args in
     λ s. access_open (locks_of a.w.now s).entries a.i
     (c.nobody_exclusive.ensures s ∙ c.if-not-nobody_exclusive.false)
     (c.nobody_shares.ensures s ∙ c.if-nobody_shares.true)
+    ∙ sym c.if-nobody_shares.true
 
-pub returns : goal.returns
-returns c = let a = c.args in
+pub returns-else-nobody_shares : goal.returns-else-nobody_shares
+returns-else-nobody_shares c = let a = c.args in
     λ s. access_shared (locks_of a.w.now s).entries a.i _
     (c.nobody_exclusive.ensures s ∙ c.if-not-nobody_exclusive.false)
     (c.nobody_shares.ensures s ∙ c.if-nobody_shares.false) (c.is_sharing.ensures s)

@@ -19,10 +19,9 @@ loop-j-init c = let a = c.args in
     let x = c.waiting_slot-first in
     let h : (s : List ℕ) → 0 < length (locks_of a.w.now s).waiting =
     (λ s. omega (arith, count_is a.w.now s, c.waiting_count-n.ensures.0, c.if-n-eq0.false)) in (
-      omega arith,
-      λ s.
-          earliest_first (locks_of a.w.now s).waiting (request_at a.w.now s x.result) (h s) (x.ensures.1 s)
-          ∙ ap (λ (b : ℕ). earliest_of b (drop 1 (locks_of a.w.now s).waiting)) (c.deadline_of-best.ensures s),
+    λ s.
+    earliest_first (locks_of a.w.now s).waiting (request_at a.w.now s x.result) (h s) (x.ensures.1 s)
+    ∙ ap (λ (b : ℕ). earliest_of b (drop 1 (locks_of a.w.now s).waiting)) (c.deadline_of-best.ensures s)
     )
 
 pub loop-j-preserved : goal.loop-j-preserved
@@ -34,17 +33,15 @@ loop-j-preserved c = let l = c.loop-j in
       arith,
       count_is a.w.now s,
       c.waiting_count-n.ensures.0,
-      c.loop-j-test.true,
     )) in (
-      omega arith,
-      λ s.
-          l.invariant.1 s
-          ∙ earliest_next (locks_of a.w.now s).waiting l.best l.j (request_at a.w.now s x.result) (h s) (x.ensures.1 s)
-          ∙ ap (λ (b : ℕ). earliest_of b (drop (l.j + 1) (locks_of a.w.now s).waiting)) (ap (min l.best) (c.deadline_of-t.ensures s) ∙ sym c.sooner-best.ensures),
+    λ s.
+    l.invariant s
+    ∙ earliest_next (locks_of a.w.now s).waiting l.best l.j (request_at a.w.now s x.result) (h s) (x.ensures.1 s)
+    ∙ ap (λ (b : ℕ). earliest_of b (drop (l.j + 1) (locks_of a.w.now s).waiting)) (ap (min l.best) (c.deadline_of.ensures s) ∙ sym c.min-best.ensures)
     )
 
 pub returns : goal.returns
 returns c = let l = c.loop-j in
     let a = c.args in
-    λ s. l.invariant.1 s ∙ earliest_last (locks_of a.w.now s).waiting l.best l.j
-    (omega (arith, count_is a.w.now s, c.waiting_count-n.ensures.0, c.loop-j-test.false))
+    λ s. l.invariant s ∙ earliest_last (locks_of a.w.now s).waiting l.best l.j
+    (omega (arith, count_is a.w.now s, c.waiting_count-n.ensures.0))

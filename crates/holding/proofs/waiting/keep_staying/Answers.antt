@@ -14,7 +14,7 @@ use Rattle.holding.proofs.waiting.keep_staying.Goals as goal
 use Rattle.holding.proofs.waiting.keep_staying.Goals.{then-may_stay, else-may_stay}
 
 pub loop-j-init : goal.loop-j-init
-loop-j-init c = (search rules, search rules, sym c.waiting_count-n.ensures.0, refl, λ t. t)
+loop-j-init c = (search rules, sym c.waiting_count-n.ensures.0, refl, λ t. t)
 
 pub loop-j-preserved : goal.loop-j-preserved
 loop-j-preserved c = let a = c.args in
@@ -25,22 +25,20 @@ loop-j-preserved c = let a = c.args in
     elim c.if-may_stay.branch [
       | then-may_stay y ↦ (
         omega arith,
-        omega arith,
-        rw y.w-is (count_moved l.w _ l.j l.k (y.swap_waiting.ensures.0 []) ∙ l.invariant.2),
-        l.invariant.3
+        rw y.w-is (count_moved l.w _ l.j l.k (y.swap_waiting.ensures.0 []) ∙ l.invariant.1),
+        l.invariant.2
             ∙ rw (y.w-is, y.k-is)
-            (sym (halfway_stay (stays a.i a.t) (view (memory l.w s)) l.j l.k (request_at l.w s x.result) h (x.ensures.1 s) _
+            (sym (halfway_stay (stays a.leaving) (view (memory l.w s)) l.j l.k (request_at l.w s x.result) h (x.ensures.1 s) _
             (y.swap_waiting.ensures.0 s) l.invariant.0 (c.may_stay.ensures s ∙ y.if-may_stay.true))),
-        λ t. rw y.w-is (y.swap_waiting.ensures.1 s (l.invariant.4 t)),
+        λ t. rw y.w-is (y.swap_waiting.ensures.1 s (l.invariant.3 t)),
       )
       | else-may_stay y ↦ (
         omega arith,
-        omega arith,
-        rw y.w-is l.invariant.2,
-        l.invariant.3
+        rw y.w-is l.invariant.1,
+        l.invariant.2
             ∙ rw (y.w-is, y.k-is)
-            (sym (halfway_leave (stays a.i a.t) (view (memory l.w s)) l.j l.k (request_at l.w s x.result) h (x.ensures.1 s) (c.may_stay.ensures s ∙ y.if-may_stay.false))),
-        λ t. rw y.w-is (l.invariant.4 t),
+            (sym (halfway_leave (stays a.leaving) (view (memory l.w s)) l.j l.k (request_at l.w s x.result) h (x.ensures.1 s) (c.may_stay.ensures s ∙ y.if-may_stay.false))),
+        λ t. rw y.w-is (l.invariant.3 t),
       )
     ]
 
@@ -48,7 +46,7 @@ pub returns : goal.returns
 returns c = let a = c.args in
     let l = c.loop-j in
     let s = a.strings.now in (
-      halfway_end (stays a.i a.t) (view (memory l.w s)) _ l.j l.k (omega (arith, count_is l.w s)) c.keep_first.ensures.0
-          ∙ sym l.invariant.3,
-      λ t. c.keep_first.ensures.1 (l.invariant.4 t),
+      halfway_end (stays a.leaving) (view (memory l.w s)) _ l.j l.k (omega (arith, count_is l.w s)) c.keep_first.ensures.0
+          ∙ sym l.invariant.2,
+      λ t. c.keep_first.ensures.1 (l.invariant.3 t),
     )

@@ -5,9 +5,9 @@ use Rattle.holding.proofs.waiting.sweep.Goals as goal
 
 pub returns-then-r-at : goal.returns-then-r-at
 returns-then-r-at c = let a = c.args in let s = a.strings.now in
-    swept_none (memory a.w.now s) a.i a.t _ _ _ _ (c.answer_leaving-r.ensures s) c.if-r-at.true
+    swept_none (memory a.w.now s) a.leaving _ _ _ _ (c.answer_leaving-r.ensures s) c.if-r-at.true
 
 pub returns : goal.returns
 returns c = let a = c.args in
     let s = a.strings.now in
-    swept_some (memory a.w.now s) a.i a.t _ _ _ _ (c.answer_leaving-r.ensures s) _ c.keep_staying.ensures.0 c.keep_staying.ensures.1
+    swept_some (memory a.w.now s) a.leaving _ _ _ _ (c.answer_leaving-r.ensures s) _ c.keep_staying.ensures.0 c.keep_staying.ensures.1

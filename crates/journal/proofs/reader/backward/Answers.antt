@@ -3,21 +3,15 @@ use Rattle.std.proofs.Common.{sym, ◌∙◌, arith, length-take}
 use Rattle.journal.specs.Steps.{closed_length, backward_open, backward_past, backward_in}
 use Rattle.journal.proofs.reader.backward.Goals as goal
 
-pub slice_bounds-is_closed-end : goal.slice_bounds-is_closed-end
-slice_bounds-is_closed-end c = simp length-take (omega arith)
-
 pub returns-then-not-is_closed : goal.returns-then-not-is_closed
-returns-then-not-is_closed c = c.nothing.ensures ∙ backward_open _ _ _ c.room-m.ensures (sym c.is_closed.ensures ∙ c.if-not-is_closed.true)
+returns-then-not-is_closed c = backward_open _ _ _ c.room-m.ensures (sym c.is_closed.ensures ∙ c.if-not-is_closed.true)
 
 pub overflow_sub-m : goal.overflow_sub-m
 overflow_sub-m c = let h = closed_length _ (sym c.is_closed.ensures ∙ c.if-not-is_closed.false) in omega (arith, simp length-take at h)
 
 pub returns-then-at-m : goal.returns-then-at-m
-returns-then-at-m c = c.nothing-then-at-m.ensures ∙ backward_past _ _ _ c.room-m.ensures
+returns-then-at-m c = backward_past _ _ _ c.room-m.ensures
     (sym c.is_closed.ensures ∙ c.if-not-is_closed.false) c.if-at-m.true
-
-pub slice_bounds-ending-end : goal.slice_bounds-ending-end
-slice_bounds-ending-end c = simp length-take (omega arith)
 
 pub returns : goal.returns
 returns c = backward_in _ _ _ c.room-m.ensures

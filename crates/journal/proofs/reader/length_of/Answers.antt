@@ -4,4 +4,4 @@ use Rattle.journal.proofs.reader.length_of.Goals as goal
 
 pub returns : goal.returns
 unfolding length_of
-returns c = c.number4.ensures
+returns c = (c.number.ensures.value, c.number.ensures.bound)

@@ -5,4 +5,4 @@ use Rattle.journal.proofs.writer.put_closing.Goals as goal
 
 pub returns : goal.returns
 returns c = let a = c.args in
-    c.put4-3.ensures ∙ rw (c.put4-2.ensures, c.put4.ensures) (closing_written a.book.now a.at a.last a.count (omega arith))
+    c.put-3.ensures ∙ rw (c.put-2.ensures, c.put.ensures) (closing_written a.book.now a.at a.last a.count (omega arith))

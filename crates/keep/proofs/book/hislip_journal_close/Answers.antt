@@ -3,4 +3,4 @@ use Rattle.entries.specs.Parts.{met}
 use Rattle.keep.proofs.book.hislip_journal_close.Goals as goal
 
 pub returns : goal.returns
-returns c = met c.close-k.ensures c.kept_number-kept.ensures
+returns c = met c.close.ensures c.from.ensures

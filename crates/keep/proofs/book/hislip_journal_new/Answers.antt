@@ -3,4 +3,4 @@ use Rattle.entries.specs.Parts.{met}
 use Rattle.keep.proofs.book.hislip_journal_new.Goals as goal
 
 pub returns : goal.returns
-returns c = met c.new-k.ensures c.kept_number-kept.ensures
+returns c = met c.new.ensures c.from.ensures

@@ -4,7 +4,8 @@ use mathlib.Core.List.{[]}
 use Rattle.model.specs.Interface.{Event, Event.setting, Setting.watch}
 use Rattle.readings.specs.Bits.{bits}
 use Rattle.readings.specs.Watch.{Limits.above}
-use Rattle.keep.specs.Calls.{told_done, none_handed, called_again, kept_again, above_head, numbers_kept_if}
+use Rattle.entries.specs.Parts.{met}
+use Rattle.keep.specs.Calls.{told_done, none_handed, called_again, above_head, numbers_kept_if}
 use Rattle.state.specs.View.{memory}
 use Rattle.keep.proofs.watches.hislip_keep_watch_above.Goals as goal
 
@@ -13,10 +14,9 @@ returns c = let a = c.args in
     let m = memory a.words.now a.strings.now in
     let e : Event = setting (watch a.session (above (bits a.limit))) in
     let t = none_handed (told_done m _ e [] [] refl _ c.hislip_watch_above-r.ensures) in (
-      called_again c.done.ensures.0 c.hislip_watch_above-r.ensures,
-      kept_again c.done.ensures.1
-          (numbers_kept_if m e _ _ _ t _ _ _ _ _ _ (above_head m a.session (bits a.limit) _ _ _ t
+      called_again c.from.ensures.0 c.hislip_watch_above-r.ensures,
+      numbers_kept_if m e _ _ _ t _ _ _ _ _ _ (above_head m a.session (bits a.limit) _ _ _ t
           c.bits_of-x.ensures.0
-          c.two-h.ensures)
-          c.keep_numbers-kept.ensures),
+          c.two-head.ensures)
+          (met c.keep_numbers-told.ensures c.from.ensures.1),
     )

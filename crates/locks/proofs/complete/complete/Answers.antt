@@ -1,5 +1,5 @@
 -- `complete::complete` meets its contract: one answer, and three stores.
-use mathlib.Core.Path.{sym, ap, ◌∙◌}
+use mathlib.Core.Path.{ap, ◌∙◌}
 use Prim.Native.Nat.{ℕ}
 use native.Mathlib.Omega.{arith}
 use Rattle.wire.specs.Frame.{frame_bytes}
@@ -23,6 +23,6 @@ returns c = let a = c.args in
           (ended_stored (view (memory a.w.now s)) _ _ _ a.i a.n (kind_of a.kind)
           c.requires.2 f.0 (o₁.0 _) (o₂.0 _))
           (p.1 s ∙ ap (λ (x : ℕ). splice a.out.now a.at (frame_bytes (lock_answer_frame (locks_of a.w.now s).entries a.i x)))
-          (sym c.requires.3)) p.0 (search rules)
+          c.code.ensures) p.0 (search rules)
           (λ t. o₂.1 _ (omega arith) (o₁.1 _ c.requires.2 (f.1 t))),
     )

@@ -1,7 +1,7 @@
 -- `request::is_idle` meets its contract. The invariant: none among those from place j on is none at all.
 use mathlib.Core.Path.{◌≡◌}
 use mathlib.Core.List.{List}
-use Prim.Native.Nat.{ℕ, ◌-◌, ◌≤◌}
+use Prim.Native.Nat.{ℕ}
 use lib.ListN.{drop}
 use Rattle.model.specs.Lists.{all}
 use Rattle.model.specs.Locks.{elsewhere}
@@ -9,7 +9,4 @@ use Rattle.state.specs.View.{locks_of}
 use Rattle.locks.proofs.request.is_idle.Given as goal
 
 abbrev pub invariant-loop-j : goal.invariant-loop-j
-invariant-loop-j l = (l.j ≤ l.n) × ((s : List ℕ) → all (elsewhere l.i) (locks_of l.w s).waiting ≡ all (elsewhere l.i) (drop l.j (locks_of l.w s).waiting))
-
-abbrev pub decreases-loop-j : goal.decreases-loop-j
-decreases-loop-j l = l.n - l.j
+invariant-loop-j l = ((s : List ℕ) → all (elsewhere l.i) (locks_of l.w s).waiting ≡ all (elsewhere l.i) (drop l.j (locks_of l.w s).waiting))

@@ -8,7 +8,4 @@ use Rattle.questions.specs.Holders.{listed, rows_from}
 use Rattle.questions.proofs.holders.holders.Given as goal
 
 abbrev pub invariant-loop-i : goal.invariant-loop-i
-invariant-loop-i l = (l.i ≤ 32) × (l.panel.count + l.i ≤ 32) × (length (listed l.panel) ≡ l.panel.count) × ((s : List ℕ) → listed l.panel ≡ rows_from (locks_of l.w s).entries l.i)
-
-abbrev pub decreases-loop-i : goal.decreases-loop-i
-decreases-loop-i l = l.i
+invariant-loop-i l = (l.panel.count + l.i ≤ 32) × (length (listed l.panel) ≡ l.panel.count) × ((s : List ℕ) → listed l.panel ≡ rows_from (locks_of l.w s).entries l.i)

@@ -9,7 +9,7 @@ use Rattle.questions.proofs.holders.put_in.Goals as goal
 use Rattle.questions.proofs.holders.put_in.Goals.{then-carried-x, else-carried-x}
 
 pub loop-i-init : goal.loop-i-init
-loop-i-init c = (omega arith, omega arith, rw sub-zero)
+loop-i-init c = (omega arith, rw sub-zero)
 
 pub offset_bounds-out-i : goal.offset_bounds-out-i
 offset_bounds-out-i c = omega arith
@@ -23,18 +23,12 @@ offset_bounds-out-i-then-carried-x c = omega arith
 pub bounds-out-i-then-carried-x : goal.bounds-out-i-then-carried-x
 bounds-out-i-then-carried-x c = omega arith
 
-pub overflow_add-i : goal.overflow_add-i
-overflow_add-i c = omega arith
-
-pub loop-i-smaller : goal.loop-i-smaller
-loop-i-smaller c = omega arith
-
 pub loop-i-preserved : goal.loop-i-preserved
 loop-i-preserved c = let n : ℕ = c.args.n in
     let h : c.loop-i.i < length c.loop-i.out = omega arith in
     elim c.if-carried-x.branch [
-      | then-carried-x y ↦ (omega arith, rw y.out-is (simp length-set c.loop-i.invariant.1), rw (y.out-is, y.carried-is) (put_swaps n c.loop-i.i c.loop-i.out c.loop-i.carried _ (omega arith) h y.if-carried-x.true ∙ c.loop-i.invariant.2))
-      | else-carried-x y ↦ (omega arith, rw y.out-is c.loop-i.invariant.1, rw (y.out-is, y.carried-is) (put_stays n c.loop-i.i c.loop-i.out c.loop-i.carried _ (omega arith) h y.if-carried-x.false ∙ c.loop-i.invariant.2))
+      | then-carried-x y ↦ (rw y.out-is (simp length-set c.loop-i.invariant.0), rw (y.out-is, y.carried-is) (put_swaps n c.loop-i.i c.loop-i.out c.loop-i.carried _ (omega arith) h y.if-carried-x.true ∙ c.loop-i.invariant.1))
+      | else-carried-x y ↦ (rw y.out-is c.loop-i.invariant.0, rw (y.out-is, y.carried-is) (put_stays n c.loop-i.i c.loop-i.out c.loop-i.carried _ (omega arith) h y.if-carried-x.false ∙ c.loop-i.invariant.1))
     ]
 
 pub offset_bounds-out-n : goal.offset_bounds-out-n
@@ -48,4 +42,4 @@ returns c = let l = c.loop-i in
     let n : ℕ = c.args.n in
     let e : l.i ≡ n = omega arith in
     let h : n < length l.out = omega arith in
-    put_last n l.i l.out l.carried e h ∙ l.invariant.2
+    put_last n l.i l.out l.carried e h ∙ l.invariant.1

@@ -1,18 +1,14 @@
--- `requests::copy_to_front` meets its contract: what went into the array comes out of it.
-use mathlib.Core.Path.{◌≡◌, sym, ap, ◌∙◌}
-use mathlib.Core.List.{List}
-use Prim.Native.Nat.{ℕ}
-use native.Mathlib.Omega.{arith}
-use lib.ListN.{length, take, drop, length-take, length-drop}
-use Rattle.wire.specs.Splice.{splice, take_front}
-use borrow.Author.Rules.{rules}
+-- `requests::copy_to_front` meets its contract: the bytes are laid aside, and laid in front.
+use Rattle.std.specs.Prelude.{◌≡◌, ◌+◌, ◌-◌, List, ℕ, length, take, drop}
+use Rattle.std.proofs.Common.{ap, arith, length-drop, length-take, zero-add, ◌∙◌}
+use Rattle.wire.specs.Splice.{splice}
 use Rattle.queue.proofs.requests.copy_to_front.Goals as goal
 
 pub returns : goal.returns
+unfolding splice
 returns c = let a = c.args in
-    let s : List ℕ = a.strings.now in
-    let x : List ℕ = take a.n (drop a.a s) in
-    let e : length x ≡ a.n = simp (length-take, length-drop) (omega arith) in
-    c.lay_first.ensures
-    ∙ ap (λ (l : List ℕ). splice s 0 (take a.n l)) c.pick_up.ensures
-    ∙ ap (splice s 0) (ap (λ (m : ℕ). take m (splice _ 0 x)) (sym e) ∙ take_front _ x (search rules))
+    let x : List ℕ = take a.n (drop a.a a.strings.now) in
+    let k : a.a + a.n - a.a ≡ a.n = omega arith in
+    let e : c.copy_from_slice-2.new.self ≡ x = c.copy_from_slice-2.ensures.after ∙ c.copy_from_slice.ensures.after ∙ ap (λ (m : ℕ). take m (drop a.a a.strings.now)) k in
+    let l : length x ≡ a.n = simp (length-take, length-drop) (omega arith) in
+    rw (e, l, zero-add)

@@ -6,6 +6,6 @@ use Rattle.replay.proofs.events.delivers.Goals as goal
 pub returns : goal.returns
 returns c = let a = c.args in
     delivered (memory a.words.now a.strings.now) _ a.frames.now a.out.now _
-    c.requires.1
+    c.requires
     c.hislip_deliver-a.auto.out a.connection a.bytes.now _ _
     c.hislip_deliver-a.ensures c.compared.ensures

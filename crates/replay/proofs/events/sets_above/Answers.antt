@@ -1,4 +1,5 @@
 -- `replay::events::sets_above` meets its contract.
+use native.Mathlib.Omega.{arith}
 use mathlib.Core.Path.{sym, ◌∙◌}
 use Rattle.state.specs.View.{memory}
 use Rattle.replay.proofs.Laws.{float_bits, no_above, set_above}
@@ -13,4 +14,4 @@ returns c = let a = c.args in
     let n = sym c.is_no_number.ensures ∙ c.if-is_no_number.false in
     set_above (memory a.words.now a.strings.now) _ a.frames.now a.session a.limit _
     (float_bits _ a.limit c.float_of-x.ensures
-    c.requires.1 n) _ _ c.hislip_watch_above-a.ensures c.silent.ensures
+    (omega arith) n) _ _ c.hislip_watch_above-a.ensures c.silent.ensures

@@ -1,6 +1,6 @@
 -- `listing::hislip_patterns` meets its contract: refused by the ruling, or kept.
-use mathlib.Core.Path.{subst}
-use Rattle.commands.specs.declared.Judged.{Judged}
+use Rattle.std.proofs.Common.{subst, refl, Err}
+use Rattle.commands.specs.declared.ListFault.{ListFault}
 use Rattle.commands.specs.Lists.{lines_of}
 use Rattle.commands.specs.Rulings.{Ruled}
 use Rattle.state.specs.View.{memory}
@@ -8,24 +8,18 @@ use Rattle.server.specs.Listing.{room_for, too_many, bad_pattern_lem, taken_list
 use Rattle.server.proofs.listing.hislip_patterns.Goals as goal
 
 pub put_list-requires : goal.put_list-requires
-put_list-requires c = let t = c.args.text.now in
-    room_for t (subst (λ (x : Judged). Ruled (lines_of t) x) c.in-Taken.is c.judge-ruling.ensures)
+put_list-requires c = room_for c.args.text.now c.in-Ok.ensures
 
-pub returns-in-TooMany : goal.returns-in-TooMany
-returns-in-TooMany c = let a = c.args in
-    let t = a.text.now in
-    too_many t _ (memory a.words.now a.strings.now)
-    (subst (λ (x : Judged). Ruled (lines_of t) x) c.in-TooMany.is c.judge-ruling.ensures) c.told.ensures
+pub returns-in-Err-TooMany : goal.returns-in-Err-TooMany
+returns-in-Err-TooMany c = let a = c.args in
+    too_many a.text.now _ (memory a.words.now a.strings.now)
+    (subst (λ (f : ListFault). Ruled (lines_of a.text.now) (Err f)) c.in-Err-TooMany.field-0-is c.in-Err-TooMany.ensures) refl
 
-pub returns-in-BadPattern : goal.returns-in-BadPattern
-returns-in-BadPattern c = let a = c.args in
-    let t = a.text.now in
-    bad_pattern_lem t _ (memory a.words.now a.strings.now) _ _ (subst (λ (x : Judged). Ruled (lines_of t) x) c.in-BadPattern.is c.judge-ruling.ensures) c.told-in-BadPattern.ensures
+pub returns-in-Err-BadPattern : goal.returns-in-Err-BadPattern
+returns-in-Err-BadPattern c = let a = c.args in
+    bad_pattern_lem a.text.now _ (memory a.words.now a.strings.now) c.in-Err-BadPattern.pattern c.in-Err-BadPattern.place
+    (subst (λ (f : ListFault). Ruled (lines_of a.text.now) (Err f)) c.in-Err-BadPattern.field-0-is c.in-Err-BadPattern.ensures) refl
 
-pub returns-in-Taken : goal.returns-in-Taken
-returns-in-Taken c = let a = c.args in
-    let t = a.text.now in
-    taken_list t _ (memory a.words.now a.strings.now) _
-    (subst (λ (x : Judged). Ruled (lines_of t) x) c.in-Taken.is
-    c.judge-ruling.ensures) c.put_list.ensures.0 c.put_list.ensures.1
-    c.told-in-Taken.ensures
+pub returns-in-Ok : goal.returns-in-Ok
+returns-in-Ok c = let a = c.args in
+    taken_list a.text.now _ (memory a.words.now a.strings.now) _ c.in-Ok.ensures c.put_list.ensures.0 c.put_list.ensures.1 refl

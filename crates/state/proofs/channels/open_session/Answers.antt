@@ -9,8 +9,8 @@ returns c = let a = c.args in
     let e₁ = c.set_row.ensures in
     let e₂ = c.set_row-2.ensures in
     let e₃ = c.set_row-3.ensures in (
-      λ s. opened_by a.w.now _ _ _ _ s a.i a.n a.c _ e₁.0 e₂.0 e₃.0 c.set_home.ensures.0 c.home_in.ensures e₁.1
+      λ s. opened_by a.w.now _ _ _ _ s a.i a.n a.c _ e₁ e₂ e₃ c.set_home.ensures c.home_in.ensures (search rules)
           (search rules) p.1 (search rules) p.3,
-      λ s. opened_in_order a.w.now _ _ _ _ s a.i a.n a.c _ e₁.0 e₂.0 e₃.0
-          c.set_home.ensures.0 c.home_in.ensures e₁.1 (search rules) p.1 (search rules) p.3,
+      λ s. opened_in_order a.w.now _ _ _ _ s a.i a.n a.c _ e₁ e₂ e₃
+          c.set_home.ensures c.home_in.ensures (search rules) (search rules) p.1 (search rules) p.3,
     )

@@ -1,13 +1,7 @@
--- `fresh::put_words` meets its contract. The invariant: the first i words are those of a fresh server.
-use mathlib.Core.Path.{◌≡◌}
-use Prim.Native.Nat.{◌≤◌, ◌-◌}
-use lib.ListN.{length, take}
-use Rattle.state.specs.Fresh.{fresh_words, unmade}
-use Rattle.state.specs.Layout.{WORDS}
+-- `fresh::put_words` meets its contract. The invariant: the first i slots have started.
+use Rattle.std.specs.Prelude.{◌≡◌}
+use Rattle.state.specs.Fresh.{started}
 use Rattle.state.proofs.fresh.put_words.Given as goal
 
 abbrev pub invariant-loop-i : goal.invariant-loop-i
-invariant-loop-i l = (l.i ≤ WORDS) × (length l.w ≡ length l.initial.w) × (take l.i l.w ≡ take l.i (fresh_words unmade))
-
-abbrev pub decreases-loop-i : goal.decreases-loop-i
-decreases-loop-i l = WORDS - l.i
+invariant-loop-i l = l.w ≡ started l.i

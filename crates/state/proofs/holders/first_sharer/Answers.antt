@@ -15,9 +15,9 @@ use Rattle.state.proofs.holders.first_sharer.Goals as goal
 
 pub returns : goal.returns
 returns c = let a = c.args in (
-  λ s. ap (λ (x : List ℕ). view (memory x s)) c.store.ensures.0
+  λ s. ap (λ (x : List ℕ). view (memory x s)) c.store.ensures
       ∙ ap (λ (v : ℕ). view (memory (set a.w.now SHARERS v) s)) c.power_of-m.ensures
-      ∙ first_joined a.w.now s a.i (search rules) c.store.ensures.1 c.requires.1,
-  c.store.ensures.0 ∙ ap (set a.w.now SHARERS) c.power_of-m.ensures,
+      ∙ first_joined a.w.now s a.i (search rules) (search rules) c.requires.1,
+  c.store.ensures ∙ ap (set a.w.now SHARERS) c.power_of-m.ensures,
   let h : a.i ≤ session_limit - 1 = search rules in let p : 2 ^ a.i ≤ 2 ^ (session_limit - 1) = pow-le-pow_right {n = 2} (lit< tt) h in omega arith,
 )

@@ -1,50 +1,49 @@
 -- `search::place_of` meets its contract: no home, a home past the table, one that its slot does not confirm, the session.
 use mathlib.Core.Path.{◌≡◌, sym, ◌∙◌}
-use mathlib.Core.Logic.{inl, inr}
+use mathlib.Core.Logic.{◌⊎◌, inl, inr}
 use mathlib.Core.List.{List}
-use Prim.Native.Nat.{ℕ, ◌-◌, ◌*◌, ◌/◌}
+use Prim.Native.Nat.{ℕ, ◌-◌, ◌*◌, ◌/◌, ◌<◌}
 use native.Mathlib.Omega.{arith}
 use borrow.Author.Tests.{eqb-true}
-use Rattle.model.specs.Place.{slot_in}
+use Rattle.model.specs.Sizes.{connection_limit, session_limit}
 use Rattle.state.specs.Channels.{Unshown}
 use Rattle.state.specs.Confirmed.{shows}
-use Rattle.state.specs.OneLook.{no_home, not_confirmed, place_none, place_found, role_nowhere, role_found}
-use Rattle.state.specs.View.{field_of, locks_of}
+use Rattle.state.specs.OneLook.{no_home, not_confirmed, nowhere_meant, seat_found}
+use Rattle.state.specs.View.{field_of, home_of}
 use borrow.Author.Rules.{rules}
 use Rattle.state.proofs.search.place_of.Goals as goal
 
-pub returns-then-h-eq0 : goal.returns-then-h-eq0
-returns-then-h-eq0 c = let a = c.args in
-    let w = a.w.now in
-    let r = c.nowhere.ensures in
-    let n : Unshown w a.c = no_home w a.c (search rules) (inl (sym c.home-h.ensures ∙ c.if-h-eq0.true)) in
-    (omega (arith, r.0), λ s. place_none w s a.c (search rules) n ∙ sym r.0, λ s. role_nowhere w s a.c (search rules) n ∙ sym r.1, λ z. n)
+outside : (w : List ℕ) (c h : ℕ) → c < connection_limit → h ≡ home_of w c → (h ≡ 0) ⊎ ((h ≡ 0 → ⊥) × (session_limit * 2 < h)) → Unshown w c
+outside w c h l e (inl z) = no_home w c l (inl (sym e ∙ z))
+outside w c h l e (inr z) = no_home w c l (inr (omega (arith, e, z.1)))
 
-pub returns-then-h-gt-LAST_HOME : goal.returns-then-h-gt-LAST_HOME
-returns-then-h-gt-LAST_HOME c = let a = c.args in
-    let w = a.w.now in
-    let r = c.nowhere-then-h-gt-LAST_HOME.ensures in
-    let n : Unshown w a.c = no_home w a.c (search rules) (inr (omega (arith, c.home-h.ensures, c.if-h-gt-LAST_HOME.true))) in
-    (omega (arith, r.0), λ s. place_none w s a.c (search rules) n ∙ sym r.0, λ s. role_nowhere w s a.c (search rules) n ∙ sym r.1, λ z. n)
+pub returns-then-h-eq0-clause-unshown : goal.returns-then-h-eq0-clause-unshown
+returns-then-h-eq0-clause-unshown c = λ z. outside c.args.w.now c.args.c c.home-h.result (search rules) c.home-h.ensures c.then-h-eq0.either
 
-pub is_confirmed-requires : goal.is_confirmed-requires
-is_confirmed-requires c = let h = c.home-h in
-    (omega (arith, c.if-h-gt-LAST_HOME.false), omega (arith, c.if-h-eq0.false), omega arith, search rules, sym h.ensures)
+pub returns-then-h-eq0-clause-found : goal.returns-then-h-eq0-clause-found
+returns-then-h-eq0-clause-found c = λ s. nowhere_meant c.args.w.now s c.args.c (search rules) (outside c.args.w.now c.args.c c.home-h.result (search rules) c.home-h.ensures c.then-h-eq0.either)
 
-pub returns-then-not-is_confirmed : goal.returns-then-not-is_confirmed
-returns-then-not-is_confirmed c = let a = c.args in
-    let w = a.w.now in
+pub returns-then-not-is_confirmed-clause-unshown : goal.returns-then-not-is_confirmed-clause-unshown
+returns-then-not-is_confirmed-clause-unshown c = let a = c.args in
     let h = c.home-h in
-    let r = c.nowhere-then-not-is_confirmed.ensures in
     let i = (h.result - 1) / 2 in
     let f = h.result - i * 2 in
-    let n : Unshown w a.c = not_confirmed w a.c (search rules) i f (omega (arith, c.if-h-eq0.false)) (omega arith)
+    λ z. not_confirmed a.w.now a.c (search rules) i f (omega (arith, c.if-h-eq0.false)) (omega arith)
     (sym h.ensures ∙ omega (arith, c.if-h-eq0.false))
-    (c.is_confirmed.ensures ∙ c.if-not-is_confirmed.true) in
-    (omega (arith, r.0), λ s. place_none w s a.c (search rules) n ∙ sym r.0, λ s. role_nowhere w s a.c (search rules) n ∙ sym r.1, λ z. n)
+    (c.is_confirmed.ensures ∙ c.if-not-is_confirmed.true)
 
-pub role_at-requires : goal.role_at-requires
-role_at-requires c = let a = c.args in
+pub returns-then-not-is_confirmed-clause-found : goal.returns-then-not-is_confirmed-clause-found
+returns-then-not-is_confirmed-clause-found c = let a = c.args in
+    let h = c.home-h in
+    let i = (h.result - 1) / 2 in
+    let f = h.result - i * 2 in
+    λ s. nowhere_meant a.w.now s a.c (search rules)
+    (not_confirmed a.w.now a.c (search rules) i f (omega (arith, c.if-h-eq0.false)) (omega arith)
+    (sym h.ensures ∙ omega (arith, c.if-h-eq0.false))
+    (c.is_confirmed.ensures ∙ c.if-not-is_confirmed.true))
+
+pub place_at-requires : goal.place_at-requires
+place_at-requires c = let a = c.args in
     let w = a.w.now in
     let h = c.home-h in
     let i = (h.result - 1) / 2 in
@@ -56,19 +55,13 @@ role_at-requires c = let a = c.args in
       (shows w i a.c f (λ z. omega (arith, c.if-h-eq0.false)) (search rules) e).lives,
     )
 
-pub returns : goal.returns
-returns c = let a = c.args in
+pub returns-clause-found : goal.returns-clause-found
+returns-clause-found c = let a = c.args in
     let w = a.w.now in
     let h = c.home-h in
     let i = (h.result - 1) / 2 in
     let f = h.result - i * 2 in
     let e : field_of w i f ≡ a.c = eqb-true (field_of w i f) a.c (c.is_confirmed.ensures ∙ c.if-not-is_confirmed.false) in
-    let p : (s : List ℕ) → slot_in (locks_of w s).entries a.c ≡ i =
-    λ s. place_found w s a.c (search rules) i f (omega (arith, c.if-h-gt-LAST_HOME.false))
-    (omega (arith, c.if-h-eq0.false)) (omega arith) e in (
-      omega (arith, c.if-h-gt-LAST_HOME.false),
-      p,
-      λ s. role_found w s a.c (search rules) i f _ (p s)
-          (c.role_at.ensures.0 s a.c (search rules) e),
-      λ z. absurd (let y : ⊥ = omega (arith, c.role_at.ensures.1) in y),
-    )
+    λ s. seat_found w s a.c (search rules) i f (omega (arith, c.if-h-gt-LAST_HOME.false))
+    (omega (arith, c.if-h-eq0.false)) (omega arith) e
+    ∙ c.place_at.ensures.found s a.c (search rules) e

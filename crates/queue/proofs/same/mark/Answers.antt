@@ -1,9 +1,0 @@
--- `same::mark` meets its contract.
-use borrow.Author.Tests.{eq-eqb, ne_eqb}
-use Rattle.queue.proofs.same.mark.Goals as goal
-
-pub returns-then-x-y : goal.returns-then-x-y
-returns-then-x-y c = let a = c.args in rw (eq-eqb a.x a.y c.if-x-y.true)
-
-pub returns : goal.returns
-returns c = let a = c.args in rw (ne_eqb a.x a.y c.if-x-y.false)
