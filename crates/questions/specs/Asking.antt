@@ -1,10 +1,10 @@
 -- The questions' answers as numbers. Assumes nothing.
-use Rattle.std.specs.Prelude.{◌≡◌, refl, Bool, true, false, cond, Result, Ok, Err, ℕ}
+use Rattle.std.specs.Prelude.{◌≡◌, Bool, true, false, cond, Result, Ok, Err, ℕ}
 use Rattle.sessions.specs.Refusals.{number_of}
 use Rattle.sessions.specs.declared.refusal.Refusal.{Refusal}
 use Rattle.std.proofs.Common.{ap, ◌∙◌, sym}
 use Rattle.readings.specs.Bits.{bits}
-use Rattle.readings.specs.Record.{Recorded, nothing, once_seen}
+use Rattle.readings.specs.Record.{Recorded}
 use Rattle.model.specs.State.{Server, at, live, slot_of_number, exchange_at, sensing_at}
 use Rattle.model.specs.Interface.{no_such_session}
 use Rattle.model.specs.Asking.{DeadlineAnswer, SizeAnswer, size_answer, ReadingsAnswer, no_readings, readings_told, readings_answer}
@@ -41,14 +41,6 @@ module _ (d : Server) (n i : ℕ) (f : slot_of_number d.locks.entries n ≡ i) (
 abbrev pub readings_numbers : Readings → ReadingsAnswer
 readings_numbers r = record { refusal = r.refusal; seen = r.seen; last = bits r.last; lowest = bits r.lowest; highest = bits r.highest }
 
--- what is told of a record is what it says
-told_once : (r : Recorded) → readings_told (once_seen r) ≡ readings_told r
-told_once r = go r.seen refl
-  where
-    go : (t : Bool) → r.seen ≡ t → readings_told (cond t r nothing) ≡ readings_told r
-    go true e = refl
-    go false e = rw e
-
 module _ (d : Server) (n i : ℕ) (f : slot_of_number d.locks.entries n ≡ i) (x : ReadingsAnswer) where
   told_by_lem : (b : Bool) → live (at d.locks.entries i) ≡ b → readings_answer d n ≡ cond b (readings_told (sensing_at d.rest i).recorded) (no_readings no_such_session)
   told_by_lem b e =
@@ -58,11 +50,11 @@ module _ (d : Server) (n i : ℕ) (f : slot_of_number d.locks.entries n ≡ i) (
   pub nobody_told : live (at d.locks.entries i) ≡ false → x ≡ no_readings no_such_session → x ≡ readings_answer d n
   nobody_told e q = q ∙ sym (told_by_lem false e)
 
-  pub none_told : (r : Recorded) → live (at d.locks.entries i) ≡ true → r ≡ once_seen (sensing_at d.rest i).recorded → r.seen ≡ false → x ≡ no_readings 0 → x ≡ readings_answer d n
-  none_told r e q s z = z ∙ sym (told_by_lem true e ∙ sym (told_once (sensing_at d.rest i).recorded) ∙ ap readings_told (sym q)
+  pub none_told : (r : Recorded) → live (at d.locks.entries i) ≡ true → r ≡ (sensing_at d.rest i).recorded → r.seen ≡ false → x ≡ no_readings 0 → x ≡ readings_answer d n
+  none_told r e q s z = z ∙ sym (told_by_lem true e ∙ ap readings_told (sym q)
       ∙ ap (λ (b : Bool). cond b (record { refusal = 0; seen = 1; last = r.last; lowest = r.lowest; highest = r.highest }) (no_readings 0)) s)
 
-  pub some_told : (r : Recorded) → live (at d.locks.entries i) ≡ true → r ≡ once_seen (sensing_at d.rest i).recorded → r.seen ≡ true
+  pub some_told : (r : Recorded) → live (at d.locks.entries i) ≡ true → r ≡ (sensing_at d.rest i).recorded → r.seen ≡ true
       → x ≡ record { refusal = 0; seen = 1; last = r.last; lowest = r.lowest; highest = r.highest } → x ≡ readings_answer d n
-  some_told r e q s z = z ∙ sym (told_by_lem true e ∙ sym (told_once (sensing_at d.rest i).recorded) ∙ ap readings_told (sym q)
+  some_told r e q s z = z ∙ sym (told_by_lem true e ∙ ap readings_told (sym q)
       ∙ ap (λ (b : Bool). cond b (record { refusal = 0; seen = 1; last = r.last; lowest = r.lowest; highest = r.highest }) (no_readings 0)) s)

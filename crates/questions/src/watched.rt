@@ -41,9 +41,10 @@ pub fn hislip_readings(words: &Words, strings: &Strings, session: u32) -> Readin
     if i >= SESSION_LIMIT || tables::entry(words, i, tables::NUMBER) == 0 {
         return no_readings(NO_SUCH_SESSION);
     }
-    let Some(told) = sense::record_at(words, i) else {
+    let told = sense::record_at(words, i);
+    if !told.seen {
         return no_readings(0);
-    };
+    }
     Readings {
         refusal: 0,
         seen: 1,

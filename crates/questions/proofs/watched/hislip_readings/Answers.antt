@@ -1,6 +1,6 @@
--- `watched::hislip_readings` meets its contract: no such slot, a free one, a session's, with a record or without.
+-- `watched::hislip_readings` meets its contract: no such slot, a free one, a session's, seen or not.
+use borrow.Author.Tests.{not-true, not-false}
 use Rattle.std.proofs.Common.{refl}
-use Rattle.std.specs.Prelude.{Some, None}
 use Rattle.readings.specs.Record.{recorded}
 use Rattle.model.specs.State.{at}
 use Rattle.state.specs.View.{memory, view, locks_of}
@@ -25,16 +25,18 @@ returns-then-i-ge-SESSION_LIMIT c = let a = c.args in
           (not_live e r.result (number_read e r.result (r.ensures.0 s)) b.if-entry-eq0.true) c.no_readings.ensures
     ]
 
-pub returns-in_default : goal.returns-in_default
+pub returns-then-not-told : goal.returns-then-not-told
 unfolding recorded
-returns-in_default c = let a = c.args in
+returns-then-not-told c = let a = c.args in
     let w = a.words.now in
     let s = a.strings.now in
     let f = c.slot_of_number-i in
     let e = at (locks_of w s).entries f.result in
     let r = c.entry in
-    none_told (view (memory w s)) a.session f.result (f.ensures.1 s) _ (recorded None)
-    (is_live e r.result (number_read e r.result (r.ensures.0 s)) c.if-entry-eq0.false) c.in_default.ensures refl c.no_readings-in_default.ensures
+    let x = c.record_at-told in
+    none_told (view (memory w s)) a.session f.result (f.ensures.1 s) _ (recorded x.result)
+    (is_live e r.result (number_read e r.result (r.ensures.0 s)) c.if-entry-eq0.false) x.ensures
+    (not-true _ c.if-not-told.true) c.no_readings-then-not-told.ensures
 
 pub returns : goal.returns
 unfolding recorded
@@ -44,5 +46,7 @@ returns c = let a = c.args in
     let f = c.slot_of_number-i in
     let e = at (locks_of w s).entries f.result in
     let r = c.entry in
-    some_told (view (memory w s)) a.session f.result (f.ensures.1 s) _ (recorded (Some c.in-Some.told))
-    (is_live e r.result (number_read e r.result (r.ensures.0 s)) c.if-entry-eq0.false) c.in-Some.ensures refl refl
+    let x = c.record_at-told in
+    some_told (view (memory w s)) a.session f.result (f.ensures.1 s) _ (recorded x.result)
+    (is_live e r.result (number_read e r.result (r.ensures.0 s)) c.if-entry-eq0.false) x.ensures
+    (not-false _ c.if-not-told.false) refl
