@@ -140,7 +140,7 @@ fn deliver_fully(
         (memory w.old strings.old) (memory w.new strings.new) out.old out.new }
 {
     let place = Place::OnSynchronous(i);
-    let v = match whole::whole_verdict(w, strings, place, kind, code, param, len, payload) {
+    let v = match whole::whole_verdict_at(w, strings, place, kind, code, param, len, payload) {
         Verdict::Acts => {
             return synchronous::act_synchronous(w, strings, out, c, i, kind, code, param, len);
         }
@@ -179,7 +179,7 @@ fn deliver_kind(
         let told = deliver_fully(w, strings, out, c, i, kind, code, param, len, payload);
         return told;
     }
-    let v = match whole::whole_verdict(w, strings, place, kind, code, param, len, payload) {
+    let v = match whole::whole_verdict_at(w, strings, place, kind, code, param, len, payload) {
         Verdict::Acts => return act(w, strings, out, c, place, kind, code, param, len, payload),
         v => v,
     };
@@ -462,7 +462,7 @@ pub fn deliver_message(
     if len > PAYLOAD {
         let h = reading::header_at(bytes);
         let place = search::place_of(w, c);
-        let v = whole::long_verdict(place);
+        let v = whole::long_verdict_at(place);
         let moves = carries(w, place, h.kind, h.param);
         let told = apply(w, strings, out, c, place.slot(), v, 16, len, moves);
         return told;
@@ -471,7 +471,7 @@ pub fn deliver_message(
     if bytes.len() < end {
         let place = search::place_of(w, c);
         let h = reading::header_at(bytes);
-        let v = match whole::partial_verdict(place, h.kind) {
+        let v = match whole::partial_verdict_at(place, h.kind) {
             Verdict::More => return answer::more_needed((end - bytes.len()) as u64),
             v => v,
         };

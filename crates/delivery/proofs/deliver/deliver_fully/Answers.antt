@@ -29,7 +29,7 @@ returns-in-Held c = let a = c.args in
 
 pub returns : goal.returns
 returns c = let a = c.args in
-    let v = c.whole_verdict in
+    let v = c.whole_verdict_at in
     let d = view (memory a.w.now a.strings.now) in
     let h = message a.kind a.code a.param a.len in
     by_verdict d a.c a.i (whole h a.payload.now) r_synchronous _ _ _ _ _ (judged r_synchronous d a.i h a.payload.now) (verdict_meant v.result)

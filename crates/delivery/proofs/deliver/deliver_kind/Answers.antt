@@ -20,7 +20,7 @@ returns-in-Acts c = let a = c.args in
 
 pub returns : goal.returns
 returns c = let a = c.args in
-    let v = c.whole_verdict in
+    let v = c.whole_verdict_at in
     let d = view (memory a.w.now a.strings.now) in
     let h = message a.kind a.code a.param a.len in
     let q = place_meant a.place in

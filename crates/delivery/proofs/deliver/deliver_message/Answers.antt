@@ -45,7 +45,7 @@ returns-then-len-gt-PAYLOAD c = let a = c.args in
     let t : prologue bs ≡ true = sym c.has_prologue.ensures ∙ c.if-not-has_prologue.false in
     let p = c.place_of-place-then-len-gt-PAYLOAD in
     let q = place_meant p.result in
-    let v = c.long_verdict-v in
+    let v = c.long_verdict_at-v in
     at_place d a.c (place_of (locks_of a.w.now s).entries a.c) q _ _ _ _ _ 0 (length bs) (fresh_scan bs) (p.ensures.found s)
     (on_scan d a.c q.slot _ _ _ _ _ 0 (length bs) q.role (fresh_scan bs) (long h)
     (scan_long bs c.requires.1 t
@@ -88,7 +88,7 @@ returns-then-bytes-end c = let a = c.args in
     let t : prologue bs ≡ true = sym c.has_prologue.ensures ∙ c.if-not-has_prologue.false in
     let p = c.place_of-place-then-bytes-end in
     let q = place_meant p.result in
-    let v = c.partial_verdict in
+    let v = c.partial_verdict_at in
     at_place d a.c (place_of (locks_of a.w.now s).entries a.c) q _ _ _ _ _ 0 (length bs) (fresh_scan bs) (p.ensures.found s)
     (on_scan d a.c q.slot _ _ _ _ _ 0 (length bs) q.role (fresh_scan bs) (part h)
     (scan_part bs c.requires.1 t (omega (arith, el, c.if-len-gt-PAYLOAD.false))
