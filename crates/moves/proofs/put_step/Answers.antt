@@ -1,16 +1,20 @@
 -- `put_step` meets its contract: what was read, written one behind the other.
-use Rattle.std.proofs.Common.{◌+◌, ◌<◌, length, drop, sym, ap, ◌∙◌, get_or-drop, length-drop, arith}
-use Rattle.std.proofs.Math.Seq.{length-slice}
+use Rattle.std.proofs.Common.{◌≡◌, ◌+◌, ◌<◌, ℕ, List, length, get_or, set, drop, replicate, sym, ap, ◌∙◌, get_or-drop, length-drop, arith}
+use Rattle.std.proofs.Math.Seq.{length-slice, paste}
 use Rattle.std.proofs.lemmas.List.Edits.{paste_more}
 use Rattle.moves.specs.Moves.{read_more, all_read, all_written}
 use Rattle.moves.proofs.put_step.Goals as goal
 
+-- one byte more is read, from its place in the part
+byte_read : (n : ℕ) (s b : List ℕ) (i k j : ℕ) → b ≡ paste (replicate n 0) 0 (drop i s) k → j ≡ i + k → k < n → i + k < length s
+    → set b k (get_or s j 0) ≡ paste (replicate n 0) 0 (drop i s) (k + 1)
+byte_read n s b i k j e f h r =
+    let l : k < length (drop i s) = simp length-drop (omega arith) in
+    rw (e, f, sym (get_or-drop i s k 0)) (read_more n (drop i s) k h l)
+
 pub loop-k-preserved : goal.loop-k-preserved
 loop-k-preserved g c = let a = c.args in
-    let k = c.loop-k.k in
-    let d = drop a.i a.src.now in
-    let l : k < length d = simp length-drop (omega arith) in
-    rw (c.loop-k.invariant, sym (get_or-drop a.i a.src.now k 0)) (read_more g.row.N d k (omega arith) l)
+    byte_read g.row.N a.src.now c.loop-k.bytes a.i c.loop-k.k _ c.loop-k.invariant (omega arith) (omega arith) (omega arith)
 
 pub loop-j-preserved : goal.loop-j-preserved
 loop-j-preserved g c = let a = c.args in
