@@ -39,16 +39,48 @@ feed_more x bs m k eight h e =
     ∙ sym (feed_append x (take 8 d) (drop 8 d))
     ∙ ap (feed_of x) (take-append-drop 8 d)
 
--- eight bytes in a row
-pub feed_eight : (c : ℕ) (b : List ℕ) → length b ≡ 8
+-- four bytes from a place on, and eight
+feed_four : (x : ℕ) (bs : List ℕ) (i : ℕ) → i + 4 ≤ length bs
+    → feed_of x (drop i bs) ≡ feed_of (byte_step (byte_step (byte_step (byte_step x (get_or bs i 0)) (get_or bs (i + 1) 0)) (get_or bs (i + 2) 0)) (get_or bs (i + 3) 0)) (drop (i + 4) bs)
+feed_four x bs i h =
+    let e : i + 1 + 1 ≡ i + 2 = omega arith in
+    let f : i + 2 + 1 ≡ i + 3 = omega arith in
+    let g : i + 3 + 1 ≡ i + 4 = omega arith in
+    feed_next x bs i (omega arith)
+    ∙ feed_next (byte_step x (get_or bs i 0)) bs (i + 1) (omega arith)
+    ∙ ap (λ (k : ℕ). feed_of (byte_step (byte_step x (get_or bs i 0)) (get_or bs (i + 1) 0)) (drop k bs)) e
+    ∙ feed_next (byte_step (byte_step x (get_or bs i 0)) (get_or bs (i + 1) 0)) bs (i + 2) (omega arith)
+    ∙ ap (λ (k : ℕ). feed_of (byte_step (byte_step (byte_step x (get_or bs i 0)) (get_or bs (i + 1) 0)) (get_or bs (i + 2) 0)) (drop k bs)) f
+    ∙ feed_next (byte_step (byte_step (byte_step x (get_or bs i 0)) (get_or bs (i + 1) 0)) (get_or bs (i + 2) 0)) bs (i + 3) (omega arith)
+    ∙ ap (λ (k : ℕ). feed_of (byte_step (byte_step (byte_step (byte_step x (get_or bs i 0)) (get_or bs (i + 1) 0)) (get_or bs (i + 2) 0)) (get_or bs (i + 3) 0)) (drop k bs)) g
+
+pub feed_eight : (x : ℕ) (bs : List ℕ) (i : ℕ) → i + 8 ≤ length bs
+    → feed_of x (drop i bs)
+    ≡ feed_of
+    (byte_step (byte_step (byte_step
+    (byte_step (byte_step (byte_step (byte_step (byte_step x (get_or bs i 0)) (get_or bs (i + 1) 0)) (get_or bs (i + 2) 0)) (get_or bs (i + 3) 0)) (get_or bs (i + 4) 0))
+    (get_or bs (i + 5) 0)) (get_or bs (i + 6) 0)) (get_or bs (i + 7) 0))
+    (drop (i + 8) bs)
+feed_eight x bs i h =
+    let y : ℕ = byte_step (byte_step (byte_step (byte_step x (get_or bs i 0)) (get_or bs (i + 1) 0)) (get_or bs (i + 2) 0)) (get_or bs (i + 3) 0) in
+    let e5 : i + 4 + 1 ≡ i + 5 = omega arith in
+    let e6 : i + 4 + 2 ≡ i + 6 = omega arith in
+    let e7 : i + 4 + 3 ≡ i + 7 = omega arith in
+    let e8 : i + 4 + 4 ≡ i + 8 = omega arith in
+    feed_four x bs i (omega arith)
+    ∙ feed_four y bs (i + 4) (omega arith)
+    ∙ (λ k. feed_of (byte_step (byte_step (byte_step (byte_step y (get_or bs (i + 4) 0)) (get_or bs (e5 k) 0)) (get_or bs (e6 k) 0)) (get_or bs (e7 k) 0)) (drop (e8 k) bs))
+
+-- eight bytes, as the code has them, and nothing behind them
+pub eight_fed : (c : ℕ) (b : List ℕ) → length b ≡ 8
     → byte_step
     (byte_step (byte_step (byte_step (byte_step (byte_step (byte_step (byte_step c (get_or b 0 0)) (get_or b 1 0)) (get_or b 2 0)) (get_or b 3 0)) (get_or b 4 0)) (get_or b 5 0))
     (get_or b 6 0))
     (get_or b 7 0)
     ≡ feed_of c b
 unfolding feed_of
-feed_eight c (b0 ∷ b1 ∷ b2 ∷ b3 ∷ b4 ∷ b5 ∷ b6 ∷ b7 ∷ []) h = refl
-feed_eight c _ h = absurd (omega arith)
+eight_fed c (b0 ∷ b1 ∷ b2 ∷ b3 ∷ b4 ∷ b5 ∷ b6 ∷ b7 ∷ []) h = refl
+eight_fed c _ h = absurd (omega arith)
 
 -- the register has 32 bits
 pub feed_lt : (c : ℕ) (bs : List ℕ) → c < 2 ^ 32 → ((i : ℕ) → get_or bs i 0 < 256) → feed_of c bs < 2 ^ 32

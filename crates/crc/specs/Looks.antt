@@ -7,8 +7,8 @@ use Prim.Native.Nat.{ℕ, zero, suc, ◌+◌, ◌*◌, ◌/◌, ◌%◌, ◌^◌
 use Rattle.std.specs.Int.Bits.{bit_xor, xor_zero_r}
 use Rattle.std.proofs.lemmas.Nat.{xor_lt}
 use Rattle.std.proofs.Math.ListN.{get_or}
-use Rattle.crc_table.specs.Table.{rows_table, look, at_row}
-use Rattle.crc.specs.Crc.{steps, byte_step}
+use Rattle.crc_table.specs.Table.{rows_table, table_rule, look, at_row}
+use Rattle.crc.specs.Crc.{steps, byte_step, crc_table}
 use Rattle.crc.specs.Steps.{peel, eight_bytes, byte_step_lem}
 use Rattle.crc.specs.Xor.{xor_assoc}
 
@@ -106,6 +106,10 @@ module _ (c b0 b1 b2 b3 b4 b5 b6 b7 w r : ℕ) (h : c < 2 ^ 32)
       ∙ ap (λ (z : ℕ). bit_xor (steps 64 (bit_xor c z)) (steps 32 (b7 * 16777216 + (b6 * 65536 + (b5 * 256 + b4))))) q
       ∙ sym (eight_bytes c b0 b1 b2 b3 b4 b5 b6 b7 h0 h1 h2 h4 h5 h6)
 
--- one byte, as the code has it
-pub byte_by_table : (c b y : ℕ) → y ≡ get_or rows_table (256 * min 0 7 + bit_xor c b % 256) 0 → bit_xor y (bit_xor c b / 256) ≡ byte_step c b
-byte_by_table c b y e = ap (λ (z : ℕ). bit_xor z (bit_xor c b / 256)) (entry_is 0 (bit_xor c b) y (lit< tt) e) ∙ sym (byte_step_lem c b)
+-- one byte, by its entry in the table of 256
+pub byte_by_table : (c b y : ℕ) → y ≡ get_or crc_table (bit_xor c b % 256) 0 → bit_xor y (bit_xor c b / 256) ≡ byte_step c b
+byte_by_table c b y e = ap (λ (z : ℕ). bit_xor z (bit_xor c b / 256)) (e ∙ table_rule (bit_xor c b % 256) (omega arith)) ∙ sym (byte_step_lem c b)
+
+-- the same by its entry in the first of the rows, as the code has it
+pub byte_by_row : (c b y : ℕ) → y ≡ get_or rows_table (256 * min 0 7 + bit_xor c b % 256) 0 → bit_xor y (bit_xor c b / 256) ≡ byte_step c b
+byte_by_row c b y e = ap (λ (z : ℕ). bit_xor z (bit_xor c b / 256)) (entry_is 0 (bit_xor c b) y (lit< tt) e) ∙ sym (byte_step_lem c b)

@@ -3,11 +3,12 @@ use Rattle.std.specs.Prelude.{◌≡◌, ℕ, ◌+◌, ◌-◌, ◌%◌, ◌^◌
 use Rattle.std.proofs.Math.Path.{refl}
 use Rattle.std.specs.Result.{is_ok, result_unwrap_or}
 use Rattle.std.proofs.lemmas.Bool.{false≢true, leb-true}
-use Rattle.std.proofs.Common.{sym, ap, subst, ◌∙◌, arith, length-append, length-take, drop_at}
+use Rattle.std.proofs.Common.{sym, ap, subst, ◌∙◌, append_assoc, arith, length-append, length-take, drop_at}
 use Rattle.wire.specs.Field.{field, length_field}
 use Rattle.wire.specs.Splice.{splice, splice_splice, take_splice}
 use Rattle.journal.specs.Journal.{headed, entry, mark, closing, choose}
 use Rattle.journal.specs.Bytes.{yes_is, no_is}
+use Rattle.journal.specs.Entry.{length_entry}
 use Rattle.journal.specs.Steps.{drop_take}
 use Rattle.journal.specs.Writer.{Done, Met, place, count, shut, left, new_of, writing, Told, placed}
 use Rattle.journal.specs.declared.Unwritten.{Unwritten}
@@ -42,10 +43,40 @@ parts_written a b c d l at h =
     ∙ next l at (a ++ b ++ c) (at + length a + length b + length c) d (omega (arith, e₂)) (omega (arith, e₂, e₃))
 
 -- the length, then the body
-pub headed_written : (l : List ℕ) (at : ℕ) (x : List ℕ) → at + 4 + length x ≤ length l → splice (splice l at (field 4 (length x))) (at + 4) x ≡ splice l at (headed x)
-headed_written l at x h =
+pub body_written : (l : List ℕ) (at : ℕ) (x : List ℕ) → at + 4 + length x ≤ length l → splice (splice l at (field 4 (length x))) (at + 4) x ≡ splice l at (headed x)
+body_written l at x h =
     let e : length (field 4 (length x)) ≡ 4 = length_field 4 (length x) in
     next l at (field 4 (length x)) (at + 4) x (omega (arith, e)) (omega (arith, e))
+
+module _ (a b c d : List ℕ) where
+  abbrev pub body : List ℕ
+  body = a ++ b ++ c ++ d
+
+  pub body_length : length body ≡ length a + length b + length c + length d
+  body_length = simp length-append
+
+  pub entry_size : length a + length b + length c + length d + 12 ≡ length (entry body)
+  entry_size = omega (arith, length_entry body, body_length)
+
+  -- the length, then part behind part
+  pub headed_written : (l : List ℕ) (at : ℕ) → at + 4 + length a + length b + length c + length d ≤ length l
+      → splice (splice (splice (splice (splice l at (field 4 (length a + length b + length c + length d))) (at + 4) a) (at + 4 + length a) b)
+      (at + 4 + length a + length b) c) (at + 4 + length a + length b + length c) d
+      ≡ splice l at (headed body)
+  headed_written l at h =
+      let f : List ℕ = field 4 (length body) in
+      let e : length f ≡ 4 = length_field 4 (length body) in
+      let e₁ : length (f ++ a) ≡ 4 + length a = simp (length-append, length_field) in
+      let e₂ : length (f ++ a ++ b) ≡ 4 + length a + length b = simp (length-append, length_field) in
+      let e₃ : length (f ++ a ++ b ++ c) ≡ 4 + length a + length b + length c = simp (length-append, length_field) in
+      ap (λ (n : ℕ). splice (splice (splice (splice (splice l at (field 4 n)) (at + 4) a) (at + 4 + length a) b) (at + 4 + length a + length b) c)
+      (at + 4 + length a + length b + length c) d) (sym body_length)
+      ∙ ap (λ (x : List ℕ). splice (splice (splice x (at + 4 + length a) b) (at + 4 + length a + length b) c) (at + 4 + length a + length b + length c) d)
+      (next l at f (at + 4) a (omega arith) (omega arith))
+      ∙ ap (λ (x : List ℕ). splice (splice x (at + 4 + length a + length b) c) (at + 4 + length a + length b + length c) d) (next l at (f ++ a) (at + 4 + length a) b (omega arith) (omega arith))
+      ∙ ap (λ (x : List ℕ). splice x (at + 4 + length a + length b + length c) d) (next l at (f ++ a ++ b) (at + 4 + length a + length b) c (omega arith) (omega arith))
+      ∙ next l at (f ++ a ++ b ++ c) (at + 4 + length a + length b + length c) d (omega arith) (omega arith)
+      ∙ ap (splice l at) (simp append_assoc)
 
 -- the sum is taken of what was just written
 pub headed_back : (l : List ℕ) (at : ℕ) (x : List ℕ) (e : ℕ) → e ≡ at + length x → at + length x ≤ length l → take (e - at) (drop at (splice l at x)) ≡ x
@@ -108,13 +139,27 @@ module _ (words book : List ℕ) (size : ℕ) (x after : List ℕ) (n : ℕ) (sa
       by true p false q = let h : Err why ≡ Err NoRoom = rw (p, q) at f in rw (p, q) (record { answer = ap why_not h; words = refl; book = refl })
       by false p u q = let h : Err why ≡ Err Closed = rw p at f in rw p (record { answer = ap why_not h; words = refl; book = refl })
 
-  pub write_done : (w k : List ℕ) {at : ℕ} → Placed words n (left book (place words)) at → w ≡ after → k ≡ splice book at x → Met (writing words book size x after) (Ok tt) w k
+  pub write_placed : (w k : List ℕ) {at : ℕ} → Placed words n (left book (place words)) at → w ≡ after → k ≡ splice book at x → Met (writing words book size x after) (Ok tt) w k
   unfolding writing
-  write_done w k {at} h p q =
+  write_placed w k {at} h p q =
       via (yes_is _ _ h.open_yet ∙ yes_is _ _ (ap (λ (k : ℕ). leb (k + 12) (left book (place words))) (sym same) ∙ h.fits))
       (record { answer = refl; words = p; book = q ∙ ap (λ (k : ℕ). splice book k x) h.there })
 
+-- the tests may be had one by one
+module _ (words book : List ℕ) (size : ℕ) (x after : List ℕ) where
+  pub write_done : (n : ℕ) (w k : List ℕ) → n ≡ size → (shut words == 0) ≡ true → nat_le (n + 12) (left book (place words)) ≡ true → w ≡ after → k ≡ splice book (place words) x
+      → Met (writing words book size x after) (Ok tt) w k
+  unfolding writing
+  write_done n w k e h t p q =
+      via (yes_is _ _ h ∙ yes_is _ _ (ap (λ (k : ℕ). leb (k + 12) (left book (place words))) (sym e) ∙ t))
+      (record { answer = refl; words = p; book = q })
+
 -- the words behind an entry of n bytes
-pub words_then : (words b : List ℕ) {at n : ℕ} → at ≡ place words → n ≡ length (entry b)
+pub words_behind : (words b : List ℕ) {at n : ℕ} → at ≡ place words → n ≡ length (entry b)
     → (at + n) ∷ at ∷ ((count words + 1) % 2 ^ 64) ∷ 0 ∷ [] ≡ (place words + length (entry b)) ∷ place words ∷ ((count words + 1) % 2 ^ 64) ∷ 0 ∷ []
-words_then words b p q = λ i. (p i + q i) ∷ p i ∷ ((count words + 1) % 2 ^ 64) ∷ 0 ∷ []
+words_behind words b p q = λ i. (p i + q i) ∷ p i ∷ ((count words + 1) % 2 ^ 64) ∷ 0 ∷ []
+
+-- so what is those words is these
+pub words_then : (words w b : List ℕ) (n : ℕ) → n ≡ length (entry b) → w ≡ (place words + n) ∷ place words ∷ ((count words + 1) % 2 ^ 64) ∷ 0 ∷ []
+    → w ≡ (place words + length (entry b)) ∷ place words ∷ ((count words + 1) % 2 ^ 64) ∷ 0 ∷ []
+words_then words w b n e p = p ∙ words_behind words b refl e

@@ -63,15 +63,22 @@ module _ (l : List ℕ) (a : ℕ) (s : List ℕ) (fits : a + length s ≤ length
   behind f m t p q h e₁ e₂ = e₂ ∙ ap (λ (x : List ℕ). moved x a s m t) e₁ ∙ moved_moved f m t p q h
 
   pub rest_moved : {l₁ l₂ l₃ l₄ : List ℕ} → l₁ ≡ moved l a s (length s / 16 * 16) (length s / 8 * 8) → l₂ ≡ moved l₁ a s (length s / 8 * 8) (length s / 4 * 4)
-      → l₃ ≡ moved l₂ a s (length s / 4 * 4) (length s / 2 * 2) → l₄ ≡ moved l₃ a s (length s / 2 * 2) (length s / 1 * 1) → l₄ ≡ moved l a s (length s / 16 * 16) (length s)
-  rest_moved {l₃ = l₃} {l₄ = l₄} e₁ e₂ e₃ e₄ =
+      → l₃ ≡ moved l₂ a s (length s / 4 * 4) (length s / 2 * 2) → l₄ ≡ moved l₃ a s (length s / 2 * 2) (length s) → l₄ ≡ moved l a s (length s / 16 * 16) (length s)
+  rest_moved e₁ e₂ e₃ e₄ =
       let n : ℕ = length s in
-      let one : n / 1 * 1 ≡ n = omega arith in
       behind (n / 16 * 16) (n / 2 * 2) n (omega arith) (omega arith) (omega arith)
       (behind (n / 16 * 16) (n / 4 * 4) (n / 2 * 2) (omega arith) (omega arith) (omega arith)
       (behind (n / 16 * 16) (n / 8 * 8) (n / 4 * 4) (omega arith) (omega arith) (omega arith) e₁ e₂)
       e₃)
-      (some_left l₃ l₄ a s (n / 2 * 2) n (n / 1 * 1) e₄ one)
+      e₄
+
+  -- the same of steps of 8, 4, 2 and 1
+  pub lefts_moved : {l₁ l₂ l₃ l₄ : List ℕ} → l₁ ≡ moved l a s (length s / 16 * 16) (length s / 8 * 8) → l₂ ≡ moved l₁ a s (length s / 8 * 8) (length s / 4 * 4)
+      → l₃ ≡ moved l₂ a s (length s / 4 * 4) (length s / 2 * 2) → l₄ ≡ moved l₃ a s (length s / 2 * 2) (length s / 1 * 1) → l₄ ≡ moved l a s (length s / 16 * 16) (length s)
+  lefts_moved {l₃ = l₃} {l₄ = l₄} e₁ e₂ e₃ e₄ =
+      let n : ℕ = length s in
+      let one : n / 1 * 1 ≡ n = omega arith in
+      rest_moved e₁ e₂ e₃ (some_left l₃ l₄ a s (n / 2 * 2) n (n / 1 * 1) e₄ one)
 
   pub part_moved : {l₁ l₂ : List ℕ} → l₁ ≡ moved l a s 0 (length s / 16 * 16) → l₂ ≡ moved l₁ a s (length s / 16 * 16) (length s) → l₂ ≡ splice l a s
   part_moved e₁ e₂ = behind 0 (length s / 16 * 16) (length s) (omega arith) (omega arith) (omega arith) e₁ e₂ ∙ moved_all l a s

@@ -1,7 +1,7 @@
 -- `crc::step8` meets its contract: the law of eight bytes by the table.
 use Rattle.std.proofs.Common.{◌≡◌, ◌+◌, ◌*◌, ◌<◌, ◌/◌, ℕ, slice_index, ◌∙◌, arith, rules}
 use Rattle.std.specs.Int.Bits.{bit_xor}
-use Rattle.crc.specs.Feed.{feed_eight}
+use Rattle.crc.specs.Feed.{eight_fed}
 use Rattle.crc.specs.Looks.{looked_up, eight_by_table}
 use Rattle.crc.proofs.step8.Goals as goal
 
@@ -16,4 +16,4 @@ returns c = let a = c.args in
     (looked_up x (x / 256) (x / 65536) (x / 16777216) (b 4) (b 5) (b 6) (b 7)
     c.entry.result c.entry-2.result c.entry-3.result c.entry-4.result c.entry-5.result c.entry-6.result c.entry-7.result c.entry-8.result
     c.entry.ensures c.entry-2.ensures c.entry-3.ensures c.entry-4.ensures c.entry-5.ensures c.entry-6.ensures c.entry-7.ensures c.entry-8.ensures)
-    ∙ feed_eight a.c a.b.now (search rules)
+    ∙ eight_fed a.c a.b.now (search rules)

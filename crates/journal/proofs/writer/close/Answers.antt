@@ -2,7 +2,7 @@
 use Rattle.std.proofs.Common.{refl, arith}
 use Rattle.std.proofs.lemmas.Result.{err_from_is_err_and}
 use Rattle.journal.specs.Writer.{close_of}
-use Rattle.journal.specs.Written.{has_place, not_written, write_done}
+use Rattle.journal.specs.Written.{has_place, not_written, write_placed}
 use Rattle.journal.proofs.writer.close.Goals as goal
 
 pub returns-in_err-at : goal.returns-in_err-at
@@ -19,4 +19,4 @@ overflow_add-words c = let h = has_place c.in_ok-at.ensures in omega (arith, h.t
 pub returns : goal.returns
 unfolding close_of
 returns c = let h = has_place c.in_ok-at.ensures in
-    write_done _ _ _ _ _ 0 refl _ _ h (rw h.there refl) c.put_closing.ensures
+    write_placed _ _ _ _ _ 0 refl _ _ h (rw h.there refl) c.put_closing.ensures

@@ -4,7 +4,7 @@ use Rattle.std.proofs.lemmas.Result.{err_from_is_err_and}
 use Rattle.journal.specs.Journal.{entry}
 use Rattle.journal.specs.Entry.{length_entry}
 use Rattle.journal.specs.Writer.{append_of}
-use Rattle.journal.specs.Written.{words_then, has_place, not_written, write_done}
+use Rattle.journal.specs.Written.{words_behind, has_place, not_written, write_placed}
 use Rattle.journal.proofs.writer.write_entry.Goals as goal
 
 pub returns-in_err-at : goal.returns-in_err-at
@@ -24,5 +24,5 @@ unfolding append_of
 returns g c = let a = c.args in
     let x = g.B.Body.bytes a.body.now in
     let h = has_place c.in_ok-at.ensures in
-    write_done a.words.now _ _ (entry x) _ _ (omega (arith, c.size-n.ensures, length_entry x)) _ _ h
-    (words_then a.words.now x h.there (omega (arith, c.size-n.ensures, length_entry x))) c.put_entry.ensures
+    write_placed a.words.now _ _ (entry x) _ _ (omega (arith, c.size-n.ensures, length_entry x)) _ _ h
+    (words_behind a.words.now x h.there (omega (arith, c.size-n.ensures, length_entry x))) c.put_entry.ensures

@@ -1,6 +1,6 @@
 -- `NumberedBody::put` meets its contract: the head, and the parts behind it.
 use Rattle.std.proofs.Common.{arith}
-use Rattle.journal.specs.Numbered.{numbered_size, numbered_then}
+use Rattle.journal.specs.Numbered.{numbered_size, numbered_parts}
 use Rattle.journal.proofs.writer.NumberedBody.put.Goals as goal
 
 pub put_head-requires : goal.put_head-requires
@@ -19,5 +19,5 @@ put_if_any-requires c = let s = c.args.self.now in
 pub returns : goal.returns
 returns c = let a = c.args in
     let s = a.self.now in
-    numbered_then s.tag s.x s.y s.b.now s.c.now a.book.now a.at (omega (arith, c.requires))
+    numbered_parts s.tag s.x s.y s.b.now s.c.now a.book.now a.at (omega (arith, c.requires))
     c.put_head.ensures c.put_part.ensures c.put_if_any.ensures
