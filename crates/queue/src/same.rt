@@ -48,15 +48,19 @@ fn same_windows(a: &[u8], b: &[u8], v: usize) -> bool
     true
 }
 
-// Are two strings of one length the same, byte by byte?
+// Are two strings the same, byte by byte?
 // Kept: `==` of the slices, which the last arm has, is a call in machine code from four bytes on; a window of 32 bytes takes eighteen
 // instructions in line, one of 16 or 8 five or three.
 #[inline(never)]
-fn same_bytes(a: &[u8], b: &[u8]) -> bool
-    requires { length a.now ≡ length b.now }
+#[tactic(auto, using(crate::specs::Strings::same_lengths))]
+pub fn same_bytes(a: &[u8], b: &[u8]) -> bool
     ensures { same a.now b.now ≡ result }
 {
-    match a.len() {
+    let n = a.len();
+    if n != b.len() {
+        return false;
+    }
+    match n {
         WIDE.. => same_windows(a, b, WIDE),
         MIDDLE.. => same_windows(a, b, MIDDLE),
         NARROW.. => same_windows(a, b, NARROW),
