@@ -1,9 +1,8 @@
 -- Matching as a function, for definitions that must answer: `matched` and `allows` say exactly what `Matches` and `Allows` say. Assumes nothing.
 use Rattle.std.specs.Prelude.{◌≡◌, refl, ◌⊎◌, ◌↔◌, Bool, true, false, ◌||◌, List, [], ◌∷◌, ◌++◌, ℕ, eqb, Ok, Err}
 use Rattle.std.proofs.Common.{sym, ap, ap₂, subst, ◌∙◌, inl, inr, ⊎_elim, arith, eqb-true, eq-eqb}
-use Rattle.scpi.specs.Automaton.{Checked}
 use Rattle.scpi.specs.Bytes.{colon_sign, caseless}
-use Rattle.scpi.specs.Grammar.{Word, short, long, Row, Row.r_none, Row.r_word, Row.r_bracket, mark, Tree, Tree.t_path, Tree.t_star, source, GoodPattern}
+use Rattle.scpi.specs.Grammar.{Word, short, long, Row, Row.r_none, Row.r_word, Row.r_bracket, mark, Tree, Tree.t_path, Tree.t_star, source, GoodPattern, Checked}
 use Rattle.commands.specs.Spelling.{SpellsWord, SpellsWord.in_short, SpellsWord.in_long, SpellsRow, SpellsRow.s_none, SpellsRow.s_word, SpellsRow.s_kept}
 use Rattle.commands.specs.Spelling.{SpellsRow.s_dropped, SpellsTree, SpellsTree.s_path, Matches}
 use Rattle.scpi.specs.Answers.{untrue}

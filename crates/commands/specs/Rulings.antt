@@ -2,9 +2,8 @@
 use Rattle.std.specs.Prelude.{◌≡◌, refl, ◌↔◌, List, [], ◌∷◌, Bool, true, false, cond, ℕ, zero, suc, ◌+◌, ◌≤◌, ltb, length, Ok, Err}
 use Rattle.std.proofs.Common.{sym, ap₂, subst, ◌∙◌, arith, ltb-true, ltb-false}
 use Rattle.std.proofs.Math.Path.{ap}
-use Rattle.scpi.specs.Automaton.{Checked, good, bad}
 use Rattle.commands.specs.declared.ListFault.TheVariants.{BadPattern, TooMany}
-use Rattle.scpi.specs.Grammar.{GoodPattern}
+use Rattle.scpi.specs.Grammar.{GoodPattern, Checked, good, bad}
 use Rattle.scpi.specs.Verdicts.{Verdict, Exactly, verdict_of, bad_one, good_not_bad}
 use Rattle.scpi.proofs.Verdicts.{verdict_is, exactly_verdict}
 use Rattle.commands.specs.Lists.{AllGood, FirstBad, Judged, taken, bad_pattern_at, list_too_long, Ruling}

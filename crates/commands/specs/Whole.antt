@@ -4,7 +4,7 @@ use Rattle.std.proofs.Common.{sym, ap, ap₂, subst, ◌∙◌, inl, inr, ⊎_el
 use Rattle.std.proofs.Math.Nat.{sub-zero}
 use Rattle.std.proofs.Math.Seq.{drop-append_seam, take-length}
 use Rattle.scpi.specs.Bytes.{Capital, query_sign, star_sign, upper, caseless}
-use Rattle.scpi.specs.Grammar.{Word, short, long, Row, text, Within, mark, Tree, Tree.t_path, Tree.t_star, source, Fine, GoodPattern}
+use Rattle.scpi.specs.Grammar.{Word, short, long, Row, text, Within, mark, Tree, Tree.t_path, Tree.t_star, source, Fine, GoodPattern, good}
 use Rattle.commands.specs.Spelling.{SpellsWord, SpellsWord.in_short, SpellsWord.in_long, SpellsRow, SpellsRow.s_none, SpellsRow.s_word, SpellsRow.s_kept}
 use Rattle.commands.specs.Spelling.{SpellsRow.s_dropped, SpellsTree, SpellsTree.s_path, SpellsTree.s_star, Spells, Matches}
 use Rattle.commands.specs.Cuts.{Cut, cut_behind, cut_append, cut_first, cut_last, cut_inside}
@@ -13,7 +13,6 @@ use Rattle.scpi.specs.Answers.{Says, says_as}
 use Rattle.scpi.specs.Scans.{PathRead, path_end, path_stay, word_on, whole_end, EndRead, end_good, end_asked}
 use Rattle.scpi.specs.Verdicts.{Verdict}
 use Rattle.scpi.proofs.Verdicts.{verdict_short}
-use Rattle.scpi.specs.Automaton.{good}
 use Rattle.scpi.specs.Words.{leading, starts, part, Begins, begins_starts, starts_begins, like_length, between_yes}
 use Rattle.commands.specs.Walks.{Ends, NoLetter, Walked, no_letter, behind_word, part_short, part_long}
 

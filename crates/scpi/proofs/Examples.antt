@@ -1,7 +1,8 @@
 -- Laws of what specs/Examples.antt defines. Assumes nothing.
 use Rattle.std.specs.Prelude.{refl, [], ◌∷◌}
 use Rattle.std.proofs.Common.{lit≤}
-use Rattle.scpi.specs.Automaton.{kind_of, scan, good, bad}
+use Rattle.scpi.specs.Grammar.{good, bad}
+use Rattle.scpi.specs.Automaton.{kind_of, scan}
 use Rattle.scpi.specs.Verdicts.{Exactly}
 use Rattle.scpi.proofs.Verdicts.{check_short}
 use Rattle.scpi.specs.Examples.{measure}

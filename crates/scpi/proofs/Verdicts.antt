@@ -1,8 +1,8 @@
 -- Laws of what specs/Verdicts.antt defines. Assumes nothing.
 use Rattle.std.specs.Prelude.{◌≡◌, refl, Bool, true, false, cond, List, [], ◌∷◌, ℕ, suc, ◌+◌, ◌≤◌, ◌<◌, leb, length, take, Ok, Err}
 use Rattle.std.proofs.Common.{sym, ap, subst, ◌∙◌, inl, inr, ⊎_elim, arith, take-take, length-take-le, leb-true, leb-false}
-use Rattle.scpi.specs.Grammar.{Viable, BadAt, BadAt.b_byte, BadAt.b_short, BadAt.b_long}
-use Rattle.scpi.specs.Automaton.{kind_of, State, State.a_start, step, accepts, dead, run, scan, Checked, good, bad}
+use Rattle.scpi.specs.Grammar.{Viable, BadAt, BadAt.b_byte, BadAt.b_short, BadAt.b_long, Checked, good, bad}
+use Rattle.scpi.specs.Automaton.{kind_of, State, State.a_start, step, accepts, dead, run, scan}
 use Rattle.scpi.proofs.Accepting.{accepts_pattern, pattern_accepted, viable_alive, alive_viable}
 use Rattle.scpi.specs.Verdicts.{Verdict, Exactly, pattern_viable, exactly, Scanned, too_long, verdict_of}
 

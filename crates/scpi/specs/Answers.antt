@@ -1,7 +1,7 @@
 -- What a test's answer says. Assumes nothing.
 use Rattle.std.specs.Prelude.{◌≡◌, refl, ◌⊎◌, ◌↔◌, Bool, true, false, ℕ, ◌≤◌, ◌<◌, ltb}
 use Rattle.std.proofs.Common.{inl, inr, arith, ltb-true, ltb-false}
-use Rattle.scpi.specs.Automaton.{good, bad}
+use Rattle.scpi.specs.Grammar.{good, bad}
 
 -- what a test says of a fact
 abbrev pub Says : Bool → Type 0 → Type 0

@@ -2,9 +2,9 @@
 use Rattle.std.specs.Prelude.{◌≡◌, refl, ◌⊎◌, ◌↔◌, true, false, cond, List, [], ◌++◌, ℕ, suc, ◌+◌, ◌≤◌, ◌<◌, leb, length, take, drop, Ok, Err}
 use Rattle.std.proofs.Common.{sym, ap, subst, ◌∙◌, ⊎_elim, append_assoc, append-nil, arith, take-append-drop, take-take}
 use Rattle.std.proofs.Math.Seq.{take-length}
-use Rattle.scpi.specs.Grammar.{Pattern, Viable, longest, GoodPattern, BadAt, BadAt.b_byte, BadAt.b_short, BadAt.b_long}
+use Rattle.scpi.specs.Grammar.{Pattern, Viable, longest, GoodPattern, BadAt, BadAt.b_byte, BadAt.b_short, BadAt.b_long, Checked, bad}
 use Rattle.scpi.specs.Answers.{lt_or_ge}
-use Rattle.scpi.specs.Automaton.{State, State.a_start, accepts, dead, run, scan, Checked, bad}
+use Rattle.scpi.specs.Automaton.{State, State.a_start, accepts, dead, run, scan}
 use Rattle.scpi.specs.Accepting.{Accepted}
 
 -- the answer to a pattern

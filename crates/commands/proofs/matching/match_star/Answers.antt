@@ -2,7 +2,7 @@
 use Rattle.std.proofs.Common.{refl, sym, subst, ◌∙◌, ◌≡◌, Bool, true, false, Ok, Err, get_or, ℕ, List, is_ok}
 use borrow.Author.Tests.{eqb-true}
 use Rattle.scpi.specs.Answers.{Says, says_yes, says_no, good_or_bad, untrue}
-use Rattle.scpi.specs.Automaton.{Checked, good}
+use Rattle.scpi.specs.Grammar.{Checked, good}
 use Rattle.scpi.specs.Bytes.{star_sign, caseless}
 use Rattle.scpi.specs.Verdicts.{Exactly}
 use Rattle.scpi.specs.Words.{like_length}

@@ -2,7 +2,7 @@
 -- A path at n = bytes left + depth left has the measure 2n, and a bracket 2n + 1: behind "[" both have fallen, and a bracket reads its row at the same place and depth.
 use Rattle.std.proofs.Common.{rules, subst, arith, ◌≡◌, ◌-◌}
 use Rattle.scpi.specs.Answers.{says_yes, says_no}
-use Rattle.scpi.specs.Automaton.{bad}
+use Rattle.scpi.specs.Grammar.{bad}
 use Rattle.scpi.specs.Scans.{PathRead, BracketRead, path_deep, word_then, word_bad, bracket_then, bracket_bad, opened_out}
 use Rattle.scpi.specs.Scans.{row_none, row_bad, row_out, row_closed, row_open, shallower, outer, not_deep}
 use Rattle.scpi.proofs.checking.+bracket_path.Goals.{bracket-then-at-p-via-then-at-p, bracket-then-at-p-via-else-at-p+then-not-is_item}

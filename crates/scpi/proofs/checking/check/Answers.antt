@@ -1,6 +1,6 @@
 -- `checking::check` meets its contract: the reading's answer is the grammar's verdict.
 use Rattle.std.proofs.Common.{rules, sym, ◌≡◌, length-take-le, subst}
-use Rattle.scpi.specs.Automaton.{good, bad}
+use Rattle.scpi.specs.Grammar.{good, bad}
 use Rattle.scpi.specs.Verdicts.{Exactly}
 use Rattle.scpi.proofs.Verdicts.{check_short, check_long}
 use Rattle.scpi.proofs.checking.check.Goals as goal

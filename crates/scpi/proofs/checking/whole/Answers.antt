@@ -1,6 +1,6 @@
 -- `checking::whole` meets its contract.
 use Rattle.std.proofs.Common.{rules, ◌∙◌, sym, ◌≡◌}
-use Rattle.scpi.specs.Automaton.{bad}
+use Rattle.scpi.specs.Grammar.{bad}
 use Rattle.scpi.specs.Scans.{start_empty, start_star, whole_word_bad, whole_path_bad, whole_end}
 use Rattle.scpi.proofs.checking.whole.Goals as goal
 
