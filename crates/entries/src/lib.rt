@@ -16,6 +16,7 @@ pub type Writer = [u64; 4];
 
 // The entry of an event, its body in four parts, unless the event was refused. Every kept call ends with this.
 // Kept: the refusal is the number that the plain call answers to C (0: none), and is only passed on.
+#[inline(always)]
 pub fn keep_entry(
     journal: &mut Writer,
     book: &mut [u8],
@@ -59,6 +60,7 @@ pub fn keep_delivery(
 }
 
 // The same of an event of numbers alone.
+#[inline(always)]
 pub fn keep_numbers(
     journal: &mut Writer,
     book: &mut [u8],
