@@ -6,17 +6,19 @@ use mathlib.Core.List.{List, [], ◌∷◌, ◌++◌, append_assoc, append-nil}
 use Prim.Native.Nat.{ℕ, ◌+◌, ◌-◌, ◌≤◌, ◌<◌}
 use native.Mathlib.Omega.{arith}
 use lib.ListN.{length, take, drop, length-append}
-use Rattle.verifier.specs.Judge.{on, fault}
+use Rattle.record.specs.Layout.{decode}
+use Rattle.verifier.specs.Judge.{on, fault, by_event}
 use Rattle.verifier.specs.Feed.{Reading, feed}
 use Rattle.verifier.specs.Pieces.{feed_append}
 use Rattle.verifier.specs.Framing.{fault_of, Fed}
 use Rattle.verifier.specs.Standing.{wanted_of, reading_of, Sound, entry_long, stays}
-use Rattle.verifier.proofs.StandingLaws.{turn_more, turn_fault, turn_wrong, turn_pass}
+use Rattle.verifier.proofs.StandingLaws.{turn_more, turn_fault, turn_wrong, turn_pass, framing_named, event_named}
 use Rattle.verifier.specs.declared.Fault.{Fault}
+use Rattle.verifier.specs.declared.Fault.TheVariants.{Own}
 use Rattle.verifier.specs.declared.Progress.{Progress}
 use Rattle.verifier.specs.declared.Progress.TheVariants.{More, Whole}
 use Rattle.verifier.specs.declared.Standing.{Standing}
-use Rattle.std.specs.Prelude.{Option, Some, None, Result, Ok, Err}
+use Rattle.std.specs.Prelude.{Option, Some, None, Result, Ok, Err, ◌↔◌}
 use Rattle.model.specs.State.{Server}
 use Rattle.judging.specs.Replay.{deed}
 use Rattle.state.specs.View.{Memory, view}
@@ -27,6 +29,13 @@ use Rattle.replay.specs.Turn.{Turned}
 abbrev Ready : Standing → List ℕ → List ℕ → Type 0
 Ready r buf bytes = Sound r buf × (r.fault ≡ None) × (0 < length bytes) × (r.have + length bytes ≤ wanted_of (take r.have buf))
 
+-- where no fault of the caller's own stands before, nor afterwards
+none_own : (o p : Option Fault) → o ≡ None → p ≡ None → (n : ℕ) → (o ≡ Some (Own n)) ↔ (p ≡ Some (Own n))
+none_own o p e f n = (λ z. cc, λ z. cc)
+
+found_own : (o p : Option Fault) (j : Fault) → o ≡ Some j → ((n : ℕ) → j ≡ Own n → ⊥) → p ≡ None → (n : ℕ) → (o ≡ Some (Own n)) ↔ (p ≡ Some (Own n))
+found_own o p j e f g n = (λ z. absurd (f n (let q : j ≡ Own n = cc in q)), λ z. cc)
+
 module _ (r s : Standing) (buf new : List ℕ) (k : Result Progress Fault) (m : Memory) where
   pub room_for : (bytes : List ℕ) → Sound r buf → r.fault ≡ None → r.have + length bytes ≤ wanted_of (take r.have buf) → r.have + length bytes ≤ length buf
   room_for bytes o g h = omega (arith, o.fits g, o.room, h)
@@ -36,14 +45,25 @@ module _ (r s : Standing) (buf new : List ℕ) (k : Result Progress Fault) (m : 
   more_turn [] o g p h f z e = absurd (omega (arith, p))
   more_turn (b ∷ x) o g p h f z e =
       let t = turn_more deed r buf new b x k (view m) o g h f s z e in
-      record { reading = t.0; sound = t.1; offset = subst (λ (y : Standing). y.at + y.have ≤ r.at + r.have + length (b ∷ x)) (sym e) (omega arith) }
+      record {
+        reading = t.0;
+        sound = t.1;
+        offset = subst (λ (y : Standing). y.at + y.have ≤ r.at + r.have + length (b ∷ x)) (sym e) (omega arith);
+        own = none_own s.fault r.fault (ap (λ (y : Standing). y.fault) e) g;
+      }
 
   pub fault_turn : (bytes : List ℕ) → Sound r buf → r.fault ≡ None → 0 < length bytes → r.have + length bytes ≤ wanted_of (take r.have buf) → Fed k r.have bytes buf new
       → (j : Fault) → k ≡ Err j → s ≡ record { have = r.have; count = r.count; at = r.at; last = r.last; fault = Some j } → Turned s r buf new m m bytes
   fault_turn [] o g p h f j w e = absurd (omega (arith, p))
   fault_turn (b ∷ x) o g p h f j w e =
       let t = turn_fault deed r buf new b x k (view m) o g h f s j w e in
-      record { reading = t.0; sound = t.1; offset = subst (λ (y : Standing). y.at + y.have ≤ r.at + r.have + length (b ∷ x)) (sym e) (omega arith) }
+      record {
+        reading = t.0;
+        sound = t.1;
+        offset = subst (λ (y : Standing). y.at + y.have ≤ r.at + r.have + length (b ∷ x)) (sym e) (omega arith);
+        own = found_own s.fault r.fault j (ap (λ (y : Standing). y.fault) e)
+            (λ n q. framing_named (take r.have buf ++ (b ∷ x)) n (sym f.kind ∙ w ∙ ap (λ (y : Fault). Err y) q)) g;
+      }
 
   pub whole_room : (bytes : List ℕ) → Sound r buf → r.fault ≡ None → 0 < length bytes → r.have + length bytes ≤ wanted_of (take r.have buf) → Fed k r.have bytes buf new → k ≡ Ok Whole
       → (12 ≤ r.have + length bytes) × (r.have + length bytes ≤ length new)
@@ -65,8 +85,15 @@ module _ (r s : Standing) (buf new : List ℕ) (k : Result Progress Fault) (m : 
         → s ≡ record { have = r.have; count = r.count; at = r.at; last = r.last; fault = Some y } → Turned s r buf new m m' bytes
     wrong_turn [] o g p h f z q w y n i = absurd (omega (arith, p))
     wrong_turn (b ∷ x) o g p h f z q w y n i =
-        let t = turn_wrong deed r buf new b x k (view m) o g h f z s e q y (sym w ∙ went_fault y n (view m')) i (view m') in
-        record { reading = t.0; sound = t.1; offset = subst (λ (y : Standing). y.at + y.have ≤ r.at + r.have + length (b ∷ x)) (sym i) (omega arith) }
+        let v : by_event deed (view m) (decode (take (e - 8 - 4) (drop 4 new))) ≡ fault (fault_of y) = sym w ∙ went_fault y n (view m') in
+        let t = turn_wrong deed r buf new b x k (view m) o g h f z s e q y v i (view m') in
+        record {
+          reading = t.0;
+          sound = t.1;
+          offset = subst (λ (y : Standing). y.at + y.have ≤ r.at + r.have + length (b ∷ x)) (sym i) (omega arith);
+          own = found_own s.fault r.fault y (ap (λ (u : Standing). u.fault) i)
+              (λ n q. event_named deed (view m) (decode (take (e - 8 - 4) (drop 4 new))) n (v ∙ ap (λ (u : Fault). fault (fault_of u)) q)) g;
+        }
 
     pub pass_turn : (bytes : List ℕ) → Sound r buf → r.fault ≡ None → 0 < length bytes → r.have + length bytes ≤ wanted_of (take r.have buf) → Fed k r.have bytes buf new
         → k ≡ Ok Whole → e ≡ r.have + length bytes → Judges j m m' (take (e - 8 - 4) (drop 4 new)) → j ≡ Ok tt
@@ -74,7 +101,12 @@ module _ (r s : Standing) (buf new : List ℕ) (k : Result Progress Fault) (m : 
     pass_turn [] o g p h f z q w y i = absurd (omega (arith, p))
     pass_turn (b ∷ x) o g p h f z q w y i =
         let t = turn_pass deed r buf new b x k (view m) o g h f z s e q (view m') (sym w ∙ went_on y (view m')) i in
-        record { reading = t.0; sound = t.1; offset = subst (λ (v : Standing). v.at + v.have ≤ r.at + r.have + length (b ∷ x)) (sym i) (omega (arith, q)) }
+        record {
+          reading = t.0;
+          sound = t.1;
+          offset = subst (λ (v : Standing). v.at + v.have ≤ r.at + r.have + length (b ∷ x)) (sym i) (omega (arith, q));
+          own = none_own s.fault r.fault (ap (λ (v : Standing). v.fault) i) g;
+        }
 
 -- Between two turns: bytes of the piece are fed, and the rest follows them.
 pub record Feeding (r s : Standing) (buf₀ buf : List ℕ) (m₀ m : Memory) (piece rest : List ℕ) : Type 0 where
@@ -84,7 +116,7 @@ pub record Feeding (r s : Standing) (buf₀ buf : List ℕ) (m₀ m : Memory) (p
 
 pub none_fed : (r : Standing) (buf : List ℕ) (m : Memory) (piece : List ℕ) → Sound r buf → Feeding r r buf buf m m piece piece
 unfolding feed
-none_fed r buf m piece o = record { past = []; all = refl; turned = record { reading = refl; sound = o; offset = omega arith } }
+none_fed r buf m piece o = record { past = []; all = refl; turned = record { reading = refl; sound = o; offset = omega arith; own = λ n. (λ z. z, λ z. z) } }
 
 module _ (r s : Standing) (buf₀ buf : List ℕ) (m₀ m : Memory) (piece rest : List ℕ) (t : Feeding r s buf₀ buf m₀ m piece rest) where
   -- a fault: what follows changes nothing
@@ -102,6 +134,7 @@ module _ (r s : Standing) (buf₀ buf : List ℕ) (m₀ m : Memory) (piece rest 
             ∙ ap (feed deed (reading_of r buf₀ (view m₀))) t.all;
         sound = t.turned.sound;
         offset = omega (arith, o, l, k);
+        own = t.turned.own;
       }
 
   pub fed_stays : is_some s.fault ≡ true → Turned s r buf₀ buf m₀ m piece
@@ -131,5 +164,6 @@ module _ (r s : Standing) (buf₀ buf : List ℕ) (m₀ m : Memory) (piece rest 
               ∙ sym (feed_append deed (reading_of r buf₀ (view m₀)) t.past x);
           sound = u.sound;
           offset = omega (arith, v, o, a);
+          own = λ n. (λ z. (t.turned.own n).0 ((u.own n).0 z), λ z. (u.own n).1 ((t.turned.own n).1 z));
         };
       }

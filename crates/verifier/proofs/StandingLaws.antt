@@ -11,16 +11,21 @@ use borrow.Author.Tests.{le-leb, lt-leb}
 use Rattle.journal.specs.Journal.{choose, body_limit, length_of, body_of}
 use Rattle.journal.specs.Bytes.{yes_is, no_is, below}
 use Rattle.journal.specs.Steps.{drop_take}
-use Rattle.record.specs.Layout.{Event, decode}
-use Rattle.verifier.specs.Judge.{wrong, in_length, in_trailer, Deed, Went, on, fault, Place, by_step, is_back, by_event, entry_of}
+use Rattle.crc.specs.Crc.{crc_of}
+use Rattle.record.specs.Layout.{Event, Read, found, none, decode}
+use Rattle.verifier.specs.Judge.{wrong, in_length, in_parcels, in_trailer, Deed, refused, gave, Went, on, fault, Place, same, by_step, is_back, by_deed, by_event, entry_of}
 use Rattle.verifier.specs.Feed.{Reading, reading, done, by_next, settle, feed_byte, feed}
 use Rattle.verifier.specs.Pieces.{length_front, back_front}
-use Rattle.verifier.specs.Framing.{fault_of, by_framing, Fed}
+use Rattle.verifier.specs.Framing.{framing_of, fault_of, by_framing, Fed}
 use Rattle.verifier.proofs.FramingLaws.{settle_framing}
 use Rattle.verifier.specs.declared.Fault.{Fault}
+use Rattle.verifier.specs.declared.Fault.TheVariants.{Length, Distance, Sum, Trailer, Own}
 use Rattle.verifier.specs.declared.Progress.{Progress}
 use Rattle.verifier.specs.declared.Progress.TheVariants.{More, Whole}
 use Rattle.verifier.specs.declared.Standing.{Standing}
+use Rattle.verifier.specs.Whole.{neither}
+use Rattle.wire.specs.Field.{number_at}
+use Rattle.std.proofs.Math.Dec.{eqb}
 use Rattle.verifier.specs.Standing.{wanted_of, place_in, stands, reading_of, Sound, wanted_few, wanted_back, wanted_entry, still_short, had, all, had_length, all_length, one, entry_long}
 
 -- a byte more that is not the last one wanted wants no other number
@@ -163,3 +168,28 @@ module _ {S : Type 0} (deed : S → Event → Deed S) (r : Standing) (buf new : 
                 ∙ sym (whole_turn e q ∙ ap (λ (y : Went S). by_next (by_step (place_in r d) (length (all {S = S} deed r buf new b x k d o going h f)) y)) w),
             record { room = f.size ∙ o.room; short = λ _. omega arith; fits = λ _. omega arith; count = omega arith },
           )
+
+-- no answer of the framing is a caller's own fault
+pub framing_named : (s : List ℕ) (n : ℕ) → framing_of s ≡ Err (Own n) → ⊥
+unfolding framing_of
+framing_named s n =
+    neither (leb (length s) 3) (Ok More) _ (Err (Own n)) (λ z. cc)
+    (neither (is_back s) _ _ (Err (Own n)) (neither (leb (length s) 12) (Ok More) (Err Trailer) (Err (Own n)) (λ z. cc) (λ z. cc))
+    (neither (leb (length_of s) body_limit) _ (Err Length) (Err (Own n))
+    (neither (leb (length_of s + 12) (length s)) _ (Ok More) (Err (Own n))
+    (neither (eqb (number_at s (length_of s + 4) 4) (length_of s + 4)) _ (Err Distance) (Err (Own n))
+    (neither (eqb (number_at s (length_of s + 8) 4) (crc_of (take (length_of s + 4) s))) (Ok Whole) (Err Sum) (Err (Own n)) (λ z. cc) (λ z. cc))
+    (λ z. cc))
+    (λ z. cc))
+    (λ z. cc)))
+
+-- nor does a body come to one: it is read as the trailer's
+deed_named : {S : Type 0} (a : Deed S) (frames : List ℕ) → by_deed a frames ≡ fault in_trailer → ⊥
+unfolding by_deed
+deed_named refused frames = λ z. cc
+deed_named (gave given d) frames = neither (same given frames) (on d) (fault in_parcels) (fault in_trailer) (λ z. cc) (λ z. cc)
+
+pub event_named : {S : Type 0} (deed : S → Event → Deed S) (d : S) (e : Read Event) (n : ℕ) → by_event deed d e ≡ fault (fault_of (Own n)) → ⊥
+unfolding by_event fault_of
+event_named deed d none n = λ z. cc
+event_named deed d (found event frames) n = deed_named (deed d event) frames

@@ -16,7 +16,7 @@ use Rattle.verifier.specs.Judge.{is_back, by_step, trailer_of, by_event}
 use Rattle.verifier.specs.Feed.{Reading, reading, done, by_next, finish}
 use Rattle.verifier.specs.Pieces.{few_not_back}
 use Rattle.verifier.specs.declared.Fault.{Fault}
-use Rattle.verifier.specs.declared.Fault.TheVariants.{Length, Distance, Sum, Layout, Parcels, Trailer}
+use Rattle.verifier.specs.declared.Fault.TheVariants.{Length, Distance, Sum, Layout, Parcels, Trailer, Own}
 use Rattle.verifier.specs.declared.Progress.{Progress}
 use Rattle.verifier.specs.declared.Progress.TheVariants.{More, Whole}
 
@@ -40,7 +40,7 @@ end_of s last count =
     (choose (eqb (length s) 12 && eqb (number_at s 4 4) last && eqb (number_at s 8 4) count) (Ok tt) (Err Trailer))
     (Err Length)
 
--- the code's faults are the definition's
+-- the code's faults are the definition's; a caller's own is read as the trailer's
 unfoldable pub fault_of : Fault → Named
 fault_of Length = in_length
 fault_of Distance = in_distance
@@ -48,6 +48,7 @@ fault_of Sum = in_sum
 fault_of Layout = in_layout
 fault_of Parcels = in_parcels
 fault_of Trailer = in_trailer
+fault_of (Own n) = in_trailer
 
 module _ {S : Type 0} (deed : S → Event → Deed S) where
   -- what a reading becomes by the answer

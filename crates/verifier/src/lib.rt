@@ -23,7 +23,8 @@ pub const ENTRY_LIMIT: usize = reader::BODY_LIMIT + AROUND;
 const BACK: u64 = 1111573323;
 
 // What is wrong with a book: an entry's length, its distance from the entry before, its sum, its layout, its frames, or the closing
-// trailer.
+// trailer. Own is a caller's: a number by which it breaks a reading off itself. No function here finds it, verdict gives it back, and it
+// reads as the trailer's.
 #[derive(Clone, Copy, Debug, PartialEq, Eq)]
 pub enum Fault {
     Length,
@@ -32,6 +33,7 @@ pub enum Fault {
     Layout,
     Parcels,
     Trailer,
+    Own(u64),
 }
 
 impl fmt::Display for Fault {
@@ -42,7 +44,7 @@ impl fmt::Display for Fault {
             Fault::Sum => "sum",
             Fault::Layout => "layout",
             Fault::Parcels => "parcels",
-            Fault::Trailer => "closing trailer",
+            Fault::Trailer | Fault::Own(_) => "closing trailer",
         };
         f.write_str(words)
     }
